@@ -25,8 +25,8 @@ use Rattle.round_lines.specs.Rounds.{IsIncoming}
 use Rattle.farm_run.specs.declared.pace.Pace.{Pace}
 use Rattle.farm_run.specs.Runs.{AreTold, IsRunOver, HasWritten, Leaves, Runs, is_listed, none_fails}
 use Rattle.run_spec.proofs.LongerLines.{length-out_line, length-down_octets, length-periods_to}
-use Rattle.farm_run.proofs.Listed.{listed_head, one_line, or_cases}
-use Rattle.farm_run.proofs.Reach.{end_within_run}
+use Rattle.farm_run.proofs.Listed.Tests.{listed_head, one_line, or_cases}
+use Rattle.farm_run.proofs.Clocks.Reach.{end_within_run}
 use Rattle.drill_run.specs.Drilled.{drilled_run}
 use Rattle.drill_run.specs.Rooms.{AreAmple, DrillMemory, IsAmple, known_lines, number_told, room_by}
 use Rattle.drill_run.proofs.Opened.{opened_drilled}

@@ -10,7 +10,7 @@ use Rattle.trau_orders.specs.Text.{GoodOrBad, SpellsOneList}
 use Rattle.run_spec.specs.Run.{Run}
 use Rattle.farm_run.specs.Runs.{IsRunOver, Leaves, NoneRose, is_listed}
 use Rattle.farm_run.specs.Fronts.{IsCutShort}
-use Rattle.farm_run.proofs.Clocks.{none_listed}
+use Rattle.farm_run.proofs.Clocks.Last.{none_listed}
 use Rattle.command_words.specs.declared.asked.Settings.{Settings}
 use Rattle.farm_top.specs.Farm.{AllStay, CarriesRun, LacksMemory, ReadsAndFollows, RunsOrders, TellsRun}
 use Rattle.farm_top.specs.FarmClean.{CleanFarm, CleanTelling, IsCalmRun, TellsOrders}

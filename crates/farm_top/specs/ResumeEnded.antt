@@ -18,7 +18,7 @@ use Rattle.run_spec.specs.Mark.{Joins, cut_at, marked_calls}
 use Rattle.farm_run.specs.Runs.{AreTold, FailedShort, IsRunOver, KeepsSides, Leaves, ReadsOn, TellsFailed, is_listed, none_fails}
 use Rattle.farm_run.specs.Resuming.{FindsDifference, LeavesFrom}
 use Rattle.command_words.specs.declared.asked.Settings.{Settings}
-use Rattle.farm_top.specs.Farm.{TextOut, status_of_run}
+use Rattle.farm_top.specs.Farm.{TextOut, pace_of, status_of_run}
 use Rattle.farm_top.specs.FarmEnded.{GainsFront, report_told}
 use Rattle.farm_top.specs.Headline.{HeadlineFrom}
 use Rattle.farm_top.specs.Resume.{differs_text}
@@ -65,10 +65,10 @@ pub record ResumeEnded (mark : MarkView) (orders : List Order) (s : Settings) (b
   pub there : AreOrders orders → AreTold before → (periods : ℕ) → (r : Run) × IsRunOver orders periods (is_listed failed) before now r
 
 -- The mark isn't that of the run of these orders to its period, over what the lines gave, and no outgoing line was used.
-pub record ResumeDiffers (mark : MarkView) (orders : List Order) (before now : ℕ → Side → LineState) (desk desk' : DeskState) : Type 0 where
+pub record ResumeDiffers (mark : MarkView) (orders : List Order) (s : Settings) (before now : ℕ → Side → LineState) (desk desk' : DeskState) : Type 0 where
   -- the least number of a call that the mark has otherwise, or that only one of them has
   pub call : ℕ
-  pub finds : FindsDifference orders mark before now call
+  pub finds : FindsDifference orders (pace_of s) mark before now call
   -- the desk gained the text that tells it, or, if it failed, a proper front
   pub read : DeskState
   pub written : read.written ≡ desk.written

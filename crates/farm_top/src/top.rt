@@ -282,10 +282,10 @@ pub fn farm_top<R: Threads + Wait + Sync, T: Trunk, D: Desk, G: Gate + Sync>(
         ResumeEnded mark orders s (T.lines trunk.old) (T.lines trunk.new) (D.desk desk.old) (D.desk desk.new) result }
     ensures resume_differs { (s : Settings) → AsksForResume (spelled words.now) s →
         (mark : MarkView) (orders : List Order) → TellsMarked mark orders (D.desk desk.old) → result ≡ 9 →
-        ResumeDiffers mark orders (T.lines trunk.old) (T.lines trunk.new) (D.desk desk.old) (D.desk desk.new) }
+        ResumeDiffers mark orders s (T.lines trunk.old) (T.lines trunk.new) (D.desk desk.old) (D.desk desk.new) }
     ensures resume_cut_short { (s : Settings) → AsksForResume (spelled words.now) s →
         (mark : MarkView) (orders : List Order) → TellsMarked mark orders (D.desk desk.old) → result ≡ 5 →
-        IsResumeCutShort orders (max mark.period s.periods) mark.period (T.lines trunk.old) (T.lines trunk.new) }
+        IsResumeCutShort orders (max mark.period s.periods) mark (T.lines trunk.old) (T.lines trunk.new) }
 
     // Where no line's count rises: any run of the same orders to the mark's period, over lines whose incoming ones tell the same
     // (that of `save`, by `save_leaves`), is this run, cut at this period; and what it leaves on a line, and behind that what

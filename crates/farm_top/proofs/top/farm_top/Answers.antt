@@ -4,7 +4,7 @@ use Rattle.farm_top.proofs.Asking.{drill_carried, follow_carried, in_range, is_c
 use Rattle.farm_top.proofs.Carrying.{causes, clean, listing_causes, listing_clean}
 use Rattle.farm_top.proofs.Drilling.{drill_ends, not_six}
 use Rattle.farm_top.proofs.FarmCausing.{run_causes, save_causes}
-use Rattle.farm_run.proofs.Cutting.{cut_first}
+use Rattle.farm_run.proofs.Lines.Cutting.{cut_first}
 use Rattle.farm_top.proofs.FarmCleaning.{run_clean, run_complete, run_cut_short, run_ended, run_headline, run_leaves, save_clean, save_complete, save_cut_short, save_ended, save_headline, save_leaves}
 use Rattle.farm_top.proofs.Ending.{not_usage}
 use Rattle.farm_top.proofs.Living.{live_ends}
