@@ -6,3 +6,4 @@ pub mod Modes
 pub mod Whole
 pub mod Unique
 pub mod Order
+pub mod Existence
