@@ -353,20 +353,3 @@ fn marks(rt: HostRuntime) {
 fn runs_from_a_mark_on(rt: HostRuntime) {
     assert!(rt; come(&rt, rt.alloc(), &RESUMES) == 15);
 }
-
-// What `resume` writes to Down and Out are the idle frame and silence of one period.
-#[test]
-fn what_is_written_from_the_mark_on(rt: HostRuntime) {
-    let alloc = rt.alloc();
-    let row = &RESUMES[0];
-    let mut trunk = lines_of(&rt, alloc, row);
-    carry(&rt, alloc, row.words, &mut trunk, row.text, NONE, &OpenGate);
-    let mut idle = vec![in alloc; 0xFF; 40].expect(&rt, "memory");
-    idle[0] = 0;
-    idle[1] = 0;
-    idle[2] = 0xB8;
-    idle[3] = 0x0F;
-    let silence = vec![in alloc; 0xD5; 160].expect(&rt, "memory");
-    assert!(rt; trunk.written(line(1, Down)) == idle.as_slice());
-    assert!(rt; trunk.written(line(1, Out)) == silence.as_slice());
-}

@@ -36,18 +36,6 @@ fn octets(rt: &impl Abort, alloc: Global, side: Side, count: usize) -> Vec<u8> {
     octets
 }
 
-// Good uplink frames behind five bits 0, so that each begins within an octet.
-pub(crate) fn late_frames(rt: &impl Abort, alloc: Global, count: usize) -> Vec<u8> {
-    let mut octets = octets(rt, alloc, Side::Up, count);
-    let mut last = 0u8;
-    for octet in octets.iter_mut() {
-        let next = *octet;
-        *octet = last << 3 | next >> 5;
-        last = next;
-    }
-    octets
-}
-
 // Octets that tell the periods and the calls apart: good uplink frames with the number of the period in their data bits, and
 // a Pcm line that changes.
 pub(crate) fn numbered(
