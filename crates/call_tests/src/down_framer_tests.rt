@@ -66,18 +66,18 @@ fn octets_with(same: u8, place: usize, other: u8) -> [u8; 40] {
 
 // Periods: the field that is asked, the downlink octets (all the same but for one), how many frames are made, and what the
 // framer holds afterwards.
-static PERIODS: [(u8, (u8, usize, u8), u32, [u32; 3]); 5] = [
-    (39, (0xFF, 0, 0xFF), 1, [632, 0, 156]),
-    (0, (0x00, 0, 0x80), 0, [312, 4, 0]),
-    (63, (0xFF, 39, 0x80), 1, [308, 6, 0]),
-    (40, (0x00, 38, 0x08), 1, [308, 6, 0]),
-    (0, (0x00, 38, 0x08), 1, [308, 6, 0]),
+static PERIODS: [(u8, u8, usize, u8, u32, [u32; 3]); 5] = [
+    (39, 0xFF, 0, 0xFF, 1, [632, 0, 156]),
+    (0, 0x00, 0, 0x80, 0, [312, 4, 0]),
+    (63, 0xFF, 39, 0x80, 1, [308, 6, 0]),
+    (40, 0x00, 38, 0x08, 1, [308, 6, 0]),
+    (0, 0x00, 38, 0x08, 1, [308, 6, 0]),
 ];
 
 // How many of them are so, from the first on.
 fn are_framed(line: &mut Line) -> usize {
     let mut framed = 0usize;
-    for (field, (same, place, other), made, held) in &PERIODS {
+    for (field, same, place, other, made, held) in &PERIODS {
         let worked = line.period(*field);
         if worked != (octets_with(*same, *place, *other), *made) || line.holds() != *held {
             return framed;

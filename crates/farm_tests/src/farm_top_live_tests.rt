@@ -45,7 +45,7 @@ fn are_unused(trunk: &MemTrunk) -> bool {
 fn live_met<R: Abort + Threads + Wait + Sync>(
     rt: &R,
     alloc: Global,
-    callers: &str,
+    callers: &'static str,
     turns: u32,
 ) -> (bool, u32) {
     let gate = Met::new(turns);
@@ -87,7 +87,7 @@ fn callers_meet_between_two_posts(rt: HostRuntime) {
 fn live_paired<R: Abort + Threads + Wait + Sync>(
     rt: &R,
     alloc: Global,
-    callers: &str,
+    callers: &'static str,
     gate: &Paired,
 ) -> u8 {
     let mut trunk = trunk_of(rt, alloc, &FAILING);

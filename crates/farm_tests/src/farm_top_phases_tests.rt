@@ -28,7 +28,7 @@ const ORDERS: &str = "0 open 1\n0 open 2\n0 bridge 1 2\n";
 fn run_met<R: Abort + Threads + Wait + Sync>(
     rt: &R,
     alloc: Global,
-    workers: &str,
+    workers: &'static str,
     turns: u32,
 ) -> (u8, u32) {
     let gate = Met::new(turns);

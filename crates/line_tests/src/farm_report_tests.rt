@@ -143,7 +143,7 @@ static EACH_CAUSE: [CallLine; 6] = [
     },
 ];
 
-static EACH_SIDE: [Line; 4] = [
+const EACH_SIDE: [Line; 4] = [
     Line {
         call: 4,
         side: Side::Up,
@@ -224,7 +224,7 @@ static GREATEST_CALL: [CallLine; 1] = [CallLine {
     counts: MOST_COUNTS,
 }];
 
-static GREATEST_SIDE: [Line; 1] = [Line {
+const GREATEST_SIDE: [Line; 1] = [Line {
     call: 4096,
     side: Side::Out,
 }];
@@ -237,15 +237,16 @@ line 4096 out failed
 end period 4294967295 calls 1 left 4294967295
 ";
 
-// The text of such a report.
-fn text_of(
+// Whether this is the text of such a report.
+fn is_text(
     alloc: Global,
     replies: &[Reply],
     spans: &[SpanLine],
     calls: &[CallLine],
     failed: &[Line],
     left: u32,
-) -> Result<String, AllocError> {
+    text: &str,
+) -> Result<bool, AllocError> {
     let report = Report {
         replies: replies.to_vec(alloc)?,
         spans: spans.to_vec(alloc)?,
@@ -253,24 +254,33 @@ fn text_of(
         failed: failed.to_vec(alloc)?,
         left,
     };
-    write_report(alloc, &report)
+    Ok(write_report(alloc, &report)?.as_str() == text)
 }
 
 #[test]
 fn each_reply_and_each_cause(rt: HostRuntime) {
-    let text = text_of(rt.alloc(), &EACH_REPLY, &[], &EACH_CAUSE, &EACH_SIDE, 1);
-    assert!(rt; text.expect(&rt, "memory").as_str() == EACH_TEXT);
+    let all = is_text(
+        rt.alloc(),
+        &EACH_REPLY,
+        &[],
+        &EACH_CAUSE,
+        &EACH_SIDE,
+        1,
+        EACH_TEXT,
+    );
+    assert!(rt; all == Ok(true));
 }
 
 #[test]
 fn the_greatest_numbers(rt: HostRuntime) {
-    let text = text_of(
+    let all = is_text(
         rt.alloc(),
         &GREATEST_REPLY,
         &GREATEST_SPAN,
         &GREATEST_CALL,
         &GREATEST_SIDE,
         LAST,
+        GREATEST_TEXT,
     );
-    assert!(rt; text.expect(&rt, "memory").as_str() == GREATEST_TEXT);
+    assert!(rt; all == Ok(true));
 }

@@ -222,23 +222,27 @@ impl<T: Write> Write for Interrupted<T> {
     }
 }
 
-// A desk that is interrupted.
-type Disturbed<'a, 'b> = StdDesk<Interrupted<&'a [u8]>, Interrupted<&'b mut Vec<u8>>>;
-
 // Whether a read of at most two octets gives so many.
-fn hears(desk: &mut Disturbed<'_, '_>, octets: &mut [u8; 2], count: usize) -> bool {
+fn hears(
+    desk: &mut StdDesk<Interrupted<&[u8]>, Interrupted<&mut Vec<u8>>>,
+    octets: &mut [u8; 2],
+    count: usize,
+) -> bool {
     desk.read(octets).ok() == Some(count)
 }
 
 // Whether three octets are read, the last one over the first.
-fn is_heard(desk: &mut Disturbed<'_, '_>) -> bool {
+fn is_heard(desk: &mut StdDesk<Interrupted<&[u8]>, Interrupted<&mut Vec<u8>>>) -> bool {
     let mut octets = [0; 2];
     let all = hears(desk, &mut octets, 2) && hears(desk, &mut octets, 1);
     all && octets == [7, 6] && hears(desk, &mut octets, 0)
 }
 
 // Whether a desk takes these two octets at once.
-fn is_told(desk: &mut Disturbed<'_, '_>, octets: &[u8; 2]) -> bool {
+fn is_told(
+    desk: &mut StdDesk<Interrupted<&[u8]>, Interrupted<&mut Vec<u8>>>,
+    octets: &[u8; 2],
+) -> bool {
     desk.write(octets).ok() == Some(2)
 }
 
