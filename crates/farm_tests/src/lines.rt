@@ -87,3 +87,26 @@ pub(crate) fn trunk_of(rt: &impl Abort, alloc: Global, lines: &[Laid]) -> MemTru
     }
     trunk
 }
+
+// The lines of call 1, in one piece: so many octets of an uplink without a frame, and of an idle Pcm line. By side, which
+// call of the outside fails there.
+pub(crate) fn quiet_lines(
+    rt: &impl Abort,
+    alloc: Global,
+    up: usize,
+    pcm: usize,
+    fails: [u32; 4],
+) -> MemTrunk {
+    let mut trunk = MemTrunk::new(alloc).expect(rt, "memory");
+    let [on_up, on_pcm, on_down, on_out] = fails;
+    for (side, octet, count, fails) in [
+        (Side::Up, 0, up, on_up),
+        (Side::Pcm, 0xD5, pcm, on_pcm),
+        (Side::Down, 0, 0, on_down),
+        (Side::Out, 0, 0, on_out),
+    ] {
+        let octets = vec![in alloc; octet; count].expect(rt, "memory");
+        put(rt, alloc, &mut trunk, line(1, side), octets, 10_000, fails);
+    }
+    trunk
+}
