@@ -101,16 +101,17 @@ impl Worked {
     }
 }
 
-static ONES: [u8; 40] = [0xFF; 40];
-
-static IDLE: [u8; 40] = [
+const IDLE: [u8; 40] = [
     0x00, 0x00, 0xB8, 0x0F, 0xFF, 0xFF, 0xFF, 0xFF, 0xFF, 0xFF, 0xFF, 0xFF, 0xFF, 0xFF, 0xFF, 0xFF,
     0xFF, 0xFF, 0xFF, 0xFF, 0xFF, 0xFF, 0xFF, 0xFF, 0xFF, 0xFF, 0xFF, 0xFF, 0xFF, 0xFF, 0xFF, 0xFF,
     0xFF, 0xFF, 0xFF, 0xFF, 0xFF, 0xFF, 0xFF, 0xFF,
 ];
 
-// What is counted of three periods without a frame.
-const THREE: Counts = Counts {
+// The Down octets of three periods without a frame: 320 ones and two idle frames.
+static QUIET: [[u8; 40]; 3] = [[0xFF; 40], IDLE, IDLE];
+
+// What is counted of them.
+static THREE: Counts = Counts {
     good: 0,
     sid: 0,
     invalid: 0,
@@ -122,10 +123,9 @@ const THREE: Counts = Counts {
     made: 3,
 };
 
-// Whether the exchange hears its silence in three periods without a frame, and the base station gets 320 ones and two
-// idle frames.
+// Whether three periods without a frame are so, and the exchange hears its silence in them.
 fn stays_quiet(leg: &mut Worked, silence: u8) -> bool {
-    for down in [&ONES, &IDLE, &IDLE] {
+    for down in &QUIET {
         if leg.period_of(&[0; 40], silence) != ([silence; 160], *down) {
             return false;
         }
@@ -136,8 +136,8 @@ fn stays_quiet(leg: &mut Worked, silence: u8) -> bool {
 // Nothing is found on the uplink, on a line with either law.
 #[test]
 fn without_frames_the_call_is_quiet(rt: HostRuntime) {
-    for (law, silence) in [(Law::A, 0xD5), (Law::Mu, 0xFF)] {
-        let mut leg = Worked::new(rt.alloc(), 4096, law).expect(&rt, "memory");
+    for (call, law, silence) in [(1, Law::A, 0xD5), (4096, Law::Mu, 0xFF)] {
+        let mut leg = Worked::new(rt.alloc(), call, law).expect(&rt, "memory");
         assert!(rt; stays_quiet(&mut leg, silence));
     }
 }
