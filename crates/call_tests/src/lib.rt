@@ -7,8 +7,6 @@
 #[cfg(test)]
 mod call_leg_tests;
 #[cfg(test)]
-mod call_pair_tests;
-#[cfg(test)]
 mod ccu_end_tests;
 #[cfg(test)]
 mod down_framer_tests;
