@@ -24,14 +24,13 @@ pub record Went (periods n : ℕ) (window : List ℕ) (mode : Mode) (r : Option 
 
 -- what the code did in a period is the step, it keeps the mode near, and its yield ends there
 pub next_period-went : (periods n : ℕ) (last bits window octets : List ℕ) (mode : Mode) (r : Option Yield × Mode) → Went periods n window mode r →
-    bits ≡ bits_of octets → window ≡ last ++ bits →
+    bits ≡ bits_of octets → window ≡ last ++ bits_of octets →
     next_period (record { periods = periods; last = last; mode = mode }) octets ≡ (r.0, record { periods = periods + 1; last = bits; mode = r.1 })
 unfolding next_period
 next_period-went periods n last bits window octets mode r w eb ew =
-    let same : window ≡ last ++ bits_of octets = ew ∙ ap (λ b. last ++ b) eb in
     let gives : r ≡ searched (bit_of_two (320 * periods) (last ++ bits_of octets)) (320 * periods) mode =
     w.gives ∙ ap (λ k. searched (bit_of_two (320 * k) window) (320 * k) mode) w.number ∙
-    ap (λ l. searched (bit_of_two (320 * periods) l) (320 * periods) mode) same in
+    ap (λ l. searched (bit_of_two (320 * periods) l) (320 * periods) mode) ew in
     let step : Option Yield × Mode → Option Yield × SyncMemory = λ x. (x.0, record { periods = periods + 1; last = bits_of octets; mode = x.1 }) in
     sym (ap step gives) ∙ ap (λ b. (r.0, record { periods = periods + 1; last = b; mode = r.1 })) (sym eb)
 
