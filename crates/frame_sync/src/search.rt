@@ -2,7 +2,7 @@
 
 ghost use Rattle.std.specs.Prelude.{◌≡◌};
 
-use crate::advance::advance;
+use crate::advance::{advance, yield_at};
 use crate::window::two_periods;
 use crate::yields::{Mode, Yield};
 use std::marker::Model;
@@ -71,10 +71,11 @@ impl FrameSync {
         ensures place { IfSome result (EndsIn self.old.periods) }
     {
         let window = two_periods(&self.last, octets);
-        let (found, mode) = advance(self.mode, 320 * u64::from(self.periods), &window);
+        let base = 320 * u64::from(self.periods);
+        let (ending, mode) = advance(self.mode, base, &window);
         self.periods += 1;
         self.last.copy_from_slice(&window[320..]);
         self.mode = mode;
-        found
+        yield_at(ending, base, &window)
     }
 }
