@@ -12,7 +12,8 @@ get_or-part : (w : List ℕ) (o i : ℕ) → o + 320 ≤ length w → i < 320 �
 get_or-part w o i h l = get_or-take 320 (drop o w) i 0 l ∙ get_or-drop o w i 0
 
 -- the first 320 of the bits from a place on are the frame that stands there
-part_is_frame : (w bits : List ℕ) (o n : ℕ) → o + 320 ≤ length w → 320 ≤ n → bits ≡ take 320 (take n (drop o w)) → bits ≡ frame_at (bit_in w) o
+part_is_frame : (w bits : List ℕ) (o n : ℕ) → o + 320 ≤ length w → 320 ≤ n → bits ≡ take 320 (take n (drop o w)) →
+    bits ≡ frame_at (bit_in w) o
 part_is_frame w bits o n h enough part =
     let e : bits ≡ take 320 (drop o w) = part ∙ take-take 320 n (drop o w) enough in
     let count : length bits ≡ 320 = ap length e ∙ omega (arith, length-take 320 (drop o w), length-drop o w) in

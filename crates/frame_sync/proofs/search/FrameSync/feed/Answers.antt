@@ -21,7 +21,8 @@ pub returns-clause-step : goal.returns-clause-step
 returns-clause-step c =
     ap (λ memory. next_period memory c.args.octets.now) (sym c.self.view_is) ∙
     next_period-went c.self.inside.periods c.from-base.result c.self.inside.last _ c.two_periods-window.result c.args.octets.now c.self.inside.mode
-    (c.yield_at.result, c.advance-ending.result.1) (went-found c.self.inside.periods c.from-base.result c.two_periods-window.result c.self.inside.mode c.advance-ending.result c.yield_at.result
+    (c.yield_at.result, c.advance-ending.result.1)
+    (went-found c.self.inside.periods c.from-base.result c.two_periods-window.result c.self.inside.mode c.advance-ending.result c.yield_at.result
     c.from-base.ensures c.yield_at.ensures c.advance-ending.ensures.value)
     (second_period c.self.inside.last _ c.two_periods-window.result c.args.octets.now (search rules) c.told-octets c.two_periods-window.ensures.value
     c.copy_from_slice.ensures.after)
