@@ -1,3 +1,4 @@
+pub mod Kept
 pub mod Scan
 pub mod Found
 pub mod Searched

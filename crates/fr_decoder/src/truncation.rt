@@ -1,12 +1,12 @@
 //! Truncation (GSM 06.10, sections 4.3.6 and 4.3.7).
 
 ghost use Rattle.std.specs.Prelude.{◌≡◌, map};
-ghost use Rattle.fr_decoder.specs.Deemphasis.{truncated};
+ghost use Rattle.fr_decoder.specs.Truncation.{truncated};
 
 use trau_num::add;
 
 // Doubles a sample and drops its three lowest bits.
-#[tactic(auto, unfolding(crate::specs::Deemphasis::truncated))]
+#[tactic(auto, unfolding(crate::specs::Truncation::truncated))]
 fn truncated(msr: i16) -> i16
     ensures { result ≡ truncated msr }
 {
@@ -14,10 +14,10 @@ fn truncated(msr: i16) -> i16
 }
 
 /// Truncates de-emphasised samples to 13 bits, left-justified in 16.
-pub(crate) fn truncate(msr: &[i16; 160], x: &mut [i16; 160])
-    ensures { x.new ≡ map truncated msr.now }
+pub(crate) fn truncate(x: &mut [i16; 160])
+    ensures { x.new ≡ map truncated x.old }
 {
-    for k in 0..160 {
-        x[k] = truncated(msr[k]);
+    for sample in x.iter_mut() {
+        *sample = truncated(*sample);
     }
 }
