@@ -7,6 +7,7 @@ use Rattle.switchboard.specs.declared.table.Bridge.{Bridge}
 use Rattle.switchboard.specs.Calls.{Done, gone_at}
 use Rattle.switchboard.specs.Bridges.{bridges, joins, other, lasts, bridge_of}
 use Rattle.switchboard.specs.Ends.{start_of}
+use Rattle.switchboard.proofs.Lists.{not_both}
 use Rattle.call_leg.specs.Settings.{Settings, settings_later, without_bridge, period_with}
 use Rattle.run_spec.specs.Run.{Run, whole_in, up_in, pcm_in}
 use Rattle.run_spec.specs.Now.{IsSoFar, has_period, bridge_now, handed_now, period_now, settings_now, after_periods}
@@ -56,13 +57,10 @@ both_have r k ds c x b j h p = elim (cases_Bool (c == x.a)) [
       ap (λ t. t && has_period r ds k x.b) (ap (has_period r ds k) (sym (eqb-true c x.a e)) ∙ h) ∙ (ap (has_period r ds k) (sym o) ∙ p)
   | inr e ↦
       let o : other c x ≡ x.a = ap (λ (t : Bool). if t then x.b else x.a) e in
-      let q : c ≡ x.b = elim (or_cases (c == x.a) (c == x.b) j) [ inl f ↦ absurd (no _ e f) | inr f ↦ eqb-true c x.b f ] in
+      let q : c ≡ x.b = elim (or_cases (c == x.a) (c == x.b) j) [ inl f ↦ absurd (not_both _ e f) | inr f ↦ eqb-true c x.b f ] in
       ap (λ t. has_period r ds k x.a && t) (ap (has_period r ds k) (sym q) ∙ h) ∙ last (has_period r ds k x.a) ∙ (ap (has_period r ds k) (sym o) ∙ p)
 ]
   where
-    no : (t : Bool) → t ≡ false → t ≡ true → ⊥
-    no t p q = cc
-
     last : (b : Bool) → (b && true) ≡ b
     last true = refl
     last false = refl
