@@ -18,7 +18,8 @@ use Rattle.call_spec.specs.Down.{frame_by_number, frames_of_call, down}
 use Rattle.run_spec.specs.Run.{Run, spans_in, start_in, end_in, partner_in, IsOpened, worked_to}
 use Rattle.run_spec.specs.Facts.{carries_in, sent_by, span_line, report_of}
 use Rattle.run_calls_spec.specs.Whole.{span_for, whole_call, IsBridged, item_for, yield_on, frame_on}
-use Rattle.run_calls_spec.specs.Sent.{frame_count, sent_frames, frame_as_sent, frame_place, made_in, CarriesHanded, Sends, WaitsUnsent, IsFirstOfSpan, HasOtherItems, DiffersInItems}
+use Rattle.run_calls_spec.specs.Sent.{frame_count, sent_frames, frame_as_sent, frame_place, made_in, CarriesHanded, Sends, WaitsUnsent, IsFirstOfSpan}
+use Rattle.run_calls_spec.specs.Sent.{HasOtherItems, DiffersInItems}
 use Rattle.farm_run.specs.Runs.{HasWritten}
 
 -- What a call is handed in the periods of a bridge: its partner's effective frames, as 260 bits, and nothing else.

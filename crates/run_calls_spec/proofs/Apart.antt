@@ -1,5 +1,6 @@
 -- A call whose partners hand over other items in the same spans.
-use Rattle.std.proofs.Common.{◌≡◌, refl, sym, ap, ◌∙◌, subst, ℕ, zero, suc, ◌*◌, Bool, true, false, Option, Some, None, List, [], ◌∷◌, length, map, reverse, get_or}
+use Rattle.std.proofs.Common.{◌≡◌, refl, sym, ap, ◌∙◌, subst, ℕ, zero, suc, ◌*◌, Bool, true, false, Option, Some, None, List, [], ◌∷◌, length, map, reverse}
+use Rattle.std.proofs.Common.{get_or}
 use Rattle.std.specs.Prelude.{if◌then◌else◌, ◌&&◌, ◌||◌, ◌-◌, ◌==◌, not, nat_le, nat_lt, is_some, unwrap_or, slice_index_or, filter}
 use Rattle.std.specs.List.{flat_map, list_any}
 use Rattle.trau_frame.specs.declared.frames.DownFrame.{DownFrame}
