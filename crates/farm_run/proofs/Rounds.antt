@@ -21,7 +21,7 @@ use Rattle.run_spec.proofs.Standing.{Standing, lasts_parts}
 use Rattle.run_spec.proofs.OpenCalls.{open_facts, gone_is, gone_later}
 use Rattle.run_spec.proofs.Settling.{start_is}
 use Rattle.run_spec.proofs.SoFar.{standing_now}
-use Rattle.run_spec.proofs.Bridging.{open_has, bridge_later, bridge_after, same_settings, settings_later}
+use Rattle.run_spec.proofs.Bridging.{open_has, bridge_later, bridge_after, same_settings, next_settings}
 use Rattle.run_spec.proofs.Going.{period_by, periods_more}
 use Rattle.farm_run.specs.Going.{places_in}
 use Rattle.farm_run.proofs.RoundTaken.{IsRound, IsFed, start_at}
@@ -172,7 +172,7 @@ settings_kept r t n ds left c (suc k) h l =
     let e : t + k + 1 ≡ t + suc k = omega arith in
     ap settings_later (settings_kept r t n ds left c k h (omega arith))
     ∙ ap settings_later (by (is_some (bridge_now r ds (t + k) c)))
-    ∙ ap without_bridge (sym (settings_later r t (t + k) ds c (standing_now r t ds left h.so_far) (omega arith) (omega arith)))
+    ∙ ap without_bridge (sym (next_settings r t (t + k) ds c (standing_now r t ds left h.so_far) (omega arith) (omega arith)))
     ∙ ap (λ u. without_bridge (settings_now r ds u c)) e
   where
     by : (b : Bool) → without_bridge (settings_now r ds (t + k) c) ≡ without_bridge (if b then settings_now r ds (t + k) c else without_bridge (settings_now r ds (t + k) c))

@@ -197,9 +197,9 @@ settings_bridged r t u ds c s l = by (bridge_of (gone_at (whole_in r) u ds) ds c
         }) e
 
 -- **After a period that is set which the period was worked with, but that no bridge starts.**
-pub settings_later : (r : Run) (t u : ℕ) (ds : List Done) (c : ℕ) → Standing (whole_in r) t ds → t ≤ u → u < r.periods →
+pub next_settings : (r : Run) (t u : ℕ) (ds : List Done) (c : ℕ) → Standing (whole_in r) t ds → t ≤ u → u < r.periods →
     settings_now r ds (u + 1) c ≡ settings_later (settings_in r ds u c)
-settings_later r t u ds c s l m =
+next_settings r t u ds c s l m =
     same_settings _ _ _ _ _ _ _ _ refl refl
     (any_none _ (bridges ds)
     (each_weaker (IsSoundBridge (whole_in r) t ds) _ (bridges ds)

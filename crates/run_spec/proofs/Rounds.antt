@@ -14,7 +14,7 @@ use Rattle.run_spec.specs.Now.{IsSoFar, has_period, bridge_now, handed_now, peri
 use Rattle.run_spec.proofs.Lists.{found}
 use Rattle.run_spec.proofs.Standing.{IsSoundBridge, Standing}
 use Rattle.run_spec.proofs.SoFar.{standing_now}
-use Rattle.run_spec.proofs.Bridging.{bridge_each, joins_other, bridge_later, settings_bridged, settings_later}
+use Rattle.run_spec.proofs.Bridging.{bridge_each, joins_other, bridge_later, settings_bridged, next_settings}
 
 -- only that a bridge starts doesn't stay
 after_is : (k : ℕ) (now : Settings) → after_periods (suc k) now ≡ record { level = now.level; mode = now.mode; starts = false; bridged = now.bridged }
@@ -30,7 +30,7 @@ next t k = omega arith
 settings_after : (r : Run) (t k : ℕ) (ds : List Done) (c : ℕ) → Standing (whole_in r) t ds → t + k < r.periods →
     settings_now r ds (t + suc k) c ≡ with_bridged (is_some (bridge_now r ds (t + k) c)) (settings_now r ds t c)
 settings_after r t k ds c s l =
-    ap (λ v. settings_now r ds v c) (next t k) ∙ settings_later r t (t + k) ds c s (omega arith) l
+    ap (λ v. settings_now r ds v c) (next t k) ∙ next_settings r t (t + k) ds c s (omega arith) l
     ∙ ap settings_later (settings_bridged r t (t + k) ds c s (omega arith))
 
 -- **A call that lies in no bridge goes on alone.**
