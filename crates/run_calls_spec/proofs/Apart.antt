@@ -38,7 +38,8 @@ item-bare (span ∷ spans) k = by (nat_le span.from k && nat_lt k span.to) span.
     by false items e = e
 
 -- whether one begins so
-begins-bare : (begins : ℕ → Bool) (spans : List Span) → list_any (λ span. begins span.from) spans ≡ list_any (λ b. begins b.from) (map without_items spans)
+begins-bare : (begins : ℕ → Bool) (spans : List Span) →
+    list_any (λ (span : Span). begins span.from) spans ≡ list_any (λ (b : Bridge). begins b.from) (map without_items spans)
 begins-bare begins [] = refl
 begins-bare begins (span ∷ spans) = ap (λ t. begins span.from || t) (begins-bare begins spans)
 
