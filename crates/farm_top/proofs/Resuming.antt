@@ -152,7 +152,7 @@ module _ (good : GoodOrBad) (one : SpellsOneList) (mark_good : NotGoodAndBad) (o
             (front_out report.failed text desk ran.read desk' status due ran.written four ran.done.tells);
         all_read = read_out report.failed text desk ran.read desk' status due ran.written ran.done.tells ∙ ran.all_read;
         short = resumes.short;
-        there = resumes.there;
+        there = resumes.there (orders_known (text_lines told.rest) orders told.within.1 told.spelled);
       }
 
   -- **With 9 the mark isn't that of the run.**

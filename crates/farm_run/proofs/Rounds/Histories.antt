@@ -15,7 +15,7 @@ use Rattle.call_pair.specs.History.{period_at, alone_periods}
 use Rattle.run_spec.specs.Run.{Run, whole_in, up_in, pcm_in, ups_to, item_of, periods_to}
 use Rattle.run_spec.specs.Now.{bridge_now, handed_now, period_now, settings_now, settings_in}
 use Rattle.run_spec.proofs.SoFar.{standing_now}
-use Rattle.run_spec.proofs.Bridging.{bridge_after, same_settings, settings_later}
+use Rattle.run_spec.proofs.Bridging.{bridge_after, same_settings, next_settings}
 use Rattle.run_spec.proofs.Going.{period_by, periods_more}
 use Rattle.farm_run.specs.Going.{places_in}
 use Rattle.farm_run.proofs.Rounds.Taken.{IsRound, IsFed, start_at}
@@ -50,7 +50,7 @@ settings_kept r t n ds left c (suc k) h l =
     let e : t + k + 1 ≡ t + suc k = omega arith in
     ap settings_later (settings_kept r t n ds left c k h (omega arith))
     ∙ ap settings_later (by (is_some (bridge_now r ds (t + k) c)))
-    ∙ ap without_bridge (sym (settings_later r t (t + k) ds c (standing_now r t ds left h.so_far) (omega arith) (omega arith)))
+    ∙ ap without_bridge (sym (next_settings r t (t + k) ds c (standing_now r t ds left h.so_far) (omega arith) (omega arith)))
     ∙ ap (λ u. without_bridge (settings_now r ds u c)) e
   where
     by : (b : Bool) → without_bridge (settings_now r ds (t + k) c) ≡ without_bridge

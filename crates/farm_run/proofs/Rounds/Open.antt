@@ -16,7 +16,7 @@ use Rattle.run_spec.proofs.Standing.{Standing, lasts_parts}
 use Rattle.run_spec.proofs.OpenCalls.{open_facts, gone_is, gone_later}
 use Rattle.run_spec.proofs.Settling.{start_is}
 use Rattle.run_spec.proofs.SoFar.{standing_now}
-use Rattle.run_spec.proofs.Bridging.{open_has, bridge_later, bridge_after, settings_later}
+use Rattle.run_spec.proofs.Bridging.{open_has, bridge_later, bridge_after, next_settings}
 use Rattle.farm_run.specs.Going.{places_in}
 use Rattle.farm_run.proofs.Rounds.Taken.{IsRound}
 
