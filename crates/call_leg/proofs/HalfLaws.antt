@@ -25,7 +25,8 @@ use Rattle.call_leg.specs.Memory.{DownMemory, LegMemory}
 use Rattle.call_leg.specs.Places.{Halfway, Between}
 use Rattle.call_leg.specs.Stands.{Stands}
 use Rattle.call_leg.specs.Step.{after_asking, after_sighting, played, up_worked, after_handing, bridge_over, down_worked}
-use Rattle.call_leg.specs.Halves.{UpMemory, up_of, joined, Note, dtx_by, note_of, note_in, up_turned, noted, with_handed, down_turned, up_unbridged, handed_bits, UpStands}
+use Rattle.call_leg.specs.Halves.{UpMemory, up_of, joined, Note, dtx_by, note_of, note_in, up_turned, noted, with_handed, down_turned, up_unbridged}
+use Rattle.call_leg.specs.Halves.{handed_bits, UpStands}
 use Rattle.call_leg.proofs.Bridges.{halfway-short, hand-stands, ends}
 use Rattle.call_leg.proofs.Upward.{plain-more, up-out}
 use Rattle.call_leg.proofs.UpLaws.{played-stands, hear-stands, found_in, hears}
