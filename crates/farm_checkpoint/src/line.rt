@@ -1,7 +1,7 @@
 //! The numbers of a line, each behind its words.
 
 ghost use Rattle.std.specs.Prelude.{◌≡◌, ◌++◌, ◌∷◌, ◌<◌, ◌≤◌, ℕ, List, decimal, IsNone, IfSome};
-ghost use Rattle.farm_checkpoint.specs.Marks.{IsLive, HasSums};
+ghost use Rattle.farm_checkpoint.specs.Marks.{IsOpenAtMark, HasSums};
 ghost use Rattle.farm_checkpoint.specs.Text.{save_line, call_text};
 ghost use Rattle.decimal_number.specs.Splits.{Lacks, SplitsAt};
 ghost use Rattle.farm_checkpoint.specs.Fields.{IsField};
@@ -61,8 +61,8 @@ pub(crate) fn read_period(text: &[u8]) -> Option<(u32, &[u8])>
 pub(crate) fn read_call(text: &[u8], above: u32, period: u32) -> Option<(MarkCall, &[u8])>
     requires above { above ≤ 4096 }
     requires period { 1 ≤ period }
-    ensures some { IfSome result (λ read. IsLive period read.0 × HasSums read.0 × (above < read.0.call) × (text.now ≡ call_text read.0 ++ read.1.now)) }
-    ensures none { IsNone result → (call : OneCall) (rest : List ℕ) → IsLive period call → HasSums call → above < call.call →
+    ensures some { IfSome result (λ read. IsOpenAtMark period read.0 × HasSums read.0 × (above < read.0.call) × (text.now ≡ call_text read.0 ++ read.1.now)) }
+    ensures none { IsNone result → (call : OneCall) (rest : List ℕ) → IsOpenAtMark period call → HasSums call → above < call.call →
         text.now ≡ call_text call ++ rest → ⊥ }
 {
     let (call, rest) = number_behind(text, b"call ", b' ', above + 1, LAST_CALL)?;

@@ -7,7 +7,7 @@ use Rattle.trau_io.specs.Lines.{LineState}
 use Rattle.trau_orders.specs.declared.order.Order.{Order}
 use Rattle.trau_orders.specs.Lists.{AreOrders}
 use Rattle.farm_checkpoint.specs.declared.mark.MarkCall.{MarkCall}
-use Rattle.farm_checkpoint.specs.Marks.{MarkView, AreLive}
+use Rattle.farm_checkpoint.specs.Marks.{MarkView, AreOpenAtMark}
 use Rattle.farm_report.specs.View.{ReportView}
 use Rattle.farm_rounds.specs.Calls.{call_in}
 use Rattle.farm_rounds.specs.Numbers.{IsRising, is_among}
@@ -155,8 +155,8 @@ saves_told os pace first now u saved g e wrote sums f p calls live rising openin
   there = λ are told. subst (λ (ls : List Line). (r : Run) × IsRunOver os pace.periods (is_listed ls) first now r) (sym f)
       (there os pace.batch first now u g are told pace.periods);
   period = p;
-  live = subst (λ (n : ℕ). AreLive n saved.mark.calls) (sym p)
-      (subst (AreLive pace.periods) (sym calls) (entries_live u live rising g.stage pace.periods openings));
+  are_open = subst (λ (n : ℕ). AreOpenAtMark n saved.mark.calls) (sym p)
+      (subst (AreOpenAtMark pace.periods) (sym calls) (entries_live u live rising g.stage pace.periods openings));
 }
   where
     over : (r : Run) → IsRunOver os pace.periods (is_listed saved.failed) first now r → IsRunOver os u.clock (is_listed u.farm.failed) first now r

@@ -16,7 +16,7 @@ use Rattle.switchboard.specs.Calls.{Done, opened_at, closed_at, is_open, gone_at
 use Rattle.switchboard.specs.Ends.{Given, lack_of, end_of, start_of}
 use Rattle.switchboard.specs.State.{first_stamp}
 use Rattle.farm_checkpoint.specs.declared.mark.MarkCall.{MarkCall}
-use Rattle.farm_checkpoint.specs.Marks.{AreLive, IsLive, NumbersRise}
+use Rattle.farm_checkpoint.specs.Marks.{AreOpenAtMark, IsOpenAtMark, NumbersRise}
 use Rattle.farm_report.specs.Sums.{sum_of}
 use Rattle.farm_rounds.specs.Calls.{call_in}
 use Rattle.farm_rounds.specs.Numbers.{IsRising, is_among}
@@ -78,12 +78,12 @@ module _ (s : Stage) (live : (c : ℕ) → is_among s.farm.live c ≡ is_some (c
       omega (arith, ap (λ (x : MarkCall). x.call) e, ap (λ (x : MarkCall). x.call) f, up)
 
   -- **So they may be live at the run's last period.**
-  pub entries_live : (n : ℕ) → OpenedBefore n s.journal.calls → AreLive n (map (entry_of s) s.farm.live)
+  pub entries_live : (n : ℕ) → OpenedBefore n s.journal.calls → AreOpenAtMark n (map (entry_of s) s.farm.live)
   entries_live n openings = record {
     each = λ i d within.
         let long : length (map (entry_of s) s.farm.live) ≡ length s.farm.live = length-map s.farm.live (entry_of s) in
         let l : i < length s.farm.live = omega arith in
-        subst (IsLive n) (sym (get_or-map (entry_of s) s.farm.live i 0 d l)) (record { number = numbers i 0 l; opened = openings (get_or s.farm.live i 0) });
+        subst (IsOpenAtMark n) (sym (get_or-map (entry_of s) s.farm.live i 0 d l)) (record { number = numbers i 0 l; opened = openings (get_or s.farm.live i 0) });
     rising = numbers_rise;
   }
     where
