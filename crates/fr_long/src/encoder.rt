@@ -47,7 +47,7 @@ impl LtpHistory {
         LtpHistory { dp: [0; 120] }
     }
 
-    /// The lag and gain that predict a block of 40 samples of the short-term residual best, the
+    /// The lag and gain by which a block of 40 samples of the short-term residual is predicted, the
     /// prediction, and what is left to be coded.
     pub fn predict(&self, d: &[i16; 40]) -> Ltp
         ensures lag { result.nc ≡ lag_of (correlation_of_block d.now self.now) }
