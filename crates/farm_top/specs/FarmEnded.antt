@@ -37,7 +37,7 @@ pub record EndedTelling (text_of : Run → List Line → List ℕ) (orders : Lis
   pub front : status ≡ 4 → (r : Run) → IsRunOver orders s.periods (is_listed failed) before now r → GainsFront desk.written desk'.written (text_of r failed)
   -- the orders were read to their end
   pub all_read : desk'.to_come ≡ Some []
-  -- an incoming line failed short of what a batch around the call's end takes of it
+  -- an incoming line failed short of what its round takes of it
   pub short : (r : Run) → IsRunOver orders s.periods (is_listed failed) before now r → FailedShort r s.batch (is_listed failed)
   -- there is such a run of orders that are in range, wherever the lines tell what they hold
   pub there : AreOrders orders → AreTold before → (r : Run) × IsRunOver orders s.periods (is_listed failed) before now r

@@ -59,7 +59,7 @@ pub record ResumeEnded (mark : MarkView) (orders : List Order) (s : Settings) (b
       GainsFront desk.written desk'.written (report_told r failed)
   -- the text was read to its end
   pub all_read : desk'.to_come ≡ Some []
-  -- an incoming line failed short of what a batch around the call's end takes of it
+  -- an incoming line failed short of what its round takes of it
   pub short : (r : Run) → IsRunOver orders (max mark.period s.periods) (is_listed failed) before now r → FailedShort r s.batch (is_listed failed)
   -- there are such runs, to any number of periods, of orders that are in range, wherever the lines tell what they hold
   pub there : AreOrders orders → AreTold before → (periods : ℕ) → (r : Run) × IsRunOver orders periods (is_listed failed) before now r

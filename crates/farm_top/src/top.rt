@@ -198,7 +198,7 @@ fn carry_out<R: Threads + Wait + Sync, T: Trunk, D: Desk, G: Gate + Sync>(
 /// | 2 | a line of the orders isn't in their grammar, N being the first, which `resume` counts from the first line behind the mark; of `resume` also a line of the mark, N being the first | `orders line N`; `save line N` |
 /// | 3 | the desk failed while the orders were read, or the mark before them | `orders unread` |
 /// | 4 | the desk failed while the command's text went out | a proper front of the command's text |
-/// | 5 | want of memory | `no memory`, of `frames` behind the lines that it had told |
+/// | 5 | want of memory | `no memory` |
 /// | 6 | the count of a line of the command rose | `line C up failed`, with the line's side, behind the lines of text that `frames` or `follow` had told; the report; of `save` only its lines for the lines that failed |
 /// | 7 | the orders have more than 1,048,576 octets or more than 65,536 lines; of `resume` also the whole text more than 1,310,720 octets | `orders too long` |
 /// | 8 | only of `relay` and `decode`: a block of the uplink isn't a good speech frame, or the line ended inside it | `relay refused N`, `decode refused N`, N being the number of blocks before it |

@@ -8,8 +8,8 @@
 //!
 //! Definitions: `specs/Num.antt` and `specs/Random.antt`, and `specs/Weights.antt` (the weight of a list). Lemmas that
 //! the crates above share: `proofs/Fill.antt` (lists of a fixed size that a loop fills entry by entry),
-//! `proofs/Greatest.antt` (a search for the least number at which a function is greatest), `proofs/Clamped.antt` (sums
-//! and products that are clamped) and `proofs/Fitting.antt` (numbers that fit their types).
+//! `proofs/Greatest.antt` (a search for the least number at which a function is greatest), `proofs/Clamped.antt` (what
+//! saturates is a word) and `proofs/Fitting.antt` (what fits a word).
 #![tactic(auto)]
 
 mod long_words;
