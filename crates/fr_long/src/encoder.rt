@@ -16,7 +16,7 @@ use trau_num::{add, mult_r, sub};
 /// The encoding side of long-term prediction: the last 120 reconstructed residuals.
 #[derive(Drop)]
 pub struct LtpHistory {
-    /// The oldest first.
+    // The oldest first.
     dp: [i16; 120],
 }
 

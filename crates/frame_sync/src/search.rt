@@ -11,9 +11,9 @@ use trau_bits::unpack;
 /// The search for frames on one line.
 #[derive(Drop)]
 pub struct FrameSync {
-    /// The periods so far.
+    // The periods so far.
     periods: u32,
-    /// The bits of the last one.
+    // The bits of the last one.
     last: [u8; 320],
     mode: Mode,
 }
