@@ -152,7 +152,7 @@ hunted-at : (line : ℕ → ℕ) (low p : ℕ) (o : Option ℕ) (bits : List ℕ
     (Some (Frame p bits), Locked (p + 320) 0) ≡ hunted line low o
 hunted-at line low p o bits e eb = ap (λ f. (Some (Frame p f), Locked (p + 320) 0)) eb ∙ sym (ap (hunted line low) e)
 
--- the four ways of a period: a hunt that finds, one that doesn't, a frame that is yield_due, a miss
+-- the four ways of a period: a hunt that finds, one that doesn't, a frame that is due, a miss
 pub searched-found : (w bits : List ℕ) (base low first o p : ℕ) → first ≡ max low (base - 319) → low ≤ base → first + 320 - base ≤ o → o ≤ 320 →
     NoMatch (bit_in w) (first + 320 - base) o → is_match (bit_in w) o ≡ true → p ≡ base + o - 320 → bits ≡ frame_at (bit_in w) o →
     (Some (Frame p bits), Locked (p + 320) 0) ≡ searched (bit_of_two base w) base (Hunting low)

@@ -74,7 +74,7 @@ test_and true true a b true false f g = sym (second (a && b))
     second false = refl
 test_and true true a b true true f g = sym (cc (f refl, g refl))
 
--- **The bridge of a call in a settings_later period is the one that lasts now, where both of its calls have the period.**
+-- **The bridge of a call in a later period is the one that lasts now, where both of its calls have the period.**
 pub bridge_later : (r : Run) (t u k : ℕ) (ds : List Done) (c : ℕ) → Standing (whole_in r) t ds → t ≤ u → u ≤ k →
     bridge_now r ds k c ≡ elim (bridge_of (gone_at (whole_in r) u ds) ds c) [
       | None ↦ None
