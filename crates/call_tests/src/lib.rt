@@ -1,7 +1,7 @@
 //! Tests of the crates that work one call, and two that are bridged.
 //!
 //! They stand apart from what they test: a crate with tests is proved a second time with them; these go through public
-//! calls only.
+//! functions only.
 #![tactic(auto)]
 
 #[cfg(test)]

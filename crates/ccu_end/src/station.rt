@@ -17,17 +17,17 @@ use trau_frame::{UpFrame, write_up};
 /// A base station's end of one downlink.
 #[derive(Drop)]
 pub struct Ccu {
-    /// The periods so far.
+    // The periods so far.
     periods: u32,
-    /// The bits of the last one.
+    // The bits of the last one.
     last: [u8; 320],
-    /// The place behind the newest frame: the next one is looked for from there on.
+    // The place behind the newest frame: the next one is looked for from there on.
     low: u64,
-    /// The wanted place modulo 320.
+    // The wanted place modulo 320.
     want: u16,
-    /// While a request waits, the number of frames found since the period that sent it.
+    // While a request waits, the number of frames found since the period that sent it.
     waiting: Option<u8>,
-    /// What is sent up in this period.
+    // What is sent up in this period.
     answer: UpFrame,
     ghost wanted: { want ≤ 316 },
 }

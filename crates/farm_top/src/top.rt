@@ -52,7 +52,7 @@ use std::thread::Threads;
 use trau_io::{Desk, Trunk, tell};
 use trau_orders::one_answer;
 
-// The status that stands for a tool's end.
+/// The status that stands for a tool's end.
 pub(crate) fn status_of_end(end: ToolEnd) -> u8
     ensures { result ≡ status_of end }
 {

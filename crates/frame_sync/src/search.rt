@@ -10,9 +10,9 @@ use std::marker::Model;
 /// The search for frames on one line.
 #[derive(Drop)]
 pub struct FrameSync {
-    /// The periods so far.
+    // The periods so far.
     periods: u32,
-    /// The bits of the last one.
+    // The bits of the last one.
     last: [u8; 320],
     mode: Mode,
 }
