@@ -148,7 +148,7 @@ none-shifted : (w : List ℕ) (base first high from to : ℕ) → first + 320 �
 none-shifted w base first high from to e f h = λ q a b.
     match-shifted w base q (q + 320 - base) (omega arith) ∙ h (q + 320 - base) (omega arith) (omega arith)
 
--- the four ways of a period: a hunt that finds, one that doesn't, a frame that is yield_due, a miss
+-- the four ways of a period: a hunt that finds, one that doesn't, a frame that is due, a miss
 pub searched-found : (w : List ℕ) (base low first o p : ℕ) → first ≡ max low (base - 319) → low ≤ base → first + 320 - base ≤ o → o ≤ 320 →
     NoMatch (bit_in w) (first + 320 - base) o → is_match (bit_in w) o ≡ true → p ≡ base + o - 320 →
     ends_in_two base w (Framed p, Locked (p + 320) 0) ≡ searched (bit_of_two base w) base (Hunting low)
