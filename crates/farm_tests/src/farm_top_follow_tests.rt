@@ -153,6 +153,11 @@ fn comes_of<R: Abort + Threads + Wait + Sync>(rt: &R, alloc: Global, row: &Row) 
 #[test]
 fn a_downlink_is_followed(rt: HostRuntime) {
     for row in &ROWS {
-        assert!(rt; comes_of(&rt, rt.alloc(), row), "sent {}: {}", row.sent, row.text);
+        assert!(rt;
+            comes_of(&rt, rt.alloc(), row),
+            "sent {}: {}",
+            row.sent,
+            row.text
+        );
     }
 }

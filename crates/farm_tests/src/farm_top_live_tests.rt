@@ -109,7 +109,13 @@ fn each_period_passes_the_gate_once(rt: HostRuntime) {
 fn is_told_in_part<R: Abort + Threads + Wait + Sync>(rt: &R, alloc: Global) -> bool {
     let trunk = trunk_of(rt, alloc, &FAILING);
     let desk = FailingDesk::new(rt, alloc, "", 0, 1);
-    let run = carry_out(rt, alloc, &["live", "--calls=2", "--periods=1"], trunk, desk);
+    let run = carry_out(
+        rt,
+        alloc,
+        &["live", "--calls=2", "--periods=1"],
+        trunk,
+        desk,
+    );
     let text = run.desk.text();
     run.status == 4 && text.len() == WRITTEN && ONE_PERIOD.as_bytes().starts_with(text)
 }

@@ -7,8 +7,8 @@ use std::alloc::Global;
 use std::process::Abort;
 use std::sync::Wait;
 use std::thread::Threads;
-use trau_io::Side::{Down, Out, Pcm, Up};
 use trau_io::MemTrunk;
+use trau_io::Side::{Down, Out, Pcm, Up};
 
 // In one piece.
 const ALL: u32 = 10_000;

@@ -112,10 +112,7 @@ static ROWS: [Row; 7] = [
     // A desk that fails comes first.
     Row {
         command: "split",
-        lines: &[
-            (1, Pcm, &[0x1B, 0x1B, 0x1B, 0x1B], NONE),
-            (1, Down, &[], 0),
-        ],
+        lines: &[(1, Pcm, &[0x1B, 0x1B, 0x1B, 0x1B], NONE), (1, Down, &[], 0)],
         desk_fails: 0,
         status: 4,
         text: "",

@@ -20,12 +20,7 @@ pub(crate) fn words_of(rt: &impl Abort, alloc: Global, texts: &[&str]) -> Vec<St
 }
 
 // The status of the command of these words. All that is proved of it ends here, so that no test carries it on.
-pub(crate) fn status_of<
-    R: Abort + Threads + Wait + Sync,
-    T: Trunk,
-    D: Desk,
-    G: Gate + Sync,
->(
+pub(crate) fn status_of<R: Abort + Threads + Wait + Sync, T: Trunk, D: Desk, G: Gate + Sync>(
     rt: &R,
     alloc: Global,
     texts: &[&str],

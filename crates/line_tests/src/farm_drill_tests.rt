@@ -98,6 +98,9 @@ fn hostile_sum(alloc: Global, kind: u8, periods: u32) -> Result<u32, AllocError>
 #[test]
 fn is_hostile_as_another_program(rt: HostRuntime) {
     for (kind, periods, wanted) in &HOSTILE_SUMS {
-        assert!(rt; hostile_sum(rt.alloc(), *kind, *periods) == Ok(*wanted), "kind {kind}");
+        assert!(rt;
+            hostile_sum(rt.alloc(), *kind, *periods) == Ok(*wanted),
+            "kind {kind}"
+        );
     }
 }

@@ -29,10 +29,7 @@ fn desk(alloc: Global, text: &Text) -> Result<MemDesk, AllocError> {
 // Texts of orders, and what is answered to them: how many orders they have, or why they aren't taken.
 static TEXTS: [(Text, Result<usize, OrdersFault>); 11] = [
     ((b"", b'0', 0, NONE), Ok(0)),
-    (
-        (b"0 open 1\n0 open 2\n7 bridge 1 2", b'0', 0, NONE),
-        Ok(3),
-    ),
+    ((b"0 open 1\n0 open 2\n7 bridge 1 2", b'0', 0, NONE), Ok(3)),
     (
         (b"5 open 1\n4 open 2", b'0', 0, NONE),
         Err(OrdersFault::Line(2)),

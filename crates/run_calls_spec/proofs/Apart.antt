@@ -116,7 +116,7 @@ module _ (call : Call) (spans : List Span) (same : map without_items spans ≡ m
       ap (λ (f : NumberedFrame). frame_after other f (before (coded_goes_on other) f (first_frames other j))) (same_frame j)
       ∙ ap (λ (fs : List NumberedFrame). frame_after other (frame_by_number call j) (before (coded_goes_on other) (frame_by_number call j) fs)) (same_first j)
       ∙ ap (λ (r : NumberedFrame → NumberedFrame → Bool). frame_after other (frame_by_number call j) (before r (frame_by_number call j) (first_frames call j)))
-          every
+      every
       ∙ same_after (frame_by_number call j) (before (coded_goes_on call) (frame_by_number call j) (first_frames call j)) e
 
   -- **The lines are the same but in frames that carry an item.**
@@ -127,7 +127,7 @@ module _ (call : Call) (spans : List Span) (same : map without_items spans ≡ m
     sent = λ j l e.
         let n = length (frames_of_call call) in
         ap (λ (fs : List NumberedFrame). get_or (down_frames other fs) j Idle)
-            (same_made ∙ made_first call whole ∙ ap (λ (fs : List NumberedFrame). reverse fs) (sym (same_first n)))
+        (same_made ∙ made_first call whole ∙ ap (λ (fs : List NumberedFrame). reverse fs) (sym (same_first n)))
         ∙ sent_at other n j l ∙ same_sent j e ∙ sym (sent_at call n j l)
         ∙ ap (λ (fs : List NumberedFrame). get_or (down_frames call fs) j Idle) (sym (made_first call whole));
   }

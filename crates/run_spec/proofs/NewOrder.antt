@@ -120,7 +120,7 @@ sound_more whole t ds o r s l h x y cut = record {
         let z : is_open (gone_at whole o.stamp ds) ds x.b ≡ false =
         false_from_ne_true _
         (λ b. not_both _ w (cut x.a k.0 k.1 (or_left _ _ (eq-eqb x.a x.a refl))
-            (lasts_from (gone_at whole o.stamp ds) ds x (after_none (done o r) x n).0 v b))) in
+        (lasts_from (gone_at whole o.stamp ds) ds x (after_none (done o r) x n).0 v b))) in
         let g = other_gone whole t o.stamp ds x.a x.b y.start_a y.start_b s l y.opened_a y.opened_b (λ e f. y.shut_b e (after_none (done o r) x n).0 f) v z in
         omega (arith, k.2)
   ];
@@ -133,7 +133,7 @@ sound_more whole t ds o r s l h x y cut = record {
         let z : is_open (gone_at whole o.stamp ds) ds x.a ≡ false =
         false_from_ne_true _
         (λ b. not_both _ w (cut x.b k.0 k.1 (or_right _ _ (eq-eqb x.b x.b refl))
-            (lasts_from (gone_at whole o.stamp ds) ds x (after_none (done o r) x n).0 b v))) in
+        (lasts_from (gone_at whole o.stamp ds) ds x (after_none (done o r) x n).0 b v))) in
         let g = other_gone whole t o.stamp ds x.b x.a y.start_b y.start_a s l y.opened_b y.opened_a (λ e f. y.shut_a e (after_none (done o r) x n).0 f) v z in
         omega (arith, k.2)
   ];

@@ -48,7 +48,7 @@ unbridged whole t u ds o c d z s l e j =
     let h = lasted whole t u ds x y f.0 g.1 in
     let same : y ≡ z = f.1 (and_from _ _ g.0 h.0) in
     not_both _ (ap (λ (y : Bridge). ends_bridge y.a y.b (Ok (act.Unbridged z.a z.b))) (sym same) ∙ h.1)
-        (and_from _ _ (eq-eqb z.a z.a refl) (eq-eqb z.b z.b refl))))
+    (and_from _ _ (eq-eqb z.a z.a refl) (eq-eqb z.b z.b refl))))
     (each_both _ _ (bridges ds) s.sound (one_found _ (bridges ds) z (standing_one whole u t ds c s l) (bridge_each whole u t ds d c z s l e j))))
   where
     x : Done

@@ -169,8 +169,12 @@ pub end_within_run : (r : Run) (t : ℕ) (ds : List Done) (left : List Order) (c
 end_within_run r t ds left c so = by (closed_at c (done_in r)) refl
   where
     there : (s : ℕ) (b : Bool) → nat_le r.periods (s + whole_in r c) ≡ b →
-        at_of (if b then record { call = c; at = r.periods; cause = Limit } else record { call = c; at = s + whole_in r c; cause =
-        lack_of (whole_in r c) (given_in r c) }) ≤ r.periods
+        at_of (if b then record { call = c; at = r.periods; cause = Limit } else record {
+          call = c;
+          at = s + whole_in r c;
+          cause =
+              lack_of (whole_in r c) (given_in r c);
+        }) ≤ r.periods
     there s true e = omega arith
     there s false e = let l = leb-false r.periods (s + whole_in r c) e in omega arith
 

@@ -28,7 +28,7 @@ gains first before now was stands front octets g = by (has_failed was) refl (has
           length front + part.0,
           omega (arith, l, length-append front octets),
           subst (Appends first.written now.written) (sym (take-append-add front octets part.0))
-          (Appends-trans first.written before.written now.written front (take part.0 octets) w part.2),
+              (Appends-trans first.written before.written now.written front (take part.0 octets) w part.2),
         )
     by true e false f w = let p = g.passed e in cc
     by true e true f w =
@@ -42,9 +42,11 @@ gains first before now was stands front octets g = by (has_failed was) refl (has
 
 -- what was written of the first octets is a front of all
 front_of : (fails : Bool) (first now : LineState) (some more : List ℕ) → HasWritten fails first now some → HasFront first now (some ++ more)
-front_of false first now some more w =
-    (length some, subst (Appends first.written now.written)
-    (sym (take-append-le (length some) some more (omega arith) ∙ take_all (length some) some (omega arith))) w)
+front_of false first now some more w = (
+  length some,
+  subst (Appends first.written now.written)
+      (sym (take-append-le (length some) some more (omega arith) ∙ take_all (length some) some (omega arith))) w,
+)
 front_of true first now some more w = let l =
     w.1 in (w.0, subst (Appends first.written now.written) (sym (take-append-le w.0 some more (omega (arith, l)))) w.2)
 

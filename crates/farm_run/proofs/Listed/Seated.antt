@@ -155,8 +155,11 @@ module _ (t n : ℕ) (b : State) (farm after : FarmMemory) (before now : ℕ →
       s : Seated k c
       s = seated k c l e
 
-      worked : (seat_at w.drained k).place ≡ record (seat_at w.worked k).place { down = (seat_at w.drained k).place.down; out =
-          (seat_at w.drained k).place.out }
+      worked : (seat_at w.drained k).place ≡ record (seat_at w.worked k).place {
+        down = (seat_at w.drained k).place.down;
+        out =
+            (seat_at w.drained k).place.out;
+      }
       worked = ap (λ (x : SeatMemory). x.place) s.facts.drains.kept
 
       by : (side : Side) → IsIncoming side → fails_in (seat_at w.drained k).place side ≡ fails_in (seat_at w.filled k).place side

@@ -10,9 +10,11 @@ use Rattle.farm_run.proofs.Reported.Rising.{Rises, has}
 -- numbers of which each is below the later ones
 pub rises_of : (m : ℕ) (xs : List ℕ) → ((i : ℕ) → i < length xs → m ≤ slice_index xs i) → IsRising xs → Rises m xs
 rises_of m [] least rising = tt
-rises_of m (x ∷ xs) least rising =
-    (least 0 (omega arith), rises_of (suc x) xs (λ i l. let k = rising 0 (suc i) (omega arith) (omega arith) in omega (arith, k))
-    (λ i j l k. rising (suc i) (suc j) (omega arith) (omega arith)))
+rises_of m (x ∷ xs) least rising = (
+  least 0 (omega arith),
+  rises_of (suc x) xs (λ i l. let k = rising 0 (suc i) (omega arith) (omega arith) in omega (arith, k))
+      (λ i j l k. rising (suc i) (suc j) (omega arith) (omega arith)),
+)
 
 -- two tests of whether a number is among some
 pub has_among : (c : ℕ) (xs : List ℕ) → has c xs ≡ is_among xs c

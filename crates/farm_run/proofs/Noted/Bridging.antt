@@ -135,8 +135,11 @@ module _ (r : Run) (ds now : List Done) (ended : ℕ → Bool) (j : JournalMemor
   -- each call's latest bridge is noted
   latest : (c : ℕ) → is_opened ds c ≡ true → IsLatest (bridges now) c (opening_of calls c).bridge
   latest c o = elim (cases_Bool (c == a || c == b)) [
-    | inl e ↦ subst (IsLatest (bridges now) c) (sym (place_is c e)) (omega (arith, long), ap (joins c) at_last ∙ joins_last c ∙ e,
-        λ k m l. absurd (omega (arith, long)))
+    | inl e ↦ subst (IsLatest (bridges now) c) (sym (place_is c e)) (
+      omega (arith, long),
+      ap (joins c) at_last ∙ joins_last c ∙ e,
+      λ k m l. absurd (omega (arith, long)),
+    )
     | inr e ↦
         subst (λ (x : Opening). IsLatest (bridges now) c x.bridge) (sym (other c e))
         (subst (λ (bs : List Bridge). IsLatest bs c (opening_of j.calls c).bridge) (sym h.all)
@@ -186,9 +189,9 @@ module _ (r : Run) (ds now : List Done) (ended : ℕ → Bool) (j : JournalMemor
       count = length-append j.bridges (made ∷ []) ∙ let e = long in omega arith;
       calls = λ k. (
         pushed (λ (x : BridgeNote). x.a) (λ (x : Bridge). x.a) no_note no_bridge j.bridges h.front made h.last (sym count)
-        (λ k. (p.calls k).0 ∙ sym (let sides = h.sides in sides.a k)) (sym h.calls.0) k ∙ ap (λ (bs : List Bridge). (get_or bs k no_bridge).a) (sym h.all),
+            (λ k. (p.calls k).0 ∙ sym (let sides = h.sides in sides.a k)) (sym h.calls.0) k ∙ ap (λ (bs : List Bridge). (get_or bs k no_bridge).a) (sym h.all),
         pushed (λ (x : BridgeNote). x.b) (λ (x : Bridge). x.b) no_note no_bridge j.bridges h.front made h.last (sym count)
-        (λ k. (p.calls k).1 ∙ sym (let sides = h.sides in sides.b k)) (sym h.calls.1) k ∙ ap (λ (bs : List Bridge). (get_or bs k no_bridge).b) (sym h.all),
+            (λ k. (p.calls k).1 ∙ sym (let sides = h.sides in sides.b k)) (sym h.calls.1) k ∙ ap (λ (bs : List Bridge). (get_or bs k no_bridge).b) (sym h.all),
       );
       apart = apart;
     };

@@ -36,9 +36,10 @@ told_has P c (e ∷ ends) a h = elim (cases_eq c e.call) [
 apart_append : (xs ys : List CallEnd) → AreApart xs → AreApart ys → ((c : ℕ) → is_told c xs ≡ true → is_told c ys ≡ false) → AreApart (xs ++ ys)
 apart_append [] ys a b h = b
 apart_append (e ∷ xs) ys a b h =
-    let new : is_told e.call ys ≡ false = h e.call (ap (λ (s : Bool). s || is_told e.call xs) (eq-eqb e.call e.call refl)) in
-    (list_any-append (λ (d : CallEnd). e.call == d.call) xs ys ∙ ap (λ (s : Bool). s || is_told e.call ys) a.0 ∙ new,
-    apart_append xs ys a.1 b (λ c t. h c (or_right (c == e.call) (is_told c xs) t)))
+    let new : is_told e.call ys ≡ false = h e.call (ap (λ (s : Bool). s || is_told e.call xs) (eq-eqb e.call e.call refl)) in (
+      list_any-append (λ (d : CallEnd). e.call == d.call) xs ys ∙ ap (λ (s : Bool). s || is_told e.call ys) a.0 ∙ new,
+      apart_append xs ys a.1 b (λ c t. h c (or_right (c == e.call) (is_told c xs) t)),
+    )
 
 -- ends leave where the latest bridges stand
 places_ended : (ds : List Done) (j : JournalMemory) (ends : List CallEnd) → PlacesNoted ds j → PlacesNoted ds (with_ends ends j)

@@ -172,6 +172,8 @@ settled_all r ds was tally [] j p a s = (p, sent_same r ds was _ j (λ c. or-fal
 settled_all r ds was tally (e ∷ ends) j p a s =
     let v = (tally e.call).sent in
     let more = settled_all r ds (or_this was e.call) tally ends (settled e.call v j) (places_settled ds j e.call v p) a.1
-    (sent_settled r ds was j e.call v p a.0.0 s a.0.1.sent) in
-    (more.0, sent_same r ds (λ c. or_this was e.call c || is_told c ends) _ (settled_each tally (e ∷ ends) j)
-    (λ c. sym (or_assoc (was c) (c == e.call) (is_told c ends))) more.1)
+    (sent_settled r ds was j e.call v p a.0.0 s a.0.1.sent) in (
+      more.0,
+      sent_same r ds (λ c. or_this was e.call c || is_told c ends) _ (settled_each tally (e ∷ ends) j)
+          (λ c. sym (or_assoc (was c) (c == e.call) (is_told c ends))) more.1,
+    )

@@ -43,8 +43,10 @@ number_of l = l.end.call
 -- what holds of each call that has one of these ends holds of their calls
 pub each_told : (P : ℕ → Type 0) (ends : List CallEnd) → ((c : ℕ) → is_told c ends ≡ true → P c) → AllByRecursion (λ e. P e.call) ends
 each_told P [] h = tt
-each_told P (e ∷ ends) h = (h e.call (or_left (e.call == e.call) (is_told e.call ends) (eq-eqb e.call e.call refl)),
-    each_told P ends (λ c q. h c (or_right (c == e.call) (is_told c ends) q)))
+each_told P (e ∷ ends) h = (
+  h e.call (or_left (e.call == e.call) (is_told e.call ends) (eq-eqb e.call e.call refl)),
+  each_told P ends (λ c q. h c (or_right (c == e.call) (is_told c ends) q)),
+)
 
 -- no call comes twice
 apart_once : (c : ℕ) (ends : List CallEnd) → AreApart ends → count_by (λ e. c == e.call) ends ≤ 1

@@ -110,8 +110,11 @@ alone_go r t n ds left c zero io h o f b l = let e : t ≡ t + 0 = omega arith i
 alone_go r t n ds left c (suc k) io h o f b l =
     let given = f.given in
     let none : bridge_now r ds (t + k) c ≡ None = bridge_at_place r t n ds left c k h (omega arith)
-    ∙ ap (λ (o : Option Bridge). elim o [ None ↦ None | Some x ↦ if nat_lt k (places_in r ds t n x.a) && nat_lt k
-    (places_in r ds t n x.b) then Some x else None ]) b in
+    ∙ ap (λ (o : Option Bridge). elim o [
+      | None ↦ None
+      | Some x ↦ if nat_lt k (places_in r ds t n x.a) && nat_lt k
+          (places_in r ds t n x.b) then Some x else None
+    ]) b in
     place_more r t n ds left c k io None (alone_periods k (start_at r ds t c io)) h o f (omega arith)
     (sym (ap (option_map (λ (x : Bridge). let d = other c x in item_of d (ups_to r d (t + k + 1 - start_of ds d)))) none))
     (alone_go r t n ds left c k io h o f b (omega arith))
@@ -137,5 +140,8 @@ alone_settings r t n ds left c k h b l =
         ap (λ (u : ℕ). bridge_of (gone_at (whole_in r) u ds) ds c) e
         ∙ bridge_after r t (t + k) ds c (standing_now r t ds left h.so_far) (omega arith)
         ∙ bridge_at_place r t n ds left c k h (omega arith)
-        ∙ ap (λ (o : Option Bridge). elim o [ None ↦ None | Some x ↦ if nat_lt k (places_in r ds t n x.a) && nat_lt k
-        (places_in r ds t n x.b) then Some x else None ]) b
+        ∙ ap (λ (o : Option Bridge). elim o [
+          | None ↦ None
+          | Some x ↦ if nat_lt k (places_in r ds t n x.a) && nat_lt k
+              (places_in r ds t n x.b) then Some x else None
+        ]) b

@@ -127,8 +127,11 @@ handed_is r t n ds left c d k x io io' h p l =
     both_calls places c x p.joined ∙ ap (λ (t : Bool). t && places (other c x)) mine ∙ ap places p.partner ∙ ap (nat_lt k) (sym p.fed_other.given) in
     ap (option_map (λ (x : Bridge). item_in r ds (t + k) (other c x)))
     (bridge_at_place r t n ds left c k h (omega arith)
-    ∙ ap (λ (o : Option Bridge). elim o [ None ↦ None | Some x ↦ if nat_lt k (places_in r ds t n x.a) && nat_lt k
-    (places_in r ds t n x.b) then Some x else None ]) p.bridge
+    ∙ ap (λ (o : Option Bridge). elim o [
+      | None ↦ None
+      | Some x ↦ if nat_lt k (places_in r ds t n x.a) && nat_lt k
+          (places_in r ds t n x.b) then Some x else None
+    ]) p.bridge
     ∙ ap (λ (t : Bool). if t then Some x else None) both)
     ∙ by (nat_lt k io'.given)
   where

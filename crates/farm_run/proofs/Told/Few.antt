@@ -109,9 +109,11 @@ shut_more s n noted ends h o told is c t =
     let opened : opened_now n c ≡ opened_now s c = ap (λ (ds : List Done). is_some (opened_at c ds)) done in
     elim (or_cases (is_told c noted) (is_told c ends) (sym (told_append c noted ends) ∙ t)) [
       | inl q ↦ let p = h c q in (opened ∙ p.0, is c ∙ ap (λ (x : Bool). x && not (is_told c ends)) p.1)
-      | inr q ↦
-          (opened ∙ open_opened s c (told_one s ends c (recursion_from_All (λ e. open_now s e.call ≡ true) ends o) q), is c
-          ∙ ap (λ (x : Bool). open_now s c && not x) q ∙ shut (open_now s c))
+      | inr q ↦ (
+        opened ∙ open_opened s c (told_one s ends c (recursion_from_All (λ e. open_now s e.call ≡ true) ends o) q),
+        is c
+            ∙ ap (λ (x : Bool). open_now s c && not x) q ∙ shut (open_now s c),
+      )
     ]
   where
     shut : (x : Bool) → (x && false) ≡ false

@@ -136,8 +136,12 @@ seats_apart t (s ∷ seats) r =
         more : (b : Bool) → is_told c (filter_map (seat_end t) seats) ≡ false →
             is_told c
             (cons_option
-            (if b then None else Some (record { call = x.place.call; at = t + places.whole_in x.place; cause =
-            lack_of (places.whole_in x.place) (places.given_in x.place) })) (filter_map (seat_end t) seats)) ≡ false
+            (if b then None else Some (record {
+              call = x.place.call;
+              at = t + places.whole_in x.place;
+              cause =
+                  lack_of (places.whole_in x.place) (places.given_in x.place);
+            })) (filter_map (seat_end t) seats)) ≡ false
         more true e = e
         more false e = elim (cases_Bool (c == x.place.call)) [
           | inl q ↦ let same = eqb-true c x.place.call q in let l = h 0 (omega arith) in absurd (omega arith)

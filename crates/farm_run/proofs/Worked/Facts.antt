@@ -36,12 +36,15 @@ module _ (t n : ℕ) (farm after : FarmMemory) (before now : ℕ → Side → Li
       (seat_at w.worked k) (seat_at w.drained k)
   seat_facts k c l e =
       let f = front_facts t n farm before w.between w.planned w.filled w.worked ends front k c l e in
-      let called : call_at w.worked k ≡ c = worked_call _ _ _ _ _ _ _ _ f.2 in
-      (f.0, f.1, record {
-        front = f.2;
-        drains = subst (λ d. Settles (w.between d) (now d) (seat_at w.worked k) (seat_at w.drained k)) called
-            (w.drains k (omega (arith, w.number, w.filled_number, w.worked_number)));
-      })
+      let called : call_at w.worked k ≡ c = worked_call _ _ _ _ _ _ _ _ f.2 in (
+        f.0,
+        f.1,
+        record {
+          front = f.2;
+          drains = subst (λ d. Settles (w.between d) (now d) (seat_at w.worked k) (seat_at w.drained k)) called
+              (w.drains k (omega (arith, w.number, w.filled_number, w.worked_number)));
+        },
+      )
 
   -- where the round's octets are written, its call's lines are given them
   pub writes_at : (k c : ℕ) → k < length farm.live → slice_index farm.live k ≡ c → w.held ≡ false →

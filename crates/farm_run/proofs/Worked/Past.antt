@@ -177,6 +177,6 @@ module _ (r : Run) (t n : ℕ) (b : State) (farm after : FarmMemory) (first befo
           let partner = past_is (other c x) both.1 in (
             history_bridged w.filled c (past c) (other c x) (past (other c x)),
             start (Some (other c x)) (partner_is c ∙ ap (option_map (other c)) e)
-            ∙ ap (λ (y : Option CallHistory). Some (history_beside w.filled c (past c) (other c x) y)) partner,
+                ∙ ap (λ (y : Option CallHistory). Some (history_beside w.filled c (past c) (other c x) y)) partner,
             bridged_is c x o both.1 e,
           )

@@ -137,8 +137,11 @@ module _ (n : ℕ) (before between now : Side → LineState) (c : ℕ) (call : C
 
   -- no line of a planned seat has failed in the round
   fresh : IsFresh planned.place
-  fresh = (ap (λ (s : SeatMemory). fails_now s.place.down) f.front.made ∙ not_yet call.down_failed, ap (λ (s : SeatMemory). fails_now s.place.out) f.front.made
-      ∙ not_yet call.out_failed)
+  fresh = (
+    ap (λ (s : SeatMemory). fails_now s.place.down) f.front.made ∙ not_yet call.down_failed,
+    ap (λ (s : SeatMemory). fails_now s.place.out) f.front.made
+        ∙ not_yet call.out_failed,
+  )
 
   -- **At the round's end its marks tell which of its lines' counts rose.**
   pub tells_seat : TellsFaults before now drained.place

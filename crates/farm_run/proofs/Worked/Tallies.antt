@@ -61,7 +61,7 @@ module _ (r : Run) (t n : ℕ) (b : State) (farm after : FarmMemory) (first befo
         p.0.now,
         p.2.starts,
         kept c ∙ ap (λ (x : Bool). if x then was c else kept_of (worked_at_end c) (was c))
-        (goes c parts.0 ∙ ne_eqb (places_in r b.done t n c) n (apart (places_in r b.done t n c) less))
+            (goes c parts.0 ∙ ne_eqb (places_in r b.done t n c) n (apart (places_in r b.done t n c) less))
             ∙ ap (λ (o : Option CallHistory). kept_of o (was c)) p.1
             ∙ ap (λ (ts : List CallPeriod). tally_of ts p.0.now) p.2.periods,
       )

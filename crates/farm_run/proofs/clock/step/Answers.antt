@@ -63,8 +63,12 @@ returns-clause-reaches g c =
     let o : OrdersDone c.args.stage b farm j = orders_done c.args.stage c.execute_orders.new.board c.execute_orders.new.farm c.execute_orders.new.journal
     e.clock e.shut e.bridges e.kept e.ended e.failed e.knows e.over e.follows e.told e.openings e.noted in
     ok_both (λ after. after.clock ≡ c.args.stage.clock + c.round_periods-periods.result)
-    (λ after. Reaches c.args.pace.now.batch (record c.args.stage { board = c.execute_orders.new.board; farm = c.execute_orders.new.farm; journal =
-    c.execute_orders.new.journal }) after (g.T.Trunk.lines c.args.trunk.now) (g.T.Trunk.lines c.work_round.new.trunk))
+    (λ after. Reaches c.args.pace.now.batch (record c.args.stage {
+      board = c.execute_orders.new.board;
+      farm = c.execute_orders.new.farm;
+      journal =
+          c.execute_orders.new.journal;
+    }) after (g.T.Trunk.lines c.args.trunk.now) (g.T.Trunk.lines c.work_round.new.trunk))
     (λ after. Reaches c.args.pace.now.batch c.args.stage after (g.T.Trunk.lines c.args.trunk.now) (g.T.Trunk.lines c.work_round.new.trunk)) c.work_round.result
     (λ after clock reaches. orders_more s b farm j c.requires.stage o c.args.pace.now.batch after before now
     (omega (arith, clock, c.round_periods-periods.ensures.some)) reaches) c.work_round.ensures.clock c.work_round.ensures.reaches

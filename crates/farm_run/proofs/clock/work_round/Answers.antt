@@ -196,8 +196,13 @@ returns-clause-reaches g c =
         bridges = (let noted = ap (λ (j : JournalMemory). length j.bridges) told.noted in
             let done = ap length (ap (λ (s : State). s.done) told.told ∙ told_done b c.ends.result.now) in
             omega (arith, noted, done, c.requires.stage.bridges));
-        ended = omega (arith, c.settle-farm.ensures.ended, c.work-worked.ensures.ended, ap (λ (p : RoundMemory). p.ended) c.fill.ensures.kept,
-            c.in_ok-round.ensures.ended);
+        ended = omega (
+          arith,
+          c.settle-farm.ensures.ended,
+          c.work-worked.ensures.ended,
+          ap (λ (p : RoundMemory). p.ended) c.fill.ensures.kept,
+          c.in_ok-round.ensures.ended,
+        );
         knows = knows_after _ _ b _ _ _ _ _ w a knows b' told.told told.open;
         few = (let kept = ap length (ap (λ (s : State). orders_of s) told.told ∙ told_orders b c.ends.result.now) in omega (arith, kept, c.requires.stage.few));
       };

@@ -26,7 +26,10 @@ loop-stage-preserved g c = record {
 pub returns-in_err-stage-clause-cut : goal.returns-in_err-stage-clause-cut
 returns-in_err-stage-clause-cut g c =
     let first : ℕ → Side → LineState = g.T.Trunk.lines c.args.trunk.now in
-    let after : (after : Stage) × (after.clock ≤ c.args.until) × Reaches c.args.pace.now.batch c.args.stage after first (g.T.Trunk.lines c.step.new.trunk) =
-    (c.loop-stage.stage, c.loop-stage.invariant.within, subst (Reaches c.args.pace.now.batch c.args.stage c.loop-stage.stage first)
-    (sym c.in_err-stage.ensures.cut) c.loop-stage.invariant.reaches) in
+    let after : (after : Stage) × (after.clock ≤ c.args.until) × Reaches c.args.pace.now.batch c.args.stage after first (g.T.Trunk.lines c.step.new.trunk) = (
+      c.loop-stage.stage,
+      c.loop-stage.invariant.within,
+      subst (Reaches c.args.pace.now.batch c.args.stage c.loop-stage.stage first)
+          (sym c.in_err-stage.ensures.cut) c.loop-stage.invariant.reaches,
+    ) in
     on_err _ after
