@@ -87,7 +87,7 @@ open_after r t n ds left c h o =
     ∙ has_place r t n ds c (n - 1) at.unclosed within (omega arith)
     ∙ all_or_fewer n (start_of ds c + whole_in r c - t) some
 
--- **A call that isn't open isn't open settings_later.**
+-- **A call that isn't open isn't open later.**
 pub shut_after : (r : Run) (t n : ℕ) (ds : List Done) (c : ℕ) → is_open (gone_at (whole_in r) t ds) ds c ≡ false →
     is_open (gone_at (whole_in r) (t + n) ds) ds c ≡ false
 shut_after r t n ds c e =
