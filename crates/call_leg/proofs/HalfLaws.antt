@@ -1,32 +1,21 @@
 -- The halves of a leg, apart, on any memory that stands.
-use Rattle.std.proofs.Common.{◌≡◌, refl, sym, ap, ◌∙◌, subst, ℕ, Bool, true, false, not, nat_le, Option, Some, None, is_some, unwrap_or, Bor, List, ◌∷◌, length}
-use Rattle.std.specs.Prelude.{option_copied}
-use Rattle.rx_handler.specs.declared.effective.Effective.{Effective}
+use Rattle.std.proofs.Common.{◌≡◌, refl, sym, ap, ◌∙◌, subst, ℕ, Bool, true, false, not, Option, Some, None, is_some, unwrap_or, List, ◌∷◌, length}
 use Rattle.trau_frame.specs.declared.frames.Kind.{Kind}
 use Rattle.trau_frame.specs.declared.frames.Kind.TheVariants as kinds
 use Rattle.trau_params.specs.Bits260.{bits260}
-use Rattle.trau_io.specs.declared.ends.Counts.{Counts}
-use Rattle.frame_sync.specs.declared.yields.Yield.{Yield}
 use Rattle.frame_sync.specs.Step as search
-use Rattle.frame_sync.specs.Memory.{SyncMemory}
 use Rattle.frame_sync.proofs.Steps.{stands-next}
 use Rattle.rx_handler.specs.Origin.{EffectiveFields}
 use Rattle.rx_handler.specs.Past.{effective_of}
 use Rattle.rx_handler.specs.Stands as rx
 use Rattle.rx_handler.specs.Step.{received}
-use Rattle.rx_handler.specs.Memory.{RxMemory}
 use Rattle.rx_handler.proofs.Steps.{received_more}
 use Rattle.fr_decoder.specs.Stands as decoder
-use Rattle.fr_decoder.specs.Memory.{DecoderMemory}
 use Rattle.time_align.specs.Shift.{shift_of}
 use Rattle.time_align.specs.Memory as align
 use Rattle.time_align.specs.Step.{after_ask}
-use Rattle.down_framer.specs.Memory as framer
-use Rattle.down_framer.specs.Step.{after_put}
-use Rattle.std.proofs.lemmas.Bool.{cond_both}
-use Rattle.trau_alaw.specs.declared.Law.{Law}
 use Rattle.call_leg.specs.Who.{Who}
-use Rattle.call_leg.specs.Uplink.{Sighting, Nothing, Missed, Framed, sighting_in, heard_as, field_by, field_of, dtxd_by, is_quiet, handed_fields}
+use Rattle.call_leg.specs.Uplink.{Sighting, Nothing, Missed, Framed, sighting_in, heard_as, field_by, dtxd_by, is_quiet, handed_fields}
 use Rattle.call_leg.specs.Periods.{CallPeriod, ups_of, sighting_after, heard_of}
 use Rattle.call_leg.specs.Settings.{Settings, epoch_now, settings_later, without_bridge, period_with}
 use Rattle.call_leg.specs.Counted.{counted}
@@ -35,8 +24,9 @@ use Rattle.call_leg.specs.Down.{down_now}
 use Rattle.call_leg.specs.Memory.{DownMemory, LegMemory}
 use Rattle.call_leg.specs.Places.{Halfway, Between}
 use Rattle.call_leg.specs.Stands.{Stands}
-use Rattle.call_leg.specs.Step.{after_asking, after_sighting, played, up_worked, after_handing, bridge_over, frame_made, frame_tried, with_framer, down_worked}
-use Rattle.call_leg.specs.Halves.{UpMemory, up_of, joined, Note, dtx_by, dtx_told, note_of, note_in, up_turned, noted, with_handed, down_turned, up_unbridged, item_of, handed_bits, UpStands}
+use Rattle.call_leg.specs.Step.{after_asking, after_sighting, played, up_worked, after_handing, bridge_over, down_worked}
+use Rattle.call_leg.specs.Halves.{UpMemory, up_of, joined, Note, dtx_by, note_of, note_in, up_turned, noted, with_handed, down_turned, up_unbridged}
+use Rattle.call_leg.specs.Halves.{handed_bits, UpStands}
 use Rattle.call_leg.proofs.Bridges.{halfway-short, hand-stands, ends}
 use Rattle.call_leg.proofs.Upward.{plain-more, up-out}
 use Rattle.call_leg.proofs.UpLaws.{played-stands, hear-stands, found_in, hears}
@@ -44,9 +34,11 @@ use Rattle.call_leg.proofs.DownLaws.{one_more, half-stands, thawed-kept, thawed-
 
 -- ---- a leg and its halves
 
+-- where a leg stands its uplink half does
 pub split-stands : (who : Who) (ts : List CallPeriod) (now : Settings) (m : LegMemory) → Stands who ts now m → UpStands who ts now (up_of m)
 split-stands who ts now m h = record { law = h.law; search = h.search; rx = h.rx; decoder = h.decoder; counts = h.counts; bridged = h.down.bridged }
 
+-- halves that stand at one period are a leg that stands there
 pub join-stands : (who : Who) (ts : List CallPeriod) (now : Settings) (u : UpMemory) (d : DownMemory) → UpStands who ts now u → Between who ts now d →
     Stands who ts now (joined u d)
 join-stands who ts now u d h k = record { law = h.law; search = h.search; rx = h.rx; decoder = h.decoder; counts = h.counts; down = k }
@@ -91,6 +83,7 @@ halves-worked m up =
 
 -- ---- the uplink half
 
+-- after its turn the uplink half stands a period later
 pub turn-stands : (who : Who) (ts : List CallPeriod) (now : Settings) (up pcm : List ℕ) (handed : Option (List ℕ)) (u : UpMemory) → length up ≡ 40 →
     is_some handed ≡ now.bridged →
     UpStands who ts now u → UpStands who (period_with now up pcm handed ∷ ts) (settings_later now) (up_turned u up).2
@@ -115,6 +108,7 @@ turn-stands who ts now up pcm handed u l b h =
       bridged = h.bridged;
     }
 
+-- the note of the turn is that of the period
 pub turn-note : (who : Who) (ts : List CallPeriod) (now : Settings) (up : List ℕ) (u : UpMemory) → length up ≡ 40 → UpStands who ts now u → (up_turned u up).0
     ≡ note_in who.number ts up
 unfolding up_turned
@@ -123,6 +117,7 @@ turn-note who ts now up u l h =
     let heard = received u.rx (heard_as (found_in u.search up)) in
     ap (λ z. note_of z heard.0) e.0 ∙ ap (note_of (sighting_after ts up)) e.1
 
+-- what the turn plays is the call's Out line in the period
 pub turn-plays : (who : Who) (ts : List CallPeriod) (now : Settings) (up pcm : List ℕ) (handed : Option (List ℕ)) (u : UpMemory) → length up ≡ 40 →
     is_some handed ≡ now.bridged →
     UpStands who ts now u → (up_turned u up).1 ≡ out_of who (period_with now up pcm handed ∷ ts)
@@ -132,6 +127,7 @@ turn-plays who ts now up pcm handed u l b h =
     up-out who ts now up pcm handed u.law u.bridged heard.0 _ h.law h.bridged (hears who.number ts up u.search u.rx l h.search h.rx).1 b
     (played-stands u.law heard.0 (not u.bridged) (plain_stretch who.number (epoch_now ts now) ts) u.decoder h.decoder).1
 
+-- where the bridge is taken off the uplink half still stands
 pub up_off-stands : (who : Who) (ts : List CallPeriod) (now : Settings) (u : UpMemory) → UpStands who ts now u →
     UpStands who ts (without_bridge now) (up_unbridged u)
 up_off-stands who ts now u h = record { law = h.law; search = h.search; rx = h.rx; decoder = h.decoder; counts = h.counts; bridged = refl }
@@ -158,10 +154,12 @@ halfway_from who ts now up d item h = go item
         hand-stands who ts now up x x m (after_handing m f) heard refl (one_more m.waiting x (halfway-short who ts now up m heard)) refl refl refl refl refl
         refl refl refl refl refl refl
 
+-- bits are handed over exactly where a frame is
 is_some-handed : (item : Option EffectiveFields) → is_some (handed_bits item) ≡ is_some item
 is_some-handed None = refl
 is_some-handed (Some e) = refl
 
+-- after its turn the downlink half stands a period later, and gave what the call's Down line has in the period
 pub down_turn-stands : (who : Who) (ts : List CallPeriod) (now : Settings) (up pcm : List ℕ) (n : Note) (item : Option EffectiveFields) (d : DownMemory) →
     length pcm ≡ 160 →
     Between who ts now d → n ≡ note_in who.number ts up → is_some item ≡ now.bridged →
@@ -170,76 +168,14 @@ pub down_turn-stands : (who : Who) (ts : List CallPeriod) (now : Settings) (up p
 unfolding down_turned
 down_turn-stands who ts now up pcm n item d l h e b =
     let t = period_with now up pcm (handed_bits item) in
-    subst (λ (k : Note). let w = down_worked (with_handed (noted d k) item) pcm in Between who (t ∷ ts) (settings_later now) w.1 × (w.0 ≡ down_now who (t ∷ ts))) (sym e)
+    subst (λ (k : Note). let w = down_worked (with_handed (noted d k) item) pcm in
+    Between who (t ∷ ts) (settings_later now) w.1 × (w.0 ≡ down_now who (t ∷ ts))) (sym e)
     (half-stands who ts now up pcm (handed_bits item) (with_handed (noted d (note_in who.number ts up)) item) l (is_some-handed item ∙ b)
     (halfway_from who ts now up d item h))
 
+-- where the bridge is taken off the downlink half still stands
 pub down_off-stands : (who : Who) (ts : List CallPeriod) (now : Settings) (d : DownMemory) → d.bridged ≡ true → Between who ts now d →
     Between who ts (without_bridge now) (bridge_over d)
 down_off-stands who ts now d b h =
     ends who ts now d (bridge_over d) (sym h.bridged ∙ b) h (thawed-kept d.align false d.waiting) (thawed-frozen d.align false d.waiting) refl refl refl refl
     refl refl refl refl refl refl
-
--- ---- what the code's calls make of memories
-
-abbrev three : Note → List ℕ → UpMemory → Note × List ℕ × UpMemory
-three n out u = (n, out, u)
-
-abbrev left : Law → SyncMemory → RxMemory → DecoderMemory → Counts → Bool → UpMemory
-left l a b c d e = record { law = l; search = a; rx = b; decoder = c; counts = d; bridged = e }
-
-pub turn-step : (u : UpMemory) (up : List ℕ) (y : Option Yield) (found : SyncMemory) (s : Sighting) (e : EffectiveFields) (heard : RxMemory)
-    (out : List ℕ) (decoder1 : DecoderMemory) (n : Counts) (ask : ℕ) (dtx : Option Bool) →
-    search.next_period u.search up ≡ (y, found) → s ≡ sighting_in y → received u.rx (heard_as s) ≡ (e, heard) → played u.law u.decoder e (not u.bridged)
-    ≡ (out, decoder1) →
-    n ≡ counted s u.counts → ask ≡ unwrap_or (field_of s) 0 → dtx ≡ dtx_told s →
-    up_turned u up
-    ≡ (record { eff = e; ask = ask; dtx = dtx }, out, record { law = u.law; search = found; rx = heard; decoder = decoder1; counts = n; bridged = u.bridged })
-unfolding up_turned
-turn-step u up y found s e heard out decoder1 n ask dtx ey es er ep en ea ed =
-    ap (λ (f : Option Yield × SyncMemory).
-    let w = sighting_in f.0 in
-    let h = received u.rx (heard_as w) in
-    let o = played u.law u.decoder h.0 (not u.bridged) in
-    three (note_of w h.0) o.0 (left u.law f.1 h.1 o.1 (counted w u.counts) u.bridged)) ey
-    ∙ ap (λ (w : Sighting).
-    let h = received u.rx (heard_as w) in
-    let o = played u.law u.decoder h.0 (not u.bridged) in
-    three (note_of w h.0) o.0 (left u.law found h.1 o.1 (counted w u.counts) u.bridged)) (sym es)
-    ∙ ap (λ (h : EffectiveFields × RxMemory). let o = played u.law u.decoder h.0 (not u.bridged) in three (note_of s h.0) o.0
-    (left u.law found h.1 o.1 (counted s u.counts) u.bridged)) er
-    ∙ ap (λ (o : List ℕ × DecoderMemory). three (note_of s e) o.0 (left u.law found heard o.1 (counted s u.counts) u.bridged)) ep
-    ∙ ap (λ (z : Counts). three (note_of s e) out (left u.law found heard decoder1 z u.bridged)) (sym en)
-    ∙ ap (λ (z : ℕ). three (record { eff = e; ask = z; dtx = dtx_told s }) out (left u.law found heard decoder1 n u.bridged)) (sym ea)
-    ∙ ap (λ (z : Option Bool). three (record { eff = e; ask = ask; dtx = z }) out (left u.law found heard decoder1 n u.bridged)) (sym ed)
-
-pub is_some-item : (item : Option (Bor Effective)) → is_some (item_of (option_copied item)) ≡ is_some item
-is_some-item None = refl
-is_some-item (Some e) = refl
-
-pub down_turn-step : (d0 d1 d2 : DownMemory) (n : Note) (item : Option EffectiveFields) (pcm bits : List ℕ) (d3 : DownMemory) → d1 ≡ noted d0 n →
-    d2 ≡ with_handed d1 item → down_worked d2 pcm ≡ (bits, d3) →
-    down_turned d0 n item pcm ≡ (bits, d3)
-unfolding down_turned
-down_turn-step d0 d1 d2 n item pcm bits d3 a b c = ap (λ d. down_worked (with_handed d item) pcm) (sym a) ∙ ap (λ d. down_worked d pcm) (sym b) ∙ c
-
--- ---- a bridge stays on or off over a period
-
-pub up-keeps : (u : UpMemory) (up : List ℕ) → (up_turned u up).2.bridged ≡ u.bridged
-unfolding up_turned
-up-keeps u up = refl
-
-tried-keeps : (d : DownMemory) → (frame_tried d).bridged ≡ d.bridged
-unfolding frame_made
-tried-keeps d = cond_both (nat_le 160 (length d.framer.held)) (frame_made d) d (λ (m : DownMemory). m.bridged ≡ d.bridged) (λ y. refl) (λ n. refl)
-
-handed-keeps : (d : DownMemory) (item : Option EffectiveFields) → (with_handed d item).bridged ≡ d.bridged
-handed-keeps d None = refl
-handed-keeps d (Some e) = refl
-
-pub down-keeps : (d : DownMemory) (n : Note) (item : Option EffectiveFields) (pcm : List ℕ) → (down_turned d n item pcm).1.bridged ≡ d.bridged
-unfolding down_turned down_worked
-down-keeps d n item pcm =
-    let h = with_handed (noted d n) item in
-    let put = with_framer h (after_put h.framer pcm) in
-    tried-keeps (frame_tried put) ∙ tried-keeps put ∙ handed-keeps (noted d n) item

@@ -17,3 +17,4 @@ pub mod DownLaws
 pub mod OrderLaws
 pub mod LineLaws
 pub mod HalfLaws
+pub mod HalfSteps

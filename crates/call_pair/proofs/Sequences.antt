@@ -5,7 +5,7 @@ use Rattle.trau_bits.specs.Bits.{octets_of}
 use Rattle.rx_handler.specs.Origin.{EffectiveFields}
 use Rattle.call_leg.specs.Memory.{DownMemory}
 use Rattle.call_leg.specs.Halves.{UpMemory, up_of, joined, Note, up_turned, down_turned}
-use Rattle.call_leg.proofs.HalfLaws.{up-keeps, down-keeps}
+use Rattle.call_leg.proofs.HalfSteps.{up-keeps, down-keeps}
 use Rattle.call_pair.specs.Memory.{IoMemory, HalfMemory}
 use Rattle.call_pair.specs.Places.{up_at, pcm_at, written, with_out, with_place}
 use Rattle.call_pair.specs.Turn.{effective, half_turned, half_turned_if}

@@ -1,5 +1,7 @@
 -- Lemmas on drills.
 mod Opened
-mod Quiet
 mod Rooms
+mod Lines
+mod Quiet
+mod Over
 mod Telling

@@ -1,88 +1,28 @@
--- No line of a drill fails, and so its run is the one of the definition.
-use Rattle.std.proofs.Common.{◌≡◌, refl, sym, ap, ◌∙◌, subst, ℕ, ◌+◌, ◌-◌, ◌*◌, ◌<◌, ◌≤◌, Bool, true, false, inl, inr, Option, Some, is_some, List, [], ◌∷◌, length, take, arith, slice_get}
-use Rattle.std.specs.Prelude.{◌==◌, ◌&&◌, nat_le, if◌then◌else◌, unwrap_or}
-use Rattle.std.specs.Io.KnownBytes.{Appends}
-use Rattle.std.proofs.lemmas.Bool.{cases_Bool, eqb-true, true≢false}
-use Rattle.std.proofs.lemmas.List.{length-take, length-replicate}
-use Rattle.call_number.specs.CallNumber.{IsCallNumber}
-use Rattle.trau_io.specs.declared.line.Line.{Line}
+-- No line of a drill fails.
+use Rattle.std.proofs.Common.{◌≡◌, refl, sym, ap, ◌∙◌, subst, ℕ, ◌+◌, ◌*◌, ◌<◌, ◌≤◌, Bool, true, false, inl, inr, Option, Some, is_some, List, [], length}
+use Rattle.std.proofs.Common.{arith}
+use Rattle.std.specs.Prelude.{◌&&◌, nat_le, if◌then◌else◌, unwrap_or}
+use Rattle.std.proofs.lemmas.Bool.{cases_Bool, true≢false}
 use Rattle.trau_io.specs.declared.line.Side.{Side}
 use Rattle.trau_io.specs.declared.line.Side.TheVariants.{Up, Pcm, Down, Out}
 use Rattle.trau_io.specs.Places.{number_of_side, place_of}
 use Rattle.trau_io.specs.Lines.{LineState}
-use Rattle.trau_io.specs.Memory.{MemoryLine, new_line, state_of, states_of, known_line}
+use Rattle.trau_io.specs.Memory.{MemoryLine, new_line, state_of}
 use Rattle.trau_orders.specs.declared.order.Order.{Order}
 use Rattle.trau_orders.specs.Lists.{AreOrders}
 use Rattle.switchboard.specs.Calls.{opened_at}
 use Rattle.farm_drill.specs.Lines.{AreDrilled, drilled_line, line_of_call}
 use Rattle.farm_drill.specs.Orders.{drilled_orders}
-use Rattle.run_spec.specs.Run.{Run, done_in, start_in, end_in, periods_in, who_in, IsOpened}
+use Rattle.run_spec.specs.Run.{Run, done_in, IsOpened}
 use Rattle.run_spec.specs.Lines.{out_of_call, down_of_call}
-use Rattle.run_spec.specs.Facts.{report_of}
-use Rattle.run_spec.proofs.SoFar.{so_far_at_first}
 use Rattle.farm_report.specs.View.{ReportView}
 use Rattle.round_lines.specs.Rounds.{IsIncoming}
 use Rattle.farm_run.specs.declared.pace.Pace.{Pace}
-use Rattle.farm_run.specs.Runs.{AreTold, IsRunOver, HasWritten, Leaves, Runs, is_listed, none_fails}
-use Rattle.run_spec.proofs.LongerLines.{length-out_line, length-down_octets, length-periods_to}
-use Rattle.farm_run.proofs.Listed.{listed_head, one_line, or_cases}
-use Rattle.farm_run.proofs.Reach.{end_within_run}
-use Rattle.drill_run.specs.Drilled.{drilled_run}
-use Rattle.drill_run.specs.Rooms.{AreAmple, DrillMemory, IsAmple, known_lines, number_told, room_by}
+use Rattle.farm_run.specs.Runs.{AreTold, IsRunOver, Runs, is_listed}
+use Rattle.drill_run.specs.Rooms.{AreAmple, DrillMemory, IsAmple, known_lines, room_by}
 use Rattle.drill_run.proofs.Opened.{opened_drilled}
 use Rattle.drill_run.proofs.Rooms.{below, drilled-of_call, found_in, high, low, side_at}
-
--- ---- what is known of a line
-
-known-call : (d : DrillMemory) (c : ℕ) (s : Side) → 1 ≤ c → known_lines d c s ≡ states_of d.lines c s
-known-call d c s first = elim (cases_Bool (c == 0)) [
-  | inl e ↦ let none : c ≡ 0 = eqb-true c 0 e in absurd (omega (arith, first, none))
-  | inr e ↦ rw e refl
-]
-
-pub known-line : (d : DrillMemory) (c : ℕ) (s : Side) (l : MemoryLine) → 1 ≤ c → slice_get d.lines (place_of c s) ≡ Some l → known_lines d c s ≡ state_of l
-known-line d c s l first found = known-call d c s first ∙ ap known_line found
-
-told-same : (m n : ℕ) → number_told m ≡ number_told n → m ≡ n
-told-same m n e =
-    sym (length-replicate m 0) ∙ ap (λ (l : LineState). length (unwrap_or l.to_come [])) e ∙ length-replicate n 0
-
--- ---- lines that are listed
-
-numbered : (lines : List Line) (c : ℕ) (s : Side) → is_listed lines c s ≡ true → IsCallNumber c
-numbered [] c s e = cc
-numbered (l ∷ lines) c s e = elim (or_cases (place_of l.call l.side == place_of c s) (is_listed lines c s) e) [
-  | inl q ↦ subst IsCallNumber ((one_line c l.call s l.side (eqb-true (place_of l.call l.side) (place_of c s) q)).0) l.number
-  | inr q ↦ numbered lines c s q
-]
-
-none_listed : (lines : List Line) → ((c : ℕ) (s : Side) → is_listed lines c s ≡ true → ⊥) → lines ≡ []
-none_listed [] none = refl
-none_listed (l ∷ lines) none = absurd (none l.call l.side (listed_head l lines))
-
--- ---- octets that are written
-
-gained : (before now : Option (List ℕ)) (octets : List ℕ) → before ≡ Some [] → (ys : List ℕ) → now ≡ Some ys → Appends before now octets → ys ≡ octets
-gained before now octets was ys is a = subst (λ (o : Option (List ℕ)). Appends (Some []) o octets) is (subst (λ (o : Option (List ℕ)). Appends o now octets) was a)
-
--- a line that failed holds a proper front
-short_of : (b : Bool) (before now : LineState) (octets ys : List ℕ) → b ≡ true → before.written ≡ Some [] → now.written ≡ Some ys → HasWritten b before now octets → length ys < length octets
-short_of true before now octets ys e was is w =
-    let same = gained before.written now.written (take w.0 octets) was ys is w.2 in
-    omega (arith, ap {B = ℕ} (λ (xs : List ℕ). length xs) same, length-take w.0 octets, w.1)
-short_of false before now octets ys e was is w = cc
-
-whole_out : (r : Run) (c : ℕ) → AreOrders r.orders → length (out_of_call r c) ≤ 160 * r.periods
-whole_out r c are =
-    let last : end_in r c ≤ r.periods = end_within_run r 0 [] r.orders c (so_far_at_first r are) in
-    omega (arith, length-out_line (who_in r c) (periods_in r c), length-periods_to r c (end_in r c - start_in r c), last)
-
-whole_down : (r : Run) (c : ℕ) → AreOrders r.orders → length (down_of_call r c) ≤ 40 * r.periods
-whole_down r c are =
-    let last : end_in r c ≤ r.periods = end_within_run r 0 [] r.orders c (so_far_at_first r are) in
-    omega (arith, length-down_octets (who_in r c) (periods_in r c), length-periods_to r c (end_in r c - start_in r c), last)
-
--- ---- the drill
+use Rattle.drill_run.proofs.Lines.{known-line, none_listed, numbered, short_of, told-same, whole_down, whole_out}
 
 -- What is known behind the run of a drill: `d` are its lines as they were made, `e` those behind the run.
 pub record Drilling (seed calls periods : ℕ) (d e : DrillMemory) (orders : List Order) (pace : Pace) (report : ReportView) : Type 0 where
@@ -96,23 +36,28 @@ pub record Drilling (seed calls periods : ℕ) (d e : DrillMemory) (orders : Lis
   pub are : AreOrders orders
   pub runs : Runs orders pace (known_lines d) (known_lines e) report
 
-module _ (seed calls periods : ℕ) (d e : DrillMemory) (orders : List Order) (pace : Pace) (report : ReportView) (x : Drilling seed calls periods d e orders pace report) where
+module _ (seed calls periods : ℕ) (d e : DrillMemory) (orders : List Order) (pace : Pace) (report : ReportView)
+    (x : Drilling seed calls periods d e orders pace report) where
+  -- before the run a call's line is the one that was drawn for it
   pub at_first : (c : ℕ) (s : Side) → 1 ≤ c → c ≤ calls → known_lines d c s ≡ state_of (line_of_call seed c periods s)
   at_first c s first last =
-      known-line d c s (line_of_call seed c periods s) first (x.made.each c s (omega (arith, last, x.few)) ∙ ap Some (drilled-of_call seed calls periods c s first last))
+      known-line d c s (line_of_call seed c periods s) first
+      (x.made.each c s (omega (arith, last, x.few)) ∙ ap Some (drilled-of_call seed calls periods c s first last))
 
   -- all lines tell what they hold
   told : AreTold (known_lines d)
   told c s number incoming = (
     (drilled_line seed calls periods c s).to_come,
-    ap (λ (l : LineState). l.to_come) (known-line d c s (drilled_line seed calls periods c s) number.0 (x.made.each c s (omega (arith, number.1)))),
+    ap (λ (l : LineState). l.to_come)
+        (known-line d c s (drilled_line seed calls periods c s) number.0 (x.made.each c s (omega (arith, number.1)))),
   )
 
   -- so there is a run over what they gave
   some : (r : Run) × IsRunOver orders pace.periods (is_listed report.failed) (known_lines d) (known_lines e) r
   some = x.runs.there x.are told
 
-  its_calls : (r : Run) (c : ℕ) → r.orders ≡ orders → IsOpened r c → (1 ≤ c) × (c ≤ calls)
+  -- a run of these orders opens the drill's calls alone
+  pub its_calls : (r : Run) (c : ℕ) → r.orders ≡ orders → IsOpened r c → (1 ≤ c) × (c ≤ calls)
   its_calls r c is o = opened_drilled r calls periods c (is ∙ x.ordered) o
 
   -- the lines of number 0 are as they were, and so are the numbers that they tell
@@ -137,20 +82,23 @@ module _ (seed calls periods : ℕ) (d e : DrillMemory) (orders : List Order) (p
   stands : (c : ℕ) (s : Side) → 1 ≤ c → c ≤ calls → Stands c s
   stands c s first last =
       let f = found_in e.lines (place_of c s) (omega (arith, x.rooms.long, high c s (omega (arith, last, x.few)))) in
-      let has = x.rooms.each (place_of c s) f.0 (low c s first) (subst (λ (n : ℕ). place_of c s < 4 * (n + 1)) (sym calls_stay) (below c calls s last)) f.1 in
+      let within : place_of c s < 4 * (e.calls + 1) = subst (λ (n : ℕ). place_of c s < 4 * (n + 1)) (sym calls_stay) (below c calls s last) in
+      let has = x.rooms.each (place_of c s) f.0 (low c s first) within f.1 in
       record {
         line = f.0;
         known = known-line e c s f.0 first f.1;
-        ample = subst (λ (n : ℕ). IsAmple (room_by n (number_of_side s)) f.0) periods_stay (subst (λ (k : ℕ). IsAmple (room_by e.periods k) f.0) (side_at c s) has);
+        ample = subst (λ (n : ℕ). IsAmple (room_by n (number_of_side s)) f.0) periods_stay
+            (subst (λ (k : ℕ). IsAmple (room_by e.periods k) f.0) (side_at c s) has);
       }
 
   -- **No line is listed.** One that isn't of a call that was opened is as it was.
   idle : (c : ℕ) (s : Side) → is_listed report.failed c s ≡ true → (IsOpened some.0 c → ⊥) → ⊥
   idle c s listed not =
       let number = numbered report.failed c s listed in
-      let was : known_lines d c s ≡ state_of (drilled_line seed calls periods c s) = known-line d c s (drilled_line seed calls periods c s) number.0 (x.made.each c s (omega (arith, number.1))) in
+      let drawn = drilled_line seed calls periods c s in
+      let was : known_lines d c s ≡ state_of drawn = known-line d c s drawn number.0 (x.made.each c s (omega (arith, number.1))) in
       let same : (known_lines e c s).faults ≡ (known_lines d c s).faults = ap (λ (l : LineState). l.faults) ((x.runs.leaves some.0 some.1).others c s not) in
-      let none : (known_lines d c s).faults ≡ (drilled_line seed calls periods c s).faults = ap (λ (l : LineState). l.faults) was in
+      let none : (known_lines d c s).faults ≡ drawn.faults = ap (λ (l : LineState). l.faults) was in
       let zero_at_first = calm c s in
       let rose = x.runs.failed.failures.rose c s listed in
       omega (arith, same, none, zero_at_first, rose)
@@ -172,8 +120,8 @@ module _ (seed calls periods : ℕ) (d e : DrillMemory) (orders : List Order) (p
       number : (1 ≤ c) × (c ≤ calls)
       number = its_calls some.0 c some.1.same_orders o
 
-      full : (s : Side) (room : ℕ) (l : MemoryLine) → is_listed report.failed c s ≡ true → IsAmple room l → known_lines e c s ≡ state_of l → known_lines d c s ≡ state_of (line_of_call seed c periods s) →
-          length l.written ≡ room
+      full : (s : Side) (room : ℕ) (l : MemoryLine) → is_listed report.failed c s ≡ true → IsAmple room l → known_lines e c s ≡ state_of l →
+          known_lines d c s ≡ state_of (line_of_call seed c periods s) → length l.written ≡ room
       full s room l listed ample is was =
           let rose = x.runs.failed.failures.rose c s listed in
           let first : (known_lines d c s).faults ≡ 0 = ap (λ (l : LineState). l.faults) was ∙ calm s in
@@ -197,7 +145,8 @@ module _ (seed calls periods : ℕ) (d e : DrillMemory) (orders : List Order) (p
           none Down = refl
           none Out = refl
 
-      unwritten : (s : Side) (l : MemoryLine) → IsIncoming s → known_lines e c s ≡ state_of l → known_lines d c s ≡ state_of (line_of_call seed c periods s) → length l.written ≡ 0
+      unwritten : (s : Side) (l : MemoryLine) → IsIncoming s → known_lines e c s ≡ state_of l →
+          known_lines d c s ≡ state_of (line_of_call seed c periods s) → length l.written ≡ 0
       unwritten s l incoming is was =
           let same : Some l.written ≡ Some [] = sym (ap (λ (l : LineState). l.written) is) ∙ x.runs.sides.incoming c s incoming ∙ empty s was in
           ap (λ (o : Option (List ℕ)). length (unwrap_or o [])) same
@@ -220,14 +169,16 @@ module _ (seed calls periods : ℕ) (d e : DrillMemory) (orders : List Order) (p
       by Down listed h was =
           let all = full Down (40 * periods) h.line listed h.ample h.known was in
           let octets = down_of_call some.0 c in
-          let less = short_of (is_listed report.failed c Down) (known_lines d c Down) (known_lines e c Down) octets h.line.written listed (empty Down was) (ap (λ (l : LineState). l.written) h.known)
-          ((x.runs.leaves some.0 some.1).down c o) in
+          let holds = ap (λ (l : LineState). l.written) h.known in
+          let less = short_of (is_listed report.failed c Down) (known_lines d c Down) (known_lines e c Down) octets h.line.written listed (empty Down was)
+          holds ((x.runs.leaves some.0 some.1).down c o) in
           omega (arith, all, less, whole_down some.0 c in_range, fewer)
       by Out listed h was =
           let all = full Out (160 * periods) h.line listed h.ample h.known was in
           let octets = out_of_call some.0 c in
-          let less = short_of (is_listed report.failed c Out) (known_lines d c Out) (known_lines e c Out) octets h.line.written listed (empty Out was) (ap (λ (l : LineState). l.written) h.known)
-          ((x.runs.leaves some.0 some.1).out c o) in
+          let holds = ap (λ (l : LineState). l.written) h.known in
+          let less = short_of (is_listed report.failed c Out) (known_lines d c Out) (known_lines e c Out) octets h.line.written listed (empty Out was)
+          holds ((x.runs.leaves some.0 some.1).out c o) in
           omega (arith, all, less, whole_out some.0 c in_range, fewer)
 
   pub none_failed : report.failed ≡ []
@@ -235,38 +186,3 @@ module _ (seed calls periods : ℕ) (d e : DrillMemory) (orders : List Order) (p
     | inl o ↦ busy c s listed o
     | inr q ↦ idle c s listed (λ o. true≢false (sym o ∙ q))
   ])
-
-  -- ---- so the run is that of the definition
-
-  is_over : IsRunOver orders pace.periods none_fails (known_lines d) (known_lines e) (drilled_run seed calls periods)
-  is_over = record {
-    same_orders = sym x.ordered;
-    same_periods = sym x.to_last;
-    up = λ c o. (let n = its_calls (drilled_run seed calls periods) c (sym x.ordered) o in ap (λ (l : LineState). l.to_come) (at_first c Up n.0 n.1));
-    pcm = λ c o. (let n = its_calls (drilled_run seed calls periods) c (sym x.ordered) o in ap (λ (l : LineState). l.to_come) (at_first c Pcm n.0 n.1));
-    up_failed = λ c. refl;
-    pcm_failed = λ c. refl;
-  }
-
-  over_listed : IsRunOver orders pace.periods (is_listed report.failed) (known_lines d) (known_lines e) (drilled_run seed calls periods)
-  over_listed = subst (λ (ls : List Line). IsRunOver orders pace.periods (is_listed ls) (known_lines d) (known_lines e) (drilled_run seed calls periods)) (sym none_failed) is_over
-
-  pub report_is : report ≡ report_of (drilled_run seed calls periods) []
-  report_is = x.runs.reports (drilled_run seed calls periods) over_listed ∙ ap (report_of (drilled_run seed calls periods)) none_failed
-
-  pub drill_leaves : Leaves (drilled_run seed calls periods) none_fails (known_lines d) (known_lines e)
-  drill_leaves = subst (λ (ls : List Line). Leaves (drilled_run seed calls periods) (is_listed ls) (known_lines d) (known_lines e)) none_failed (x.runs.leaves (drilled_run seed calls periods) over_listed)
-
-  pub drilled_calls : (c : ℕ) → IsOpened (drilled_run seed calls periods) c → (1 ≤ c) × (c ≤ calls)
-  drilled_calls c o = its_calls (drilled_run seed calls periods) c (sym x.ordered) o
-
-  pub drill_calm : (c : ℕ) (s : Side) → 1 ≤ c → c ≤ calls → (known_lines e c s).faults ≡ 0
-  drill_calm c s first last =
-      let kept = x.runs.failed.failures.kept c s (ap (λ (ls : List Line). is_listed ls c s) none_failed) in
-      kept ∙ ap (λ (l : LineState). l.faults) (at_first c s first last) ∙ calm s
-    where
-      calm : (s : Side) → (line_of_call seed c periods s).faults ≡ 0
-      calm Up = refl
-      calm Pcm = refl
-      calm Down = refl
-      calm Out = refl

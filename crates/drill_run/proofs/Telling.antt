@@ -32,7 +32,8 @@ use Rattle.farm_run.specs.declared.pace.Pace.{Pace}
 use Rattle.farm_run.specs.Runs.{Runs}
 use Rattle.drill_run.specs.Drilled.{IsDrilled, drilled_run, text_with_sums}
 use Rattle.drill_run.specs.Rooms.{AreAmple, DrillMemory, known_lines}
-use Rattle.drill_run.proofs.Quiet.{Drilling, at_first, drill_calm, drill_leaves, drilled_calls, report_is}
+use Rattle.drill_run.proofs.Quiet.{Drilling, at_first}
+use Rattle.drill_run.proofs.Over.{drill_calm, drill_leaves, drilled_calls, report_is}
 
 -- what the run of a drill knows
 pub drilling_of : (seed calls periods : ℕ) (d e : DrillMemory) (lines : List MemoryLine) (orders : List Order) (pace : Pace) (report : ReportView) (text shown : List ℕ) →

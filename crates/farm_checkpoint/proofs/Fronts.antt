@@ -7,21 +7,21 @@ use Rattle.std.proofs.lemmas.List.{length-append, length-map, take-take, take-ap
 use Rattle.std.proofs.lemmas.List.Folds.{concat-append}
 use Rattle.std.proofs.lemmas.List.Elements.{All-nil, All-cons, All-head, All-tail}
 use Rattle.farm_checkpoint.specs.declared.mark.MarkCall.{MarkCall}
-use Rattle.farm_checkpoint.specs.Marks.{MarkView, IsLive, HasSums, IsMark}
+use Rattle.farm_checkpoint.specs.Marks.{MarkView, IsOpenAtMark, HasSums, IsMark}
 use Rattle.farm_checkpoint.specs.Text.{save_line, call_text, orders_line, mark_lines, mark_text, HasLines, IsRead, HasOneMark, NotGoodAndBad, HasOneFirst}
 use Rattle.farm_checkpoint.proofs.Fields.{Fits, one_field, save_field}
 use Rattle.farm_checkpoint.proofs.Lines.{lines_of, not_orders, text_of_lines, one_list, Next, next_line}
 
-pub all_fit : (period : ℕ) (calls : List MarkCall) → period ≤ 4294967295 → All (IsLive period) calls → All HasSums calls → All Fits calls
-all_fit period [] small live sums = All-nil Fits
-all_fit period (c ∷ calls) small live sums =
-    let is = All-head (IsLive period) c calls live in
+pub all_fit : (period : ℕ) (calls : List MarkCall) → period ≤ 4294967295 → All (IsOpenAtMark period) calls → All HasSums calls → All Fits calls
+all_fit period [] small are_open sums = All-nil Fits
+all_fit period (c ∷ calls) small are_open sums =
+    let is = All-head (IsOpenAtMark period) c calls are_open in
     let has = All-head HasSums c calls sums in
     All-cons Fits c calls (record { call = omega (arith, is.number.1); from = omega (arith, small, is.opened); out = has.0; down = has.1 })
-    (all_fit period calls small (All-tail (IsLive period) c calls live) (All-tail HasSums c calls sums))
+    (all_fit period calls small (All-tail (IsOpenAtMark period) c calls are_open) (All-tail HasSums c calls sums))
 
 pub fits : (mark : MarkView) → IsMark mark → All Fits mark.calls
-fits mark is = all_fit mark.period mark.calls is.at_most is.live.each is.sums
+fits mark is = all_fit mark.period mark.calls is.at_most is.are_open.each is.sums
 
 -- a text's first line is that of one period
 pub one_period : (p q : ℕ) (a b : List ℕ) → 1 ≤ p → p ≤ 4294967295 → 1 ≤ q → q ≤ 4294967295 → save_line p ++ a ≡ save_line q ++ b → (p ≡ q) × (a ≡ b)

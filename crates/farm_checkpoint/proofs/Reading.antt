@@ -7,7 +7,7 @@ use Rattle.std.proofs.lemmas.List.Quantifiers.{all_pairs_push}
 use Rattle.std.proofs.lemmas.Grind.{flat_map-append}
 use Rattle.std.proofs.Math.Seq.{get_or-append_seam}
 use Rattle.farm_checkpoint.specs.declared.mark.MarkCall.{MarkCall}
-use Rattle.farm_checkpoint.specs.Marks.{MarkView, NumbersRise, IsLive, HasSums}
+use Rattle.farm_checkpoint.specs.Marks.{MarkView, NumbersRise, IsOpenAtMark, HasSums}
 use Rattle.farm_checkpoint.specs.Text.{save_line, call_text, orders_line, mark_lines, mark_text, HasLines, IsFirstBad, IsRead}
 use Rattle.farm_checkpoint.specs.Reading.{AreCallLines, RisesAbove, IsBadCall}
 use Rattle.farm_checkpoint.proofs.Fields.{Fits}
@@ -26,7 +26,7 @@ pub record HasCalls (period : ℕ) (text : List ℕ) (calls : List MarkCall) (re
 pub no_calls : (period : ℕ) (text : List ℕ) → HasCalls period text [] text 0
 no_calls period text = record {
   so_far = record {
-    live = record { each = All-nil (IsLive period); rising = λ i j d less within. absurd (omega (arith, within)) };
+    are_open = record { each = All-nil (IsOpenAtMark period); rising = λ i j d less within. absurd (omega (arith, within)) };
     sums = All-nil HasSums;
     whole = refl;
   };
@@ -37,19 +37,19 @@ no_calls period text = record {
 }
 
 pub push_call : (period : ℕ) (text : List ℕ) (calls : List MarkCall) (rest after : List ℕ) (last : ℕ) (c : MarkCall) →
-    HasCalls period text calls rest last → IsLive period c → HasSums c → last < c.call →
+    HasCalls period text calls rest last → IsOpenAtMark period c → HasSums c → last < c.call →
     rest ≡ call_text c ++ after → length after < length rest → HasCalls period text (calls ++ c ∷ []) after c.call
-push_call period text calls rest after last c has live sums above line shorter = record {
+push_call period text calls rest after last c has is_open sums above line shorter = record {
   so_far = record {
-    live = record {
-      each = All-push (IsLive period) calls c has.so_far.live.each live;
-      rising = all_pairs_push (λ a b. a.call < b.call) calls c has.so_far.live.rising
+    are_open = record {
+      each = All-push (IsOpenAtMark period) calls c has.so_far.are_open.each is_open;
+      rising = all_pairs_push (λ a b. a.call < b.call) calls c has.so_far.are_open.rising
           (λ k d within. omega (arith, above, All-get_or (λ e. e.call ≤ last) calls k d within has.below));
     };
     sums = All-push HasSums calls c has.so_far.sums sums;
     whole = has.so_far.whole ∙ ap (λ t. flat_map call_text calls ++ t) line ∙ sym (append_assoc (flat_map call_text calls) (call_text c) after) ∙ ap (λ t. t ++ after) pushed;
   };
-  low = live.number.1;
+  low = is_open.number.1;
   below = All-push (λ e. e.call ≤ c.call) calls c (weaker c.call (omega (arith, above))) (omega arith);
   least = λ d least follows. rw (get_or-append_seam calls c [] c) at (All-get_or (λ e. e.call < d.call) (calls ++ c ∷ []) (length calls) c (omega (arith, length-append calls (c ∷ []))) follows);
   size = omega (arith, has.size, shorter, length-append calls (c ∷ []));
@@ -68,13 +68,13 @@ shorter c rest after line = let e = ap length line in let size = length-append (
 
 -- nothing that may follow is left
 pub stuck : (period : ℕ) (text : List ℕ) (calls : List MarkCall) (rest : List ℕ) (last n : ℕ) → HasCalls period text calls rest last →
-    ((c : MarkCall) (after : List ℕ) → IsLive period c → HasSums c → last < c.call → rest ≡ call_text c ++ after → ⊥) →
+    ((c : MarkCall) (after : List ℕ) → IsOpenAtMark period c → HasSums c → last < c.call → rest ≡ call_text c ++ after → ⊥) →
     ((after : List ℕ) → rest ≡ orders_line ++ after → ⊥) → n ≡ length calls + 2 → IsBadCall period text n
 stuck period text calls rest last n has no_call no_orders number = record {
   calls = calls;
   rest = rest;
   good = has.so_far;
-  stuck = record { no_call = λ c after live sums follows line. no_call c after live sums (has.least c live.number.0 follows) line; no_orders = no_orders };
+  stuck = record { no_call = λ c after is_open sums follows line. no_call c after is_open sums (has.least c is_open.number.0 follows) line; no_orders = no_orders };
   number = number;
 }
 
@@ -92,7 +92,7 @@ bad_call period n text behind low high first is = record {
   at_least = omega (arith, is.number);
   before = before;
   good = record {
-    is = record { at_least = low; at_most = high; live = is.good.live; sums = is.good.sums };
+    is = record { at_least = low; at_most = high; are_open = is.good.are_open; sums = is.good.sums };
     many = omega (arith, is.number, lines_count before);
     rest = is.rest;
     whole = front ∙ ap (λ t. t ++ is.rest) (sym good_lines);
@@ -107,7 +107,7 @@ bad_call period n text behind low high first is = record {
     before = record { period = period; calls = is.calls }
 
     fit : All Fits is.calls
-    fit = all_fit period is.calls high is.good.live.each is.good.sums
+    fit = all_fit period is.calls high is.good.are_open.each is.good.sums
 
     whole : text ≡ save_line period ++ (flat_map call_text is.calls ++ is.rest)
     whole = first ∙ ap (λ t. save_line period ++ t) is.good.whole
@@ -121,10 +121,10 @@ bad_call period n text behind low high first is = record {
     one_follows : (mark : MarkView) → HasLines text mark n → period ≡ mark.period → (y : MarkCall) (zs : List MarkCall) (after : List ℕ) →
         mark.calls ≡ is.calls ++ y ∷ zs → is.rest ≡ call_text y ++ after → ⊥
     one_follows mark has same y zs after ahead line =
-        let live = subst (λ ys. All (IsLive mark.period) ys) ahead has.is.live.each in
+        let are_open = subst (λ ys. All (IsOpenAtMark mark.period) ys) ahead has.is.are_open.each in
         let sums = subst (λ ys. All HasSums ys) ahead has.is.sums in
-        let rising = subst NumbersRise ahead has.is.live.rising in
-        is.stuck.no_call y after (subst (λ p. IsLive p y) (sym same) (at_seam (IsLive mark.period) is.calls y zs live)) (at_seam HasSums is.calls y zs sums) (front_below is.calls y zs rising) line
+        let rising = subst NumbersRise ahead has.is.are_open.rising in
+        is.stuck.no_call y after (subst (λ p. IsOpenAtMark p y) (sym same) (at_seam (IsOpenAtMark mark.period) is.calls y zs are_open)) (at_seam HasSums is.calls y zs sums) (front_below is.calls y zs rising) line
 
     refute : (mark : MarkView) → HasLines text mark n → period ≡ mark.period → Next is.calls mark.calls is.rest → ⊥
     refute mark has same next =
@@ -145,7 +145,7 @@ bad_first text none = record {
     is = record {
       at_least = omega arith;
       at_most = omega arith;
-      live = record { each = All-nil (IsLive 1); rising = λ i j d less within. absurd (omega (arith, within)) };
+      are_open = record { each = All-nil (IsOpenAtMark 1); rising = λ i j d less within. absurd (omega (arith, within)) };
       sums = All-nil HasSums;
     };
     many = omega arith;
@@ -161,7 +161,7 @@ pub read_whole : (text behind orders : List ℕ) (period : ℕ) (calls : List Ma
     text ≡ save_line period ++ behind →
     AreCallLines period behind calls (orders_line ++ orders) → octets ≡ length text - length orders → IsRead text (record { period = period; calls = calls }) octets
 read_whole text behind orders period calls octets low high first are size = record {
-  is = record { at_least = low; at_most = high; live = are.live; sums = are.sums };
+  is = record { at_least = low; at_most = high; are_open = are.are_open; sums = are.sums };
   orders = orders;
   whole = whole;
   place = let e = ap length whole in omega (arith, size, e, length-append (mark_text mark) orders);

@@ -13,23 +13,23 @@ pub record MarkView : Type 0 where
 abbrev pub NumbersRise : List MarkCall → Type 0
 NumbersRise calls = AllPairs (λ earlier later. earlier.call < later.call) calls
 
--- a call that may be live at the start of a period: it has a call's number, and began before
-pub record IsLive (period : ℕ) (call : MarkCall) : Type 0 where
+-- a call that may be open at a mark's period: it has a call's number, and was opened before
+pub record IsOpenAtMark (period : ℕ) (call : MarkCall) : Type 0 where
   pub number : IsCallNumber call.call
   pub opened : call.from < period
 
--- live calls, in the order of their numbers
-pub record AreLive (period : ℕ) (calls : List MarkCall) : Type 0 where
-  pub each : All (IsLive period) calls
+-- calls that may be open there, in rising order of their numbers
+pub record AreOpenAtMark (period : ℕ) (calls : List MarkCall) : Type 0 where
+  pub each : All (IsOpenAtMark period) calls
   pub rising : NumbersRise calls
 
 -- its sums are numbers modulo 2 ^ 32
 abbrev pub HasSums : MarkCall → Type 0
 HasSums call = (call.out ≤ 4294967295) × (call.down ≤ 4294967295)
 
--- a mark's period is one behind which a run may stand, its calls are live there, and its sums are sums
+-- a mark's period is one at which a run may stand, its calls may be open there, and its sums are sums
 pub record IsMark (mark : MarkView) : Type 0 where
   pub at_least : 1 ≤ mark.period
   pub at_most : mark.period ≤ 4294967295
-  pub live : AreLive mark.period mark.calls
+  pub are_open : AreOpenAtMark mark.period mark.calls
   pub sums : All HasSums mark.calls

@@ -2,12 +2,12 @@
 use Rattle.std.specs.Prelude.{ℕ, ◌+◌, ◌<◌, ◌≡◌, List, ◌++◌, length}
 use Rattle.std.specs.List.{All, flat_map}
 use Rattle.farm_checkpoint.specs.declared.mark.MarkCall.{MarkCall}
-use Rattle.farm_checkpoint.specs.Marks.{IsLive, AreLive, HasSums}
+use Rattle.farm_checkpoint.specs.Marks.{IsOpenAtMark, AreOpenAtMark, HasSums}
 use Rattle.farm_checkpoint.specs.Text.{call_text, orders_line}
 
 -- the lines of these calls, and then this rest
 pub record AreCallLines (period : ℕ) (text : List ℕ) (calls : List MarkCall) (rest : List ℕ) : Type 0 where
-  pub live : AreLive period calls
+  pub are_open : AreOpenAtMark period calls
   pub sums : All HasSums calls
   pub whole : text ≡ flat_map call_text calls ++ rest
 
@@ -17,7 +17,7 @@ RisesAbove calls call = All (λ earlier. earlier.call < call.call) calls
 
 -- the rest begins with no line that may follow these calls
 pub record IsStuck (period : ℕ) (calls : List MarkCall) (rest : List ℕ) : Type 0 where
-  pub no_call : (call : MarkCall) (after : List ℕ) → IsLive period call → HasSums call → RisesAbove calls call → rest ≡ call_text call ++ after → ⊥
+  pub no_call : (call : MarkCall) (after : List ℕ) → IsOpenAtMark period call → HasSums call → RisesAbove calls call → rest ≡ call_text call ++ after → ⊥
   pub no_orders : (after : List ℕ) → rest ≡ orders_line ++ after → ⊥
 
 -- line n of the whole text is the first that may not stand there

@@ -1,7 +1,7 @@
 //! The mark of a checkpoint: where a run stood at a period of 20 ms, as a text.
 //!
 //! A run that goes on later from its recordings works them again from the start, and tells by the mark that it stands
-//! where the first part ended. The mark has the calls that were live, each with its first period and the sums of the
+//! where the first part ended. The mark has the calls that were open, each with its first period and the sums of the
 //! octets of its outgoing lines. Here it is written, read back, and compared.
 //!
 //! The text is this project's profile.

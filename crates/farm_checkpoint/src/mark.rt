@@ -7,7 +7,7 @@ ghost use Rattle.farm_checkpoint.specs.Differences.{IsLeastDifference};
 use crate::compare::first_difference;
 use std::marker::Model;
 
-/// A call that is live where a run is marked.
+/// A call that is open where a run is marked.
 #[derive(Clone, Copy, Debug, PartialEq, Eq)]
 pub struct MarkCall {
     /// Its number, 1 to 4,096.
@@ -23,9 +23,9 @@ pub struct MarkCall {
 /// Where a run stood at a period. Contracts see its period and its calls.
 #[derive(Drop)]
 pub struct Mark {
-    /// The periods of 20 ms that the run had worked, at least 1.
+    /// The period of 20 ms before whose orders the run stood, at least 1.
     pub period: u32,
-    /// The live calls, in rising order of their numbers.
+    /// The open calls, in rising order of their numbers.
     pub calls: Vec<MarkCall>,
 }
 

@@ -2,7 +2,7 @@
 
 ghost use Rattle.std.specs.Prelude.{◌≡◌, ◌++◌, ◌≤◌, IfOk, OnOk, string_bytes};
 ghost use Rattle.std.specs.List.{flat_map, All};
-ghost use Rattle.farm_checkpoint.specs.Marks.{AreLive, HasSums, IsMark};
+ghost use Rattle.farm_checkpoint.specs.Marks.{AreOpenAtMark, HasSums, IsMark};
 ghost use Rattle.farm_checkpoint.specs.Text.{call_text, mark_text};
 
 use crate::{Mark, MarkCall};
@@ -32,11 +32,11 @@ fn put_calls(text: &mut String, calls: &[MarkCall]) -> Result<(), AllocError>
     Ok(())
 }
 
-/// The text of a mark, whose period is at least 1 and whose calls are live there, in rising order of their numbers. It is
+/// The text of a mark, whose period is at least 1 and whose calls are open there, in rising order of their numbers. It is
 /// a mark's text, so it is read again.
 pub fn write_mark(alloc: Global, m: &Mark) -> Result<String, AllocError>
     requires period { 1 ≤ m.now.period }
-    requires live { AreLive m.now.period m.now.calls }
+    requires are_open { AreOpenAtMark m.now.period m.now.calls }
     ensures text { IfOk result (λ text. string_bytes text ≡ mark_text m.now) }
     ensures mark { IfOk result (λ text. IsMark m.now) }
 {

@@ -6,7 +6,7 @@ use Rattle.trau_io.specs.declared.line.Side.{Side}
 use Rattle.trau_io.specs.Lines.{LineState}
 use Rattle.trau_orders.specs.declared.order.Order.{Order}
 use Rattle.trau_orders.specs.Lists.{AreOrders}
-use Rattle.farm_checkpoint.specs.Marks.{MarkView, AreLive}
+use Rattle.farm_checkpoint.specs.Marks.{MarkView, AreOpenAtMark}
 use Rattle.run_spec.specs.Run.{Run}
 use Rattle.run_spec.specs.Mark.{mark_of}
 use Rattle.farm_run.specs.declared.pace.Pace.{Pace}
@@ -33,4 +33,4 @@ pub record Saves (orders : List Order) (pace : Pace) (before now : ℕ → Side 
   pub there : AreOrders orders → AreTold before → (r : Run) × IsRunOver orders pace.periods (is_listed saved.failed) before now r
   -- wherever that is so or not, the mark is one that may be written: its period is that of the run's end, and its calls began before
   pub period : saved.mark.period ≡ pace.periods
-  pub live : AreLive saved.mark.period saved.mark.calls
+  pub are_open : AreOpenAtMark saved.mark.period saved.mark.calls

@@ -22,7 +22,8 @@ use Rattle.farm_top.specs.Resume.{ResumesFarm}
 use Rattle.farm_top.specs.Save.{SavesFarm}
 use Rattle.farm_top.specs.Slots.{MergeEnds, SplitEnds}
 use Rattle.farm_top.specs.Top.{Carries, CarriesAsked, CarriesFrames, IsInRange}
-use Rattle.farm_top.specs.Words.{AreCommand, AsksFor, AsksForDrill, AsksForFollow, AsksForFrames, AsksForLive, AsksForMerge, AsksForResume, AsksForRun, AsksForSave, AsksForSplit, TakeOptions}
+use Rattle.farm_top.specs.Words.{AreCommand, AsksFor, AsksForDrill, AsksForFollow, AsksForFrames, AsksForLive, AsksForMerge, AsksForResume, AsksForRun}
+use Rattle.farm_top.specs.Words.{AsksForSave, AsksForSplit, TakeOptions}
 
 -- a tool's work on a call
 abbrev pub asked_of : Tool → ℕ → Asked
@@ -124,9 +125,9 @@ in_range words (Relay c) asks = (asks.low, asks.high)
 in_range words (Frames c) asks = (asks.low, asks.high)
 in_range words (Encode c) asks = (asks.low, asks.high)
 in_range words (Decode c) asks = (asks.low, asks.high)
-in_range words (Follow c want) asks = (asks.low, asks.high, asks.wanted.high, asks.wanted.fours)
-in_range words (Split c) asks = (asks.low, asks.high)
-in_range words (Merge c) asks = (asks.low, asks.high)
+in_range words (Follow c want) asks = ((asks.low, asks.high), asks.wanted.high, asks.wanted.fours)
+in_range words (Split c) asks = ((asks.low, omega (arith, asks.high)), (omega arith, omega (arith, asks.high)))
+in_range words (Merge c) asks = ((asks.low, omega (arith, asks.high)), (omega arith, omega (arith, asks.high)))
 
 module _ (words : List (List ℕ)) (a : Asked) (meant : Asks words a) (before now : ℕ → Side → LineState) (desk desk' : DeskState) (status : ℕ) where
   carries_tool : (t : Tool) (c : ℕ) → CarriesAsked (asked_of t c) before now desk desk' status → Carries t before now desk desk' c status

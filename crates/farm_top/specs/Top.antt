@@ -1,5 +1,6 @@
 -- What the top call does with a command.
-use Rattle.std.specs.Prelude.{◌≡◌, ◌≢◌, ℕ, ◌≤◌, ◌%◌, codes}
+use Rattle.std.specs.Prelude.{◌≡◌, ◌≢◌, ℕ, ◌+◌, ◌≤◌, ◌%◌, codes}
+use Rattle.call_number.specs.CallNumber.{IsCallNumber}
 use Rattle.trau_io.specs.declared.line.Side.{Side}
 use Rattle.trau_io.specs.Lines.{LineState}
 use Rattle.trau_io.specs.Desks.{DeskState}
@@ -42,20 +43,20 @@ pub record CarriesFrames (before now : ℕ → Side → LineState) (desk desk' :
   pub answers : Answers end left desk' status
 
 -- what is asked for is in its ranges: a run's pace, a drill's calls and periods, what a live drill is made of, the call of a tool, that and the wanted place of
--- the base station's end, or the first call of a slot
+-- the base station's end, or the first and the last call of a slot
 abbrev pub IsInRange : Asked → Type 0
 IsInRange (Run s) = IsPace (pace_of s)
 IsInRange (Save s) = IsPace (pace_of s)
 IsInRange (Resume s) = IsPace (pace_of s)
 IsInRange (Drill seed calls s) = (calls ≤ 256) × (s.periods ≤ 1000) × IsPace (pace_of s)
 IsInRange (Live s) = IsLiveDrill (live_of s)
-IsInRange (Relay c) = (1 ≤ c) × (c ≤ 4096)
-IsInRange (Frames c) = (1 ≤ c) × (c ≤ 4096)
-IsInRange (Encode c) = (1 ≤ c) × (c ≤ 4096)
-IsInRange (Decode c) = (1 ≤ c) × (c ≤ 4096)
-IsInRange (Follow c want) = (1 ≤ c) × (c ≤ 4096) × (want ≤ 316) × (want % 4 ≡ 0)
-IsInRange (Split c) = (1 ≤ c) × (c ≤ 4093)
-IsInRange (Merge c) = (1 ≤ c) × (c ≤ 4093)
+IsInRange (Relay c) = IsCallNumber c
+IsInRange (Frames c) = IsCallNumber c
+IsInRange (Encode c) = IsCallNumber c
+IsInRange (Decode c) = IsCallNumber c
+IsInRange (Follow c want) = IsCallNumber c × (want ≤ 316) × (want % 4 ≡ 0)
+IsInRange (Split c) = IsCallNumber c × IsCallNumber (c + 3)
+IsInRange (Merge c) = IsCallNumber c × IsCallNumber (c + 3)
 
 -- what is asked for was carried out, whatever fails
 abbrev pub CarriesAsked : Asked → (ℕ → Side → LineState) → (ℕ → Side → LineState) → DeskState → DeskState → ℕ → Type 0

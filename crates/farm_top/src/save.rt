@@ -1,7 +1,7 @@
 //! The command `save`: the orders from the desk, the run over the lines, and its mark at its end to the desk.
 
 ghost use Rattle.std.specs.Prelude.{◌≡◌, ◌≤◌, IfOk, string_bytes};
-ghost use Rattle.farm_checkpoint.specs.Marks.{AreLive};
+ghost use Rattle.farm_checkpoint.specs.Marks.{AreOpenAtMark};
 ghost use Rattle.farm_run.specs.Pace.{IsPace};
 ghost use Rattle.farm_top.specs.Farm.{TellsRun, pace_of};
 ghost use Rattle.farm_top.specs.Save.{SavesFarm, saved_text};
@@ -21,7 +21,7 @@ use trau_io::{Desk, Trunk};
 // The text of a run that was marked: the mark, or the lines that failed where there are any.
 fn saved_text(alloc: Global, saved: &Saved) -> Result<String, AllocError>
     requires period { 1 ≤ saved.now.mark.period }
-    requires live { AreLive saved.now.mark.period saved.now.mark.calls }
+    requires are_open { AreOpenAtMark saved.now.mark.period saved.now.mark.calls }
     ensures { IfOk result (λ text. string_bytes text ≡ saved_text saved.now.failed saved.now.mark) }
 {
     if saved.failed.is_empty() {
@@ -34,7 +34,7 @@ fn saved_text(alloc: Global, saved: &Saved) -> Result<String, AllocError>
 // Tells the text of a run that was marked.
 fn tell_saved<D: Desk>(alloc: Global, saved: &Saved, desk: &mut D) -> u8
     requires period { 1 ≤ saved.now.mark.period }
-    requires live { AreLive saved.now.mark.period saved.now.mark.calls }
+    requires are_open { AreOpenAtMark saved.now.mark.period saved.now.mark.calls }
     ensures { TellsRun saved.now.failed (saved_text saved.now.failed saved.now.mark) (D.desk desk.old) (D.desk desk.new) result }
 {
     let Ok(text) = saved_text(alloc, saved) else {

@@ -4,6 +4,8 @@ mod Behind
 mod Resting
 mod Octets
 mod Telling
+mod Worked
+mod Known
 mod Ended
 mod Lines
 mod Callers

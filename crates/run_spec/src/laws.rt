@@ -89,7 +89,7 @@ pub fn bridges_go_on()
     ensures same { (r : Run) (t k : ℕ) (ds : List Done) (left : List Order) (c : ℕ) (x : Bridge) → IsSoFar r t ds left → t ≤ k →
         bridge_of (gone_at (whole_in r) t ds) ds c ≡ Some x → has_period r ds k c ≡ true →
         bridge_now r ds k c ≡ (if has_period r ds k (other c x) then Some x else None) }
-    ensures settings_later { (r : Run) (t u k : ℕ) (ds : List Done) (left : List Order) (c : ℕ) → IsSoFar r t ds left → t ≤ u → u ≤ k →
+    ensures later { (r : Run) (t u k : ℕ) (ds : List Done) (left : List Order) (c : ℕ) → IsSoFar r t ds left → t ≤ u → u ≤ k →
         bridge_now r ds k c ≡ elim (bridge_of (gone_at (whole_in r) u ds) ds c) [
           | None ↦ None
           | Some x ↦ if has_period r ds k x.a && has_period r ds k x.b then Some x else None

@@ -28,7 +28,7 @@ abbrev pub contains : Interval → ℤ → Bool
 contains i (pos n) = i.is_positive && has_magnitude i n
 contains i (negsuc n) = not i.is_positive && has_magnitude i n
 
--- the middle of the interval, with its sign
+-- the value that stands for the interval: its centre, with its sign
 abbrev pub middle : Interval → ℤ
 middle i = if i.is_positive then pos i.centre else neg_ℤ (pos i.centre)
 

@@ -6,9 +6,10 @@
 //! `long_words` those on 32 bits, `products` the sum of a word and a rounded product that filters are
 //! made of, `random` the random source.
 //!
-//! Definitions: `specs/Num.antt` and `specs/Random.antt`, and `specs/Weights.antt` (the weight of a list). Lemmas that the crates above share: `proofs/Fill.antt`
-//! (lists of a fixed size that a loop fills place by place) and `proofs/Greatest.antt` (a search for the least
-//! number at which a function is greatest).
+//! Definitions: `specs/Num.antt` and `specs/Random.antt`, and `specs/Weights.antt` (the weight of a list). Lemmas that
+//! the crates above share: `proofs/Fill.antt` (lists of a fixed size that a loop fills entry by entry),
+//! `proofs/Greatest.antt` (a search for the least number at which a function is greatest), `proofs/Clamped.antt` (what
+//! saturates is a word) and `proofs/Fitting.antt` (what fits a word).
 #![tactic(auto)]
 
 mod long_words;

@@ -1,6 +1,5 @@
 //! The texts of the commands.
 ghost use Rattle.std.specs.Prelude.{◌≡◌, ◌≤◌, length};
-ghost use Rattle.trau_io.specs.Texts.{failed_text};
 ghost use Rattle.trau_submux.specs.Tools.{merge_text, split_text, two_text};
 
 use crate::cut::SplitEnd;
@@ -8,19 +7,9 @@ use crate::join::MergeEnd;
 use arrayvec::ArrayString;
 use farm_tools::failed_line;
 use itoa::Buffer;
-use trau_io::Line;
-
-// The text of a line that failed.
-fn text_of_failed(line: Line) -> ArrayString<128>
-    ensures { result.bytes ≡ failed_text line.call line.side }
-{
-    let mut text = ArrayString::new();
-    text.push_str(failed_line(line.call, line.side).as_str());
-    text
-}
 
 /// The text of a split's end, one line.
-pub(crate) fn text_of_split(end: SplitEnd) -> ArrayString<128>
+pub(crate) fn text_of_split(end: SplitEnd) -> ArrayString<64>
     ensures { result.bytes ≡ split_text end }
 {
     match end {
@@ -34,7 +23,7 @@ pub(crate) fn text_of_split(end: SplitEnd) -> ArrayString<128>
             text.push_str("\n");
             text
         }
-        SplitEnd::LineFailed(line) => text_of_failed(line),
+        SplitEnd::LineFailed(line) => failed_line(line.call, line.side),
     }
 }
 
@@ -56,18 +45,18 @@ fn two_numbers(first: u32, second: u32) -> ArrayString<32>
 pub(crate) fn text_of_merge(end: MergeEnd) -> ArrayString<128>
     ensures { result.bytes ≡ merge_text end }
 {
+    let mut text = ArrayString::new();
     match end {
         MergeEnd::Done(octets, left) => {
             let mut digits = Buffer::new();
-            let mut text = ArrayString::new();
             text.push_str("merge octets ");
             text.push_str(digits.format(octets));
             text.push_str(" left");
             text.push_str(two_numbers(left[0], left[1]).as_str());
             text.push_str(two_numbers(left[2], left[3]).as_str());
             text.push_str("\n");
-            text
         }
-        MergeEnd::LineFailed(line) => text_of_failed(line),
+        MergeEnd::LineFailed(line) => text.push_str(failed_line(line.call, line.side).as_str()),
     }
+    text
 }

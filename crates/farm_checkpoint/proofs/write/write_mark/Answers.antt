@@ -22,6 +22,6 @@ returns-clause-mark c =
     record {
       at_least = c.requires.period;
       at_most = omega (arith, period);
-      live = c.requires.live;
+      are_open = c.requires.are_open;
       sums = subst (λ cs. All HasSums cs) calls c.in_ok-put_calls.ensures.sums;
     }

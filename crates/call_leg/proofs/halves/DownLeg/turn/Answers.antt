@@ -4,7 +4,8 @@ use Rattle.call_leg.specs.Settings.{settings_later, period_with}
 use Rattle.call_leg.specs.Memory.{DownMemory, down_memory}
 use Rattle.call_leg.specs.Places.{Between}
 use Rattle.call_leg.specs.Halves.{noted, item_of, handed_bits}
-use Rattle.call_leg.proofs.HalfLaws.{is_some-item, down_turn-step, down_turn-stands, down-keeps}
+use Rattle.call_leg.proofs.HalfLaws.{down_turn-stands}
+use Rattle.call_leg.proofs.HalfSteps.{is_some-item, down_turn-step, down-keeps}
 use Rattle.call_leg.proofs.halves.DownLeg.turn.Goals as goal
 
 pub returns-clause-step : goal.returns-clause-step

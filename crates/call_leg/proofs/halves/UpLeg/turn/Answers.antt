@@ -4,7 +4,8 @@ use Rattle.call_leg.specs.Uplink.{sighting_of}
 use Rattle.call_leg.specs.Settings.{settings_later, period_with}
 use Rattle.call_leg.specs.Halves.{UpMemory, Note, up_turned, UpStands}
 use Rattle.call_leg.specs.contracts.halves.UpLeg.{the_view}
-use Rattle.call_leg.proofs.HalfLaws.{turn-step, turn-stands, turn-note, turn-plays}
+use Rattle.call_leg.proofs.HalfLaws.{turn-stands, turn-note, turn-plays}
+use Rattle.call_leg.proofs.HalfSteps.{turn-step}
 use Rattle.call_leg.proofs.halves.UpLeg.turn.Goals as goal
 
 pub returns-clause-step : goal.returns-clause-step
