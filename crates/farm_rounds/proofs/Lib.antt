@@ -1,5 +1,4 @@
 pub mod Rising
-pub mod Placing
 pub mod Finding
 pub mod Exchanging
 pub mod Orders
