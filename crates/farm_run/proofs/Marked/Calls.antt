@@ -84,7 +84,10 @@ module _ (s : Stage) (live : (c : ℕ) → is_among s.farm.live c ≡ is_some (c
     each = λ i d within.
         let long : length (map (entry_of s) s.farm.live) ≡ length s.farm.live = length-map s.farm.live (entry_of s) in
         let l : i < length s.farm.live = omega arith in
-        subst (IsOpenAtMark n) (sym (get_or-map (entry_of s) s.farm.live i 0 d l)) (record { number = numbers i 0 l; opened = openings (get_or s.farm.live i 0) });
+        subst (IsOpenAtMark n) (sym (get_or-map (entry_of s) s.farm.live i 0 d l)) (record {
+          number = numbers i 0 l;
+          opened = openings (get_or s.farm.live i 0);
+        });
     rising = numbers_rise;
   }
     where
