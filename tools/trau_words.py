@@ -29,7 +29,7 @@ class Command:
 
 @dataclass(frozen=True)
 class Option:
-    """An option of `run`, `drill` or `live`, with the range of its value, and its value where it isn't given."""
+    """An option of `run`, `save`, `resume`, `drill` or `live`, with the range of its value, and its value where it isn't given."""
 
     name: str
     least: int

@@ -32,7 +32,7 @@ use Rattle.call_leg.specs.Places.{in_u32, in_u64}
 
 -- ---- the uplink half
 
--- a field is after_asking, if there is one
+-- a field is asked, if there is one
 abbrev pub after_asking : align.AlignMemory → Option ℕ → align.AlignMemory
 after_asking m None = m
 after_asking m (Some field) = after_ask m field

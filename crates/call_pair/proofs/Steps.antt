@@ -140,7 +140,7 @@ first_left-worked s k others ts now h room enough below e b w =
     subst (HasWorked s (suc k) (period_with now (up_at k s.io) (pcm_at k s.io) None ∷ ts) (without_bridge (settings_later now))) (sym (left_alone-is h others true test))
     (alone-worked s k ts (without_bridge now) (record { leg = unbridged h.leg; io = h.io }) room enough below refl off)
 
--- a settings_later one
+-- a later one
 pub later_left-worked : (s : Start) (k others : ℕ) (ts : List CallPeriod) (now : Settings) (h : HalfMemory) → IsIo s.io → k ≤ length ts → k < s.io.given →
     others < k →
     HasWorked s k ts (without_bridge now) h → HasWorked s (suc k) (period_with now (up_at k s.io) (pcm_at k s.io) None ∷ ts) (without_bridge (settings_later now))

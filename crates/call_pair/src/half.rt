@@ -73,11 +73,10 @@ impl Half {
     }
 
     /// What a finished job left.
-    pub fn left_by(job: Box<CallJob>) -> Half
+    pub fn left_by(mut job: Box<CallJob>) -> Half
         requires { periods_left job.value ≡ 0 }
         ensures { result ≡ half_in job.value }
     {
-        let mut job = job;
         if job.io.done == 0 {
             job.rest();
         }

@@ -107,25 +107,19 @@ impl LegIo {
     }
 
     /// The octets of the next place of the Up line ..
-    pub(crate) fn up_next(&self) -> [u8; 40]
+    pub(crate) fn up_next(&self) -> &[u8; 40]
         requires { has_place self.now ≡ true }
-        ensures { result ≡ up_at self.now.done self.now }
+        ensures { result.now ≡ up_at self.now.done self.now }
     {
-        let start = 40 * self.done as usize;
-        let mut octets = [0; 40];
-        octets.copy_from_slice(&self.up[start..start + 40]);
-        octets
+        self.up[40 * self.done as usize..].first_chunk().unwrap()
     }
 
     /// .. and of the Pcm line.
-    pub(crate) fn pcm_next(&self) -> [u8; 160]
+    pub(crate) fn pcm_next(&self) -> &[u8; 160]
         requires { has_place self.now ≡ true }
-        ensures { result ≡ pcm_at self.now.done self.now }
+        ensures { result.now ≡ pcm_at self.now.done self.now }
     {
-        let start = 160 * self.done as usize;
-        let mut octets = [0; 160];
-        octets.copy_from_slice(&self.pcm[start..start + 160]);
-        octets
+        self.pcm[160 * self.done as usize..].first_chunk().unwrap()
     }
 
     /// Writes the octets of the next place of the Out line ..

@@ -6,9 +6,8 @@
 //! the effective frames of its partner, if it has one: each goes out on the downlink of the same period. So the two calls of
 //! a bridge are worked by different workers. A job touches nothing outside and takes no memory while it runs.
 //!
-//! `io` has the octets of a call in a round, `turn` one period of each half, `call_job` the job of a call, `half` what is kept
-//! of a call beside its job, and `job` the calls that belong together; `laws` says what the phases and a finished job
-//! stand for.
+//! `io` has the octets of a call in a round, `turn` one period of each half, `call_job` the job of a call, `half` its box, and
+//! `job` the calls that belong together; `laws` says what the phases and a finished job stand for.
 //!
 //! Definitions: `specs/Memory.antt` (what a job keeps), `specs/Places.antt` (where a period's octets are),
 //! `specs/Turn.antt` (one period of a job), `specs/Jobs.antt` (a job from its start to its end), `specs/Phases.antt` and

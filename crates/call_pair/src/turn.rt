@@ -49,7 +49,7 @@ pub(crate) fn work_up(up: &mut UpLeg, io: &mut LegIo, bridge_end: u32) -> UpNote
 {
     end_up(up, io.done == bridge_end);
     let mut out = [0; 160];
-    let note = up.turn(&io.up_next(), &mut out);
+    let note = up.turn(io.up_next(), &mut out);
     io.put_out(&out);
     io.count_place();
     note
@@ -76,6 +76,6 @@ pub(crate) fn work_down(
     let k = io.done as usize;
     let item = item_at(partner, k, down.bridged());
     let mut octets = [0; 40];
-    down.turn(&notes[k], item, &io.pcm_next(), &mut octets);
+    down.turn(&notes[k], item, io.pcm_next(), &mut octets);
     io.put_down(&octets);
 }

@@ -1,32 +1,11 @@
 //! A base station's end and a leg in a loop.
 
-ghost use Rattle.std.specs.Prelude.{◌≡◌, ◌<◌, ◌+◌, IfOk};
-ghost use Rattle.call_leg.specs.Memory.{periods_of_leg};
-ghost use Rattle.call_number.specs.CallNumber.{IsCallNumber};
+ghost use Rattle.std.specs.Prelude.{◌≡◌, ◌<◌, ◌+◌};
 
-use call_leg::Leg;
+use crate::call_leg_tests::Worked;
 use ccu_end::Ccu;
-use std::alloc::{AllocError, Global};
-use std::test::Fail;
 use trau_alaw::Law;
 use trau_bits::pack;
-
-fn new_leg(alloc: Global) -> Result<Leg, AllocError>
-    ensures { IfOk result (λ l. periods_of_leg l ≡ 0) }
-{
-    Leg::new(alloc, 1, Law::A)
-}
-
-// The Down octets of a period with this uplink, of a silent exchange.
-fn down_of(leg: &mut Leg, up: &[u8; 40]) -> [u8; 40]
-    requires { periods_of_leg leg.old < 100 }
-    ensures { periods_of_leg leg.new ≡ periods_of_leg leg.old + 1 }
-{
-    let mut out = [0; 160];
-    let mut down = [0; 40];
-    leg.period(up, &[0xD5; 160], &mut out, &mut down);
-    down
-}
 
 // The place of the last frame found in a period, and the octets that are sent up.
 fn follow(ccu: &mut Ccu, down: &[u8; 40]) -> (Option<u64>, [u8; 40])
@@ -42,19 +21,19 @@ fn follow(ccu: &mut Ccu, down: &[u8; 40]) -> (Option<u64>, [u8; 40])
     (place, up)
 }
 
-// Of eighty periods, how many at the end found a frame at a place that is 100 modulo 320, and none before them.
-fn periods_in_place(leg: &mut Leg, ccu: &mut Ccu) -> u32
-    requires leg { periods_of_leg leg.old ≡ 0 }
-    requires ccu { ccu.old.periods ≡ 0 }
+// Of eighty periods of a silent exchange, how many at the end found a frame at a place that is 100 modulo 320, and none
+// before them.
+fn periods_in_place(leg: &mut Worked, ccu: &mut Ccu) -> u32
+    requires { ccu.old.periods ≡ 0 }
 {
     let mut up = [0xFF; 40];
-    let mut count = 0;
+    let mut count = 0u32;
     for period in 0..80u32 {
-        let down = down_of(leg, &up);
+        let down = leg.period_of(&up, 0xD5).1;
         let (place, answer) = follow(ccu, &down);
         up = answer;
         count = match place {
-            Some(place) if place % 320 == 100 => count + 1,
+            Some(place) if place % 320 == 100 => count.saturating_add(1),
             _ => 0,
         };
     }
@@ -63,10 +42,9 @@ fn periods_in_place(leg: &mut Leg, ccu: &mut Ccu) -> u32
 
 // A loop of farm and base station settles at the wanted place, and stays.
 #[test]
-fn the_loop_settles(rt: HostRuntime) -> Result<(), Fail> {
-    let mut leg = new_leg(rt.alloc())?;
+fn the_loop_settles(rt: HostRuntime) {
+    let mut leg = Worked::new(rt.alloc(), 1, Law::A).expect(&rt, "memory");
     let mut ccu = Ccu::new(100);
     let count = periods_in_place(&mut leg, &mut ccu);
     assert_eq!(rt; count, 72);
-    Ok(())
 }

@@ -5,7 +5,6 @@ ghost use Rattle.down_framer.specs.Memory.{IsBetweenPeriods};
 
 use down_framer::Framer;
 use std::alloc::{AllocError, Global};
-use std::test::Fail;
 use time_align::Align;
 
 // Works a period whose field is asked: its downlink octets, and the number of frames made. A frame is a one and zeros.
@@ -28,69 +27,81 @@ fn period(framer: &mut Framer, align: &mut Align, field: u8) -> ([u8; 40], u32)
     (down, made)
 }
 
-// Whether such a period has these downlink octets, and makes so many frames.
-fn gives(framer: &mut Framer, align: &mut Align, field: u8, octets: &[u8; 40], made: u32) -> bool
-    requires between { IsBetweenPeriods framer.old }
-    requires field { field ≤ 63 }
-    ensures { IsBetweenPeriods framer.new }
-{
-    let (down, frames) = period(framer, align, field);
-    down == *octets && frames == made
+// A framer between its periods, and the shift that is asked of it.
+#[derive(Drop)]
+struct Line {
+    framer: Framer,
+    align: Align,
+    ghost between: { IsBetweenPeriods framer },
 }
 
-fn holds(framer: &Framer, stored: u32, held: u32, to_skip: u32) -> bool {
-    framer.stored() == stored && framer.held() == held && framer.to_skip() == to_skip
+impl Line {
+    fn new(alloc: Global) -> Result<Line, AllocError> {
+        let framer = Framer::new(alloc)?;
+        let align = Align::new();
+        Ok(Line { framer, align })
+    }
+
+    // Works a period whose field is asked.
+    fn period(&mut self, field: u8) -> ([u8; 40], u32) {
+        period(&mut self.framer, &mut self.align, field.min(63))
+    }
+
+    // How many bits are in store, and how many octets are held, and to be skipped.
+    fn holds(&self) -> [u32; 3] {
+        [
+            self.framer.stored(),
+            self.framer.held(),
+            self.framer.to_skip(),
+        ]
+    }
 }
 
 // Octets that are all the same but for one.
-fn octets_with(same: u8, place: usize, other: u8) -> [u8; 40]
-    requires { place < 40 }
-{
+fn octets_with(same: u8, place: usize, other: u8) -> [u8; 40] {
     let mut octets = [same; 40];
-    octets[place] = other;
+    octets[place % 40] = other;
     octets
 }
 
-// Whether frame 0 is put off by 39 steps, and 312 ones follow it.
-fn puts_off(framer: &mut Framer, align: &mut Align) -> bool
-    requires { IsBetweenPeriods framer.old }
-    ensures { IsBetweenPeriods framer.new }
-{
-    let begins = octets_with(0, 0, 0x80);
-    let ones = gives(framer, align, 39, &[0xFF; 40], 1) && holds(framer, 632, 0, 156);
-    gives(framer, align, 0, &begins, 0) && ones
+// Periods: the field that is asked, the downlink octets (all the same but for one), how many frames are made, and what the
+// framer holds afterwards.
+static PERIODS: [(u8, u8, usize, u8, u32, [u32; 3]); 5] = [
+    (39, 0xFF, 0, 0xFF, 1, [632, 0, 156]),
+    (0, 0x00, 0, 0x80, 0, [312, 4, 0]),
+    (63, 0xFF, 39, 0x80, 1, [308, 6, 0]),
+    (40, 0x00, 38, 0x08, 1, [308, 6, 0]),
+    (0, 0x00, 38, 0x08, 1, [308, 6, 0]),
+];
+
+// How many of them are so, from the first on.
+fn are_framed(line: &mut Line) -> usize {
+    let mut framed = 0usize;
+    for (field, same, place, other, made, held) in &PERIODS {
+        let worked = line.period(*field);
+        if worked != (octets_with(*same, *place, *other), *made) || line.holds() != *held {
+            return framed;
+        }
+        framed = framed.saturating_add(1);
+    }
+    framed
 }
 
-// Whether frame 1 loses four bits, and the next ones follow it.
-fn moves_back(framer: &mut Framer, align: &mut Align) -> bool
-    requires { IsBetweenPeriods framer.old }
-{
-    let ends = octets_with(0xFF, 39, 0x80);
-    let follows = octets_with(0, 38, 0x08);
-    let moved = gives(framer, align, 63, &ends, 1) && gives(framer, align, 40, &follows, 1);
-    moved && gives(framer, align, 0, &follows, 1)
-}
-
-// Field 39 in period 0, 63 in period 2, 40 in period 3. Frame 0 is followed by 312 ones, frame 1 has 316 bits.
+// Field 39 in period 0, 63 in period 2, 40 in period 3. Frame 0 is put off by 39 steps, and 312 ones follow it; frame 1 has
+// 316 bits.
 #[test]
-fn frames_at_their_places(rt: HostRuntime) -> Result<(), Fail> {
-    let mut framer = Framer::new(rt.alloc())?;
-    let mut align = Align::new();
-    assert!(rt; puts_off(&mut framer, &mut align) && moves_back(&mut framer, &mut align));
-    Ok(())
+fn frames_at_their_places(rt: HostRuntime) {
+    let mut line = Line::new(rt.alloc()).expect(&rt, "memory");
+    assert_eq!(rt; are_framed(&mut line), 5);
 }
 
 // The frames of 100 periods that each ask this field, and the last period that made two.
-fn frames_of(framer: &mut Framer, field: u8) -> (u32, u32)
-    requires between { IsBetweenPeriods framer.old }
-    requires field { field ≤ 63 }
-{
-    let mut align = Align::new();
+fn frames_of(line: &mut Line, field: u8) -> (u32, u32) {
     let mut frames = 0u32;
     let mut two_at = 0;
     for k in 0..100 {
-        let made = period(framer, &mut align, field).1;
-        frames = frames.wrapping_add(made);
+        let made = line.period(field).1;
+        frames = frames.saturating_add(made);
         if made == 2 {
             two_at = k;
         }
@@ -98,23 +109,11 @@ fn frames_of(framer: &mut Framer, field: u8) -> (u32, u32)
     (frames, two_at)
 }
 
-// The same of a new framer.
-fn new_frames_of(alloc: Global, field: u8) -> Result<(u32, u32), AllocError>
-    requires { field ≤ 63 }
-{
-    let mut framer = Framer::new(alloc)?;
-    Ok(frames_of(&mut framer, field))
-}
-
-// Those of the longest shift, and of the one that takes bits away.
-fn extreme_frames(alloc: Global) -> Result<[(u32, u32); 2], AllocError> {
-    let long = new_frames_of(alloc, 39)?;
-    let short = new_frames_of(alloc, 63)?;
-    Ok([long, short])
-}
-
+// The longest shift, and the one that takes bits away.
 #[test]
-fn the_same_shift_in_each_period(rt: HostRuntime) -> Result<(), Fail> {
-    assert!(rt; extreme_frames(rt.alloc())? == [(51, 0), (101, 79)]);
-    Ok(())
+fn the_same_shift_in_each_period(rt: HostRuntime) {
+    for (field, frames) in [(39, (51, 0)), (63, (101, 79))] {
+        let mut line = Line::new(rt.alloc()).expect(&rt, "memory");
+        assert!(rt; frames_of(&mut line, field) == frames, "field {field}");
+    }
 }

@@ -1,13 +1,11 @@
 //! Tests of the crates that work one call, and two that are bridged.
 //!
 //! They stand apart from what they test: a crate with tests is proved a second time with them; these go through public
-//! calls only.
+//! functions only.
 #![tactic(auto)]
 
 #[cfg(test)]
 mod call_leg_tests;
-#[cfg(test)]
-mod call_pair_tests;
 #[cfg(test)]
 mod ccu_end_tests;
 #[cfg(test)]

@@ -22,11 +22,7 @@ pub(crate) fn low() -> Params {
     Params::new(p.larc, p.nc, p.bc, p.mc, [4; 4], p.xmc)
 }
 
-fn up(kind: Kind, class: Class, taf: bool) -> UpFrame {
-    up_with(kind, class, taf, &loud())
-}
-
-fn up_with(kind: Kind, class: Class, taf: bool, p: &Params) -> UpFrame {
+fn up(kind: Kind, class: Class, taf: bool, p: &Params) -> UpFrame {
     let mut d = [0; 260];
     p.to_bits(&mut d);
     UpFrame {
@@ -59,7 +55,7 @@ enum Coming {
 fn frame(coming: Coming) -> Option<UpFrame> {
     let (kind, class, taf) = match coming {
         Coming::Nothing => return None,
-        Coming::LowSid => return Some(up_with(Kind::Speech, Class::Sid, true, &low())),
+        Coming::LowSid => return Some(up(Kind::Speech, Class::Sid, true, &low())),
         Coming::Good => (Kind::Speech, Class::Good, true),
         Coming::GoodBetween => (Kind::Speech, Class::Good, false),
         Coming::Sid => (Kind::Speech, Class::Sid, true),
@@ -70,7 +66,7 @@ fn frame(coming: Coming) -> Option<UpFrame> {
         Coming::Idle => (Kind::Idle, Class::Unusable, true),
         Coming::Other => (Kind::Other, Class::Unusable, true),
     };
-    Some(up(kind, class, taf))
+    Some(up(kind, class, taf, &loud()))
 }
 
 fn take(rx: &mut Rx, coming: Coming) -> Effective {
@@ -80,8 +76,14 @@ fn take(rx: &mut Rx, coming: Coming) -> Effective {
     }
 }
 
-// Whether what is heard is good speech, and its first block maximum; none where the call is quiet.
-fn level(rx: &mut Rx, coming: Coming) -> Option<(bool, u8)> {
+// What is heard in a period: whether it is good speech, and its first block maximum; none where the call is quiet.
+type Heard = Option<(bool, u8)>;
+
+fn first(xmaxc: [u8; 4]) -> u8 {
+    xmaxc[0]
+}
+
+fn hear(rx: &mut Rx, coming: Coming) -> Heard {
     match take(rx, coming) {
         Effective::Quiet => None,
         Effective::Speech(p) => Some((true, first(p.xmaxc))),
@@ -89,44 +91,27 @@ fn level(rx: &mut Rx, coming: Coming) -> Option<(bool, u8)> {
     }
 }
 
-fn first(xmaxc: [u8; 4]) -> u8 {
-    xmaxc[0]
+// Whether this is heard in these periods, from the first on.
+fn are_heard(rx: &mut Rx, rows: &[(Coming, Heard)]) -> bool {
+    for (coming, heard) in rows {
+        if hear(rx, *coming) != *heard {
+            return false;
+        }
+    }
+    true
 }
 
 fn gives(rx: &mut Rx, coming: Coming, wanted: Effective) -> bool {
     take(rx, coming) == wanted
 }
 
-fn is_quiet(rx: &mut Rx, coming: Coming) -> bool {
-    level(rx, coming) == None
-}
-
-fn is_speech(rx: &mut Rx, coming: Coming) -> bool {
-    level(rx, coming) == Some((true, 20))
-}
-
-// Whether the frames made have these first block maxima.
-fn are_made(rx: &mut Rx, rows: &[(Coming, u8)]) -> bool {
-    for (coming, maximum) in rows {
-        if level(rx, *coming) != Some((false, *maximum)) {
-            return false;
-        }
-    }
-    true
-}
-
-// Whether the frames made where nothing comes have these.
-fn fade(rx: &mut Rx, maxima: &[u8]) -> bool {
+// Whether the frames made where nothing comes have these first block maxima, and then two of them are silence.
+fn fades(rx: &mut Rx, maxima: &[u8]) -> bool {
     for maximum in maxima {
-        if level(rx, Coming::Nothing) != Some((false, *maximum)) {
+        if hear(rx, Coming::Nothing) != Some((false, *maximum)) {
             return false;
         }
     }
-    true
-}
-
-// Whether the frames made where nothing comes are silence, two of them.
-fn are_silence(rx: &mut Rx) -> bool {
     let silent = Effective::Made(silence());
     gives(rx, Coming::Nothing, silent) && gives(rx, Coming::Nothing, silent)
 }
@@ -150,52 +135,39 @@ fn lost_speech_fades(rt: HostRuntime) {
     assert!(rt; gives(&mut rx, Coming::GoodBetween, Effective::Speech(loud())));
     assert!(rt; gives(&mut rx, Coming::InvalidBetween, Effective::Made(loud())));
     assert!(rt; second_fades(&mut rx));
-    assert!(rt; fade(&mut rx, &[12, 8, 4, 0, 0, 0, 0, 0, 0, 0, 0, 0, 0, 0]));
-    assert!(rt; are_silence(&mut rx));
+    assert!(rt; fades(&mut rx, &[12, 8, 4, 0, 0, 0, 0, 0, 0, 0, 0, 0, 0, 0]));
 }
 
-// The cells of a call in which nothing was heard yet.
-fn stays_quiet(rx: &mut Rx) -> bool {
-    let frames = is_quiet(rx, Coming::Idle) && is_quiet(rx, Coming::Invalid);
-    frames && is_quiet(rx, Coming::Missed) && is_quiet(rx, Coming::Nothing)
-}
-
-// The cells of comfort noise.
-static NOISE: [(Coming, u8); 9] = [
-    (Coming::Sid, 20),
-    (Coming::Bad, 20),
-    (Coming::Missed, 20),
-    (Coming::Other, 20),
-    (Coming::Invalid, 20),
-    (Coming::Missed, 16),
-    (Coming::Missed, 12),
-    (Coming::Nothing, 8),
-    (Coming::Sid, 20),
+// The cells of a call in which nothing was heard yet, of comfort noise, of speech, and of an idle frame after noise and
+// after speech.
+static CELLS: [(Coming, Heard); 22] = [
+    (Coming::Idle, None),
+    (Coming::Invalid, None),
+    (Coming::Missed, None),
+    (Coming::Nothing, None),
+    (Coming::Sid, Some((false, 20))),
+    (Coming::Bad, Some((false, 20))),
+    (Coming::Missed, Some((false, 20))),
+    (Coming::Other, Some((false, 20))),
+    (Coming::Invalid, Some((false, 20))),
+    (Coming::Missed, Some((false, 16))),
+    (Coming::Missed, Some((false, 12))),
+    (Coming::Nothing, Some((false, 8))),
+    (Coming::Sid, Some((false, 20))),
+    (Coming::Good, Some((true, 20))),
+    (Coming::Invalid, Some((false, 20))),
+    (Coming::Missed, Some((false, 16))),
+    (Coming::Other, Some((false, 12))),
+    (Coming::Good, Some((true, 20))),
+    (Coming::Sid, Some((false, 20))),
+    (Coming::Idle, None),
+    (Coming::Good, Some((true, 20))),
+    (Coming::Idle, None),
 ];
-
-// The cells of speech.
-fn speech_is_lost(rx: &mut Rx) -> bool {
-    let lost = [
-        (Coming::Invalid, 20),
-        (Coming::Missed, 16),
-        (Coming::Other, 12),
-    ];
-    is_speech(rx, Coming::Good) && are_made(rx, &lost) && is_speech(rx, Coming::Good)
-}
-
-// Those of an idle frame, after noise and after speech.
-fn idle_ends_all(rx: &mut Rx) -> bool {
-    let noise = are_made(rx, &[(Coming::Sid, 20)]) && is_quiet(rx, Coming::Idle);
-    noise && is_speech(rx, Coming::Good) && is_quiet(rx, Coming::Idle)
-}
 
 #[test]
 fn each_cell_of_the_table(rt: HostRuntime) {
-    let mut rx = Rx::new(7);
-    assert!(rt; stays_quiet(&mut rx));
-    assert!(rt; are_made(&mut rx, &NOISE));
-    assert!(rt; speech_is_lost(&mut rx));
-    assert!(rt; idle_ends_all(&mut rx));
+    assert!(rt; are_heard(&mut Rx::new(7), &CELLS));
 }
 
 // Whether the first noise has the first draws of the source as its first grid and first pulses.
@@ -209,62 +181,62 @@ fn starts_noise(rx: &mut Rx) -> bool {
     }
 }
 
-static FALLING: [(Coming, u8); 5] = [
-    (Coming::Bad, 20),
-    (Coming::Missed, 20),
-    (Coming::Missed, 16),
-    (Coming::Bad, 12),
-    (Coming::Missed, 8),
+static FALLING: [(Coming, Heard); 5] = [
+    (Coming::Bad, Some((false, 20))),
+    (Coming::Missed, Some((false, 20))),
+    (Coming::Missed, Some((false, 16))),
+    (Coming::Bad, Some((false, 12))),
+    (Coming::Missed, Some((false, 8))),
 ];
 
 #[test]
 fn noise_falls_from_the_second_missed_descriptor(rt: HostRuntime) {
     let mut rx = Rx::new(7);
     assert!(rt; starts_noise(&mut rx));
-    assert!(rt; are_made(&mut rx, &FALLING));
-    assert!(rt; fade(&mut rx, &[4, 0, 0, 0, 0, 0, 0, 0, 0, 0, 0, 0, 0]));
-    assert!(rt; are_silence(&mut rx));
+    assert!(rt; are_heard(&mut rx, &FALLING));
+    assert!(rt; fades(&mut rx, &[4, 0, 0, 0, 0, 0, 0, 0, 0, 0, 0, 0, 0]));
     assert!(rt; gives(&mut rx, Coming::GoodBetween, Effective::Speech(loud())));
 }
 
-static DOWN: [(Coming, u8); 10] = [
-    (Coming::Sid, 20),
-    (Coming::LowSid, 18),
-    (Coming::Nothing, 16),
-    (Coming::Nothing, 14),
-    (Coming::Nothing, 12),
-    (Coming::Nothing, 10),
-    (Coming::Nothing, 8),
-    (Coming::Nothing, 6),
-    (Coming::Nothing, 4),
-    (Coming::Nothing, 4),
+static DOWN: [(Coming, Heard); 10] = [
+    (Coming::Sid, Some((false, 20))),
+    (Coming::LowSid, Some((false, 18))),
+    (Coming::Nothing, Some((false, 16))),
+    (Coming::Nothing, Some((false, 14))),
+    (Coming::Nothing, Some((false, 12))),
+    (Coming::Nothing, Some((false, 10))),
+    (Coming::Nothing, Some((false, 8))),
+    (Coming::Nothing, Some((false, 6))),
+    (Coming::Nothing, Some((false, 4))),
+    (Coming::Nothing, Some((false, 4))),
 ];
 
-static TURNED: [(Coming, u8); 11] = [
-    (Coming::Sid, 20),
-    (Coming::LowSid, 18),
-    (Coming::Nothing, 16),
-    (Coming::Sid, 16),
-    (Coming::Nothing, 17),
-    (Coming::Nothing, 17),
-    (Coming::Nothing, 18),
-    (Coming::Nothing, 18),
-    (Coming::Nothing, 19),
-    (Coming::Nothing, 19),
-    (Coming::Nothing, 20),
+static TURNED: [(Coming, Heard); 11] = [
+    (Coming::Sid, Some((false, 20))),
+    (Coming::LowSid, Some((false, 18))),
+    (Coming::Nothing, Some((false, 16))),
+    (Coming::Sid, Some((false, 16))),
+    (Coming::Nothing, Some((false, 17))),
+    (Coming::Nothing, Some((false, 17))),
+    (Coming::Nothing, Some((false, 18))),
+    (Coming::Nothing, Some((false, 18))),
+    (Coming::Nothing, Some((false, 19))),
+    (Coming::Nothing, Some((false, 19))),
+    (Coming::Nothing, Some((false, 20))),
+];
+
+static FALLEN: [(Coming, Heard); 5] = [
+    (Coming::Sid, Some((false, 20))),
+    (Coming::Missed, Some((false, 20))),
+    (Coming::Missed, Some((false, 16))),
+    (Coming::LowSid, Some((false, 4))),
+    (Coming::Sid, Some((false, 6))),
 ];
 
 // A new descriptor is approached in eight steps from where the noise stands, and from itself once the level has fallen.
 #[test]
 fn noise_moves(rt: HostRuntime) {
-    let fallen = [
-        (Coming::Sid, 20),
-        (Coming::Missed, 20),
-        (Coming::Missed, 16),
-        (Coming::LowSid, 4),
-        (Coming::Sid, 6),
-    ];
-    assert!(rt; are_made(&mut Rx::new(7), &DOWN));
-    assert!(rt; are_made(&mut Rx::new(7), &TURNED));
-    assert!(rt; are_made(&mut Rx::new(7), &fallen));
+    assert!(rt; are_heard(&mut Rx::new(7), &DOWN));
+    assert!(rt; are_heard(&mut Rx::new(7), &TURNED));
+    assert!(rt; are_heard(&mut Rx::new(7), &FALLEN));
 }

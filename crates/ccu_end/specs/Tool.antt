@@ -53,8 +53,8 @@ pub record FollowRun (before now : ℕ → Side → LineState) (desk desk' : Des
   pub others : AllButTwo before now call Up Down
   pub tells : TellsLast call end middle desk' result
 
--- 4 comes exactly where the desk's writing count rose, 6 exactly where the count of one of the two lines rose and 4 isn't
--- due, and else 0
+-- 4 comes only where the desk's writing count rose, 6 only where the count of one of the two lines rose; where one became
+-- greater, its status comes, 4 before 6; else 0
 pub record HasCauses (up up' down down' : LineState) (desk desk' : DeskState) (status : ℕ) : Type 0 where
   pub known : (status ≡ 0) ⊎ (status ≡ 4) ⊎ (status ≡ 6)
   pub desk_failed : status ≡ 4 → Rose desk.write_faults desk'.write_faults

@@ -1,6 +1,6 @@
 //! What is sent up: the alignment that is asked for, and the speech that was heard.
 
-ghost use Rattle.std.specs.Prelude.{◌≡◌, ◌≤◌, ◌<◌, ◌^◌, true, false, None, All, IfNone, IfSome};
+ghost use Rattle.std.specs.Prelude.{◌≡◌, ◌≤◌, ◌<◌, ◌^◌, true, false, None, All, IfNone, IfSome, option_copied};
 ghost use Rattle.trau_bits.specs.Bits.{AreBits};
 ghost use Rattle.trau_frame.specs.UpFrame.{up_words_of};
 ghost use Rattle.ccu_end.specs.Found.{HaveBits};
@@ -45,10 +45,10 @@ pub(crate) fn wait_over(waiting: Option<u8>, low: u64, heard: &Heard) -> Option<
 }
 
 /// The last of the frames of a period.
-pub(crate) fn last_of(heard: &Heard) -> Option<Found>
-    ensures { result ≡ last_of (frames_of heard.now) }
+pub(crate) fn last_of(heard: &Heard) -> Option<&Found>
+    ensures { option_copied result ≡ last_of (frames_of heard.now) }
 {
-    heard.second.or(heard.first)
+    heard.second.as_ref().or(heard.first.as_ref())
 }
 
 // By how many bits the wanted place lies behind `place`, modulo 320.
@@ -74,9 +74,9 @@ fn field_by(offset: u64) -> u8
 }
 
 /// The field of a period whose last frame this is: 0 where there is none, and while a request waits.
-pub(crate) fn field_where(waiting: Option<u8>, want: u16, last: Option<Found>) -> u8
+pub(crate) fn field_where(waiting: Option<u8>, want: u16, last: Option<&Found>) -> u8
     requires { want ≤ 316 }
-    ensures value { result ≡ field_now waiting want last }
+    ensures value { result ≡ field_now waiting want (option_copied last) }
     ensures six_bits { result ≤ 63 }
 {
     match (waiting, last) {
@@ -86,14 +86,14 @@ pub(crate) fn field_where(waiting: Option<u8>, want: u16, last: Option<Found>) -
 }
 
 // The data bits of a speech frame.
-fn speech_in(last: Option<Found>) -> Option<[u8; 260]>
-    requires { IfSome last HaveBits }
-    ensures value { result ≡ speech_in last }
-    ensures are_bits { IfSome result AreBits }
+fn speech_in(last: Option<&Found>) -> Option<&[u8; 260]>
+    requires { IfSome (option_copied last) HaveBits }
+    ensures value { option_copied result ≡ speech_in (option_copied last) }
+    ensures are_bits { IfSome (option_copied result) AreBits }
 {
-    match last?.frame? {
-        DownFrame::Speech { d, .. } => Some(d),
-        DownFrame::Idle => None,
+    match &last?.frame {
+        Some(DownFrame::Speech { d, .. }) => Some(d),
+        Some(DownFrame::Idle) | None => None,
     }
 }
 
@@ -114,13 +114,13 @@ fn up_frame(kind: Kind, class: Class, align: u8, d: [u8; 260]) -> UpFrame
 }
 
 /// The uplink frame with the speech of this frame, or else an idle one.
-pub(crate) fn answer_with(last: Option<Found>, align: u8) -> UpFrame
-    requires bits { IfSome last HaveBits }
+pub(crate) fn answer_with(last: Option<&Found>, align: u8) -> UpFrame
+    requires bits { IfSome (option_copied last) HaveBits }
     requires six_bits { align ≤ 63 }
-    ensures { up_words_of result ≡ up_words (speech_in last) align }
+    ensures { up_words_of result ≡ up_words (speech_in (option_copied last)) align }
 {
     match speech_in(last) {
-        Some(d) => up_frame(Kind::Speech, Class::Good, align, d),
+        Some(d) => up_frame(Kind::Speech, Class::Good, align, *d),
         None => up_frame(Kind::Idle, Class::Unusable, align, [1; 260]),
     }
 }

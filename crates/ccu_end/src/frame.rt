@@ -10,7 +10,7 @@ ghost use Rattle.ccu_end.specs.Read.{down_frame_in, Alike};
 use trau_frame::{DownFrame, read_up};
 
 // The number in C1 to C5.
-#[tactic(auto, unfolding(trau_frame::specs::Frame::number_of, trau_frame::specs::Role::place_of_role))]
+#[tactic(auto, unfolding(trau_frame::specs::Frame::number_in, trau_frame::specs::Role::place_of_role))]
 fn pattern(bits: &[u8; 320]) -> u8
     requires { AreBits bits.now }
     ensures { result ≡ number_in bits.now 1 5 }

@@ -1,6 +1,6 @@
 //! The end of one downlink.
 
-ghost use Rattle.std.specs.Prelude.{◌≡◌, ◌++◌, ◌+◌, ◌*◌, ◌≤◌, ◌<◌, ◌^◌, None, replicate, All, IfSome, IfNone};
+ghost use Rattle.std.specs.Prelude.{◌≡◌, ◌++◌, ◌+◌, ◌*◌, ◌≤◌, ◌<◌, ◌^◌, None, All, IfSome, IfNone};
 ghost use Rattle.trau_bits.specs.Bits.{AreBits};
 ghost use Rattle.ccu_end.specs.Found.{HaveBits};
 ghost use Rattle.ccu_end.specs.Heard.{frames_of};
@@ -10,24 +10,24 @@ use crate::asking::{answer_with, field_where, last_of, wait_over};
 use crate::finds::{Found, Heard};
 use crate::frame::read_down;
 use crate::hunt::find_match;
+use frame_sync::two_periods;
 use std::marker::Model;
-use trau_bits::unpack;
 use trau_frame::{UpFrame, write_up};
 
 /// A base station's end of one downlink.
 #[derive(Drop)]
 pub struct Ccu {
-    /// The periods so far.
+    // The periods so far.
     periods: u32,
-    /// The bits of the last one.
+    // The bits of the last one.
     last: [u8; 320],
-    /// The place behind the newest frame: the next one is looked for from there on.
+    // The place behind the newest frame: the next one is looked for from there on.
     low: u64,
-    /// The wanted place modulo 320.
+    // The wanted place modulo 320.
     want: u16,
-    /// While a request waits, the number of frames found since the period that sent it.
+    // While a request waits, the number of frames found since the period that sent it.
     waiting: Option<u8>,
-    /// What is sent up in this period.
+    // What is sent up in this period.
     answer: UpFrame,
     ghost wanted: { want ≤ 316 },
 }
@@ -43,24 +43,6 @@ impl Model for Ccu {
     ghost view = { λ s. record { periods = s.periods; last = s.last; low = s.low; want = s.want; waiting = s.waiting; answer = up_words_of s.answer } };
 
     ghost invariant = { λ s. (s.low ≤ 320 * s.periods) × AreBits s.last };
-}
-
-// A period of zeros.
-fn zeros() -> [u8; 320]
-    ensures value { result ≡ replicate 320 0 }
-    ensures are_bits { AreBits result }
-{
-    [0; 320]
-}
-
-// The bits of two periods.
-fn joined(last: &[u8; 320], bits: &[u8; 320]) -> [u8; 640]
-    ensures { result ≡ last.now ++ bits.now }
-{
-    let mut window = [0; 640];
-    window[..320].copy_from_slice(last);
-    window[320..].copy_from_slice(bits);
-    window
 }
 
 // The least frame from place `low` on whose bit 315 is one of the period that begins at place `base`; `low` goes behind
@@ -122,7 +104,7 @@ impl Ccu {
     {
         Ccu {
             periods: 0,
-            last: zeros(),
+            last: [0; 320],
             low: 0,
             want,
             waiting: None,
@@ -152,9 +134,7 @@ impl Ccu {
         ensures none { IfNone result.first (result.second ≡ None) }
         ensures are_bits { All HaveBits (frames_of result) }
     {
-        let mut bits = [0; 320];
-        unpack(octets, &mut bits);
-        let window = joined(&self.last, &bits);
+        let window = two_periods(&self.last, octets);
         let low = self.low;
         let heard = take_period(&window, 320 * u64::from(self.periods), &mut self.low);
         let waiting = wait_over(self.waiting, low, &heard);
@@ -163,7 +143,7 @@ impl Ccu {
         self.waiting = if field == 0 { waiting } else { Some(0) };
         self.answer = answer_with(last, field);
         self.periods += 1;
-        self.last = bits;
+        self.last.copy_from_slice(&window[320..]);
         heard
     }
 

@@ -6,7 +6,7 @@ ghost use Rattle.command_words.specs.Follow.{IsWanted, NamesFollow};
 use crate::tools::HIGHEST_CALL;
 use decimal_number::number_of_text;
 
-/// The last wanted place that is below 320 and a multiple of 4.
+// The last wanted place that is below 320 and a multiple of 4.
 const HIGHEST_WANT: u32 = 316;
 
 /// The call and the wanted place that `follow` is given.

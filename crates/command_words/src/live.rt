@@ -49,7 +49,7 @@ fn live_of(matches: &ArgMatches<'_>) -> Option<LiveSettings>
     })
 }
 
-// The live drill that the words after `live` give.
+/// The live drill that the words after `live` give.
 pub(crate) fn read_live(alloc: Global, options: &[String]) -> Result<LiveSettings, WordsFault>
     ensures ok { IfOk result (λ s. AreLiveOptions (map (λ w. string_bytes w) options.now) s) }
     ensures usage { IsErrOf result WordsFault.Usage → (s : TheSettings) → AreLiveOptions (map (λ w. string_bytes w) options.now) s → ⊥ }

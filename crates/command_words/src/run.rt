@@ -54,7 +54,7 @@ fn read_options(alloc: Global, options: &[String]) -> Result<RunOptions, WordsFa
     }
 }
 
-// The settings that the words after `run` or `resume` give.
+/// The settings that the words after `run` or `resume` give.
 pub(crate) fn read_run(alloc: Global, options: &[String]) -> Result<Settings, WordsFault>
     ensures ok { IfOk result (λ s. AreOptions (map (λ w. string_bytes w) options.now) s) }
     ensures usage { IsErrOf result WordsFault.Usage → (s : TheSettings) → AreOptions (map (λ w. string_bytes w) options.now) s → ⊥ }
@@ -63,7 +63,7 @@ pub(crate) fn read_run(alloc: Global, options: &[String]) -> Result<Settings, Wo
     Ok(read.settings)
 }
 
-// The settings that the words after `save` give, which must have `--periods`.
+/// The settings that the words after `save` give, which must have `--periods`.
 pub(crate) fn read_save(alloc: Global, options: &[String]) -> Result<Settings, WordsFault>
     ensures ok { IfOk result (λ s. AreOptions (map (λ w. string_bytes w) options.now) s × GivePeriods (map (λ w. string_bytes w) options.now)) }
     ensures usage { IsErrOf result WordsFault.Usage → (s : TheSettings) → AreOptions (map (λ w. string_bytes w) options.now) s →

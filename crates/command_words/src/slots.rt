@@ -21,7 +21,7 @@ fn slot_named(name: &str, call: u32) -> Option<Asked>
     }
 }
 
-// A command on a slot and its call, if the words are theirs.
+/// A command on a slot and its call, if the words are theirs.
 pub(crate) fn read_slot(words: &[String]) -> Option<Asked>
     ensures some { IfSome result (λ a. AsksSlot (map (λ w. string_bytes w) words.now) a) }
     ensures none { IsNone result → (a : OneAsked) → AsksSlot (map (λ w. string_bytes w) words.now) a → ⊥ }

@@ -25,7 +25,7 @@ fn tool_named(name: &str, call: u32) -> Option<Asked>
     }
 }
 
-// A tool and its call, if the words are theirs.
+/// A tool and its call, if the words are theirs.
 pub(crate) fn read_tool(words: &[String]) -> Option<Asked>
     ensures some { IfSome result (λ a. AsksTool (map (λ w. string_bytes w) words.now) a) }
     ensures none { IsNone result → (a : OneAsked) → AsksTool (map (λ w. string_bytes w) words.now) a → ⊥ }

@@ -1,10 +1,10 @@
-//! Decimal numbers, as the words of a command line and the lines of orders spell them.
+//! Decimal numbers, as the words of a command line, the lines of orders and those of a mark spell them.
 //!
 //! At the bottom: takes a text or octets and a range, and gives the number that they spell, if they
-//! spell one. Its users, `command_words` and `trau_orders`, know no other numerals.
+//! spell one. Its users, `command_words`, `trau_orders` and `farm_checkpoint`, know no other numerals.
 //!
 //! The spelling, digits with no sign, no space and no zero in front, is this project's profile.
-//! Definitions: `specs/Number.antt`. Lemmas for callers: `proofs/Numbers.antt`.
+//! Definitions: `specs/Number.antt`. Lemmas for users: `proofs/Numbers.antt`.
 #![tactic(auto)]
 
 ghost use Rattle.std.specs.Prelude.{◌↔◌, ℕ, IsTrue, IsNone, IfSome};

@@ -17,8 +17,8 @@ use Rattle.run_spec.specs.Lines.{out_of_call, down_of_call}
 use Rattle.run_spec.proofs.SoFar.{so_far_at_first}
 use Rattle.run_spec.proofs.LongerLines.{length-out_line, length-down_octets, length-periods_to}
 use Rattle.farm_run.specs.Runs.{HasWritten, is_listed}
-use Rattle.farm_run.proofs.Listed.{listed_head, one_line, or_cases}
-use Rattle.farm_run.proofs.Reach.{end_within_run}
+use Rattle.farm_run.proofs.Listed.Tests.{listed_head, one_line, or_cases}
+use Rattle.farm_run.proofs.Clocks.Reach.{end_within_run}
 use Rattle.drill_run.specs.Rooms.{DrillMemory, known_lines, number_told}
 
 -- ---- what is known of a line

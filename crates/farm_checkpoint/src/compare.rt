@@ -19,7 +19,7 @@ fn count_common(one: &[MarkCall], other: &[MarkCall]) -> usize
     common
 }
 
-// The least number of a call that one of two lists has otherwise, or alone.
+/// The least number of a call that one of two lists has otherwise, or alone.
 pub(crate) fn first_difference(one: &[MarkCall], other: &[MarkCall]) -> Option<u32>
     requires one_rises { NumbersRise one.now }
     requires other_rises { NumbersRise other.now }

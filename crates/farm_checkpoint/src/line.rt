@@ -22,7 +22,7 @@ fn split_at_octet(octets: &[u8], octet: u8) -> Option<(&[u8], &[u8])>
     Some((&octets[..place], &octets[place + 1..]))
 }
 
-// What stands behind these words.
+/// What stands behind these words.
 pub(crate) fn behind<'a>(text: &'a [u8], words: &[u8]) -> Option<&'a [u8]>
     ensures some { IfSome result (λ rest. text.now ≡ words.now ++ rest.now) }
     ensures none { IsNone result → (rest : List ℕ) → text.now ≡ words.now ++ rest → ⊥ }
@@ -48,7 +48,7 @@ fn number_behind<'a>(
     Some((number, rest))
 }
 
-// The period of a mark's first line, and what follows the line.
+/// The period of a mark's first line, and what follows the line.
 pub(crate) fn read_period(text: &[u8]) -> Option<(u32, &[u8])>
     ensures some { IfSome result (λ read. (1 ≤ read.0) × (read.0 ≤ 4294967295) × (text.now ≡ save_line read.0 ++ read.1.now)) }
     ensures none { IsNone result → (period : ℕ) (rest : List ℕ) → 1 ≤ period → period ≤ 4294967295 →
@@ -57,7 +57,7 @@ pub(crate) fn read_period(text: &[u8]) -> Option<(u32, &[u8])>
     number_behind(text, b"save ", b'\n', 1, u32::MAX)
 }
 
-// The call of a line, with a number above this one, and what follows the line.
+/// The call of a line, with a number above this one, and what follows the line.
 pub(crate) fn read_call(text: &[u8], above: u32, period: u32) -> Option<(MarkCall, &[u8])>
     requires above { above ≤ 4096 }
     requires period { 1 ≤ period }

@@ -23,7 +23,7 @@ pub struct MarkCall {
 /// Where a run stood at a period. Contracts see its period and its calls.
 #[derive(Drop)]
 pub struct Mark {
-    /// The periods of 20 ms that the run had worked, at least 1.
+    /// The period of 20 ms before whose orders the run stood, at least 1.
     pub period: u32,
     /// The open calls, in rising order of their numbers.
     pub calls: Vec<MarkCall>,

@@ -12,7 +12,7 @@ use Rattle.std.specs.Str.Parse.{AllDigits}
 use Rattle.std.proofs.lemmas.Str.Parse.{numerals_by_value, tells_digits, digit_at}
 use Rattle.trau_orders.specs.declared.order.Order.{Order}
 use Rattle.trau_orders.specs.Grammar.{IsInRange, order_line}
-use Rattle.trau_orders.specs.Splits.{Lacks}
+use Rattle.decimal_number.specs.Splits.{Lacks}
 use Rattle.trau_orders.specs.Text.{text_lines, AreLines, IsWithin}
 use Rattle.trau_orders.proofs.TextLines.{first_line, no_line}
 use Rattle.farm_drill.specs.Orders.{opening, bridging, unbridging, is_bridged, bridged_calls, drilled_orders, text_of}

@@ -95,9 +95,8 @@ impl Book {
         ensures { result ≡ find (is_of_post of number) self.now.history }
     {
         for k in 0..self.history.len() {
-            let entry = self.history[k];
-            if is_of_post(&entry, of, number) {
-                return Some(entry);
+            if is_of_post(&self.history[k], of, number) {
+                return Some(self.history[k]);
             }
         }
         None

@@ -12,12 +12,11 @@ use crate::turns;
 use std::sync::Wait;
 
 /// Puts what these callers know to what `first` knows, the last one's first.
-pub(crate) fn join_all(slots: &[Slot], first: &mut Caller, others: Vec<Caller>)
+pub(crate) fn join_all(slots: &[Slot], first: &mut Caller, mut others: Vec<Caller>)
     requires { (inbox : ℕ) × (cs : List _) × AreJoined inbox slots.now cs first.old.seats.items × AreAllSeated inbox slots.now others.items }
     ensures { (inbox : ℕ) (cs : List _) → AreJoined inbox slots.now cs first.old.seats.items → AreAllSeated inbox slots.now others.items →
         AreJoined inbox slots.now (cs ++ reverse others.items) first.new.seats.items }
 {
-    let mut others = others;
     while let Some(other) = others.pop() {
         join(slots, first, other);
     }
@@ -52,14 +51,13 @@ pub(crate) fn close_all<R: Wait>(
     rt: &R,
     slots: &[Slot],
     all: &mut Caller,
-    closed: Vec<Closed>,
+    mut closed: Vec<Closed>,
 ) -> Vec<Closed>
     requires few { length slots.now ≤ 256 }
     requires room { (closed.items ≡ []) × (length slots.now ≤ vec_capacity closed) }
     requires joined { (inbox : ℕ) × (cs : List _) × AreJoined inbox slots.now cs all.old.seats.items }
     ensures { (inbox : ℕ) (cs : List _) → AreJoined inbox slots.now cs all.old.seats.items → AreClosed (length slots.now) cs result.items }
 {
-    let mut closed = closed;
     for k in 0..slots.len() {
         let call = k as u32 + 1;
         let done = close_call(rt, &slots[k], call, &mut all.seats[k]);

@@ -22,6 +22,10 @@
 //! It stands beside the runs of recorded lines (`farm_run`): there the clock gives each call its periods, here its callers
 //! do. Calls have A-law lines, level 256, discontinuous transmission as the uplink asks, and no bridges. Posts, books and
 //! slots are this project's own. `live_run` drives it, for the command `live`.
+//!
+//! Definitions: `specs/Book.antt` (the book of a call, and when its history is legal), `specs/Step.antt` (one period of its
+//! leg), `specs/Slot.antt` (the rule of a slot), `specs/Turns.antt` (what posting, working and reading do with it),
+//! `specs/Live.antt` (a new farm and its callers), `specs/Closing.antt` (its end).
 #![tactic(auto)]
 
 mod book;

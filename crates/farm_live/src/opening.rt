@@ -41,7 +41,7 @@ pub(crate) fn open_all<R: Wait>(
 pub(crate) fn seat_all(
     alloc: Global,
     slots: &[Slot],
-    all: Vec<Seat>,
+    mut all: Vec<Seat>,
     callers: u32,
 ) -> Result<Vec<Caller>, AllocError>
     requires some { 1 ≤ callers }
@@ -49,7 +49,6 @@ pub(crate) fn seat_all(
     requires seats { (inbox : ℕ) × IsNewRow all_callers inbox slots.now all.items }
     ensures { (inbox : ℕ) → IsNewRow all_callers inbox slots.now all.items → IfOk result (λ r. AreCallers inbox callers slots.now r.items) }
 {
-    let mut all = all;
     let mut rows = Vec::with_capacity(alloc, callers as usize)?;
     for number in 0..callers - 1 {
         let seats = first_row(alloc, slots, all.as_mut_slice())?;

@@ -104,11 +104,7 @@ pub(crate) fn work<R: Wait>(rt: &R, slot: &Slot, me: &mut SlotPass) -> Result<Tu
     let place = book.len() as u32;
     let worked = book.work();
     give_back(rt, slot, me, book);
-    let done = match worked {
-        Ok(done) => done,
-        Err(error) => return Err(error),
-    };
-    Ok(match done {
+    Ok(match worked? {
         Some(entry) => Turn::Did {
             caller: entry.post.caller,
             number: entry.post.number,

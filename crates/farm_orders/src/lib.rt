@@ -8,8 +8,9 @@
 //! behind it.
 //!
 //! The limits and the order in which faults are looked for are this project's profile.
-//! Definitions: `specs/Given.antt` (the text that the desk gives), `specs/Reading.antt` (what the whole reading of orders answers, and of which text), `specs/Marked.antt` (the
-//! same of a mark and orders).
+//! Definitions: `specs/Given.antt` (the text that the desk gives), `specs/Reading.antt` (what the whole reading of orders
+//! answers, and of which text), `specs/Marked.antt` (the same of a mark and orders), `specs/Faults.antt` (what other crates'
+//! faults come to).
 #![tactic(auto)]
 
 mod fault;

@@ -45,7 +45,7 @@ fn marked_of(alloc: Global, text: &[u8]) -> Result<MarkedOrders, MarkedFault>
 pub fn read_marked_orders<D: Desk>(alloc: Global, desk: &mut D) -> Result<MarkedOrders, MarkedFault>
     // What was read of the desk, and that the answer is that of this text.
     ensures reads { ReadsMarked (D.desk desk.old) (D.desk desk.new) result }
-    // Unread comes exactly where the count of reading rose.
+    // Unread comes only where the count of reading rose, and always where it became greater.
     ensures unread { IsErrOf result (MarkedFault.Orders Unread) → Rose (D.desk desk.old).read_faults (D.desk desk.new).read_faults }
     ensures calm { (IsErrOf result (MarkedFault.Orders Unread) → ⊥) → (D.desk desk.new).read_faults ≡ (D.desk desk.old).read_faults }
     ensures later { (D.desk desk.old).read_faults ≤ (D.desk desk.new).read_faults }

@@ -27,7 +27,7 @@ pub(crate) fn orders_of(alloc: Global, text: &[u8]) -> Result<Orders, OrdersFaul
 pub fn read_orders<D: Desk>(alloc: Global, desk: &mut D) -> Result<Orders, OrdersFault>
     // What was read of the desk, and that the answer is that of this text.
     ensures reads { ReadsOrders (D.desk desk.old) (D.desk desk.new) result }
-    // Unread comes exactly where the count of reading rose.
+    // Unread comes only where the count of reading rose, and always where it became greater.
     ensures unread { IsErrOf result OrdersFault.Unread → Rose (D.desk desk.old).read_faults (D.desk desk.new).read_faults }
     ensures calm { (IsErrOf result OrdersFault.Unread → ⊥) → (D.desk desk.new).read_faults ≡ (D.desk desk.old).read_faults }
     ensures later { (D.desk desk.old).read_faults ≤ (D.desk desk.new).read_faults }

@@ -1,6 +1,6 @@
 //! Where a call's job is in a round.
 
-/// What a call brings into a round: the place of its job, and whether its outgoing lines have failed.
+/// What a call brings into a round: the index of its job, and whether its outgoing lines have failed.
 #[derive(Clone, Copy)]
 pub(crate) struct Entry {
     pub(crate) job: usize,
@@ -8,6 +8,7 @@ pub(crate) struct Entry {
     pub(crate) out_failed: bool,
 }
 
+/// What stands in a list of entries before a call's own is put there.
 pub(crate) const NO_ENTRY: Entry = Entry {
     job: 0,
     down_failed: false,

@@ -137,7 +137,7 @@ fn half_of(alloc: Global, call: Call) -> Result<Half, AllocError>
     Half::new(alloc, number, leg)
 }
 
-// The seats of the open calls.
+/// The seats of the open calls.
 pub(crate) fn make_seats(
     alloc: Global,
     live: &[u32],

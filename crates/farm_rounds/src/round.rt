@@ -114,7 +114,8 @@ impl Round {
         })
     }
 
-    /// Reads the incoming lines of each call, once and before the work.
+    /// Reads the incoming lines of each call. A round is filled once, before its work, which is for its user to keep: a
+    /// second time reads the next octets, in place of those that the first one gave.
     pub fn fill<T: Trunk>(&mut self, trunk: &mut T)
         ensures fills { Each Fills (T.lines trunk.old) (T.lines trunk.new) self.old.seats self.new.seats (length self.old.seats) }
         ensures others { KeepsButEach IsIncoming (T.lines trunk.old) (T.lines trunk.new) self.old.seats (length self.old.seats) }

@@ -32,16 +32,20 @@ IsReadWhole r t c = (t ≤ end_in r c) ⊎ IsCutOff (cause_in r c)
 pub record LinesAt (r : Run) (t : ℕ) (last : Standing) (before now : ℕ → Side → LineState) : Type 0 where
   -- an incoming line has given the octets of its call's periods before the clock; to come are the run's octets that are left,
   -- and behind them what the line never gives
-  pub up_read : (c : ℕ) → IsOpened r c → IsReadWhole r t c → IsToCome (now c Up) (40 * worked_to r t c) (r.lines c).up (never_given (last.listed c Up) (last.lines c Up))
-  pub pcm_read : (c : ℕ) → IsOpened r c → IsReadWhole r t c → IsToCome (now c Pcm) (160 * worked_to r t c) (r.lines c).pcm (never_given (last.listed c Pcm) (last.lines c Pcm))
+  pub up_read : (c : ℕ) → IsOpened r c → IsReadWhole r t c → IsToCome (now c Up) (40 * worked_to r t c) (r.lines c).up
+      (never_given (last.listed c Up) (last.lines c Up))
+  pub pcm_read : (c : ℕ) → IsOpened r c → IsReadWhole r t c → IsToCome (now c Pcm) (160 * worked_to r t c) (r.lines c).pcm
+      (never_given (last.listed c Pcm) (last.lines c Pcm))
   -- the lines of calls that the run doesn't open are as they were
   pub others : (c : ℕ) (s : Side) → (IsOpened r c → ⊥) → now c s ≡ before c s
 
 -- What the outgoing lines of the run's calls have gained at the clock t: the octets of their periods before it, but of none
 -- before period `from` of the run; those that are listed as failed a proper front of them.
 pub record WrittenFrom (r : Run) (from t : ℕ) (listed : ℕ → Side → Bool) (before now : ℕ → Side → LineState) : Type 0 where
-  pub out : (c : ℕ) → IsOpened r c → HasWritten (listed c Out) (before c Out) (now c Out) (drop (160 * worked_to r from c) (out_line (who_in r c) (periods_to r c (worked_to r t c))))
-  pub down : (c : ℕ) → IsOpened r c → HasWritten (listed c Down) (before c Down) (now c Down) (drop (40 * worked_to r from c) (down_octets (who_in r c) (periods_to r c (worked_to r t c))))
+  pub out : (c : ℕ) → IsOpened r c → HasWritten (listed c Out) (before c Out) (now c Out)
+      (drop (160 * worked_to r from c) (out_line (who_in r c) (periods_to r c (worked_to r t c))))
+  pub down : (c : ℕ) → IsOpened r c → HasWritten (listed c Down) (before c Down) (now c Down)
+      (drop (40 * worked_to r from c) (down_octets (who_in r c) (periods_to r c (worked_to r t c))))
 
 -- no count of a line's faults is below what it was
 abbrev pub NeverFell : (ℕ → Side → LineState) → (ℕ → Side → LineState) → Type 0
@@ -68,7 +72,8 @@ pub record EndsRound (r : Run) (t n : ℕ) (was is : State) (old new : JournalMe
   pub board : is ≡ told_after was ends
   pub noted : new ≡ with_ends ends old
   -- they are those of exactly these calls, one of each, and the run's
-  pub each : AllByRecursion (λ e. (ends_within r was.done t n e.call ≡ true) × (e ≡ end_of (given_in r) r.periods (done_in r) e.call (start_of was.done e.call))) ends
+  pub each : AllByRecursion (λ e. (ends_within r was.done t n e.call ≡ true)
+      × (e ≡ end_of (given_in r) r.periods (done_in r) e.call (start_of was.done e.call))) ends
   pub apart : AreApart ends
   pub told : (c : ℕ) → is_told c ends ≡ ends_within r was.done t n c
   pub tallies : KeepsTallies r t n was.done before now

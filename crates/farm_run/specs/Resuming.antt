@@ -1,7 +1,7 @@
 -- What a resumed run leaves and reports, whatever fails (this project's profile). It works the same recordings from the
 -- start, holds back what was written before the mark's period, and compares the mark there. `before` are the lines before
 -- it, `now` those after it.
-use Rattle.std.specs.Prelude.{◌≡◌, ℕ, ◌*◌, max, Bool, false, List, length, drop}
+use Rattle.std.specs.Prelude.{◌≡◌, ◌≢◌, ℕ, ◌*◌, max, Bool, false, List, length, drop}
 use Rattle.trau_io.specs.declared.line.Line.{Line}
 use Rattle.trau_io.specs.declared.line.Side.{Side}
 use Rattle.trau_io.specs.declared.line.Side.TheVariants.{Up, Pcm, Down, Out}
@@ -41,18 +41,20 @@ pub record ResumesRun (orders : List Order) (pace : Pace) (mark : MarkView) (bef
   pub sides : KeepsSides before now
   pub reads : ReadsOn before now
   -- lines and report are those of the run of these orders over what the lines gave, without what was held back;
-  pub leaves : (r : Run) → IsRunOver orders (max mark.period pace.periods) (is_listed report.failed) before now r → LeavesFrom r mark.period (is_listed report.failed) before now
+  pub leaves : (r : Run) → IsRunOver orders (max mark.period pace.periods) (is_listed report.failed) before now r →
+      LeavesFrom r mark.period (is_listed report.failed) before now
   pub reports : (r : Run) → IsRunOver orders (max mark.period pace.periods) (is_listed report.failed) before now r → report ≡ report_of r report.failed
   -- the run to the mark's period has the mark's calls
   pub same_mark : (r : Run) → IsRunOver orders mark.period (is_listed report.failed) before now r → marked_calls r ≡ mark.calls
   -- in the run each incoming line that failed did so short of what a round takes of it
-  pub short : (r : Run) → IsRunOver orders (max mark.period pace.periods) (is_listed report.failed) before now r → FailedShort r pace.batch (is_listed report.failed)
+  pub short : (r : Run) → IsRunOver orders (max mark.period pace.periods) (is_listed report.failed) before now r →
+      FailedShort r pace.batch (is_listed report.failed)
   -- and there are such runs, to any number of periods, of orders that are in range, wherever the lines tell what they hold
   pub there : AreOrders orders → AreTold before → (periods : ℕ) → (r : Run) × IsRunOver orders periods (is_listed report.failed) before now r
 
 -- A resumed run whose mark isn't that of these lines and orders: it wrote nothing, and at the mark's period `call`
 -- is the least number of a call that the mark has otherwise, or that only one of them has.
-pub record FindsDifference (orders : List Order) (mark : MarkView) (before now : ℕ → Side → LineState) (call : ℕ) : Type 0 where
+pub record FindsDifference (orders : List Order) (pace : Pace) (mark : MarkView) (before now : ℕ → Side → LineState) (call : ℕ) : Type 0 where
   -- the lines that failed
   pub failed : List Line
   pub told : TellsFailed before now failed
@@ -69,13 +71,15 @@ pub record FindsDifference (orders : List Order) (mark : MarkView) (before now :
       (c : ℕ) → IsOpened r c → is_listed failed c Pcm ≡ false → IsCutOff (cause_in r c) → IsReadTo (now c Pcm) (160 * length (periods_in r c)) (r.lines c).pcm
   -- the lines of calls that it doesn't open are as they were
   pub others : (r : Run) → IsRunOver orders mark.period (is_listed failed) before now r → (c : ℕ) (s : Side) → (IsOpened r c → ⊥) → now c s ≡ before c s
+  -- in the run each incoming line that failed did so short of what a round takes of it
+  pub short : (r : Run) → IsRunOver orders mark.period (is_listed failed) before now r → FailedShort r pace.batch (is_listed failed)
   -- and there is such a run of orders that are in range, wherever the lines tell what they hold
   pub there : AreOrders orders → AreTold before → (r : Run) × IsRunOver orders mark.period (is_listed failed) before now r
 
 -- what a resumed run comes to
 abbrev pub Resumes : List Order → Pace → MarkView → (ℕ → Side → LineState) → (ℕ → Side → LineState) → Resumed → Type 0
 Resumes orders pace mark before now (Ran report) = ResumesRun orders pace mark before now report
-Resumes orders pace mark before now (Differs call) = FindsDifference orders mark before now call
+Resumes orders pace mark before now (Differs call) = FindsDifference orders pace mark before now call
 
 -- What a run leaves on the lines where it stops before its end, and the outgoing octets of the periods before `from` are held
 -- back.
@@ -87,14 +91,17 @@ pub record LeavesFrontsFrom (r : Run) (from : ℕ) (before now : ℕ → Side �
   pub others : (c : ℕ) (s : Side) → (IsOpened r c → ⊥) → now c s ≡ before c s
 
 -- A resumed run of these orders that want of memory cut short. Its report isn't told, so these clauses tell which lines failed.
-pub record IsResumeCutShort (orders : List Order) (periods from : ℕ) (before now : ℕ → Side → LineState) : Type 0 where
+pub record IsResumeCutShort (orders : List Order) (periods : ℕ) (mark : MarkView) (before now : ℕ → Side → LineState) : Type 0 where
   -- the lines that failed
   pub fails : ℕ → Side → Bool
   pub told : AreFailures fails before now
   -- incoming lines were only read, from the front, and outgoing ones only written
   pub sides : KeepsSides before now
   pub reads : ReadsOn before now
-  -- each outgoing line holds a front of what the whole run over what the lines gave gives it from there on ..
-  pub fronts : (r : Run) → IsRunOver orders periods fails before now r → LeavesFrontsFrom r from before now
-  -- .. and there is such a run of orders that are in range, wherever the lines tell what they hold
-  pub there : AreOrders orders → AreTold before → (r : Run) × IsRunOver orders periods fails before now r
+  -- each outgoing line holds a front of what the whole run over what the lines gave gives it from the mark's period on,
+  pub fronts : (r : Run) → IsRunOver orders periods fails before now r → LeavesFrontsFrom r mark.period before now
+  -- and where the run to the mark's period hasn't the mark's calls, each is as it was, its counts included
+  pub held : (r : Run) → IsRunOver orders mark.period fails before now r → marked_calls r ≢ mark.calls →
+      (c : ℕ) (s : Side) → IsOutgoing s → now c s ≡ before c s
+  -- there are such runs, to any number of periods, of orders that are in range, wherever the lines tell what they hold
+  pub there : AreOrders orders → AreTold before → (n : ℕ) → (r : Run) × IsRunOver orders n fails before now r

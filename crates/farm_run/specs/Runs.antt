@@ -55,7 +55,8 @@ pub record KeepsSides (before now : ℕ → Side → LineState) : Type 0 where
 
 -- Of an incoming line that told its octets, some of the first were read, and it tells the others.
 abbrev pub ReadsOn : (ℕ → Side → LineState) → (ℕ → Side → LineState) → Type 0
-ReadsOn before now = (c : ℕ) (s : Side) (octets : List ℕ) → IsIncoming s → (before c s).to_come ≡ Some octets → (k : ℕ) × ((now c s).to_come ≡ Some (drop k octets))
+ReadsOn before now = (c : ℕ) (s : Side) (octets : List ℕ) → IsIncoming s → (before c s).to_come ≡ Some octets →
+    (k : ℕ) × ((now c s).to_come ≡ Some (drop k octets))
 
 -- the incoming lines of all calls tell what they hold
 abbrev pub AreTold : (ℕ → Side → LineState) → Type 0

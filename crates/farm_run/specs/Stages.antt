@@ -77,17 +77,25 @@ pub record Reaches (batch : ℕ) (s u : Stage) (before now : ℕ → Side → Li
   pub goes : StandingGoesOn (standing s.board s.farm.failed before) (standing u.board u.farm.failed now)
   pub back : is_held s.outgoing ≡ true → HoldsBack (is_listed s.farm.failed) (is_listed u.farm.failed) before now
   -- where it goes on to the run's end, all between is the run's: board, farm and incoming lines,
-  pub run : (r : Run) (first : ℕ → Side → LineState) (last : Standing) → HasFlags r last → u.clock ≤ r.periods → StandingGoesOn (standing u.board u.farm.failed now) last →
+  pub run : (r : Run) (first : ℕ → Side → LineState) (last : Standing) → HasFlags r last → u.clock ≤ r.periods →
+      StandingGoesOn (standing u.board u.farm.failed now) last →
       IsAtClock r s.clock s.board s.farm.groups last first before → IsAtClock r u.clock u.board u.farm.groups last first now
   -- what is noted and kept,
-  pub known : (r : Run) (first : ℕ → Side → LineState) (last : Standing) → HasFlags r last → u.clock ≤ r.periods → StandingGoesOn (standing u.board u.farm.failed now) last →
-      IsAtClock r s.clock s.board s.farm.groups last first before → IsKnown r s.clock s.board s.farm.tallies s.journal → IsKnown r u.clock u.board u.farm.tallies u.journal
+  pub known : (r : Run) (first : ℕ → Side → LineState) (last : Standing) → HasFlags r last → u.clock ≤ r.periods →
+      StandingGoesOn (standing u.board u.farm.failed now) last →
+      IsAtClock r s.clock s.board s.farm.groups last first before → IsKnown r s.clock s.board s.farm.tallies s.journal →
+      IsKnown r u.clock u.board u.farm.tallies u.journal
   -- what is written, from whichever earlier period on,
-  pub wrote : is_held s.outgoing ≡ false → (from : ℕ) → from ≤ s.clock → (r : Run) (first : ℕ → Side → LineState) (last : Standing) → HasFlags r last → u.clock ≤ r.periods → StandingGoesOn (standing u.board u.farm.failed now) last →
-      IsAtClock r s.clock s.board s.farm.groups last first before → WrittenFrom r from s.clock (is_listed s.farm.failed) first before → WrittenFrom r from u.clock (is_listed u.farm.failed) first now
+  pub wrote : is_held s.outgoing ≡ false → (from : ℕ) → from ≤ s.clock → (r : Run) (first : ℕ → Side → LineState) (last : Standing) → HasFlags r last →
+      u.clock ≤ r.periods → StandingGoesOn (standing u.board u.farm.failed now) last →
+      IsAtClock r s.clock s.board s.farm.groups last first before → WrittenFrom r from s.clock (is_listed s.farm.failed) first before →
+      WrittenFrom r from u.clock (is_listed u.farm.failed) first now
   -- the sums,
-  pub sums : is_summed s.outgoing ≡ true → (r : Run) (first : ℕ → Side → LineState) (last : Standing) → HasFlags r last → u.clock ≤ r.periods → StandingGoesOn (standing u.board u.farm.failed now) last →
+  pub sums : is_summed s.outgoing ≡ true → (r : Run) (first : ℕ → Side → LineState) (last : Standing) → HasFlags r last → u.clock ≤ r.periods →
+      StandingGoesOn (standing u.board u.farm.failed now) last →
       IsAtClock r s.clock s.board s.farm.groups last first before → SumsAt r s.clock (sum_to s.outgoing) → SumsAt r u.clock (sum_to u.outgoing)
   -- and where incoming lines failed
-  pub short : (r : Run) (first : ℕ → Side → LineState) (last : Standing) → HasFlags r last → u.clock ≤ r.periods → StandingGoesOn (standing u.board u.farm.failed now) last →
-      IsAtClock r s.clock s.board s.farm.groups last first before → FailedShort r batch (is_listed s.farm.failed) → FailedShort r batch (is_listed u.farm.failed)
+  pub short : (r : Run) (first : ℕ → Side → LineState) (last : Standing) → HasFlags r last → u.clock ≤ r.periods →
+      StandingGoesOn (standing u.board u.farm.failed now) last →
+      IsAtClock r s.clock s.board s.farm.groups last first before → FailedShort r batch (is_listed s.farm.failed) →
+      FailedShort r batch (is_listed u.farm.failed)

@@ -68,7 +68,8 @@ fn execute(
     ensures failed { IfOk result (λ more. farm.new.failed ≡ farm.old.failed) }
     ensures knows { KnowsListed board.old farm.old.groups farm.old.failed → IfOk result (λ more. KnowsListed board.new farm.new.groups farm.new.failed) }
     ensures over { (c : ℕ) → is_over board.old c ≡ true → is_over board.new c ≡ true }
-    ensures follows { (r : Run) → clock < r.periods → FollowsRun r clock board.old farm.old.groups → IfOk result (λ more. FollowsRun r clock board.new farm.new.groups) }
+    ensures follows { (r : Run) → clock < r.periods → FollowsRun r clock board.old farm.old.groups →
+        IfOk result (λ more. FollowsRun r clock board.new farm.new.groups) }
     ensures told { board.new.told ≡ board.old.told }
     ensures openings { (n : ℕ) → clock < n → OpenedBefore n journal.old.calls → OpenedBefore n journal.new.calls }
 
@@ -107,7 +108,8 @@ pub(crate) fn execute_orders(
     ensures failed { IfOk result (λ u. farm.new.failed ≡ farm.old.failed) }
     ensures knows { KnowsListed board.old farm.old.groups farm.old.failed → IfOk result (λ u. KnowsListed board.new farm.new.groups farm.new.failed) }
     ensures over { (c : ℕ) → is_over board.old c ≡ true → is_over board.new c ≡ true }
-    ensures follows { (r : Run) → clock < r.periods → FollowsRun r clock board.old farm.old.groups → IfOk result (λ u. FollowsRun r clock board.new farm.new.groups) }
+    ensures follows { (r : Run) → clock < r.periods → FollowsRun r clock board.old farm.old.groups →
+        IfOk result (λ u. FollowsRun r clock board.new farm.new.groups) }
     ensures told { board.new.told ≡ board.old.told }
     ensures openings { (n : ℕ) → clock < n → OpenedBefore n journal.old.calls → OpenedBefore n journal.new.calls }
 

@@ -71,7 +71,8 @@ fn by_number(mut lines: Vec<CallLine>) -> Vec<CallLine>
 
 // Notes of each call that has ended what it has sent in its latest bridge.
 fn settle_all(journal: &mut Journal, farm: &Farm)
-    ensures settled { (h : ℕ → Option CallHistory) → GroupsStand h farm.now.groups → journal.new ≡ settled_each (kept_in farm.now.tallies h) journal.old.ends journal.old }
+    ensures settled { (h : ℕ → Option CallHistory) → GroupsStand h farm.now.groups →
+        journal.new ≡ settled_each (kept_in farm.now.tallies h) journal.old.ends journal.old }
     ensures ends { journal.new.ends ≡ journal.old.ends }
     ensures calls { journal.new.calls ≡ journal.old.calls }
 {
@@ -106,7 +107,8 @@ pub(crate) fn report(
         r.spans ≡ span_lines (spans_now (told_in board.now) board.now.done) (settled_each (kept_in farm.now.tallies h) journal.old.ends journal.old).bridges) }
 
     // They are all bridges, once each call has ended.
-    ensures whole { IfOk result (λ r. (h : ℕ → Option CallHistory) (given : ℕ → Given) (periods : ℕ) → GroupsStand h farm.now.groups → AllEnded given periods board.now →
+    ensures whole { IfOk result (λ r. (h : ℕ → Option CallHistory) (given : ℕ → Given) (periods : ℕ) → GroupsStand h farm.now.groups →
+        AllEnded given periods board.now →
         r.spans ≡ span_lines (spans_of given periods board.now.done) (settled_each (kept_in farm.now.tallies h) journal.old.ends journal.old).bridges) }
 {
     settle_all(journal, farm);

@@ -116,6 +116,10 @@ fn given(rt: &impl Abort, alloc: Global, row: &Failing, before: usize) -> MemTru
     trunk
 }
 
+fn put(rt: &impl Abort, told: &mut String, text: &str) {
+    told.push_str(text).expect(rt, "memory");
+}
+
 // The report of the run over the octets that were given, as it is where the line failed: its call ends by the fault, and
 // the line is listed before the last line.
 fn told_of(rt: &impl Abort, alloc: Global, row: &Failing, calm: &[u8]) -> String {
@@ -123,17 +127,17 @@ fn told_of(rt: &impl Abort, alloc: Global, row: &Failing, calm: &[u8]) -> String
     let mut told = String::new(alloc);
     for text in calm.lines() {
         if text.starts_with("end ") {
-            told.push_str(row.told).expect(rt, "memory");
+            put(rt, &mut told, row.told);
         }
         let ended = is_incoming(row.side) && text.starts_with(row.head);
         match text.split_once(" end ") {
             Some((front, _)) if ended => {
-                told.push_str(front).expect(rt, "memory");
-                told.push_str(row.cause).expect(rt, "memory");
+                put(rt, &mut told, front);
+                put(rt, &mut told, row.cause);
             }
-            _ => told.push_str(text).expect(rt, "memory"),
+            _ => put(rt, &mut told, text),
         }
-        told.push('\n').expect(rt, "memory");
+        put(rt, &mut told, "\n");
     }
     told
 }

@@ -144,27 +144,20 @@ static ROWS: [Row; 8] = [
     },
 ];
 
-#[test]
-fn a_downlink_is_followed(rt: HostRuntime) {
-    for row in &ROWS {
-        let (outcome, trunk) = follow(&rt, rt.alloc(), row.cut, row.faults);
-        assert!(rt;
-            outcome.is(row.status, row.text) && are_answers(trunk.written(line(7, Down)), row.sent),
-            "pieces of {}, sent {}: {}",
-            row.cut,
-            row.sent,
-            row.text
-        );
-    }
+// Whether of a downlink comes what its row has.
+fn comes_of<R: Abort + Threads + Wait + Sync>(rt: &R, alloc: Global, row: &Row) -> bool {
+    let (outcome, trunk) = follow(rt, alloc, row.cut, row.faults);
+    outcome.is(row.status, row.text) && are_answers(trunk.written(line(7, Down)), row.sent)
 }
 
 #[test]
-fn a_place_that_cant_be_wanted_is_no_command(rt: HostRuntime) {
-    let alloc = rt.alloc();
-    for want in ["6", "320", "00", ""] {
-        let mut trunk = MemTrunk::new(alloc).expect(&rt, "memory");
-        let words = ["follow", "7", want];
-        let outcome = carry(&rt, alloc, &words, &mut trunk, "", NONE, &OpenGate);
-        assert!(rt; outcome.is(1, "usage\n"));
+fn a_downlink_is_followed(rt: HostRuntime) {
+    for row in &ROWS {
+        assert!(rt;
+            comes_of(&rt, rt.alloc(), row),
+            "sent {}: {}",
+            row.sent,
+            row.text
+        );
     }
 }

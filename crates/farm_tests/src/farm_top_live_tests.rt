@@ -2,33 +2,24 @@
 //! clause says the first.
 
 use crate::between::Between;
-use crate::desk::FailingDesk;
-use crate::farm_top_tests::{carry, words_of};
+use crate::desk::{FailingDesk, WRITTEN};
+use crate::farm_top_tests::carry;
 use crate::lines::{Laid, NONE, line, trunk_of};
 use crate::met::Met;
 use crate::paired::Paired;
-use farm_top::farm_top;
-use pool_run::{Gate, OpenGate};
+use crate::two_calls::carry_out;
+use pool_run::OpenGate;
 use std::alloc::Global;
 use std::process::Abort;
 use std::sync::Wait;
 use std::thread::Threads;
+use trau_io::MemTrunk;
 use trau_io::Side::{Down, Out, Pcm, Up};
 
-// Two live drills, with the sums that another program gives.
+// A live drill, with the sums that another program gives.
 static ONE_PERIOD: &str = "sum 1 out 17406 down 10200
 sum 2 out 13986 down 10200
 live periods 1 calls 2
-";
-
-static SEVEN_CALLS: &str = "sum 1 out 564271 down 113383
-sum 2 out 554812 down 113383
-sum 3 out 649042 down 152585
-sum 4 out 579428 down 113383
-sum 5 out 573549 down 113383
-sum 6 out 579145 down 113383
-sum 7 out 607263 down 113383
-live periods 33 calls 7
 ";
 
 // Lines of call 1 of which each operation fails.
@@ -39,94 +30,97 @@ static FAILING: [Laid; 4] = [
     (1, Out, 0, 10_000, 0),
 ];
 
-// Whether `live` with these options answers 0 and tells this text, and no operation came to any line.
-fn tells<R: Abort + Threads + Wait + Sync, G: Gate + Sync>(
+// Whether no operation came to any of these lines.
+fn are_unused(trunk: &MemTrunk) -> bool {
+    for side in [Up, Pcm, Down, Out] {
+        if trunk.faults(line(1, side)) != 0 {
+            return false;
+        }
+    }
+    true
+}
+
+// The drill of one period by so many callers: whether it tells its text and uses no line, and how many waits of the gate
+// used up its turns.
+fn live_met<R: Abort + Threads + Wait + Sync>(
     rt: &R,
     alloc: Global,
-    words: &[&str],
-    text: &str,
-    gate: &G,
-) -> bool {
+    callers: &'static str,
+    turns: u32,
+) -> (bool, u32) {
+    let gate = Met::new(turns);
     let mut trunk = trunk_of(rt, alloc, &FAILING);
-    let outcome = carry(rt, alloc, words, &mut trunk, "no orders", NONE, gate);
-    let mut used = false;
-    for side in [Up, Pcm, Down, Out] {
-        used = used || trunk.faults(line(1, side)) != 0;
-    }
-    outcome.is(0, text) && !used
+    let words = ["live", "--calls=2", callers, "--periods=1"];
+    let outcome = carry(rt, alloc, &words, &mut trunk, "no orders", NONE, &gate);
+    (
+        outcome.is(0, ONE_PERIOD) && are_unused(&trunk),
+        gate.used_up(),
+    )
 }
 
-// Neither caller can post its period before the other has come to post its own.
+// Neither of two callers can post its period before the other has come to post its own. A single caller uses the turns up,
+// at its first call, and the rest is done all the same.
 #[test]
 fn both_callers_are_at_work_at_once(rt: HostRuntime) {
-    let gate = Met::new(5_000_000);
-    let words = ["live", "--calls=2", "--callers=2", "--periods=1"];
-    assert!(&rt; tells(&rt, rt.alloc(), &words, ONE_PERIOD, &gate));
-    assert!(&rt; gate.used_up() == 0);
+    assert!(rt; live_met(&rt, rt.alloc(), "--callers=2", 5_000_000) == (true, 0));
+    assert!(rt; live_met(&rt, rt.alloc(), "--callers=1", 1000) == (true, 1));
 }
 
-// A single caller uses the turns up, at its first call, and the rest is done all the same.
-#[test]
-fn one_caller_uses_the_turns_up(rt: HostRuntime) {
-    let gate = Met::new(1000);
-    let words = ["live", "--calls=2", "--callers=1", "--periods=1"];
-    assert!(&rt; tells(&rt, rt.alloc(), &words, ONE_PERIOD, &gate));
-    assert!(&rt; gate.used_up() == 1);
+// Two live drills of two periods by two callers, one of them with this gate: whether they tell the same.
+fn live_between<R: Abort + Threads + Wait + Sync>(rt: &R, alloc: Global, gate: &Between) -> bool {
+    let mut trunk = trunk_of(rt, alloc, &FAILING);
+    let words = ["live", "--calls=2", "--callers=2", "--periods=2"];
+    let met = carry(rt, alloc, &words, &mut trunk, "", NONE, gate);
+    let free = carry(rt, alloc, &words, &mut trunk, "", NONE, &OpenGate);
+    met.agrees_with(&free, 0)
 }
 
 // Each caller waits between its two posts until the other one is between its own.
 #[test]
 fn callers_meet_between_two_posts(rt: HostRuntime) {
     let gate = Between::new(5_000_000);
-    let alloc = rt.alloc();
-    let mut trunk = trunk_of(&rt, alloc, &FAILING);
-    let words = ["live", "--calls=2", "--callers=2", "--periods=2"];
-    let met = carry(&rt, alloc, &words, &mut trunk, "", NONE, &gate);
-    let free = carry(&rt, alloc, &words, &mut trunk, "", NONE, &OpenGate);
-    assert!(&rt; met.agrees_with(&free, 0));
-    assert!(&rt; gate.used_up() == 0);
+    assert!(rt; live_between(&rt, rt.alloc(), &gate));
+    assert!(rt; gate.used_up() == 0);
+}
+
+// A live drill of twenty periods by such callers, whose inboxes take one post: the status.
+fn live_paired<R: Abort + Threads + Wait + Sync>(
+    rt: &R,
+    alloc: Global,
+    callers: &'static str,
+    gate: &Paired,
+) -> u8 {
+    let mut trunk = trunk_of(rt, alloc, &FAILING);
+    let words = ["live", "--calls=2", callers, "--periods=20", "--inbox=1"];
+    carry(rt, alloc, &words, &mut trunk, "", NONE, gate).status
 }
 
 // Each period passes the gate once, also where posts are tried again.
 #[test]
 fn each_period_passes_the_gate_once(rt: HostRuntime) {
-    let alloc = rt.alloc();
     for callers in ["--callers=2", "--callers=1"] {
         let gate = Paired::new();
-        let mut trunk = trunk_of(&rt, alloc, &FAILING);
-        let words = ["live", "--calls=2", callers, "--periods=20", "--inbox=1"];
-        let outcome = carry(&rt, alloc, &words, &mut trunk, "", NONE, &gate);
-        assert!(&rt; outcome.status == 0);
-        assert!(&rt; gate.passed(20));
+        assert!(rt; live_paired(&rt, rt.alloc(), callers, &gate) == 0);
+        assert!(rt; gate.passed(20));
     }
 }
 
-#[test]
-fn live_takes_any_callers_and_inboxes(rt: HostRuntime) {
-    for callers in ["--callers=1", "--callers=5", "--callers=64"] {
-        for inbox in ["--inbox=1", "--inbox=1024"] {
-            let words = [
-                "live",
-                "--seed=9",
-                "--calls=7",
-                "--periods=33",
-                callers,
-                inbox,
-            ];
-            assert!(&rt; tells(&rt, rt.alloc(), &words, SEVEN_CALLS, &OpenGate));
-        }
-    }
+// Whether a live drill at a desk that fails at its second write ends with status 4, and its text is what went before.
+fn is_told_in_part<R: Abort + Threads + Wait + Sync>(rt: &R, alloc: Global) -> bool {
+    let trunk = trunk_of(rt, alloc, &FAILING);
+    let desk = FailingDesk::new(rt, alloc, "", 0, 1);
+    let run = carry_out(
+        rt,
+        alloc,
+        &["live", "--calls=2", "--periods=1"],
+        trunk,
+        desk,
+    );
+    let text = run.desk.text();
+    run.status == 4 && text.len() == WRITTEN && ONE_PERIOD.as_bytes().starts_with(text)
 }
 
 #[test]
 fn the_desk_fails_while_live_is_told(rt: HostRuntime) {
-    let alloc = rt.alloc();
-    let mut trunk = trunk_of(&rt, alloc, &FAILING);
-    let words = words_of(&rt, alloc, &["live", "--calls=2", "--periods=1"]);
-    // The desk takes thirty octets at a time.
-    let mut desk = FailingDesk::new(&rt, alloc, "", 0, 1);
-    let status = farm_top(&rt, alloc, &words, &mut trunk, &mut desk, &OpenGate);
-    assert_eq!(&rt; status, 4u8);
-    assert_eq!(&rt; desk.text().len(), 30);
-    assert!(&rt; ONE_PERIOD.as_bytes().starts_with(desk.text()));
+    assert!(rt; is_told_in_part(&rt, rt.alloc()));
 }

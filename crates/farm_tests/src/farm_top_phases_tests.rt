@@ -23,31 +23,25 @@ static LINES: [Laid; 8] = [
 
 const ORDERS: &str = "0 open 1\n0 open 2\n0 bridge 1 2\n";
 
-// Runs both calls, bridged from the first period on, in slices of one period. Answers the status.
+// Runs both calls, bridged from the first period on, in slices of one period: the status, and how many waits of the gate
+// used up its turns.
 fn run_met<R: Abort + Threads + Wait + Sync>(
     rt: &R,
     alloc: Global,
     workers: &'static str,
-    gate: &Met,
-) -> u8 {
+    turns: u32,
+) -> (u8, u32) {
+    let gate = Met::new(turns);
     let mut trunk = trunk_of(rt, alloc, &LINES);
     let words = ["run", "--workers", workers, "--slice", "1"];
-    carry(rt, alloc, &words, &mut trunk, ORDERS, NONE, gate).status
+    let outcome = carry(rt, alloc, &words, &mut trunk, ORDERS, NONE, &gate);
+    (outcome.status, gate.used_up())
 }
 
-// Each call starts in a deque of its own, and neither worker can go on with the first slice of a phase before the other
-// has begun it.
+// Each call starts in a deque of its own, and neither of two workers can go on with the first slice of a phase before the
+// other has begun it. A single worker uses the turns up, at the start of each phase, and the run is done all the same.
 #[test]
 fn both_calls_of_a_bridge_are_at_work_at_once(rt: HostRuntime) {
-    let gate = Met::new(5_000_000);
-    assert!(rt; run_met(&rt, rt.alloc(), "2", &gate) == 0);
-    assert!(rt; gate.used_up() == 0);
-}
-
-// A single worker uses the turns up, at the start of each phase, and the run is done all the same.
-#[test]
-fn one_worker_uses_the_turns_up(rt: HostRuntime) {
-    let gate = Met::new(1000);
-    assert!(rt; run_met(&rt, rt.alloc(), "1", &gate) == 0);
-    assert!(rt; gate.used_up() == 2);
+    assert!(rt; run_met(&rt, rt.alloc(), "2", 5_000_000) == (0, 0));
+    assert!(rt; run_met(&rt, rt.alloc(), "1", 1000) == (0, 2));
 }

@@ -1,7 +1,7 @@
 //! The command `run` where a line is short or fails, or the desk: values that were worked by hand from the rules.
 
 use crate::farm_top_tests::{Outcome, carry, carry_at};
-use crate::lines::{Laid, NONE, line, put, trunk_of};
+use crate::lines::{Laid, NONE, line, quiet_lines, trunk_of};
 use pool_run::OpenGate;
 use std::alloc::Global;
 use std::process::Abort;
@@ -105,33 +105,6 @@ end period 3 calls 1 left 0
     },
 ];
 
-// So many octets of this value.
-fn octets(rt: &impl Abort, alloc: Global, octet: u8, count: usize) -> Vec<u8> {
-    vec![in alloc; octet; count].expect(rt, "memory")
-}
-
-// The lines of call 1.
-fn lines_of(rt: &impl Abort, alloc: Global, row: &Row) -> MemTrunk {
-    let mut trunk = MemTrunk::new(alloc).expect(rt, "memory");
-    let up = octets(rt, alloc, 0, row.up);
-    let pcm = octets(rt, alloc, 0xD5, row.pcm);
-    let none = Vec::new(alloc);
-    put(rt, alloc, &mut trunk, line(1, Up), up, ALL, NONE);
-    put(rt, alloc, &mut trunk, line(1, Pcm), pcm, ALL, NONE);
-    put(rt, alloc, &mut trunk, line(1, Down), none, ALL, NONE);
-    let none = Vec::new(alloc);
-    put(
-        rt,
-        alloc,
-        &mut trunk,
-        line(1, Out),
-        none,
-        ALL,
-        row.out_fails,
-    );
-    trunk
-}
-
 // The desk of a row.
 fn desk_of(rt: &impl Abort, alloc: Global, row: &Row) -> MemDesk {
     let orders = b"0 open 1\n".to_vec(alloc).expect(rt, "memory");
@@ -163,7 +136,8 @@ fn is_written(trunk: &MemTrunk, row: &Row) -> bool {
 
 // Whether of a run comes what its row has.
 fn comes_of<R: Abort + Threads + Wait + Sync>(rt: &R, alloc: Global, row: &Row) -> bool {
-    let mut trunk = lines_of(rt, alloc, row);
+    let fails = [NONE, NONE, NONE, row.out_fails];
+    let mut trunk = quiet_lines(rt, alloc, row.up, row.pcm, fails);
     let mut desk = desk_of(rt, alloc, row);
     let outcome = carry_at(rt, alloc, &["run"], &mut trunk, &mut desk, &OpenGate);
     outcome.is(row.status, row.text) && is_written(&trunk, row)

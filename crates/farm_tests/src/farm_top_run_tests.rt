@@ -1,14 +1,14 @@
 //! The command `run`, with the lines and the orders in memory: what it answers, tells and writes.
 
 use crate::farm_top_tests::{Outcome, carry};
-use crate::lines::{Laid, NONE, late_frames, line, put, trunk_of};
+use crate::lines::{Laid, NONE, line, trunk_of};
 use pool_run::OpenGate;
 use std::alloc::Global;
 use std::process::Abort;
 use std::sync::Wait;
 use std::thread::Threads;
+use trau_io::MemTrunk;
 use trau_io::Side::{Down, Out, Pcm, Up};
-use trau_io::{Line, MemTrunk};
 
 // In one piece.
 const ALL: u32 = 10_000;
@@ -240,75 +240,6 @@ fn runs_and_what_comes_of_them(rt: HostRuntime) {
             "{} {}",
             row.value,
             row.text
-        );
-    }
-}
-
-// The lines after a run of both calls, where these calls of Pcm and of Down of call 7 fail.
-fn after<R: Abort + Threads + Wait + Sync>(
-    rt: &R,
-    alloc: Global,
-    pcm_fails: u32,
-    down_fails: u32,
-) -> MemTrunk {
-    let lines = [
-        (7, Up, 160, ALL, NONE),
-        (7, Pcm, 640, 400, pcm_fails),
-        (7, Down, 0, ALL, down_fails),
-        (7, Out, 0, ALL, NONE),
-        (9, Up, 20 * 40, ALL, NONE),
-        (9, Pcm, 20 * 160, ALL, NONE),
-        (9, Down, 0, ALL, NONE),
-        (9, Out, 0, ALL, NONE),
-    ];
-    let mut trunk = trunk_of(rt, alloc, &lines);
-    let _outcome = carry(rt, alloc, &["run"], &mut trunk, OPEN_BOTH, NONE, &OpenGate);
-    trunk
-}
-
-// Whether a line got the same octets in two runs.
-fn is_same(one: &MemTrunk, other: &MemTrunk, line: Line) -> bool {
-    one.written(line) == other.written(line)
-}
-
-// A line that fails leaves the other call, and the other lines of its own, as they are without it.
-#[test]
-fn failing_lines_change_no_other(rt: HostRuntime) {
-    let calm = after(&rt, rt.alloc(), NONE, NONE);
-    let failing = after(&rt, rt.alloc(), 1, 0);
-    assert!(rt; is_same(&failing, &calm, line(9, Down)) && is_same(&failing, &calm, line(9, Out)));
-    let failing = after(&rt, rt.alloc(), NONE, 0);
-    assert!(rt; is_same(&failing, &calm, line(7, Out)));
-}
-
-// The lines after a run of three periods of call 7, whose frames begin within an octet, in pieces of this size.
-fn in_pieces<R: Abort + Threads + Wait + Sync>(rt: &R, alloc: Global, cut: u32) -> MemTrunk {
-    let lines = [
-        (7, Pcm, 480, cut, NONE),
-        (7, Down, 0, cut, NONE),
-        (7, Out, 0, cut, NONE),
-    ];
-    let mut trunk = trunk_of(rt, alloc, &lines);
-    let up = late_frames(rt, alloc, 120);
-    put(rt, alloc, &mut trunk, line(7, Up), up, cut, NONE);
-    let _outcome = carry(rt, alloc, &["run"], &mut trunk, OPEN_7, NONE, &OpenGate);
-    trunk
-}
-
-// Whether the octets of Down and Out are all there, and those of a run in one piece.
-fn is_as_in_one_piece<R: Abort + Threads + Wait + Sync>(rt: &R, alloc: Global, cut: u32) -> bool {
-    let whole = in_pieces(rt, alloc, ALL);
-    let pieces = in_pieces(rt, alloc, cut);
-    let same = is_same(&pieces, &whole, line(7, Down)) && is_same(&pieces, &whole, line(7, Out));
-    same && lengths(&pieces) == [120, 480, 0, 0]
-}
-
-#[test]
-fn pieces_change_no_octet(rt: HostRuntime) {
-    for cut in &[1, 39, 41] {
-        assert!(rt;
-            is_as_in_one_piece(&rt, rt.alloc(), *cut),
-            "pieces of {cut}"
         );
     }
 }

@@ -1,17 +1,13 @@
 //! The commands `save` and `resume`, with the lines, the mark and the orders in memory: what they answer, tell and write.
 
 use crate::farm_top_tests::carry;
-use crate::lines::{NONE, line, put};
+use crate::lines::{NONE, line, quiet_lines};
 use pool_run::OpenGate;
 use std::alloc::Global;
 use std::process::Abort;
 use std::sync::Wait;
 use std::thread::Threads;
-use trau_io::Side::{Down, Out, Pcm, Up};
-use trau_io::{MemTrunk, Side};
-
-// In one piece.
-const ALL: u32 = 10_000;
+use trau_io::Side::{Down, Out};
 
 // A command over the lines of call 1, and what comes of it.
 struct Row {
@@ -296,35 +292,10 @@ end period 4 calls 1 left 0
     },
 ];
 
-// Lays a line of call 1.
-fn lay(
-    rt: &impl Abort,
-    alloc: Global,
-    trunk: &mut MemTrunk,
-    side: Side,
-    octet: u8,
-    count: usize,
-    fails: u32,
-) {
-    let octets = vec![in alloc; octet; count].expect(rt, "memory");
-    put(rt, alloc, trunk, line(1, side), octets, ALL, fails);
-}
-
-// The lines of call 1.
-fn lines_of(rt: &impl Abort, alloc: Global, row: &Row) -> MemTrunk {
-    let mut trunk = MemTrunk::new(alloc).expect(rt, "memory");
-    let periods = row.periods.min(100);
-    let [up, pcm, down, out] = row.fails;
-    lay(rt, alloc, &mut trunk, Up, 0, periods * 40, up);
-    lay(rt, alloc, &mut trunk, Pcm, 0xD5, periods * 160, pcm);
-    lay(rt, alloc, &mut trunk, Down, 0, 0, down);
-    lay(rt, alloc, &mut trunk, Out, 0, 0, out);
-    trunk
-}
-
 // Whether of a command comes what its row has.
 fn comes_of<R: Abort + Threads + Wait + Sync>(rt: &R, alloc: Global, row: &Row) -> bool {
-    let mut trunk = lines_of(rt, alloc, row);
+    let periods = row.periods.min(100);
+    let mut trunk = quiet_lines(rt, alloc, periods * 40, periods * 160, row.fails);
     let fails = row.desk_fails;
     let outcome = carry(rt, alloc, row.words, &mut trunk, row.text, fails, &OpenGate);
     let down = trunk.written(line(1, Down)).len();
@@ -352,21 +323,4 @@ fn marks(rt: HostRuntime) {
 #[test]
 fn runs_from_a_mark_on(rt: HostRuntime) {
     assert!(rt; come(&rt, rt.alloc(), &RESUMES) == 15);
-}
-
-// What `resume` writes to Down and Out are the idle frame and silence of one period.
-#[test]
-fn what_is_written_from_the_mark_on(rt: HostRuntime) {
-    let alloc = rt.alloc();
-    let row = &RESUMES[0];
-    let mut trunk = lines_of(&rt, alloc, row);
-    carry(&rt, alloc, row.words, &mut trunk, row.text, NONE, &OpenGate);
-    let mut idle = vec![in alloc; 0xFF; 40].expect(&rt, "memory");
-    idle[0] = 0;
-    idle[1] = 0;
-    idle[2] = 0xB8;
-    idle[3] = 0x0F;
-    let silence = vec![in alloc; 0xD5; 160].expect(&rt, "memory");
-    assert!(rt; trunk.written(line(1, Down)) == idle.as_slice());
-    assert!(rt; trunk.written(line(1, Out)) == silence.as_slice());
 }

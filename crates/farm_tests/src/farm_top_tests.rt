@@ -8,7 +8,7 @@ use std::process::Abort;
 use std::sync::Wait;
 use std::thread::Threads;
 use trau_io::Side::{Down, Out, Pcm, Up};
-use trau_io::{MemDesk, MemTrunk, Side};
+use trau_io::{Desk, MemDesk, MemTrunk, Side, Trunk};
 
 pub(crate) fn words_of(rt: &impl Abort, alloc: Global, texts: &[&str]) -> Vec<String> {
     let mut words = Vec::new(alloc);
@@ -17,6 +17,19 @@ pub(crate) fn words_of(rt: &impl Abort, alloc: Global, texts: &[&str]) -> Vec<St
         words.push(word).expect(rt, "memory");
     }
     words
+}
+
+// The status of the command of these words. All that is proved of it ends here, so that no test carries it on.
+pub(crate) fn status_of<R: Abort + Threads + Wait + Sync, T: Trunk, D: Desk, G: Gate + Sync>(
+    rt: &R,
+    alloc: Global,
+    texts: &[&str],
+    trunk: &mut T,
+    desk: &mut D,
+    gate: &G,
+) -> u8 {
+    let words = words_of(rt, alloc, texts);
+    farm_top(rt, alloc, &words, trunk, desk, gate)
 }
 
 // A desk that has these orders, and room enough; this one of its writes fails.
@@ -71,8 +84,7 @@ pub(crate) fn carry_at<R: Abort + Threads + Wait + Sync, G: Gate + Sync>(
     desk: &mut MemDesk,
     gate: &G,
 ) -> Outcome {
-    let words = words_of(rt, alloc, texts);
-    let status = farm_top(rt, alloc, &words, trunk, desk, gate);
+    let status = status_of(rt, alloc, texts, trunk, desk, gate);
     let text = desk.text().to_vec(alloc).expect(rt, "memory");
     Outcome { status, text }
 }

@@ -1,7 +1,7 @@
-//! Tests of the top call and of the pool: calls of the outside that fail, runs in memory, workers that steal.
+//! Tests of the top call and of the pool: operations of the outside that fail, runs in memory, workers that steal.
 //!
 //! They stand apart from what they test: a crate with tests is proved a second time with them; these go through public
-//! calls only.
+//! functions only.
 #![tactic(auto)]
 
 #[cfg(test)]

@@ -36,18 +36,6 @@ fn octets(rt: &impl Abort, alloc: Global, side: Side, count: usize) -> Vec<u8> {
     octets
 }
 
-// Good uplink frames behind five bits 0, so that each begins within an octet.
-pub(crate) fn late_frames(rt: &impl Abort, alloc: Global, count: usize) -> Vec<u8> {
-    let mut octets = octets(rt, alloc, Side::Up, count);
-    let mut last = 0u8;
-    for octet in octets.iter_mut() {
-        let next = *octet;
-        *octet = last << 3 | next >> 5;
-        last = next;
-    }
-    octets
-}
-
 // Octets that tell the periods and the calls apart: good uplink frames with the number of the period in their data bits, and
 // a Pcm line that changes.
 pub(crate) fn numbered(
@@ -96,6 +84,29 @@ pub(crate) fn trunk_of(rt: &impl Abort, alloc: Global, lines: &[Laid]) -> MemTru
     let mut trunk = MemTrunk::new(alloc).expect(rt, "memory");
     for laid in lines {
         lay(rt, alloc, &mut trunk, laid);
+    }
+    trunk
+}
+
+// The lines of call 1, in one piece: so many octets of an uplink without a frame, and of an idle Pcm line. By side, which
+// call of the outside fails there.
+pub(crate) fn quiet_lines(
+    rt: &impl Abort,
+    alloc: Global,
+    up: usize,
+    pcm: usize,
+    fails: [u32; 4],
+) -> MemTrunk {
+    let mut trunk = MemTrunk::new(alloc).expect(rt, "memory");
+    let [on_up, on_pcm, on_down, on_out] = fails;
+    for (side, octet, count, fails) in [
+        (Side::Up, 0, up, on_up),
+        (Side::Pcm, 0xD5, pcm, on_pcm),
+        (Side::Down, 0, 0, on_down),
+        (Side::Out, 0, 0, on_out),
+    ] {
+        let octets = vec![in alloc; octet; count].expect(rt, "memory");
+        put(rt, alloc, &mut trunk, line(1, side), octets, 10_000, fails);
     }
     trunk
 }

@@ -1,9 +1,8 @@
-//! The pool over jobs that write down how many places are left: each is finished as by one loop, in its place.
+//! The pool over jobs that write down how many places are left: each is finished in its place.
 
 ghost use Rattle.std.specs.Prelude.{◌≡◌, ◌≤◌, length, vec_len};
 
-use crate::held::{Held, PAIRS};
-use pool_run::{Gate, OpenGate, PoolRoom, Work, run_pool};
+use pool_run::{OpenGate, PoolRoom, Work, run_pool};
 use std::alloc::Global;
 use std::process::Abort;
 use std::sync::Wait;
@@ -69,63 +68,17 @@ fn counters(rt: &impl Abort, alloc: Global, jobs: &[(u32, u32)]) -> Vec<Box<Coun
 }
 
 // What the pool answers.
-fn run_at_once<R: Abort + Threads + Wait + Sync, G: Gate + Sync>(
+fn run_at_once<R: Abort + Threads + Wait + Sync>(
     rt: &R,
     alloc: Global,
     jobs: &[(u32, u32)],
     workers: u32,
     slice: u32,
-    gate: &G,
 ) -> Vec<Box<Counter>>
     requires { (1 ≤ workers) × (workers ≤ 64) × (1 ≤ slice) × (length jobs.now ≤ 4096) }
 {
     let room = PoolRoom::reserve(alloc, workers, jobs.len() as u32).expect(rt, "memory");
-    run_pool(rt, room, counters(rt, alloc, jobs), slice, gate)
-}
-
-// The plain program: runs a job to its end.
-fn run_alone<W: Work>(job: &mut W, slice: u32)
-    requires { 1 ≤ slice }
-    ensures { job.new ≡ W.finish job.old }
-{
-    while !job.finished() {
-        job.slice(slice);
-    }
-}
-
-// Whether a job is as the plain program leaves it.
-fn is_as_alone(job: &Counter, given: (u32, u32), slice: u32) -> bool
-    requires { 1 ≤ slice }
-{
-    let mut plain = Counter::new(given);
-    run_alone(&mut plain, slice);
-    (job.call, job.left, job.digits) == (plain.call, plain.left, plain.digits)
-}
-
-// Whether jobs are as the plain program leaves them, one after another.
-fn are_as_alone(jobs: &[Box<Counter>], given: &[(u32, u32)], slice: u32) -> bool
-    requires { 1 ≤ slice }
-{
-    for (job, given) in jobs.iter().zip(given) {
-        if !is_as_alone(job, *given, slice) {
-            return false;
-        }
-    }
-    jobs.len() == given.len()
-}
-
-// Whether the pool's answer is that of the plain program.
-fn is_as_in_turn<R: Abort + Threads + Wait + Sync>(
-    rt: &R,
-    alloc: Global,
-    jobs: &[(u32, u32)],
-    workers: u32,
-    slice: u32,
-) -> bool
-    requires { (1 ≤ workers) × (workers ≤ 64) × (1 ≤ slice) × (length jobs.now ≤ 4096) }
-{
-    let answer = run_at_once(rt, alloc, jobs, workers, slice, &OpenGate);
-    are_as_alone(&answer, jobs, slice)
+    run_pool(rt, room, counters(rt, alloc, jobs), slice, &OpenGate)
 }
 
 // Whether jobs are finished, by their calls' numbers and what they have written down.
@@ -138,71 +91,54 @@ fn are_finished(jobs: &[Box<Counter>], written: &[(u32, u32)]) -> bool {
     jobs.len() == written.len()
 }
 
-#[test]
-fn each_job_is_finished_in_its_place(rt: HostRuntime) {
-    let given = [(7, 3), (2, 0), (9, 5), (4, 1)];
-    let written = [(7, 321), (2, 0), (9, 54321), (4, 1)];
-    let answer = run_at_once(&rt, rt.alloc(), &given, 2, 2, &OpenGate);
-    assert!(rt; are_finished(&answer, &written));
+// Jobs, and what they have written down in the end.
+type Row = (&'static [(u32, u32)], &'static [(u32, u32)]);
+
+static ROWS: [Row; 3] = [
+    (&[], &[]),
+    (
+        &[(1, 6), (2, 9), (3, 1)],
+        &[(1, 654_321), (2, 987_654_321), (3, 1)],
+    ),
+    (
+        &[(7, 3), (2, 0), (9, 5), (4, 1), (8, 2), (6, 4), (5, 0)],
+        &[
+            (7, 321),
+            (2, 0),
+            (9, 54_321),
+            (4, 1),
+            (8, 21),
+            (6, 4321),
+            (5, 0),
+        ],
+    ),
+];
+
+// Whether so many workers finish them so, in slices of so many places.
+fn finish<R: Abort + Threads + Wait + Sync>(
+    rt: &R,
+    alloc: Global,
+    row: &Row,
+    workers: u32,
+    slice: u32,
+) -> bool {
+    let (jobs, written) = *row;
+    if jobs.len() > 4096 {
+        return false;
+    }
+    let answer = run_at_once(rt, alloc, jobs, workers.clamp(1, 64), slice.max(1));
+    are_finished(&answer, written)
 }
 
+// Fewer workers than jobs, and more.
 #[test]
-fn answers_as_the_plain_program(rt: HostRuntime) {
-    let mut jobs = [(0, 0); 40];
-    for k in 0..40u32 {
-        jobs[k as usize] = (100 - k, k * 7 % 23);
-    }
-    for workers in [1, 2, 5, 64] {
-        for slice in [1, 9] {
+fn each_job_is_finished_in_its_place(rt: HostRuntime) {
+    for row in &ROWS {
+        for (workers, slice) in [(1, 2), (2, 1), (2, 9), (5, 1), (64, 1)] {
             assert!(rt;
-                is_as_in_turn(&rt, rt.alloc(), &jobs, workers, slice),
+                finish(&rt, rt.alloc(), row, workers, slice),
                 "{workers} workers, slices of {slice}"
             );
         }
-    }
-}
-
-#[test]
-fn three_jobs_for_many_workers(rt: HostRuntime) {
-    assert!(rt; is_as_in_turn(&rt, rt.alloc(), &[(1, 6), (2, 9), (3, 1)], 64, 1));
-}
-
-#[test]
-fn many_jobs_for_one_worker(rt: HostRuntime) {
-    let mut jobs = [(0, 0); 200];
-    for k in 0..200u32 {
-        jobs[k as usize] = (k, k % 7);
-    }
-    assert!(rt; is_as_in_turn(&rt, rt.alloc(), &jobs, 1, 2));
-}
-
-#[test]
-fn no_job(rt: HostRuntime) {
-    let room = PoolRoom::<Counter>::reserve(rt.alloc(), 1, 4096).expect(&rt, "memory");
-    let answer = run_pool(&rt, room, Vec::new(rt.alloc()), 1, &OpenGate);
-    assert!(rt; answer.is_empty());
-}
-
-// Whether each wait of the gate was answered, for three jobs of three places and two workers.
-fn each_wait_is_answered<R: Abort + Threads + Wait + Sync>(
-    rt: &R,
-    alloc: Global,
-    one: u32,
-    other: u32,
-) -> bool {
-    let gate = Held::new(one, other);
-    let _answer = run_at_once(rt, alloc, &[(1, 3), (2, 3), (3, 3)], 2, 1, &gate);
-    gate.each_is_answered()
-}
-
-// Jobs 1 and 3 start in one deque, and job 2 in the other. The worker that is held with one job of a pair can't run the
-// other one: so the other worker has to take it, where it was begun, and both have to be at work at once.
-#[test]
-fn jobs_are_stolen_half_done(rt: HostRuntime) {
-    for (one, other) in &PAIRS {
-        assert!(rt;
-            each_wait_is_answered(&rt, rt.alloc(), *one, *other),
-            "calls {one} and {other}"
-        );
     }
 }

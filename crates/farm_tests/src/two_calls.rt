@@ -1,9 +1,8 @@
 //! Two calls of 30 periods, which a bridge joins at period 4, in rounds of at most 7 periods.
 
 use crate::desk::FailingDesk;
-use crate::farm_top_tests::words_of;
+use crate::farm_top_tests::status_of;
 use crate::lines::{NONE, line, numbered, put};
-use farm_top::farm_top;
 use pool_run::OpenGate;
 use std::alloc::Global;
 use std::process::Abort;
@@ -64,20 +63,30 @@ pub(crate) struct Outcome {
     pub(crate) trunk: MemTrunk,
 }
 
-// Carries out the run over these lines, at this desk.
-pub(crate) fn carry<R: Abort + Threads + Wait + Sync>(
+// Carries out a command over these lines, at this desk.
+pub(crate) fn carry_out<R: Abort + Threads + Wait + Sync>(
     rt: &R,
     alloc: Global,
+    texts: &[&str],
     mut trunk: MemTrunk,
     mut desk: FailingDesk,
 ) -> Outcome {
-    let words = words_of(rt, alloc, &WORDS);
-    let status = farm_top(rt, alloc, &words, &mut trunk, &mut desk, &OpenGate);
+    let status = status_of(rt, alloc, texts, &mut trunk, &mut desk, &OpenGate);
     Outcome {
         status,
         desk,
         trunk,
     }
+}
+
+// The run of both calls.
+pub(crate) fn carry<R: Abort + Threads + Wait + Sync>(
+    rt: &R,
+    alloc: Global,
+    trunk: MemTrunk,
+    desk: FailingDesk,
+) -> Outcome {
+    carry_out(rt, alloc, &WORDS, trunk, desk)
 }
 
 // Carries out the run over these lines, at a desk of which no call fails.

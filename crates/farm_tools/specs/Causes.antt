@@ -21,8 +21,9 @@ pub record ReadsRefused (tool : Tool) (inc inc' : LineState) : Type 0 where
 abbrev pub IsCalm : ℕ → ℕ → Type 0
 IsCalm before now = (now ≡ before) × (now < 2 ^ 64 - 1)
 
--- 4 comes exactly where the desk's writing count rose, 6 exactly where the count of a line of the tool rose and 4 isn't due,
--- 8 exactly where a block that was read is refused and 4 isn't due; each yields to 5, want of memory
+-- 4 comes only where the desk's writing count rose, 6 only where the count of a line of the tool rose, 8 only where a block
+-- that was read is refused; where a count became greater or a block is refused, the status comes, 4 before the others;
+-- each yields to 5, want of memory
 pub record HasCauses (tool : Tool) (inc inc' out out' : LineState) (desk desk' : DeskState) (status : ℕ) : Type 0 where
   pub known : (status ≡ 0) ⊎ (status ≡ 4) ⊎ (status ≡ 5) ⊎ (status ≡ 6) ⊎ (status ≡ 8)
   pub desk_failed : status ≡ 4 → Rose desk.write_faults desk'.write_faults

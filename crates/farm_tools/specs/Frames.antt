@@ -44,7 +44,8 @@ pub record FramesRun (before now : ℕ → Side → LineState) (desk desk' : Des
   pub others : OthersStay before now call Up
   pub tells : TellsListEnd call end middle desk' result
 
--- 4 comes exactly where the desk's writing count rose, 6 exactly where the uplink's count rose and 4 isn't due; each yields to 5, want of memory
+-- 4 comes only where the desk's writing count rose, 6 only where the uplink's count rose; where one became greater, its
+-- status comes, 4 before 6; each yields to 5, want of memory
 pub record FramesCauses (up up' : LineState) (desk desk' : DeskState) (status : ℕ) : Type 0 where
   pub known : (status ≡ 0) ⊎ (status ≡ 4) ⊎ (status ≡ 5) ⊎ (status ≡ 6)
   pub desk_failed : status ≡ 4 → Rose desk.write_faults desk'.write_faults

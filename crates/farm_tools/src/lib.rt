@@ -7,7 +7,8 @@
 //!
 //! The tools, their ends and their texts are this project's profile; frames are those of GSM 08.60.
 //! Definitions: `specs/Blocks.antt` (which blocks are taken), `specs/Made.antt` (what is made of them),
-//! `specs/Runs.antt` (what a run moves), `specs/Tools.antt` (a whole tool, its text and its end),
+//! `specs/Work.antt` (what a tool keeps), `specs/Step.antt` (one block of a run), `specs/Runs.antt` (what a run
+//! moves), `specs/Tools.antt` (a whole tool, its text and its end),
 //! `specs/Causes.antt` (why each end comes), `specs/Clean.antt` (a run without faults), `specs/Frames.antt` (all of that for
 //! `frames`).
 #![tactic(auto)]

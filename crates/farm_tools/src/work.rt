@@ -105,9 +105,8 @@ fn encoded_octets(encoder: &mut Encoder, block: &[u8], octets: &mut [u8; 160]) -
     ensures history { (past : List (List ℤ)) → EncoderStands past encoder.old →
         EncoderStands (block_samples block.now ∷ past) encoder.new × (take 40 octets.new ≡ frame_of_encoded (encoding_of (block_samples block.now) past)) }
 {
-    let mut period = [0; 160];
-    period.copy_from_slice(block);
-    let (params, _, _) = encoder.encode(&expand_all(Law::A, &period));
+    let period = block.as_array().unwrap();
+    let (params, _, _) = encoder.encode(&expand_all(Law::A, period));
     let mut d = [0; 260];
     params.to_bits(&mut d);
     downlink_frame(&d, octets)

@@ -22,7 +22,8 @@ use Rattle.farm_top.specs.Resume.{ResumesFarm}
 use Rattle.farm_top.specs.Save.{SavesFarm}
 use Rattle.farm_top.specs.Slots.{MergeEnds, SplitEnds}
 use Rattle.farm_top.specs.Top.{Carries, CarriesAsked, CarriesFrames, IsInRange}
-use Rattle.farm_top.specs.Words.{AreCommand, AsksFor, AsksForDrill, AsksForFollow, AsksForFrames, AsksForLive, AsksForMerge, AsksForResume, AsksForRun, AsksForSave, AsksForSplit, TakeOptions}
+use Rattle.farm_top.specs.Words.{AreCommand, AsksFor, AsksForDrill, AsksForFollow, AsksForFrames, AsksForLive, AsksForMerge, AsksForResume, AsksForRun}
+use Rattle.farm_top.specs.Words.{AsksForSave, AsksForSplit, TakeOptions}
 
 -- a tool's work on a call
 abbrev pub asked_of : Tool → ℕ → Asked

@@ -6,11 +6,12 @@ use Rattle.trau_io.specs.declared.line.Line.{Line as TheLine}
 use Rattle.trau_io.specs.Lines.{LineState, Rose}
 use Rattle.trau_io.specs.Desks.{DeskState}
 use Rattle.trau_orders.specs.declared.order.Order.{Order}
-use Rattle.trau_orders.specs.Text.{GoodOrBad, SpellsOneList}
+use Rattle.trau_orders.specs.Text.{text_lines, GoodOrBad, SpellsOneList}
+use Rattle.trau_orders.proofs.Known.{orders_known}
 use Rattle.run_spec.specs.Run.{Run}
 use Rattle.farm_run.specs.Runs.{IsRunOver, Leaves, NoneRose, is_listed}
 use Rattle.farm_run.specs.Fronts.{IsCutShort}
-use Rattle.farm_run.proofs.Clocks.{none_listed}
+use Rattle.farm_run.proofs.Clocks.Last.{none_listed}
 use Rattle.command_words.specs.declared.asked.Settings.{Settings}
 use Rattle.farm_top.specs.Farm.{AllStay, CarriesRun, LacksMemory, ReadsAndFollows, RunsOrders, TellsRun}
 use Rattle.farm_top.specs.FarmClean.{CleanFarm, CleanTelling, IsCalmRun, TellsOrders}
@@ -81,7 +82,7 @@ module _ (text_of : Run → List TheLine → List ℕ) (good : GoodOrBad) (one :
             (front_out run.failed run.text desk ran.read desk' status due ran.written four run.tells);
         all_read = read_out run.failed run.text desk ran.read desk' status due ran.written run.tells ∙ ran.all_read;
         short = run.short;
-        there = run.there;
+        there = run.there (orders_known (text_lines told.text) orders told.within.1 told.spelled);
       }
 
   -- where no count rose no line is listed

@@ -1,18 +1,18 @@
 -- A resumed run that is cut short, and one that isn't.
 use Rattle.std.proofs.Common.{◌≡◌, inl, inr, ℕ, ◌*◌, max, List, [], ◌∷◌, drop, sym, ◌∙◌, subst, arith}
-use Rattle.std.proofs.KnownBytes.{Appends-nil}
 use Rattle.trau_io.specs.declared.line.Line.{Line as TheLine}
 use Rattle.trau_io.specs.declared.line.Side.{Side}
 use Rattle.trau_io.specs.declared.line.Side.TheVariants.{Down, Out}
 use Rattle.trau_io.specs.Lines.{LineState}
 use Rattle.trau_io.specs.Desks.{DeskState}
 use Rattle.trau_orders.specs.declared.order.Order.{Order}
+use Rattle.farm_checkpoint.specs.Marks.{MarkView}
 use Rattle.farm_orders.specs.declared.marked.MarkedOrders.{MarkedOrders}
 use Rattle.run_spec.specs.Run.{worked_to}
 use Rattle.run_spec.specs.Lines.{out_of_call, down_of_call}
 use Rattle.farm_run.specs.Runs.{is_listed}
 use Rattle.farm_run.specs.Resuming.{IsResumeCutShort}
-use Rattle.farm_run.proofs.Cutting.{cut_first}
+use Rattle.farm_run.proofs.Marked.Resumption.{unbegun_cut}
 use Rattle.command_words.specs.declared.asked.Settings.{Settings}
 use Rattle.farm_top.specs.Farm.{AllStay, TellsRun, status_of_run}
 use Rattle.farm_top.specs.Resume.{ResumesAndTells}
@@ -20,7 +20,7 @@ use Rattle.farm_top.proofs.ToldRuns.{front_whole}
 
 -- a run that was carried to its end has what it has where it is cut short
 pub cut_whole : (marked : MarkedOrders) (s : Settings) (before now : ℕ → Side → LineState) (desk desk' : DeskState) (status : ℕ) →
-    ResumesAndTells marked s before now desk desk' status → IsResumeCutShort marked.orders (max marked.mark.period s.periods) marked.mark.period before now
+    ResumesAndTells marked s before now desk desk' status → IsResumeCutShort marked.orders (max marked.mark.period s.periods) marked.mark before now
 cut_whole marked s before now desk desk' status ran =
     let report = ran.report in
     let from = marked.mark.period in
@@ -29,7 +29,8 @@ cut_whole marked s before now desk desk' status ran =
       told = ran.resumes.failed.failures;
       sides = ran.resumes.sides;
       reads = ran.resumes.reads;
-      there = λ are told. ran.resumes.there are told (max from s.periods);
+      there = ran.resumes.there;
+      held = λ r over differs. absurd (differs (ran.resumes.same_mark r over));
       fronts = λ r over.
           let l = ran.resumes.leaves r over in
           record {
@@ -41,27 +42,11 @@ cut_whole marked s before now desk desk' status ran =
     }
 
 -- no line was used
-cut_first_from : (orders : List Order) (periods from : ℕ) (before : ℕ → Side → LineState) → IsResumeCutShort orders periods from before before
-cut_first_from orders periods from before =
-    let cut = cut_first orders periods before in
-    record {
-      fails = cut.fails;
-      told = cut.told;
-      sides = cut.sides;
-      reads = cut.reads;
-      there = cut.there;
-      fronts = λ r over. record {
-        out = λ c i. (0, Appends-nil (before c Out).written);
-        down = λ c i. (0, Appends-nil (before c Down).written);
-        others = (cut.fronts r over).others;
-      };
-    }
-
-pub cut_none_from : (orders : List Order) (periods from : ℕ) (before now : ℕ → Side → LineState) → AllStay before now →
-    IsResumeCutShort orders periods from before now
-cut_none_from orders periods from before now stay =
+pub cut_none_from : (orders : List Order) (periods : ℕ) (mark : MarkView) (before now : ℕ → Side → LineState) → AllStay before now →
+    IsResumeCutShort orders periods mark before now
+cut_none_from orders periods mark before now stay =
     let same : before ≡ now = λ i. λ c. λ side. sym (stay c side) i in
-    subst (IsResumeCutShort orders periods from before) same (cut_first_from orders periods from before)
+    subst (IsResumeCutShort orders periods mark before) same (unbegun_cut orders periods mark before)
 
 -- the status of a run that was carried to its end
 pub due_of : (failed : List TheLine) (text : List ℕ) (read desk' : DeskState) (status : ℕ) → TellsRun failed text read desk' status → status ≡ 9 → ⊥

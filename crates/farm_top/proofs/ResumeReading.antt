@@ -16,7 +16,8 @@ use Rattle.command_words.specs.declared.asked.Settings.{Settings}
 use Rattle.farm_top.specs.Farm.{LacksMemory, TellsReport}
 use Rattle.farm_top.specs.Resume.{CarriesResume, FollowsMarked, ResumesAndTells, ResumesOrders}
 use Rattle.farm_top.specs.ResumeCauses.{HasBadMark, HasBadOrder, HasLongOrders, ReadsTooMuch, ResumeCauses}
-use Rattle.farm_top.proofs.ResumeCausing.{bad_causes, differs_causes, long_causes, marked_not_bad, memory_causes, not_long_behind, taken_not_bad, taken_not_long, told_causes, unread_causes, untold_causes}
+use Rattle.farm_top.proofs.ResumeCausing.{bad_causes, differs_causes, long_causes, marked_not_bad, memory_causes, not_long_behind, taken_not_bad}
+use Rattle.farm_top.proofs.ResumeCausing.{taken_not_long, told_causes, unread_causes, untold_causes}
 
 module _ (good : GoodOrBad) (mark_good : NotGoodAndBad) (one : HasOneMark) (s : Settings) (before now : ℕ → Side → LineState) (desk read desk' : DeskState)
     (status : ℕ) where

@@ -23,7 +23,7 @@ use Rattle.run_spec.specs.Mark.{Joins, marked_calls}
 use Rattle.farm_report.specs.Lines.{report_text}
 use Rattle.farm_run.specs.Runs.{IsRunOver, NoneRose, TellsFailed, is_listed}
 use Rattle.farm_run.specs.Resuming.{IsResumeCutShort, LeavesFrom}
-use Rattle.farm_run.proofs.Clocks.{none_listed}
+use Rattle.farm_run.proofs.Clocks.Last.{none_listed}
 use Rattle.command_words.specs.declared.asked.Settings.{Settings}
 use Rattle.farm_top.specs.Farm.{TellsReport}
 use Rattle.farm_top.specs.FarmClean.{IsCalmRun}
@@ -96,11 +96,11 @@ module _ (good : GoodOrBad) (one : SpellsOneList) (mark_good : NotGoodAndBad) (o
   Ran = Behind (λ read. ResumesAndTells both s before now read desk' status)
 
   abbrev Found : Type 0
-  Found = Behind (λ read. FindsAndTells both before now read desk' status)
+  Found = Behind (λ read. FindsAndTells both s before now read desk' status)
 
   -- or there was no memory, or the desk failed while it was read
   abbrev Else : Type 0
-  Else = (IsResumeCutShort orders (max mark.period s.periods) mark.period before now × (status ≡ 5)) ⊎ NotTaken before now desk desk' status
+  Else = (IsResumeCutShort orders (max mark.period s.periods) mark before now × (status ≡ 5)) ⊎ NotTaken before now desk desk' status
 
   what_of : (t : Taken MarkedOrders (ResumesOrders s before now desk' status) both desk) → ResumesOrders s before now desk' status both t.read →
       Ran ⊎ Found ⊎ Else
@@ -152,11 +152,11 @@ module _ (good : GoodOrBad) (one : SpellsOneList) (mark_good : NotGoodAndBad) (o
             (front_out report.failed text desk ran.read desk' status due ran.written four ran.done.tells);
         all_read = read_out report.failed text desk ran.read desk' status due ran.written ran.done.tells ∙ ran.all_read;
         short = resumes.short;
-        there = resumes.there;
+        there = resumes.there (orders_known (text_lines told.rest) orders told.within.1 told.spelled);
       }
 
   -- **With 9 the mark isn't that of the run.**
-  pub differs : status ≡ 9 → ResumeDiffers mark orders before now desk desk'
+  pub differs : status ≡ 9 → ResumeDiffers mark orders s before now desk desk'
   differs nine = elim what [
     | inl ran ↦ absurd (due_of ran.done.report.failed (report_text ran.done.report) ran.read desk' status ran.done.tells nine)
     | inr (inl found) ↦ record {
@@ -172,12 +172,12 @@ module _ (good : GoodOrBad) (one : SpellsOneList) (mark_good : NotGoodAndBad) (o
   ]
 
   -- **The run was cut short.**
-  pub cut_short : status ≡ 5 → IsResumeCutShort orders (max mark.period s.periods) mark.period before now
+  pub cut_short : status ≡ 5 → IsResumeCutShort orders (max mark.period s.periods) mark before now
   cut_short five = elim what [
     | inl ran ↦ cut_whole both s before now ran.read desk' status ran.done
     | inr (inl found) ↦ (let is = found.done.ends.status_is in absurd (omega (arith, five, is)))
     | inr (inr (inl cut)) ↦ cut.0
-    | inr (inr (inr none)) ↦ cut_none_from orders (max mark.period s.periods) mark.period before now none.stay
+    | inr (inr (inr none)) ↦ cut_none_from orders (max mark.period s.periods) mark before now none.stay
   ]
 
   -- **What a run to the mark's period writes and what was gained here are together what one run writes.**

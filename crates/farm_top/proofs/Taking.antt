@@ -12,7 +12,7 @@ use Rattle.farm_orders.specs.declared.fault.OrdersFault.{OrdersFault}
 use Rattle.farm_orders.specs.declared.fault.OrdersFault.TheVariants.{Unread, TooLong, Line, Memory}
 use Rattle.farm_orders.specs.Reading.{AnswersTold, ReadsOrders}
 use Rattle.farm_run.specs.Runs.{NoneRose, TellsFailed}
-use Rattle.farm_run.proofs.Listed.{listed_head}
+use Rattle.farm_run.proofs.Listed.Tests.{listed_head}
 use Rattle.farm_tools.specs.Causes.{IsCalm}
 use Rattle.farm_top.specs.Farm.{AllStay, FollowsReading, LacksMemory, ReadsAndFollows, TellsRun, status_of_run}
 use Rattle.farm_top.specs.FarmClean.{TellsOrders}

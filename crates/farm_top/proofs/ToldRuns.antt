@@ -14,7 +14,7 @@ use Rattle.run_spec.specs.Lines.{out_of_call, down_of_call}
 use Rattle.farm_report.specs.Lines.{report_text}
 use Rattle.farm_run.specs.Runs.{AreTold, FailedShort, IsRunOver, HasWritten, KeepsSides, Leaves, ReadsOn, TellsFailed, is_listed}
 use Rattle.farm_run.specs.Fronts.{HasFront, IsCutShort}
-use Rattle.farm_run.proofs.Cutting.{cut_first}
+use Rattle.farm_run.proofs.Lines.Cutting.{cut_first}
 use Rattle.command_words.specs.declared.asked.Settings.{Settings}
 use Rattle.farm_top.specs.Farm.{AllStay, LacksMemory, RunsOrders, TellsRun}
 use Rattle.farm_top.specs.FarmEnded.{report_told}

@@ -44,7 +44,7 @@ pub record DrillEnds (seed calls periods : ℕ) (before now : ℕ → Side → L
   pub no_memory : status ≡ 5 → TextOut desk desk' (codes "no memory\n")
   -- with both the run was carried to its end over lines of the drill's own
   pub ran : (status ≡ 0) ⊎ (status ≡ 4) → HasDrilled seed calls periods (text_with_sums (drilled_run seed calls periods))
-  -- 4 comes exactly where the desk's writing count rose; it yields to 5, want of memory
+  -- 4 comes only where the desk's writing count rose, and always where it became greater; it yields to 5, want of memory
   pub desk_failed : status ≡ 4 → Rose desk.write_faults desk'.write_faults
   pub desk_rose : desk.write_faults < desk'.write_faults → (status ≡ 4) ⊎ (status ≡ 5)
   pub complete : IsCalm desk.write_faults desk'.write_faults → (status ≡ 0) ⊎ (status ≡ 5)

@@ -37,10 +37,10 @@ pub record ReadsTooLong (desk desk' : DeskState) : Type 0 where
 abbrev pub SomeRose : (ℕ → Side → LineState) → (ℕ → Side → LineState) → Type 0
 SomeRose before now = (c : ℕ) × (s : Side) × Rose (before c s).faults (now c s).faults
 
--- 3 comes exactly where the desk's reading count rose. 7 comes exactly where the orders are too long, and 2 exactly where
--- a line isn't in the grammar; they yield to 3. After 2, 3 and 7 no line was used. 4 comes exactly where the desk's
--- writing count rose and none of these is due, 6 exactly where the count of a line rose and 4 isn't due; so after 0 no
--- count rose. Each but 3 yields to 5, want of memory. 1 and 8 never come.
+-- 3 comes only where the desk's reading count rose, and always where it became greater. 7 comes exactly where the orders are
+-- too long, and 2 exactly where a line isn't in the grammar; they yield to 3. After 2, 3 and 7 no line was used. 4 comes only
+-- where the desk's writing count rose and none of these is due, 6 only where the count of a line rose and 4 isn't due, and
+-- always where it became greater; so after 0 no count rose. Each but 3 yields to 5, want of memory. 1 and 8 never come.
 pub record RunCauses (before now : ℕ → Side → LineState) (desk desk' : DeskState) (status : ℕ) : Type 0 where
   pub known : (status ≡ 0) ⊎ (status ≡ 2) ⊎ (status ≡ 3) ⊎ (status ≡ 4) ⊎ (status ≡ 5) ⊎ (status ≡ 6) ⊎ (status ≡ 7)
   pub read_failed : status ≡ 3 → Rose desk.read_faults desk'.read_faults

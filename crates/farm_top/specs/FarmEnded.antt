@@ -6,7 +6,6 @@ use Rattle.trau_io.specs.declared.line.Side.{Side}
 use Rattle.trau_io.specs.Lines.{LineState}
 use Rattle.trau_io.specs.Desks.{DeskState}
 use Rattle.trau_orders.specs.declared.order.Order.{Order}
-use Rattle.trau_orders.specs.Lists.{AreOrders}
 use Rattle.run_spec.specs.Run.{Run}
 use Rattle.run_spec.specs.Facts.{report_of}
 use Rattle.farm_report.specs.Lines.{report_text}
@@ -37,10 +36,10 @@ pub record EndedTelling (text_of : Run → List Line → List ℕ) (orders : Lis
   pub front : status ≡ 4 → (r : Run) → IsRunOver orders s.periods (is_listed failed) before now r → GainsFront desk.written desk'.written (text_of r failed)
   -- the orders were read to their end
   pub all_read : desk'.to_come ≡ Some []
-  -- an incoming line failed short of what its round takes of it
+  -- an incoming line that failed gave fewer octets than the call takes of it up to some period, at most a batch behind its end
   pub short : (r : Run) → IsRunOver orders s.periods (is_listed failed) before now r → FailedShort r s.batch (is_listed failed)
-  -- there is such a run of orders that are in range, wherever the lines tell what they hold
-  pub there : AreOrders orders → AreTold before → (r : Run) × IsRunOver orders s.periods (is_listed failed) before now r
+  -- there is such a run wherever the lines tell what they hold
+  pub there : AreTold before → (r : Run) × IsRunOver orders s.periods (is_listed failed) before now r
 
 -- what `run` tells: the report, with the lines that failed
 abbrev pub report_told : Run → List Line → List ℕ

@@ -1,5 +1,5 @@
 -- What a run leaves on the outgoing lines of its calls, each call told as a whole (this project's profile).
-use Rattle.std.specs.Prelude.{◌≡◌, ◌≤◌, ◌<◌, ◌↔◌, ℕ, ◌+◌, ◌-◌, ◌*◌, Bool, true, Some, None, List, [], length, map, drop, slice_index, Contains}
+use Rattle.std.specs.Prelude.{◌≡◌, ◌≤◌, ◌<◌, ◌↔◌, ℕ, ◌+◌, ◌-◌, ◌*◌, Bool, true, Some, None, List, [], length, map, filter, drop, slice_index, Contains}
 use Rattle.trau_bits.specs.Bits.{octets_of}
 use Rattle.trau_params.specs.Bits260.{bits260}
 use Rattle.trau_io.specs.declared.line.Side.{Side}
@@ -12,26 +12,36 @@ use Rattle.trau_frame.specs.Relay.{IsGoodSpeech}
 use Rattle.frame_sync.specs.declared.yields.Yield.TheVariants.{Frame}
 use Rattle.switchboard.specs.declared.act.Span.{Span}
 use Rattle.call_leg.specs.Uplink.{handed_fields}
+use Rattle.call_spec.specs.Call.{Call}
 use Rattle.call_spec.specs.Out.{out}
-use Rattle.call_spec.specs.Down.{frame_by_number, down}
+use Rattle.call_spec.specs.Down.{frame_by_number, frames_of_call, down}
 use Rattle.run_spec.specs.Run.{Run, spans_in, start_in, end_in, partner_in, IsOpened, worked_to}
-use Rattle.run_spec.specs.Facts.{span_line, report_of}
+use Rattle.run_spec.specs.Facts.{carries_in, sent_by, span_line, report_of}
 use Rattle.run_calls_spec.specs.Whole.{span_for, whole_call, IsBridged, item_for, yield_on, frame_on}
-use Rattle.run_calls_spec.specs.Sent.{frame_as_sent, frame_place, CarriesHanded, Sends, WaitsUnsent, IsFirstOfSpan}
+use Rattle.run_calls_spec.specs.Sent.{frame_count, sent_frames, frame_as_sent, frame_place, made_in, CarriesHanded, Sends, WaitsUnsent, IsFirstOfSpan}
+use Rattle.run_calls_spec.specs.Sent.{HasOtherItems, DiffersInItems}
 use Rattle.farm_run.specs.Runs.{HasWritten}
 
 -- What a call is handed in the periods of a bridge: its partner's effective frames, as 260 bits, and nothing else.
 pub record HandsOver (r : Run) : Type 0 where
   -- the bridges' spans are those that the report tells
   pub reported : map (λ l. l.span) (report_of r []).spans ≡ spans_in r
+  -- in each of its periods a bridge has both of its calls
+  pub both : (c t : ℕ) (x : Span) → IsBridged r c t x →
+      (start_in r c ≤ t) × (t < end_in r c) × (start_in r (partner_in c x) ≤ t) × (t < end_in r (partner_in c x))
   pub within : (c t : ℕ) (x : Span) → IsBridged r c t x → item_for r c t ≡ Some (bits260 (handed_fields (frame_on r (partner_in c x) t)))
   pub outside : (c t : ℕ) → start_in r c ≤ t → t < end_in r c → ((x : Span) → IsBridged r c t x → ⊥) → item_for r c t ≡ None
 
 -- What a call is handed goes out on its Down line, each frame once and in order, and nothing else is carried.
 pub record GoesOut (r : Run) : Type 0 where
+  -- each frame that is made is sent
+  pub each : (c : ℕ) → IsOpened r c → length (sent_frames r c) ≡ frame_count r c
   -- what it is handed in a period of a bridge goes out in a frame that it makes, but that of the call's very last period,
-  -- which may be lost: a good speech frame's 260 bits unchanged, with SP 1
+  -- which may be lost
   pub goes : (c t : ℕ) (x : Span) → IsBridged r c t x → t + 1 < end_in r c → (j : ℕ) × Sends r c t x j
+  -- this frame is a speech frame, SP 1, of the 260 bits that were handed over; a good speech frame's are unchanged
+  pub sent : (c t : ℕ) (x : Span) (j : ℕ) → Sends r c t x j →
+      frame_as_sent r c j ≡ Speech (bits260 (handed_fields (frame_on r (partner_in c x) t))) true
   pub unchanged : (c t : ℕ) (x : Span) (j p : ℕ) (bits : List ℕ) → Sends r c t x j → yield_on r (partner_in c x) t ≡ Some (Frame p bits) → IsGoodSpeech bits →
       frame_as_sent r c j ≡ Speech (data_of bits) true
   -- the frame's 320 bits stand on the Down line one after another, as far as the line goes
@@ -47,10 +57,18 @@ pub record GoesOut (r : Run) : Type 0 where
       CarriesHanded r c t x j ↔ (j ≡ first + (t - x.from))
   pub in_order : (c t u : ℕ) (x : Span) (j k : ℕ) → IsBridged r c t x → IsBridged r c u x → CarriesHanded r c t x j → CarriesHanded r c u x k → t < u → j < k
   pub once : (c t : ℕ) (x : Span) (j k : ℕ) → IsBridged r c t x → CarriesHanded r c t x j → CarriesHanded r c t x k → j ≡ k
-  -- between periods at most one handed frame waits, that of the period just over
+  -- it is made in the period of which it is handed or in the next one; so between periods at most one handed frame waits,
+  -- that of the period just over
+  pub soon : (c t : ℕ) (x : Span) (j : ℕ) → IsBridged r c t x → CarriesHanded r c t x j →
+      (t ≤ made_in r c j) × (made_in r c j ≤ t + 1)
   pub one_waits : (c u t : ℕ) (x : Span) → WaitsUnsent r c u t x → u ≡ t + 1
-  -- of a bridge one frame at most is lost in each direction, which the report counts
+  -- the report counts, of a bridge and in each direction, the frames made that carry what was handed over in it; one at
+  -- most is lost
+  pub counted : (c : ℕ) (x : Span) → IsOpened r c →
+      sent_by r x c ≡ length (filter (λ f. carries_in (x.from - start_in r c) (x.to - start_in r c) f.carries) (frames_of_call (whole_call r c)))
   pub lost : (x : Span) → Contains (spans_in r) x → ((span_line r x).lost_a ≤ 1) × ((span_line r x).lost_b ≤ 1)
+  -- no other bit of the call's lines depends on what it is handed
+  pub nothing_else : (c : ℕ) (other : Call) → IsOpened r c → HasOtherItems (whole_call r c) other → DiffersInItems (whole_call r c) other
 
 -- The headline: the octets written on a call's outgoing lines are the definition's octets of the call as a whole, of its own
 -- incoming lines and orders and, only between a bridge's reported start and end, of its partner's uplink; there each good

@@ -32,7 +32,7 @@ pub record LiveEnds (seed calls periods : ℕ) (before now : ℕ → Side → Li
   pub text : status ≡ 0 → Appends desk.written desk'.written (live_text seed calls periods)
   pub front : status ≡ 4 → GainsFront desk.written desk'.written (live_text seed calls periods)
   pub no_memory : status ≡ 5 → TextOut desk desk' (codes "no memory\n")
-  -- 4 comes exactly where the desk's writing count rose; it yields to 5, want of memory
+  -- 4 comes only where the desk's writing count rose, and always where it became greater; it yields to 5, want of memory
   pub desk_failed : status ≡ 4 → Rose desk.write_faults desk'.write_faults
   pub desk_rose : desk.write_faults < desk'.write_faults → (status ≡ 4) ⊎ (status ≡ 5)
   pub complete : IsCalm desk.write_faults desk'.write_faults → (status ≡ 0) ⊎ (status ≡ 5)

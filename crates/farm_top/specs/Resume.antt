@@ -45,17 +45,17 @@ pub record ResumesAndTells (read : MarkedOrders) (s : Settings) (before now : �
 
 -- The mark isn't that of these lines and orders, and the desk is told the least call that differs. A desk that fails while this
 -- text goes out changes nothing of the status.
-pub record FindsAndTells (read : MarkedOrders) (before now : ℕ → Side → LineState) (desk desk' : DeskState) (status : ℕ) : Type 0 where
+pub record FindsAndTells (read : MarkedOrders) (s : Settings) (before now : ℕ → Side → LineState) (desk desk' : DeskState) (status : ℕ) : Type 0 where
   pub call : ℕ
-  pub finds : FindsDifference read.orders read.mark before now call
+  pub finds : FindsDifference read.orders (pace_of s) read.mark before now call
   pub ends : EndsWith desk desk' (differs_text call) 9 status
 
 -- what is done with a mark and orders that were taken, unless want of memory cut it short
 abbrev pub ResumesOrders : Settings → (ℕ → Side → LineState) → (ℕ → Side → LineState) → DeskState → ℕ → MarkedOrders → DeskState → Type 0
 ResumesOrders s before now desk' status read desk =
     ResumesAndTells read s before now desk desk' status
-    ⊎ FindsAndTells read before now desk desk' status
-    ⊎ (IsResumeCutShort read.orders (end_after read s) read.mark.period before now × LacksMemory desk desk' status)
+    ⊎ FindsAndTells read s before now desk desk' status
+    ⊎ (IsResumeCutShort read.orders (end_after read s) read.mark before now × LacksMemory desk desk' status)
 
 -- what follows the reading: that; or the refusal, and no line was used
 abbrev pub FollowsMarked : Settings → Result MarkedOrders MarkedFault → (ℕ → Side → LineState) → (ℕ → Side → LineState) → DeskState → DeskState → ℕ → Type 0

@@ -39,11 +39,12 @@ pub record ReadsTooMuch (desk desk' : DeskState) : Type 0 where
   pub consumed : Consumes desk.to_come desk'.to_come given
   pub long : (length given ≡ 1310721) ⊎ (IsAtEnd desk'.to_come × HasLongOrders given)
 
--- 3 comes exactly where the desk's reading count rose. 7 comes exactly where the text is too long, and else 2 exactly where a
--- line of the mark isn't in its grammar; then 7 and 2 come as in `run`, of the orders. They yield to 3. After 2, 3 and 7 no
--- line was used. 9, which tells that the mark isn't that of the run, yields to these; then no outgoing line was used. 4 comes
--- exactly where the desk's writing count rose and none of these is due, 6 exactly where the count of a line rose and neither
--- 4 nor 9 is; so after 0 no count rose. Each but 3 yields to 5, want of memory. 1 and 8 never come.
+-- 3 comes only where the desk's reading count rose, and always where it became greater. 7 comes exactly where the text is too
+-- long, and else 2 exactly where a line of the mark isn't in its grammar; then 7 and 2 come as in `run`, of the orders. They
+-- yield to 3. After 2, 3 and 7 no line was used. 9, which tells that the mark isn't that of the run, yields to these; then no
+-- outgoing line was used. 4 comes only where the desk's writing count rose and none of these is due, 6 only where the count of a
+-- line rose and neither 4 nor 9 is, and always where it became greater; so after 0 no count rose. Each but 3 yields to 5, want
+-- of memory. 1 and 8 never come.
 pub record ResumeCauses (before now : ℕ → Side → LineState) (desk desk' : DeskState) (status : ℕ) : Type 0 where
   pub known : (status ≡ 0) ⊎ (status ≡ 2) ⊎ (status ≡ 3) ⊎ (status ≡ 4) ⊎ (status ≡ 5) ⊎ (status ≡ 6) ⊎ (status ≡ 7) ⊎ (status ≡ 9)
   pub read_failed : status ≡ 3 → Rose desk.read_faults desk'.read_faults

@@ -7,7 +7,6 @@ use Rattle.trau_io.specs.declared.line.Side.TheVariants.{Down, Out}
 use Rattle.trau_io.specs.Lines.{LineState}
 use Rattle.trau_io.specs.Desks.{DeskState}
 use Rattle.trau_orders.specs.declared.order.Order.{Order}
-use Rattle.trau_orders.specs.Lists.{AreOrders}
 use Rattle.trau_orders.specs.Text.{text_lines, AreLines, IsWithin}
 use Rattle.round_lines.specs.Rounds.{IsIncoming}
 use Rattle.farm_checkpoint.specs.Marks.{MarkView}
@@ -18,7 +17,7 @@ use Rattle.run_spec.specs.Mark.{Joins, cut_at, marked_calls}
 use Rattle.farm_run.specs.Runs.{AreTold, FailedShort, IsRunOver, KeepsSides, Leaves, ReadsOn, TellsFailed, is_listed, none_fails}
 use Rattle.farm_run.specs.Resuming.{FindsDifference, LeavesFrom}
 use Rattle.command_words.specs.declared.asked.Settings.{Settings}
-use Rattle.farm_top.specs.Farm.{TextOut, status_of_run}
+use Rattle.farm_top.specs.Farm.{TextOut, pace_of, status_of_run}
 use Rattle.farm_top.specs.FarmEnded.{GainsFront, report_told}
 use Rattle.farm_top.specs.Headline.{HeadlineFrom}
 use Rattle.farm_top.specs.Resume.{differs_text}
@@ -59,16 +58,16 @@ pub record ResumeEnded (mark : MarkView) (orders : List Order) (s : Settings) (b
       GainsFront desk.written desk'.written (report_told r failed)
   -- the text was read to its end
   pub all_read : desk'.to_come ≡ Some []
-  -- an incoming line failed short of what its round takes of it
+  -- an incoming line that failed gave fewer octets than the call takes of it up to some period, at most a batch behind its end
   pub short : (r : Run) → IsRunOver orders (max mark.period s.periods) (is_listed failed) before now r → FailedShort r s.batch (is_listed failed)
-  -- there are such runs, to any number of periods, of orders that are in range, wherever the lines tell what they hold
-  pub there : AreOrders orders → AreTold before → (periods : ℕ) → (r : Run) × IsRunOver orders periods (is_listed failed) before now r
+  -- there are such runs, to any number of periods, wherever the lines tell what they hold
+  pub there : AreTold before → (periods : ℕ) → (r : Run) × IsRunOver orders periods (is_listed failed) before now r
 
 -- The mark isn't that of the run of these orders to its period, over what the lines gave, and no outgoing line was used.
-pub record ResumeDiffers (mark : MarkView) (orders : List Order) (before now : ℕ → Side → LineState) (desk desk' : DeskState) : Type 0 where
+pub record ResumeDiffers (mark : MarkView) (orders : List Order) (s : Settings) (before now : ℕ → Side → LineState) (desk desk' : DeskState) : Type 0 where
   -- the least number of a call that the mark has otherwise, or that only one of them has
   pub call : ℕ
-  pub finds : FindsDifference orders mark before now call
+  pub finds : FindsDifference orders (pace_of s) mark before now call
   -- the desk gained the text that tells it, or, if it failed, a proper front
   pub read : DeskState
   pub written : read.written ≡ desk.written

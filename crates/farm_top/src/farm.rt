@@ -21,7 +21,8 @@ use farm_report::{Report, write_report};
 use farm_run::{Pace, run};
 use pool_run::Gate;
 use run_calls_spec::{
-    items_are_the_partners_frames, items_go_out_in_order_and_once, lines_are_of_whole_calls,
+    items_are_the_partners_frames, items_change_nothing_else, items_go_out_in_order_and_once,
+    lines_are_of_whole_calls,
 };
 use std::alloc::Global;
 use std::sync::Wait;
@@ -101,6 +102,7 @@ pub(crate) fn lines_have_the_headline()
     lines_are_of_whole_calls();
     items_are_the_partners_frames();
     items_go_out_in_order_and_once();
+    items_change_nothing_else();
 }
 
 /// Reads the orders from the desk, runs them over the lines of the trunk, and tells the report.

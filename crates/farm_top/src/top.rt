@@ -52,7 +52,7 @@ use std::thread::Threads;
 use trau_io::{Desk, Trunk, tell};
 use trau_orders::one_answer;
 
-// The status that stands for a tool's end.
+/// The status that stands for a tool's end.
 pub(crate) fn status_of_end(end: ToolEnd) -> u8
     ensures { result ≡ status_of end }
 {
@@ -198,7 +198,7 @@ fn carry_out<R: Threads + Wait + Sync, T: Trunk, D: Desk, G: Gate + Sync>(
 /// | 2 | a line of the orders isn't in their grammar, N being the first, which `resume` counts from the first line behind the mark; of `resume` also a line of the mark, N being the first | `orders line N`; `save line N` |
 /// | 3 | the desk failed while the orders were read, or the mark before them | `orders unread` |
 /// | 4 | the desk failed while the command's text went out | a proper front of the command's text |
-/// | 5 | want of memory | `no memory` |
+/// | 5 | want of memory | `no memory`; of `frames` behind the lines of text that it had told |
 /// | 6 | the count of a line of the command rose | `line C up failed`, with the line's side, behind the lines of text that `frames` or `follow` had told; the report; of `save` only its lines for the lines that failed |
 /// | 7 | the orders have more than 1,048,576 octets or more than 65,536 lines; of `resume` also the whole text more than 1,310,720 octets | `orders too long` |
 /// | 8 | only of `relay` and `decode`: a block of the uplink isn't a good speech frame, or the line ended inside it | `relay refused N`, `decode refused N`, N being the number of blocks before it |
@@ -282,10 +282,10 @@ pub fn farm_top<R: Threads + Wait + Sync, T: Trunk, D: Desk, G: Gate + Sync>(
         ResumeEnded mark orders s (T.lines trunk.old) (T.lines trunk.new) (D.desk desk.old) (D.desk desk.new) result }
     ensures resume_differs { (s : Settings) → AsksForResume (spelled words.now) s →
         (mark : MarkView) (orders : List Order) → TellsMarked mark orders (D.desk desk.old) → result ≡ 9 →
-        ResumeDiffers mark orders (T.lines trunk.old) (T.lines trunk.new) (D.desk desk.old) (D.desk desk.new) }
+        ResumeDiffers mark orders s (T.lines trunk.old) (T.lines trunk.new) (D.desk desk.old) (D.desk desk.new) }
     ensures resume_cut_short { (s : Settings) → AsksForResume (spelled words.now) s →
         (mark : MarkView) (orders : List Order) → TellsMarked mark orders (D.desk desk.old) → result ≡ 5 →
-        IsResumeCutShort orders (max mark.period s.periods) mark.period (T.lines trunk.old) (T.lines trunk.new) }
+        IsResumeCutShort orders (max mark.period s.periods) mark (T.lines trunk.old) (T.lines trunk.new) }
 
     // Where no line's count rises: any run of the same orders to the mark's period, over lines whose incoming ones tell the same
     // (that of `save`, by `save_leaves`), is this run, cut at this period; and what it leaves on a line, and behind that what

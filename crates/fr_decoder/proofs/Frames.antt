@@ -18,7 +18,7 @@ use Rattle.fr_short.specs.Synthesis.{ResidualFrame, residual_frame, synthesis_of
 use Rattle.fr_short.specs.Step.{synthesised_frame}
 use Rattle.fr_decoder.specs.Decoded.{blocks_of, residual_frames, last_msr, samples_of, all_samples}
 use Rattle.fr_short.specs.Deemphasis.{deemphasised, last_of}
-use Rattle.fr_decoder.specs.Deemphasis.{truncated}
+use Rattle.fr_decoder.specs.Truncation.{truncated}
 use Rattle.fr_decoder.specs.Stands as decoder
 use Rattle.fr_decoder.specs.Memory.{home_memory, DecoderMemory}
 use Rattle.fr_decoder.specs.Step.{decoded_frame, decoded_in_turn, synthesised_blocks}

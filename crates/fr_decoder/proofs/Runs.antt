@@ -1,27 +1,21 @@
--- Truncation of one sample after another.
-use Rattle.std.proofs.Common.{◌≡◌, ℕ, ℤ, ◌+◌, ◌<◌, ◌≤◌, pos, get_or, set, length, take, drop, List, [], ◌∷◌, ◌++◌, map, refl, ◌∙◌, arith, drop-cons, append_assoc, add-one}
-use Rattle.std.proofs.lemmas.List.{length-set, drop_all, take_all, append-nil}
-use Rattle.std.proofs.lemmas.Grind.{take-set_at}
+-- Truncation of one sample after another, in place.
+use Rattle.std.proofs.Common.{◌≡◌, ℕ, ℤ, ◌+◌, ◌<◌, ◌≤◌, pos, set, length, take, drop, List, [], ◌++◌, map, ap, ◌∙◌, arith, length-append, length-take-le, length-drop}
+use Rattle.std.proofs.lemmas.List.{drop_all, take_all, append-nil, get_or_default, length-map}
+use Rattle.std.proofs.lemmas.List.Edits.{map_over_more}
+use Rattle.trau_num.specs.Num.{entry}
 
--- a function of each of the first k places, and of what is left
-pub record MapRun (f : ℤ → ℤ) (s x : List ℤ) (k : ℕ) : Type 0 where
-  pub count : length x ≡ length s
-  pub done : take k x ++ map f (drop k s) ≡ map f s
+-- one sample more, behind the first i
+pub over_more : (f : ℤ → ℤ) (xs ys : List ℤ) (i : ℕ) (y : ℤ) → i < length xs → ys ≡ map f (take i xs) ++ drop i xs → y ≡ f (entry ys i) →
+    set ys i y ≡ map f (take (i + 1) xs) ++ drop (i + 1) xs
+over_more f xs ys i y l h e =
+    let count : length (map f (take i xs) ++ drop i xs) ≡ length xs =
+    omega (arith, length-append (map f (take i xs)) (drop i xs), length-map (take i xs) f, length-take-le i xs (omega arith), length-drop i xs) in
+    let m : i < length ys = omega (arith, ap (λ (zs : List ℤ). length zs) h, count) in
+    ap (set ys i) e ∙ map_over_more f xs ys i (entry ys i) l h (get_or_default ys i (pos 0) (entry ys i) m)
 
--- one item more
-pub map_next : (f : ℤ → ℤ) (s x : List ℤ) (k : ℕ) (y : ℤ) → k < length s → MapRun f s x k → y ≡ f (get_or s k (pos 0)) → MapRun f s (set x k y) (k + 1)
-map_next f s x k y h run e =
-    let count = run.count in
-    let t : take (k + 1) (set x k y) ≡ take k x ++ y ∷ [] = take-set_at x k (k + 1) y refl (omega arith) in
-    let d : drop k s ≡ get_or s k (pos 0) ∷ drop (k + 1) s = drop-cons s k (pos 0) h ∙ rw add-one refl in
-    record {
-      count = length-set x k y ∙ count;
-      done = rw (t, append_assoc, e) (rw d at run.done);
-    }
-
-pub map_end : (f : ℤ → ℤ) (s x : List ℤ) (k : ℕ) → length s ≤ k → MapRun f s x k → x ≡ map f s
-map_end f s x k h run =
-    let count = run.count in
-    let e : drop k s ≡ [] = drop_all k s h in
-    let t : take k x ≡ x = take_all k x (omega arith) in
-    rw (t, e, append-nil) at run.done
+-- all of them
+pub over_all : (f : ℤ → ℤ) (xs ys : List ℤ) (i : ℕ) → length xs ≤ i → ys ≡ map f (take i xs) ++ drop i xs → ys ≡ map f xs
+over_all f xs ys i l h =
+    let front : take i xs ≡ xs = take_all i xs l in
+    let back : drop i xs ≡ [] = drop_all i xs l in
+    rw (front, back) at h ∙ append-nil (map f xs)

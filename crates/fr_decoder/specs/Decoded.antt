@@ -5,7 +5,7 @@ use Rattle.fr_long.specs.Synthesis.{LtpBlock}
 use Rattle.fr_short.specs.Synthesis.{ResidualFrame, residual_frame, synthesis_of}
 use Rattle.fr_decoder.specs.Blocks.{four_blocks, frame_residual}
 use Rattle.fr_short.specs.Deemphasis.{deemphasised, last_of}
-use Rattle.fr_decoder.specs.Deemphasis.{truncated}
+use Rattle.fr_decoder.specs.Truncation.{truncated}
 
 -- all blocks of the frames
 unfoldable pub blocks_of : List Fields → List LtpBlock

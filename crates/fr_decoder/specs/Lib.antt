@@ -1,6 +1,6 @@
 pub mod Blocks
 pub mod Decoded
-pub mod Deemphasis
+pub mod Truncation
 pub mod Memory
 pub mod Step
 pub mod Stands

@@ -3,7 +3,7 @@ use Rattle.std.specs.Prelude.{ℤ, List, [], ◌∷◌, ◌++◌, map}
 use Rattle.trau_params.specs.Fields.{Fields}
 use Rattle.fr_decoder.specs.Blocks.{ltp_block}
 use Rattle.fr_short.specs.Deemphasis.{deemphasised, last_of}
-use Rattle.fr_decoder.specs.Deemphasis.{truncated}
+use Rattle.fr_decoder.specs.Truncation.{truncated}
 use Rattle.fr_long.specs.Memory as ltp
 use Rattle.fr_long.specs.Step.{synthesised}
 use Rattle.fr_short.specs.Step.{synthesised_frame}

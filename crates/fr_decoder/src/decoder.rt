@@ -7,8 +7,8 @@ ghost use Rattle.fr_decoder.specs.Memory.{DecoderMemory, home_memory};
 ghost use Rattle.fr_decoder.specs.Step.{decoded_frame};
 ghost use Rattle.fr_decoder.specs.Stands.{Stands};
 
-use crate::deemphasis::truncate;
 use crate::residual::residual;
+use crate::truncation::truncate;
 use fr_long::LtpDecoder;
 use fr_short::ShortState;
 use std::marker::Model;
@@ -53,10 +53,9 @@ impl Decoder {
             Stands (fields_of p.now ∷ past) self.new × (x.new ≡ samples_of (fields_of p.now) past) }
     {
         let d = residual(&mut self.long_term, p);
-        let mut msr = [0; 160];
         self.msr = self
             .short_term
-            .synthesise_deemphasised(&p.larc, &d, self.msr, &mut msr);
-        truncate(&msr, x);
+            .synthesise_deemphasised(&p.larc, &d, self.msr, x);
+        truncate(x);
     }
 }

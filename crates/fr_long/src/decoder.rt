@@ -11,9 +11,9 @@ use trau_num::plus;
 /// The decoding side of long-term prediction: what it keeps from block to block.
 #[derive(Drop)]
 pub struct LtpDecoder {
-    /// The last used lag, 40 to 120 samples.
+    // The last used lag, 40 to 120 samples.
     lag: u8,
-    /// The last reconstructed residuals, the oldest first.
+    // The last reconstructed residuals, the oldest first.
     drp: [i16; 120],
 }
 

@@ -16,7 +16,7 @@ use trau_num::{add, mult_r, sub};
 /// The encoding side of long-term prediction: the last 120 reconstructed residuals.
 #[derive(Drop)]
 pub struct LtpHistory {
-    /// The oldest first.
+    // The oldest first.
     dp: [i16; 120],
 }
 
@@ -47,7 +47,7 @@ impl LtpHistory {
         LtpHistory { dp: [0; 120] }
     }
 
-    /// The lag and gain that predict a block of 40 samples of the short-term residual best, the
+    /// The lag and gain by which a block of 40 samples of the short-term residual is predicted, the
     /// prediction, and what is left to be coded.
     pub fn predict(&self, d: &[i16; 40]) -> Ltp
         ensures lag { result.nc ≡ lag_of (correlation_of_block d.now self.now) }

@@ -58,14 +58,14 @@ fn quantised(gain: i16, offset: i16, lar: i16) -> i16
 }
 
 #[tactic(auto, unfolding(crate::specs::Ratios::ratio_code))]
-fn code(gain: i16, offset: i16, least_ratios: i16, most: i16, lar: i16) -> u8
-    requires order { least_ratios ≤ℤ most }
-    requires width { most ≤ℤ (least_ratios +ℤ pos 63) }
-    ensures value { result ≡ ratio_code gain offset least_ratios most lar }
-    ensures bound { pos result ≤ℤ (most -ℤ least_ratios) }
+fn code(gain: i16, offset: i16, least: i16, most: i16, lar: i16) -> u8
+    requires order { least ≤ℤ most }
+    requires width { most ≤ℤ (least +ℤ pos 63) }
+    ensures value { result ≡ ratio_code gain offset least most lar }
+    ensures bound { pos result ≤ℤ (most -ℤ least) }
 {
-    let place = quantised(gain, offset, lar).clamp(least_ratios, most);
-    (place - least_ratios) as u8
+    let place = quantised(gain, offset, lar).clamp(least, most);
+    (place - least) as u8
 }
 
 fn code_at(i: usize, lar: i16) -> u8

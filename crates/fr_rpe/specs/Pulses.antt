@@ -5,7 +5,7 @@ use Rattle.trau_num.specs.Num.{add_of, mult_r_of, floor_shr}
 use Rattle.fr_rpe.specs.declared.scale.Scale.{Scale}
 use Rattle.fr_rpe.specs.Scale.{scale_of, factor_of, scale_shift}
 
--- half of the last place that a shift takes off: 2^(5 - exp), and 0 where the exponent is 6
+-- half of the last place that a shift leaves: 2^(5 - exp), and 0 where the exponent is 6
 abbrev pub rounding_of : ℕ → ℕ
 rounding_of shift = if shift == 0 then 0 else 2 ^ (shift - 1)
 

@@ -51,7 +51,7 @@ fn level(code: u8) -> i16
     (2 * i16::from(code) - 7) * 4096
 }
 
-// Half of the last place that a shift takes off.
+// Half of the last place that a shift leaves.
 fn rounding(shift: u8) -> i16
     requires { shift ≤ 10 }
     ensures { result ≡ pos (rounding_of shift) }

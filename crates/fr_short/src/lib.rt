@@ -1,10 +1,10 @@
-//! Short-term filters of the full rate codec (GSM 06.10, sections 4.2.8 to 4.2.10, 4.3.3 and 4.3.4).
+//! Short-term filters of the full rate codec (GSM 06.10, sections 4.2.8 to 4.2.10 and 4.3.3 to 4.3.5).
 //!
 //! In the encoder: takes a frame's preprocessed samples (160 of 16 bits, a period of 20 ms) and the eight codes
 //! of its log area ratios, and leaves the residual that long-term prediction then takes. At the far end of the
-//! decoder: takes such codes and the residual that long-term prediction gave back, and gives the samples that
-//! the de-emphasis then takes. The coefficients move from the previous frame's to this frame's in four parts of
-//! the frame, in both.
+//! decoder: takes such codes and the residual that long-term prediction gave back, and gives the samples, also
+//! de-emphasised. The coefficients move from the previous frame's to this frame's in four parts of the frame, in
+//! both.
 //!
 //! `ratios` decodes the codes, `reflection` makes the coefficients of each part, `analysis` and `synthesis` are
 //! the lattices, `state` what one direction remembers from frame to frame.

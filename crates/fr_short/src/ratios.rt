@@ -12,17 +12,17 @@ use trau_params::ratios::{LEAST, OFFSETS};
 // INVA of table 4.2.
 const INVERSES: [i16; 8] = [13107, 13107, 13107, 13107, 19223, 17476, 31454, 29708];
 
-fn scaled_code(least_ratios: i16, offset: i16, code: u8) -> i32
-    ensures { result ≡ (pos code +ℤ least_ratios) *ℤ pos 1024 -ℤ offset *ℤ pos 2 }
+fn scaled_code(least: i16, offset: i16, code: u8) -> i32
+    ensures { result ≡ (pos code +ℤ least) *ℤ pos 1024 -ℤ offset *ℤ pos 2 }
 {
-    (i32::from(code) + i32::from(least_ratios)) * 1024 - i32::from(offset) * 2
+    (i32::from(code) + i32::from(least)) * 1024 - i32::from(offset) * 2
 }
 
 #[tactic(auto, unfolding(crate::specs::Ratios::decoded_ratio, trau_num::specs::Num::sub_of))]
-fn ratio(least_ratios: i16, offset: i16, inverse: i16, code: u8) -> i16
-    ensures { result ≡ decoded_ratio least_ratios offset inverse code }
+fn ratio(least: i16, offset: i16, inverse: i16, code: u8) -> i16
+    ensures { result ≡ decoded_ratio least offset inverse code }
 {
-    let half = mult_r(inverse, clamp(scaled_code(least_ratios, offset, code)));
+    let half = mult_r(inverse, clamp(scaled_code(least, offset, code)));
     add(half, half)
 }
 

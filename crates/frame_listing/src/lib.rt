@@ -5,7 +5,7 @@
 //! the desk in the period that holds its last bit. Nothing here takes memory.
 //!
 //! The texts are this project's profile. Definitions: `specs/Texts.antt` (the line of text of a yield, and those of all
-//! periods), `specs/Lists.antt` (what a whole listing moves).
+//! periods), `specs/Step.antt` (one period of a listing), `specs/Lists.antt` (what a whole listing moves).
 #![tactic(auto)]
 
 mod list;

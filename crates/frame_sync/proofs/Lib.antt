@@ -1,3 +1,4 @@
+pub mod Kept
 pub mod Scan
 pub mod Found
 pub mod Searched
@@ -6,3 +7,4 @@ pub mod Modes
 pub mod Whole
 pub mod Unique
 pub mod Order
+pub mod Existence

@@ -3,14 +3,15 @@ use Rattle.std.proofs.Common.{◌≡◌, ℕ, ◌+◌, ◌-◌, ◌<◌, ◌≤�
 use Rattle.std.specs.Option.{MatchOption}
 use Rattle.std.proofs.lemmas.Bool.{cases_eq, eq-eqb, ne_eqb}
 use Rattle.trau_frame.specs.Frame.{Synced}
+use Rattle.frame_sync.specs.declared.yields.Ending.TheVariants.{Nothing, Framed, Missed}
 use Rattle.frame_sync.specs.declared.yields.Mode.{Mode}
 use Rattle.frame_sync.specs.declared.yields.Mode.TheVariants.{Hunting, Locked}
 use Rattle.frame_sync.specs.declared.yields.Yield.{Yield}
-use Rattle.frame_sync.specs.declared.yields.Yield.TheVariants.{Frame, Miss}
+use Rattle.frame_sync.specs.declared.yields.Yield.TheVariants.{Frame}
 use Rattle.trau_frame.specs.Match.{bit_in, is_match, frame_at}
 use Rattle.frame_sync.specs.Yields.{NoMatch, place_of}
 use Rattle.frame_sync.specs.Periods.{after_miss, found_in, hunted, yield_due, searched, CarriesFrame}
-use Rattle.frame_sync.specs.Step.{bit_of_two}
+use Rattle.frame_sync.specs.Step.{bit_of_two, ends_in_two}
 use Rattle.frame_sync.specs.Memory.{IsNear}
 use Rattle.trau_frame.proofs.Matches.{is_match-same, frame_at-same, length-frame_at, get_or-frame_at, match_is_synced, synced_is_match}
 use Rattle.frame_sync.proofs.Found.{FoundAt, first_match-says, first_match-found, first_match-none, first_match-same}
@@ -139,7 +140,7 @@ shifted w base p o i e = let same : p + i + 320 - base ≡ o + i = omega (arith,
 match-shifted : (w : List ℕ) (base p o : ℕ) → p + 320 ≡ base + o → is_match (bit_of_two base w) p ≡ is_match (bit_in w) o
 match-shifted w base p o e = is_match-same (bit_of_two base w) (bit_in w) p o (λ i h. shifted w base p o i e)
 
-frame-shifted : (w : List ℕ) (base p o : ℕ) → p + 320 ≡ base + o → frame_at (bit_of_two base w) p ≡ frame_at (bit_in w) o
+pub frame-shifted : (w : List ℕ) (base p o : ℕ) → p + 320 ≡ base + o → frame_at (bit_of_two base w) p ≡ frame_at (bit_in w) o
 frame-shifted w base p o e = frame_at-same (bit_of_two base w) (bit_in w) p o (λ i h. shifted w base p o i e)
 
 none-shifted : (w : List ℕ) (base first high from to : ℕ) → first + 320 ≡ base + from → high + 320 ≡ base + to →
@@ -147,17 +148,12 @@ none-shifted : (w : List ℕ) (base first high from to : ℕ) → first + 320 �
 none-shifted w base first high from to e f h = λ q a b.
     match-shifted w base q (q + 320 - base) (omega arith) ∙ h (q + 320 - base) (omega arith) (omega arith)
 
--- a hunt that finds this place
-hunted-at : (line : ℕ → ℕ) (low p : ℕ) (o : Option ℕ) (bits : List ℕ) → o ≡ Some p → bits ≡ frame_at line p →
-    (Some (Frame p bits), Locked (p + 320) 0) ≡ hunted line low o
-hunted-at line low p o bits e eb = ap (λ f. (Some (Frame p f), Locked (p + 320) 0)) eb ∙ sym (ap (hunted line low) e)
-
--- the four ways of a period: a hunt that finds, one that doesn't, a frame that is yield_due, a miss
-pub searched-found : (w bits : List ℕ) (base low first o p : ℕ) → first ≡ max low (base - 319) → low ≤ base → first + 320 - base ≤ o → o ≤ 320 →
-    NoMatch (bit_in w) (first + 320 - base) o → is_match (bit_in w) o ≡ true → p ≡ base + o - 320 → bits ≡ frame_at (bit_in w) o →
-    (Some (Frame p bits), Locked (p + 320) 0) ≡ searched (bit_of_two base w) base (Hunting low)
+-- the four ways of a period: a hunt that finds, one that doesn't, a frame that is due, a miss
+pub searched-found : (w : List ℕ) (base low first o p : ℕ) → first ≡ max low (base - 319) → low ≤ base → first + 320 - base ≤ o → o ≤ 320 →
+    NoMatch (bit_in w) (first + 320 - base) o → is_match (bit_in w) o ≡ true → p ≡ base + o - 320 →
+    ends_in_two base w (Framed p, Locked (p + 320) 0) ≡ searched (bit_of_two base w) base (Hunting low)
 unfolding searched
-searched-found w bits base low first o p ef l a b none m ep eb =
+searched-found w base low first o p ef l a b none m ep =
     let place : p + 320 ≡ base + o = omega arith in
     let found : found_in (bit_of_two base w) base low ≡ Some p = rw (← ef) (first_match-found (bit_of_two base w) first (base + 1 - first) p (record {
       from = omega arith;
@@ -165,10 +161,10 @@ searched-found w bits base low first o p ef l a b none m ep eb =
       before = none-shifted w base first p (first + 320 - base) o (omega arith) place none;
       matches = match-shifted w base p o place ∙ m;
     })) in
-    hunted-at (bit_of_two base w) low p (found_in (bit_of_two base w) base low) bits found (eb ∙ sym (frame-shifted w base p o place))
+    sym (ap (hunted (bit_of_two base w) low) found)
 
 pub searched-none : (w : List ℕ) (base low first : ℕ) → first ≡ max low (base - 319) → low ≤ base →
-    NoMatch (bit_in w) (first + 320 - base) 321 → (None, Hunting low) ≡ searched (bit_of_two base w) base (Hunting low)
+    NoMatch (bit_in w) (first + 320 - base) 321 → ends_in_two base w (Nothing, Hunting low) ≡ searched (bit_of_two base w) base (Hunting low)
 unfolding searched
 searched-none w base low first ef l none =
     let found : found_in (bit_of_two base w) base low ≡ None = rw (← ef) (first_match-none (bit_of_two base w) first (base + 1 - first)
@@ -176,12 +172,11 @@ searched-none w base low first ef l none =
     sym (ap (hunted (bit_of_two base w) low) found)
 
 pub searched-frame : (w bits : List ℕ) (base next misses o : ℕ) → next + 320 ≡ base + o → bits ≡ frame_at (bit_in w) o → Synced bits →
-    (Some (Frame next bits), Locked (next + 320) 0) ≡ searched (bit_of_two base w) base (Locked next misses)
+    ends_in_two base w (Framed next, Locked (next + 320) 0) ≡ searched (bit_of_two base w) base (Locked next misses)
 unfolding searched
 searched-frame w bits base next misses o e eb s =
     let matches : is_match (bit_of_two base w) next ≡ true =
     match-shifted w base next o e ∙ synced_is_match (bit_in w) o (subst Synced eb s) in
-    ap (λ f. (Some (Frame next f), Locked (next + 320) 0)) (eb ∙ sym (frame-shifted w base next o e)) ∙
     sym (ap (yield_due (bit_of_two base w) next misses) matches)
 
 -- a test that a frame without sync bits does not pass
@@ -190,7 +185,7 @@ not_match line p true e h = absurd (h (match_is_synced line p e))
 not_match line p false e h = e
 
 pub searched-miss : (w bits : List ℕ) (base next misses o : ℕ) → next + 320 ≡ base + o → bits ≡ frame_at (bit_in w) o → (Synced bits → ⊥) →
-    (Some (Miss next), after_miss next misses) ≡ searched (bit_of_two base w) base (Locked next misses)
+    ends_in_two base w (Missed next, after_miss next misses) ≡ searched (bit_of_two base w) base (Locked next misses)
 unfolding searched
 searched-miss w bits base next misses o e eb unsynced =
     let misses_it : is_match (bit_of_two base w) next ≡ false =

@@ -6,12 +6,13 @@ use Rattle.std.proofs.lemmas.List.Elements.{All-head, All-tail, All-cons}
 use Rattle.trau_bits.specs.Bits.{AreBits, bits_of}
 use Rattle.trau_bits.proofs.BitList.{length-bits_of}
 use Rattle.trau_frame.proofs.RowPlaces.{bit-below}
+use Rattle.frame_sync.specs.declared.yields.Ending.{Ending}
 use Rattle.frame_sync.specs.declared.yields.Mode.{Mode}
 use Rattle.frame_sync.specs.declared.yields.Yield.{Yield}
 use Rattle.trau_frame.specs.Match.{bit_in}
 use Rattle.frame_sync.specs.Periods.{searched, line_bits, mode_after, yield_of, ArePeriods, EndsIn, CarriesFrame}
 use Rattle.frame_sync.specs.Memory.{SyncMemory, IsNear}
-use Rattle.frame_sync.specs.Step.{bit_of_two, next_period}
+use Rattle.frame_sync.specs.Step.{bit_of_two, yield_at, ends_in_two, next_period}
 use Rattle.frame_sync.specs.Stands.{last_bits, memory_after, Stands}
 use Rattle.frame_sync.proofs.Searched.{Agrees, near-searched, ends-searched, carries-searched, searched-agrees}
 
@@ -22,16 +23,20 @@ pub record Went (periods n : ℕ) (window : List ℕ) (mode : Mode) (r : Option 
   pub number : n ≡ periods
   pub gives : r ≡ searched (bit_of_two (320 * n) window) (320 * n) mode
 
+pub went-found : (periods n : ℕ) (window : List ℕ) (mode : Mode) (found : Ending × Mode) (y : Option Yield) → n ≡ periods →
+    y ≡ yield_at (bit_of_two (320 * n) window) found.0 →
+    ends_in_two (320 * n) window found ≡ searched (bit_of_two (320 * n) window) (320 * n) mode → Went periods n window mode (y, found.1)
+went-found periods n window mode found y number at gives = record { number = number; gives = ap (λ z. (z, found.1)) at ∙ gives }
+
 -- what the code did in a period is the step, it keeps the mode near, and its yield ends there
 pub next_period-went : (periods n : ℕ) (last bits window octets : List ℕ) (mode : Mode) (r : Option Yield × Mode) → Went periods n window mode r →
-    bits ≡ bits_of octets → window ≡ last ++ bits →
+    bits ≡ bits_of octets → window ≡ last ++ bits_of octets →
     next_period (record { periods = periods; last = last; mode = mode }) octets ≡ (r.0, record { periods = periods + 1; last = bits; mode = r.1 })
 unfolding next_period
 next_period-went periods n last bits window octets mode r w eb ew =
-    let same : window ≡ last ++ bits_of octets = ew ∙ ap (λ b. last ++ b) eb in
     let gives : r ≡ searched (bit_of_two (320 * periods) (last ++ bits_of octets)) (320 * periods) mode =
     w.gives ∙ ap (λ k. searched (bit_of_two (320 * k) window) (320 * k) mode) w.number ∙
-    ap (λ l. searched (bit_of_two (320 * periods) l) (320 * periods) mode) same in
+    ap (λ l. searched (bit_of_two (320 * periods) l) (320 * periods) mode) ew in
     let step : Option Yield × Mode → Option Yield × SyncMemory = λ x. (x.0, record { periods = periods + 1; last = bits_of octets; mode = x.1 }) in
     sym (ap step gives) ∙ ap (λ b. (r.0, record { periods = periods + 1; last = b; mode = r.1 })) (sym eb)
 

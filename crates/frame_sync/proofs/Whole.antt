@@ -76,7 +76,7 @@ abbrev Adds : List ℕ → Mode → Option Yield → Mode → Type 0
 Adds bits mode None after = (after ≡ mode) × NoneEnds bits (length bits) after
 Adds bits mode (Some y) after = Gives bits mode y after × NoneEnds bits (length bits) after
 
--- what a period adds: hunting, where a frame is yield_due, and in any mode
+-- what a period adds: hunting, where a frame is due, and in any mode
 adds-hunted : (bits : List ℕ) (base low : ℕ) (o : Option ℕ) → length bits ≡ base + 320 → low ≤ base → NoneEnds bits base (Hunting low) →
     Looked (bit_in bits) base low o → Adds bits (Hunting low) (hunted (bit_in bits) low o).0 (hunted (bit_in bits) low o).1
 adds-hunted bits base low None count l old h = (

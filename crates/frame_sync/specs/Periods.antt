@@ -29,12 +29,12 @@ abbrev pub hunted : (ℕ → ℕ) → ℕ → Option ℕ → Option Yield × Mod
 hunted line low None = (None, Hunting low)
 hunted line low (Some p) = (Some (Frame p (frame_at line p)), Locked (p + 320) 0)
 
--- what it gives where a frame was yield_due at `next`, by whether that matches
+-- what it gives where a frame was due at `next`, by whether that matches
 abbrev pub yield_due : (ℕ → ℕ) → ℕ → ℕ → Bool → Option Yield × Mode
 yield_due line next misses true = (Some (Frame next (frame_at line next)), Locked (next + 320) 0)
 yield_due line next misses false = (Some (Miss next), after_miss next misses)
 
--- what the period that begins at `base` gives, and the mode after it; locked, the frame that is yield_due always ends in it
+-- what the period that begins at `base` gives, and the mode after it; locked, the frame that is due always ends in it
 unfoldable pub searched : (ℕ → ℕ) → ℕ → Mode → Option Yield × Mode
 searched line base (Hunting low) = hunted line low (found_in line base low)
 searched line base (Locked next misses) = yield_due line next misses (is_match line next)

@@ -10,7 +10,12 @@ pub fn periods_give_all_yields()
     ensures { (periods : List (List ℕ)) → ArePeriods periods → Yields (all_bits periods) (all_yields periods) }
 {}
 
-/// A list of bits has one list of yields at most. (`periods_give_all_yields`: that of whole periods has one.)
+/// A list of bits has a list of yields. (`one_list`: it has no other.)
+pub fn some_list()
+    ensures { (bits : List ℕ) → (ys : List Yield) × Yields bits ys }
+{}
+
+/// A list of bits has one list of yields at most. (`some_list`: it has one.)
 pub fn one_list()
     ensures { (bits : List ℕ) (ys zs : List Yield) → Yields bits ys → Yields bits zs → ys ≡ zs }
 {}

@@ -1,19 +1,18 @@
 //! The search on one line.
 
-ghost use Rattle.std.specs.Prelude.{◌≡◌, ◌++◌, replicate};
-ghost use Rattle.trau_bits.specs.Bits.{AreBits};
+ghost use Rattle.std.specs.Prelude.{◌≡◌};
 
-use crate::advance::advance;
+use crate::advance::{advance, yield_at};
+use crate::window::two_periods;
 use crate::yields::{Mode, Yield};
 use std::marker::Model;
-use trau_bits::unpack;
 
 /// The search for frames on one line.
 #[derive(Drop)]
 pub struct FrameSync {
-    /// The periods so far.
+    // The periods so far.
     periods: u32,
-    /// The bits of the last one.
+    // The bits of the last one.
     last: [u8; 320],
     mode: Mode,
 }
@@ -28,24 +27,6 @@ impl Model for FrameSync {
     ghost view = { λ s. record { periods = s.periods; last = s.last; mode = s.mode } };
 
     ghost invariant = { λ s. IsNear (320 * s.periods) s.mode × AreBits s.last };
-}
-
-// A period of zeros.
-fn zeros() -> [u8; 320]
-    ensures value { result ≡ replicate 320 0 }
-    ensures are_bits { AreBits result }
-{
-    [0; 320]
-}
-
-// The bits of two periods.
-fn joined(last: &[u8; 320], bits: &[u8; 320]) -> [u8; 640]
-    ensures { result ≡ last.now ++ bits.now }
-{
-    let mut window = [0; 640];
-    window[..320].copy_from_slice(last);
-    window[320..].copy_from_slice(bits);
-    window
 }
 
 impl FrameSync {
@@ -64,7 +45,7 @@ impl FrameSync {
     {
         FrameSync {
             periods: 0,
-            last: zeros(),
+            last: [0; 320],
             mode: Mode::Hunting { low: 0 },
         }
     }
@@ -89,13 +70,12 @@ impl FrameSync {
         ensures frame { IfSome result CarriesFrame }
         ensures place { IfSome result (EndsIn self.old.periods) }
     {
-        let mut bits = [0; 320];
-        unpack(octets, &mut bits);
-        let window = joined(&self.last, &bits);
-        let (found, mode) = advance(self.mode, 320 * u64::from(self.periods), &window);
+        let window = two_periods(&self.last, octets);
+        let base = 320 * u64::from(self.periods);
+        let (ending, mode) = advance(self.mode, base, &window);
         self.periods += 1;
-        self.last = bits;
+        self.last.copy_from_slice(&window[320..]);
         self.mode = mode;
-        found
+        yield_at(ending, base, &window)
     }
 }

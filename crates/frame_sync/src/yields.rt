@@ -16,6 +16,16 @@ pub enum Yield {
     },
 }
 
+/// What ends in a period, by the place of its first bit.
+#[derive(Clone, Copy)]
+pub(crate) enum Ending {
+    Nothing,
+    /// A frame.
+    Framed(u64),
+    /// No sync pattern where a frame was due.
+    Missed(u64),
+}
+
 /// What the search looks for next. Places are counted in bits from the start of the line.
 #[derive(Clone, Copy)]
 pub(crate) enum Mode {

@@ -27,48 +27,78 @@ fn is_answered(alloc: Global, line: &str, answer: Result<Asked, WordsFault>) -> 
     }
 }
 
-// Runs, also to a mark and from one on, with their workers, batch, slice and periods.
-static RUNS: [(&str, [u32; 4]); 11] = [
-    ("run", [4, 50, 5, 4_294_967_295]),
+// The words of runs, also to a mark and from one on, and of drills, with the workers, batch, slice and periods that they
+// ask for, and a drill's seed and calls.
+static RUNS: [(&str, [u32; 4], [u32; 2]); 17] = [
+    ("run", [4, 50, 5, 4_294_967_295], [0, 0]),
     (
         "run --workers 64 --batch 250 --slice 1 --periods 9",
         [64, 250, 1, 9],
+        [0, 0],
     ),
     (
         "run --periods=1 --slice=250 --batch=1 --workers=1",
         [1, 1, 250, 1],
+        [0, 0],
     ),
     (
         "run --periods 4294967295 --batch=7",
         [4, 7, 5, 4_294_967_295],
+        [0, 0],
     ),
-    ("run --", [4, 50, 5, 4_294_967_295]),
-    ("run --slice 2 --", [4, 50, 2, 4_294_967_295]),
-    ("save --periods 3", [4, 50, 5, 3]),
+    ("run --", [4, 50, 5, 4_294_967_295], [0, 0]),
+    ("run --slice 2 --", [4, 50, 2, 4_294_967_295], [0, 0]),
+    ("save --periods 3", [4, 50, 5, 3], [0, 0]),
     (
         "save --slice=1 --periods=4294967295 --workers 2 --batch 9",
         [2, 9, 1, 4_294_967_295],
+        [0, 0],
     ),
-    ("save --periods 1 --", [4, 50, 5, 1]),
-    ("resume", [4, 50, 5, 4_294_967_295]),
+    ("save --periods 1 --", [4, 50, 5, 1], [0, 0]),
+    ("resume", [4, 50, 5, 4_294_967_295], [0, 0]),
     (
         "resume --periods 9 --slice 250 --workers=64 --batch=1",
         [64, 1, 250, 9],
+        [0, 0],
     ),
+    ("drill", [4, 50, 5, 200], [1, 64]),
+    (
+        "drill --seed 0 --calls 1 --periods 1",
+        [4, 50, 5, 1],
+        [0, 1],
+    ),
+    (
+        "drill --seed=4294967295 --calls=256 --periods=1000 --workers=64 --batch=250 --slice=250",
+        [64, 250, 250, 1000],
+        [4_294_967_295, 256],
+    ),
+    (
+        "drill --slice 9 --calls 2 --workers 5 --seed 7",
+        [5, 50, 9, 200],
+        [7, 2],
+    ),
+    ("drill --", [4, 50, 5, 200], [1, 64]),
+    ("drill --batch 7 --", [4, 7, 5, 200], [1, 64]),
 ];
 
-// A run by the command's word.
-fn run_named(word: &str, settings: Settings) -> Asked {
+// What is asked by the command's word.
+fn asked_by(word: &str, settings: Settings, made_of: [u32; 2]) -> Asked {
+    let [seed, calls] = made_of;
     match word {
         "save" => Asked::Save(settings),
         "resume" => Asked::Resume(settings),
+        "drill" => Asked::Drill {
+            seed,
+            calls,
+            settings,
+        },
         _ => Asked::Run(settings),
     }
 }
 
-// Whether a line asks for a run with these.
-fn is_run(alloc: Global, line: &str, settings: &[u32; 4]) -> bool {
-    let [workers, batch, slice, periods] = *settings;
+// Whether a line asks for a run or a drill of these.
+fn is_run(alloc: Global, line: &str, settings: [u32; 4], made_of: [u32; 2]) -> bool {
+    let [workers, batch, slice, periods] = settings;
     let settings = Settings {
         workers,
         batch,
@@ -76,14 +106,14 @@ fn is_run(alloc: Global, line: &str, settings: &[u32; 4]) -> bool {
         periods,
     };
     let word = line.split(' ').next().unwrap_or("");
-    is_answered(alloc, line, Ok(run_named(word, settings)))
+    is_answered(alloc, line, Ok(asked_by(word, settings, made_of)))
 }
 
-// How many of the runs are asked for so, from the first on.
+// How many of them are asked for so, from the first on.
 fn runs_asked(alloc: Global) -> usize {
     let mut asked = 0usize;
-    for (line, settings) in &RUNS {
-        if !is_run(alloc, line, settings) {
+    for (line, settings, made_of) in &RUNS {
+        if !is_run(alloc, line, *settings, *made_of) {
             return asked;
         }
         asked = asked.saturating_add(1);
@@ -92,64 +122,8 @@ fn runs_asked(alloc: Global) -> usize {
 }
 
 #[test]
-fn options_of_a_run(rt: HostRuntime) {
-    assert_rows(&rt, runs_asked(rt.alloc()), 11);
-}
-
-// Drills, with their seed and calls, and their workers, batch, slice and periods.
-static DRILLS: [(&str, [u32; 2], [u32; 4]); 6] = [
-    ("drill", [1, 64], [4, 50, 5, 200]),
-    (
-        "drill --seed 0 --calls 1 --periods 1",
-        [0, 1],
-        [4, 50, 5, 1],
-    ),
-    (
-        "drill --seed=4294967295 --calls=256 --periods=1000 --workers=64 --batch=250 --slice=250",
-        [4_294_967_295, 256],
-        [64, 250, 250, 1000],
-    ),
-    (
-        "drill --slice 9 --calls 2 --workers 5 --seed 7",
-        [7, 2],
-        [5, 50, 9, 200],
-    ),
-    ("drill --", [1, 64], [4, 50, 5, 200]),
-    ("drill --batch 7 --", [1, 64], [4, 7, 5, 200]),
-];
-
-// Whether a line asks for a drill of these.
-fn is_drill(alloc: Global, line: &str, made_of: &[u32; 2], settings: &[u32; 4]) -> bool {
-    let [seed, calls] = *made_of;
-    let [workers, batch, slice, periods] = *settings;
-    let drill = Asked::Drill {
-        seed,
-        calls,
-        settings: Settings {
-            workers,
-            batch,
-            slice,
-            periods,
-        },
-    };
-    is_answered(alloc, line, Ok(drill))
-}
-
-// How many of the drills are asked for so, from the first on.
-fn drills_asked(alloc: Global) -> usize {
-    let mut asked = 0usize;
-    for (line, made_of, settings) in &DRILLS {
-        if !is_drill(alloc, line, made_of, settings) {
-            return asked;
-        }
-        asked = asked.saturating_add(1);
-    }
-    asked
-}
-
-#[test]
-fn options_of_a_drill(rt: HostRuntime) {
-    assert_rows(&rt, drills_asked(rt.alloc()), 6);
+fn options_of_runs_and_drills(rt: HostRuntime) {
+    assert_rows(&rt, runs_asked(rt.alloc()), 17);
 }
 
 static TOOLS: [(&str, Asked); 8] = [
@@ -268,16 +242,11 @@ drills
 7
 ";
 
-// Whether a line's words ask for nothing.
-fn is_usage(alloc: Global, line: &str) -> bool {
-    is_answered(alloc, line, Err(WordsFault::Usage))
-}
-
 // How many lines' words ask for nothing, from the first on.
 fn usages(alloc: Global) -> usize {
     let mut usages = 0usize;
     for line in OTHER_WORDS.split('\n') {
-        if !is_usage(alloc, line) {
+        if !is_answered(alloc, line, Err(WordsFault::Usage)) {
             return usages;
         }
         usages = usages.saturating_add(1);
@@ -288,9 +257,5 @@ fn usages(alloc: Global) -> usize {
 #[test]
 fn other_words_are_usage(rt: HostRuntime) {
     assert_rows(&rt, usages(rt.alloc()), 80);
-}
-
-#[test]
-fn no_words_are_usage(rt: HostRuntime) {
     assert!(rt; read_words(rt.alloc(), &[]) == Err(WordsFault::Usage));
 }

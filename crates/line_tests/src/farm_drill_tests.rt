@@ -12,7 +12,17 @@ fn sum(octets: &[u8]) -> u32 {
     sum
 }
 
-// The sum of what an incoming line gives, where that is so many octets.
+// The lines and orders of a drill. What is proved of them isn't told.
+fn drilled(
+    alloc: Global,
+    seed: u32,
+    calls: u32,
+    periods: u32,
+) -> Result<(MemTrunk, Vec<u8>), AllocError> {
+    drill(alloc, seed, calls.min(256), periods.min(1000))
+}
+
+// The sum of what an incoming line gives, where that is so many octets and no more.
 fn sum_of_line(
     alloc: Global,
     trunk: &mut MemTrunk,
@@ -36,33 +46,37 @@ fn sum_of_line(
 
 // Seed, calls, periods; a call, and the sums of its Up and Pcm line. The Pcm line is quiet for the first 32 periods, then
 // loud for 32, and so on.
-static SUMS: [(u32, u32, u32, u32, u32, u32); 4] = [
+type Row = (u32, u32, u32, u32, u32, u32);
+
+static SUMS: [Row; 4] = [
     (7, 3, 30, 1, 1_314_134_350, 2_143_392_773),
     (7, 3, 30, 3, 787_943_159, 2_143_392_773),
     (4_294_967_295, 6, 140, 5, 164_405_353, 2_432_531_562),
     (4_294_967_295, 6, 140, 6, 4_124_660_262, 114_896_368),
 ];
 
+// Whether a call of a drill has these sums.
+fn has_sums(alloc: Global, row: &Row) -> Result<bool, AllocError> {
+    let (seed, calls, periods, call, up, pcm) = *row;
+    let octets = 40 * periods.min(1000) as usize;
+    let (mut trunk, _text) = drilled(alloc, seed, calls, periods)?;
+    let on_up = sum_of_line(alloc, &mut trunk, call, Side::Up, octets)?;
+    let on_pcm = sum_of_line(alloc, &mut trunk, call, Side::Pcm, 4 * octets)?;
+    Ok(on_up == Some(up) && on_pcm == Some(pcm))
+}
+
 #[test]
 fn drills_as_another_program(rt: HostRuntime) {
-    let alloc = rt.alloc();
-    for &(seed, calls, periods, call, up, pcm) in &SUMS {
-        let periods = periods.min(1000);
-        let (mut trunk, _text) = drill(alloc, seed, calls.min(256), periods).expect(&rt, "memory");
-        let octets = 40 * periods as usize;
-        let on_up = sum_of_line(alloc, &mut trunk, call, Side::Up, octets).expect(&rt, "memory");
-        assert_eq!(rt; on_up, Some(up), "up of {call}");
-        let octets = 160 * periods as usize;
-        let on_pcm = sum_of_line(alloc, &mut trunk, call, Side::Pcm, octets).expect(&rt, "memory");
-        assert_eq!(rt; on_pcm, Some(pcm), "pcm of {call}");
+    for row in &SUMS {
+        assert!(rt; has_sums(rt.alloc(), row) == Ok(true), "call {}", row.3);
     }
 }
 
 #[test]
 fn orders_as_another_program(rt: HostRuntime) {
-    let (_trunk, text) = drill(rt.alloc(), 7, 3, 30).expect(&rt, "memory");
+    let (_trunk, text) = drilled(rt.alloc(), 7, 3, 30).expect(&rt, "memory");
     let orders = "0 open 1\n0 open 2\n0 open 3\n7 bridge 1 2\n15 unbridge 1\n";
-    assert_eq!(rt; text.as_slice(), orders.as_bytes());
+    assert!(rt; text.as_slice() == orders.as_bytes());
 }
 
 // By kind, the periods and the sum of the line.
@@ -75,11 +89,18 @@ static HOSTILE_SUMS: [(u8, u32, u32); 6] = [
     (5, 10, 3_153_489_213),
 ];
 
+// The sum of a hostile line.
+fn hostile_sum(alloc: Global, kind: u8, periods: u32) -> Result<u32, AllocError> {
+    let line = hostile(alloc, kind.min(5), periods.min(1000))?;
+    Ok(sum(&line))
+}
+
 #[test]
 fn is_hostile_as_another_program(rt: HostRuntime) {
-    let alloc = rt.alloc();
-    for &(kind, periods, wanted) in &HOSTILE_SUMS {
-        let line = hostile(alloc, kind.min(5), periods.min(1000)).expect(&rt, "memory");
-        assert_eq!(rt; sum(&line), wanted, "kind {kind}");
+    for (kind, periods, wanted) in &HOSTILE_SUMS {
+        assert!(rt;
+            hostile_sum(rt.alloc(), *kind, *periods) == Ok(*wanted),
+            "kind {kind}"
+        );
     }
 }

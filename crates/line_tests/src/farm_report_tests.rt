@@ -1,59 +1,36 @@
-//! Reports: each reply and each cause, the greatest numbers, and a recorded one.
+//! Reports: each reply and each cause, and the greatest numbers.
 
 use farm_report::{CallLine, Report, SpanLine, write_report};
 use std::alloc::{AllocError, Global};
-use std::process::Abort;
 use switchboard::{Act, Refusal, Reply, Span};
 use trau_alaw::Law;
 use trau_io::{CallEnd, Cause, Counts, Line, Side};
 
 const LAST: u32 = u32::MAX;
 
-fn reply(order: u32, outcome: Result<Act, Refusal>) -> Reply {
-    Reply {
-        order,
-        result: outcome,
-    }
-}
+const NO_COUNTS: Counts = Counts {
+    good: 0,
+    sid: 0,
+    invalid: 0,
+    bad: 0,
+    idle: 0,
+    other: 0,
+    miss: 0,
+    none: 0,
+    made: 0,
+};
 
-fn counts(numbers: [u64; 9]) -> Counts {
-    let [good, sid, invalid, bad, idle, other, miss, none, made] = numbers;
-    Counts {
-        good,
-        sid,
-        invalid,
-        bad,
-        idle,
-        other,
-        miss,
-        none,
-        made,
-    }
-}
-
-fn call(call: u32, from: u32, at: u32, cause: Cause, numbers: [u64; 9]) -> CallLine {
-    CallLine {
-        end: CallEnd { call, at, cause },
-        from,
-        counts: counts(numbers),
-    }
-}
-
-// Asserts what a text is.
-fn assert_same(rt: &impl Abort, text: &str, wanted: &str) {
-    assert_eq!(rt; text, wanted);
-}
-
-// Asserts what the report's text is.
-fn assert_text(
-    rt: &impl Abort,
-    alloc: Global,
-    report: &Report,
-    text: &str,
-) -> Result<(), AllocError> {
-    assert_same(rt, write_report(alloc, report)?.as_str(), text);
-    Ok(())
-}
+const MOST_COUNTS: Counts = Counts {
+    good: u64::MAX,
+    sid: u64::MAX,
+    invalid: u64::MAX,
+    bad: u64::MAX,
+    idle: u64::MAX,
+    other: u64::MAX,
+    miss: u64::MAX,
+    none: u64::MAX,
+    made: u64::MAX,
+};
 
 static EACH_REPLY: [Reply; 9] = [
     Reply {
@@ -103,34 +80,68 @@ static EACH_REPLY: [Reply; 9] = [
     },
 ];
 
-fn each_cause() -> [CallLine; 6] {
-    [
-        call(1, 0, 5, Cause::Closed, [0; 9]),
-        call(
-            2,
-            0,
-            30,
-            Cause::End {
+static EACH_CAUSE: [CallLine; 6] = [
+    CallLine {
+        end: CallEnd {
+            call: 1,
+            at: 5,
+            cause: Cause::Closed,
+        },
+        from: 0,
+        counts: NO_COUNTS,
+    },
+    CallLine {
+        end: CallEnd {
+            call: 2,
+            at: 30,
+            cause: Cause::End {
                 side: Side::Up,
                 left: 13,
             },
-            [0; 9],
-        ),
-        call(
-            3,
-            4,
-            29,
-            Cause::End {
+        },
+        from: 0,
+        counts: NO_COUNTS,
+    },
+    CallLine {
+        end: CallEnd {
+            call: 3,
+            at: 29,
+            cause: Cause::End {
                 side: Side::Pcm,
                 left: 0,
             },
-            [0; 9],
-        ),
-        call(4, 0, 2, Cause::Fault { side: Side::Up }, [0; 9]),
-        call(7, 0, 2, Cause::Fault { side: Side::Pcm }, [0; 9]),
-        call(9, 1, 3, Cause::Limit, [0; 9]),
-    ]
-}
+        },
+        from: 4,
+        counts: NO_COUNTS,
+    },
+    CallLine {
+        end: CallEnd {
+            call: 4,
+            at: 2,
+            cause: Cause::Fault { side: Side::Up },
+        },
+        from: 0,
+        counts: NO_COUNTS,
+    },
+    CallLine {
+        end: CallEnd {
+            call: 7,
+            at: 2,
+            cause: Cause::Fault { side: Side::Pcm },
+        },
+        from: 0,
+        counts: NO_COUNTS,
+    },
+    CallLine {
+        end: CallEnd {
+            call: 9,
+            at: 3,
+            cause: Cause::Limit,
+        },
+        from: 1,
+        counts: NO_COUNTS,
+    },
+];
 
 const EACH_SIDE: [Line; 4] = [
     Line {
@@ -179,56 +190,44 @@ line 9 out failed
 end period 30 calls 6 left 1
 ";
 
-fn each_report(alloc: Global) -> Result<Report, AllocError> {
-    Ok(Report {
-        replies: EACH_REPLY.to_vec(alloc)?,
-        spans: Vec::new(alloc),
-        calls: each_cause().to_vec(alloc)?,
-        failed: EACH_SIDE.to_vec(alloc)?,
-        left: 1,
-    })
-}
-
-#[test]
-fn each_reply_and_each_cause(rt: HostRuntime) -> Result<(), AllocError> {
-    let alloc = rt.alloc();
-    assert_text(&rt, alloc, &each_report(alloc)?, EACH_TEXT)
-}
-
-fn greatest(alloc: Global) -> Result<Report, AllocError> {
-    let refusal = Refusal::Draining {
+static GREATEST_REPLY: [Reply; 1] = [Reply {
+    order: LAST,
+    result: Err(Refusal::Draining {
         call: LAST,
         partner: LAST,
-    };
-    let span = Span {
+    }),
+}];
+
+static GREATEST_SPAN: [SpanLine; 1] = [SpanLine {
+    span: Span {
         a: LAST,
         b: LAST,
         from: LAST,
         to: LAST,
-    };
-    let line = SpanLine {
-        span,
-        sent_a: LAST,
-        sent_b: LAST,
-        lost_a: LAST,
-        lost_b: LAST,
-    };
-    let end = Cause::End {
-        side: Side::Pcm,
-        left: LAST,
-    };
-    Ok(Report {
-        replies: [reply(LAST, Err(refusal))].to_vec(alloc)?,
-        spans: [line].to_vec(alloc)?,
-        calls: [call(LAST, LAST, LAST, end, [u64::MAX; 9])].to_vec(alloc)?,
-        failed: [Line {
-            call: 4096,
-            side: Side::Out,
-        }]
-        .to_vec(alloc)?,
-        left: LAST,
-    })
-}
+    },
+    sent_a: LAST,
+    sent_b: LAST,
+    lost_a: LAST,
+    lost_b: LAST,
+}];
+
+static GREATEST_CALL: [CallLine; 1] = [CallLine {
+    end: CallEnd {
+        call: LAST,
+        at: LAST,
+        cause: Cause::End {
+            side: Side::Pcm,
+            left: LAST,
+        },
+    },
+    from: LAST,
+    counts: MOST_COUNTS,
+}];
+
+const GREATEST_SIDE: [Line; 1] = [Line {
+    call: 4096,
+    side: Side::Out,
+}];
 
 static GREATEST_TEXT: &str = "order 4294967295 refused 6 call 4294967295 partner 4294967295
 bridge 4294967295 4294967295 from 4294967295 to 4294967295 sent 4294967295 4294967295 lost 4294967295 4294967295
@@ -238,104 +237,50 @@ line 4096 out failed
 end period 4294967295 calls 1 left 4294967295
 ";
 
-#[test]
-fn the_greatest_numbers(rt: HostRuntime) -> Result<(), AllocError> {
-    let alloc = rt.alloc();
-    assert_text(&rt, alloc, &greatest(alloc)?, GREATEST_TEXT)
-}
-
-fn recorded_replies(alloc: Global) -> Result<Vec<Reply>, AllocError> {
-    let mut replies = Vec::new(alloc);
-    for order in 1..19 {
-        let result = match order {
-            9 => Err(Refusal::SameCall { call: 2 }),
-            12 => Err(Refusal::Draining {
-                call: 2,
-                partner: 1,
-            }),
-            _ => Ok(Act::Opened {
-                call: 1,
-                law: Law::A,
-            }),
-        };
-        replies.push(reply(order, result))?;
-    }
-    Ok(replies)
-}
-
-fn recorded_span() -> SpanLine {
-    let span = Span {
-        a: 1,
-        b: 2,
-        from: 13,
-        to: 28,
-    };
-    SpanLine {
-        span,
-        sent_a: 15,
-        sent_b: 15,
-        lost_a: 0,
-        lost_b: 0,
-    }
-}
-
-fn recorded_calls() -> [CallLine; 4] {
-    let one = Cause::End {
-        side: Side::Up,
-        left: 1,
-    };
-    let none = Cause::End {
-        side: Side::Up,
-        left: 0,
-    };
-    [
-        call(1, 0, 81, one, [59, 1, 0, 21, 0, 0, 0, 0, 81]),
-        call(2, 0, 76, one, [27, 3, 1, 45, 0, 0, 0, 0, 76]),
-        call(3, 15, 94, one, [75, 0, 0, 0, 4, 0, 0, 0, 78]),
-        call(4, 51, 163, none, [56, 3, 0, 53, 0, 0, 0, 0, 111]),
-    ]
-}
-
-static RECORDED_TEXT: &str = "order 1 ok
-order 2 ok
-order 3 ok
-order 4 ok
-order 5 ok
-order 6 ok
-order 7 ok
-order 8 ok
-order 9 refused 5 call 2
-order 10 ok
-order 11 ok
-order 12 refused 6 call 2 partner 1
-order 13 ok
-order 14 ok
-order 15 ok
-order 16 ok
-order 17 ok
-order 18 ok
-bridge 1 2 from 13 to 28 sent 15 15 lost 0 0
-call 1 from 0 to 81 end up 1
-counts 1 good 59 sid 1 invalid 0 bad 21 idle 0 other 0 miss 0 none 0 made 81
-call 2 from 0 to 76 end up 1
-counts 2 good 27 sid 3 invalid 1 bad 45 idle 0 other 0 miss 0 none 0 made 76
-call 3 from 15 to 94 end up 1
-counts 3 good 75 sid 0 invalid 0 bad 0 idle 4 other 0 miss 0 none 0 made 78
-call 4 from 51 to 163 end up 0
-counts 4 good 56 sid 3 invalid 0 bad 53 idle 0 other 0 miss 0 none 0 made 111
-end period 163 calls 4 left 0
-";
-
-// The report of a whole run, recorded as the answer of a separate program.
-#[test]
-fn a_recorded_report(rt: HostRuntime) -> Result<(), AllocError> {
-    let alloc = rt.alloc();
+// Whether this is the text of such a report.
+fn is_text(
+    alloc: Global,
+    replies: &[Reply],
+    spans: &[SpanLine],
+    calls: &[CallLine],
+    failed: &[Line],
+    left: u32,
+    text: &str,
+) -> Result<bool, AllocError> {
     let report = Report {
-        replies: recorded_replies(alloc)?,
-        spans: [recorded_span()].to_vec(alloc)?,
-        calls: recorded_calls().to_vec(alloc)?,
-        failed: Vec::new(alloc),
-        left: 0,
+        replies: replies.to_vec(alloc)?,
+        spans: spans.to_vec(alloc)?,
+        calls: calls.to_vec(alloc)?,
+        failed: failed.to_vec(alloc)?,
+        left,
     };
-    assert_text(&rt, alloc, &report, RECORDED_TEXT)
+    Ok(write_report(alloc, &report)?.as_str() == text)
+}
+
+#[test]
+fn each_reply_and_each_cause(rt: HostRuntime) {
+    let all = is_text(
+        rt.alloc(),
+        &EACH_REPLY,
+        &[],
+        &EACH_CAUSE,
+        &EACH_SIDE,
+        1,
+        EACH_TEXT,
+    );
+    assert!(rt; all == Ok(true));
+}
+
+#[test]
+fn the_greatest_numbers(rt: HostRuntime) {
+    let all = is_text(
+        rt.alloc(),
+        &GREATEST_REPLY,
+        &GREATEST_SPAN,
+        &GREATEST_CALL,
+        &GREATEST_SIDE,
+        LAST,
+        GREATEST_TEXT,
+    );
+    assert!(rt; all == Ok(true));
 }

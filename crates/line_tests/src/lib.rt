@@ -2,7 +2,7 @@
 //! orders and words; the board, the pool machine and the report.
 //!
 //! They stand apart from what they test: a crate with tests is proved a second time with them; these go through public
-//! calls only.
+//! functions only.
 #![tactic(auto)]
 
 #[cfg(test)]

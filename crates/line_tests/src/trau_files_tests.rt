@@ -103,11 +103,7 @@ static FILES: [Step; 10] = [
     Step::Reads(Side::Pcm, 1, None, [0; 4]),
 ];
 
-#[test]
-fn lines_are_files(rt: HostRuntime) {
-    assert_rows(&rt, done(&rt, &FILES), 10);
-}
-
+// Each line goes on at its own octet: also where another was read or written in between.
 static READS_IN_TURN: [Step; 7] = [
     Step::Make("4096.up", &[1, 2, 3]),
     Step::Make("9.out", &[4, 5, 6]),
@@ -118,12 +114,6 @@ static READS_IN_TURN: [Step; 7] = [
     Step::Reads(Side::Up, 1, Some(1), [3, 0, 0, 0]),
 ];
 
-// Each line goes on at its own octet: also where another was read or written in between.
-#[test]
-fn lines_are_read_in_turn(rt: HostRuntime) {
-    assert_rows(&rt, done(&rt, &READS_IN_TURN), 7);
-}
-
 static WRITES_IN_TURN: [Step; 5] = [
     Step::Writes(Side::Out, &[7], Some(1)),
     Step::Writes(Side::Up, &[8], Some(1)),
@@ -132,11 +122,7 @@ static WRITES_IN_TURN: [Step; 5] = [
     Step::Reads(Side::Up, 1, Some(1), [8, 0, 0, 0]),
 ];
 
-#[test]
-fn lines_are_written_in_turn(rt: HostRuntime) {
-    assert_rows(&rt, done(&rt, &WRITES_IN_TURN), 5);
-}
-
+// A file that is open outlives its name; a file that isn't is looked for by its name.
 static REMOVED_FILES: [Step; 11] = [
     Step::Make("4096.up", &[1, 2, 3]),
     Step::Reads(Side::Up, 1, Some(1), [1, 0, 0, 0]),
@@ -151,9 +137,12 @@ static REMOVED_FILES: [Step; 11] = [
     Step::Writes(Side::Out, &[8], None),
 ];
 
-// A file that is open outlives its name; a file that isn't is looked for by its name.
+// Each with a new trunk.
 #[test]
-fn a_removed_file_goes_on_while_it_is_open(rt: HostRuntime) {
+fn lines_are_files(rt: HostRuntime) {
+    assert_rows(&rt, done(&rt, &FILES), 10);
+    assert_rows(&rt, done(&rt, &READS_IN_TURN), 7);
+    assert_rows(&rt, done(&rt, &WRITES_IN_TURN), 5);
     assert_rows(&rt, done(&rt, &REMOVED_FILES), 11);
 }
 
@@ -235,7 +224,7 @@ impl<T: Write> Write for Interrupted<T> {
 
 // Whether a read of at most two octets gives so many.
 fn hears(
-    desk: &mut StdDesk<Interrupted<&[u8]>, &mut Vec<u8>>,
+    desk: &mut StdDesk<Interrupted<&[u8]>, Interrupted<&mut Vec<u8>>>,
     octets: &mut [u8; 2],
     count: usize,
 ) -> bool {
@@ -243,29 +232,26 @@ fn hears(
 }
 
 // Whether three octets are read, the last one over the first.
-fn is_heard(desk: &mut StdDesk<Interrupted<&[u8]>, &mut Vec<u8>>) -> bool {
+fn is_heard(desk: &mut StdDesk<Interrupted<&[u8]>, Interrupted<&mut Vec<u8>>>) -> bool {
     let mut octets = [0; 2];
     let all = hears(desk, &mut octets, 2) && hears(desk, &mut octets, 1);
     all && octets == [7, 6] && hears(desk, &mut octets, 0)
 }
 
 // Whether a desk takes these two octets at once.
-fn is_told(desk: &mut StdDesk<&[u8], Interrupted<&mut Vec<u8>>>, octets: &[u8; 2]) -> bool {
+fn is_told(
+    desk: &mut StdDesk<Interrupted<&[u8]>, Interrupted<&mut Vec<u8>>>,
+    octets: &[u8; 2],
+) -> bool {
     desk.write(octets).ok() == Some(2)
 }
 
 #[test]
-fn a_desk_is_a_reader(rt: HostRuntime) {
+fn a_desk_is_a_reader_and_a_writer(rt: HostRuntime) {
     let mut text = Vec::new(rt.alloc());
     let orders = Interrupted::new([5, 6, 7].as_slice());
-    let mut desk = StdDesk::new(orders, &mut text);
+    let mut desk = StdDesk::new(orders, Interrupted::new(&mut text));
     assert!(rt; is_heard(&mut desk));
-}
-
-#[test]
-fn a_desk_is_a_writer(rt: HostRuntime) {
-    let mut text = Vec::new(rt.alloc());
-    let mut desk = StdDesk::new([].as_slice(), Interrupted::new(&mut text));
     assert!(rt; is_told(&mut desk, &[1, 2]));
     assert!(rt; text.as_slice() == [1, 2].as_slice());
 }

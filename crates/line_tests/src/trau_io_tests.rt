@@ -10,9 +10,19 @@ const UP: Line = Line {
     side: Side::Up,
 };
 
+const PCM: Line = Line {
+    call: 1,
+    side: Side::Pcm,
+};
+
 const DOWN: Line = Line {
     call: 1,
     side: Side::Down,
+};
+
+const OUT: Line = Line {
+    call: 1,
+    side: Side::Out,
 };
 
 // Sets a line anew.
@@ -31,22 +41,15 @@ fn set(
     trunk.set(alloc, line, octets, cuts, fails, room)
 }
 
-// Up has these octets, and no other line any.
-fn trunk_with_up(
-    alloc: Global,
-    octets: &[u8],
-    cuts: &[u32],
-    fails: &[u32],
-) -> Result<MemTrunk, AllocError> {
+// Up has nine octets, in cuts of 0 (which counts as 1), 2 and 100, and the fourth operation fails. Pcm has ten, and Down room
+// for seven, both in cuts.
+fn three_lines(alloc: Global) -> Result<MemTrunk, AllocError> {
     let mut trunk = MemTrunk::new(alloc)?;
-    set(alloc, &mut trunk, UP, octets, cuts, fails, 0)?;
-    Ok(trunk)
-}
-
-// Up has nine octets, in cuts of 0 (which counts as 1), 2 and 100, and the fourth call fails.
-fn nine_octets(alloc: Global) -> Result<MemTrunk, AllocError> {
     let octets = [1, 2, 3, 4, 5, 6, 7, 8, 9];
-    trunk_with_up(alloc, &octets, &[0, 2, 100], &[3])
+    set(alloc, &mut trunk, UP, &octets, &[0, 2, 100], &[3], 0)?;
+    set(alloc, &mut trunk, PCM, &[7; 10], &[3, 1], &[], 0)?;
+    set(alloc, &mut trunk, DOWN, &[], &[2, 3], &[], 7)?;
+    Ok(trunk)
 }
 
 // What is answered to reads of at most four octets.
@@ -71,36 +74,22 @@ fn is_read_in_cuts(trunk: &mut MemTrunk) -> bool {
     all && octets == [8, 9, 6, 7] && trunk.faults(UP) == 1
 }
 
-// Past the cuts there are none.
-#[test]
-fn a_line_is_read_in_its_cuts(rt: HostRuntime) -> Result<(), AllocError> {
-    let mut trunk = nine_octets(rt.alloc())?;
-    assert!(rt; is_read_in_cuts(&mut trunk));
-    Ok(())
-}
-
-// Whether Down gives nothing and takes nothing.
+// Whether another line gives nothing and takes nothing.
 fn is_closed(trunk: &mut MemTrunk) -> bool {
-    trunk.read(DOWN, &mut [0; 4]) == Ok(0) && trunk.write(DOWN, &[8, 9, 6, 7]) == Err(Failed)
+    trunk.read(OUT, &mut [0; 4]) == Ok(0) && trunk.write(OUT, &[8, 9, 6, 7]) == Err(Failed)
 }
 
+// Past the cuts there are none. All other lines are empty and without room.
 #[test]
-fn all_other_lines_are_empty_and_without_room(rt: HostRuntime) -> Result<(), AllocError> {
-    let mut trunk = nine_octets(rt.alloc())?;
+fn a_line_is_read_in_its_cuts(rt: HostRuntime) {
+    let mut trunk = three_lines(rt.alloc()).expect(&rt, "memory");
+    assert!(rt; is_read_in_cuts(&mut trunk));
     assert!(rt; is_closed(&mut trunk));
-    Ok(())
 }
 
-// Up has ten octets and Down room for seven, both in cuts.
-fn ten_octets(alloc: Global) -> Result<MemTrunk, AllocError> {
-    let mut trunk = trunk_with_up(alloc, &[7; 10], &[3, 1], &[])?;
-    set(alloc, &mut trunk, DOWN, &[], &[2, 3], &[], 7)?;
-    Ok(trunk)
-}
-
-// Whether a block of six octets is filled so from Up.
+// Whether a block of six octets is filled so from Pcm.
 fn fills(trunk: &mut MemTrunk, block: &mut [u8; 6], filled: Filled) -> bool {
-    read_block(trunk, UP, block) == filled
+    read_block(trunk, PCM, block) == filled
 }
 
 // Whether Down takes all of a block.
@@ -121,10 +110,9 @@ fn fills_down(trunk: &mut MemTrunk) -> bool {
 }
 
 #[test]
-fn a_whole_transfer_goes_on_over_cuts(rt: HostRuntime) -> Result<(), AllocError> {
-    let mut trunk = ten_octets(rt.alloc())?;
+fn a_whole_transfer_goes_on_over_cuts(rt: HostRuntime) {
+    let mut trunk = three_lines(rt.alloc()).expect(&rt, "memory");
     assert!(rt; fills_down(&mut trunk));
-    Ok(())
 }
 
 // A desk with eight octets and room for nine, whose first read and second write fail.
@@ -149,13 +137,6 @@ fn is_heard(desk: &mut MemDesk) -> bool {
     first && hears(desk, Ok(2)) && hears(desk, Ok(0)) && has_failed(desk, 1, 0)
 }
 
-#[test]
-fn a_desk_is_read_as_it_was_told(rt: HostRuntime) -> Result<(), AllocError> {
-    let mut desk = desk(rt.alloc())?;
-    assert!(rt; is_heard(&mut desk));
-    Ok(())
-}
-
 // Whether the desk takes all of the usage.
 fn is_told(desk: &mut MemDesk) -> bool {
     tell(desk, b"usage\n").is_ok()
@@ -164,12 +145,12 @@ fn is_told(desk: &mut MemDesk) -> bool {
 // Whether it takes the first usage, not the second one, and three octets of the third: two writes fail.
 fn is_told_once(desk: &mut MemDesk) -> bool {
     let once = is_told(desk) && !is_told(desk) && !is_told(desk);
-    once && desk.text() == b"usage\nusa".as_slice() && has_failed(desk, 0, 2)
+    once && desk.text() == b"usage\nusa".as_slice() && has_failed(desk, 1, 2)
 }
 
 #[test]
-fn a_desk_fails_as_it_was_told(rt: HostRuntime) -> Result<(), AllocError> {
-    let mut desk = desk(rt.alloc())?;
+fn a_desk_gives_and_takes_as_it_was_told(rt: HostRuntime) {
+    let mut desk = desk(rt.alloc()).expect(&rt, "memory");
+    assert!(rt; is_heard(&mut desk));
     assert!(rt; is_told_once(&mut desk));
-    Ok(())
 }

@@ -10,7 +10,8 @@
 //!
 //! All of it is this project's profile.
 //! Definitions: `specs/Size.antt` (what a live drill is made of), `specs/Posts.antt` (what callers post, and what they know
-//! of it), `specs/Whole.antt` (a call as a whole by its posts), `specs/Text.antt` (the text).
+//! of it), `specs/Posters.antt` (the callers before, behind and after their threads), `specs/Whole.antt` (a call as a whole
+//! by its posts), `specs/Text.antt` (the text).
 #![tactic(auto)]
 
 mod calls;

@@ -55,12 +55,12 @@ is_empty (job ∷ jobs) = false
 abbrev pub can_take : PoolState → ℕ → ℕ → Bool
 can_take s worker victim = is_none (hand s worker) && not (is_empty (deque s victim))
 
--- the hand holds_job a job whose place is below its length
+-- the hand holds a job whose place is below its length
 abbrev pub is_under_way : PoolState → Option ℕ → Bool
 is_under_way s None = false
 is_under_way s (Some job) = nat_lt (place s job) (len s job)
 
--- the hand holds_job a job whose place is its length
+-- the hand holds a job whose place is its length
 abbrev pub is_complete : PoolState → Option ℕ → Bool
 is_complete s None = false
 is_complete s (Some job) = place s job == len s job
@@ -116,7 +116,7 @@ pub record TakesJob (s : PoolState) (w v : ℕ) : Type 0 where
 
 -- ---- where a job is
 
--- a hand holds_job this job
+-- a hand holds this job
 abbrev pub holds_job : ℕ → Option ℕ → Bool
 holds_job job None = false
 holds_job job (Some other) = other == job
@@ -137,7 +137,7 @@ in_hand job (Some other) = is_job job other
 abbrev pub times_in_all : ℕ → PoolState → ℕ
 times_in_all job s = sum_by (times_in job) s.deques + sum_by (in_hand job) s.hands + times_in job s.finished
 
--- how many jobs a hand holds_job
+-- how many jobs a hand holds
 abbrev pub fills : Option ℕ → ℕ
 fills None = 0
 fills (Some job) = 1

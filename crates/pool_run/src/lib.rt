@@ -2,8 +2,8 @@
 //!
 //! A round's jobs come in as a list, are run without touching the outside, and go out finished, in the order in which
 //! they came. What a job does the pool doesn't know: `work` has the trait that each job meets, with the meanings that
-//! make "finished" exact. The crates above put a call's two halves, or those of a bridged pair, with the octets of a
-//! round into a job.
+//! make "finished" exact. The crates above make a job of each call of a round, with its octets, and have it run in two
+//! phases, by a pool each.
 //!
 //! A worker has a deque. No more of them work than there are jobs: a single one works in the thread of the caller, and of
 //! more each has a thread of its own. At the start job i stands in the deque of worker i mod the number of workers. A
@@ -11,7 +11,7 @@
 //! it, and puts it at the back of its own deque until it is finished. It ends where it has no job in hand and found every
 //! deque empty. When all have ended, the caller looks through the deques once more and runs what it finds there.
 //!
-//! - `deque`: the rule of one deque, which holds whoever takes from it, and the calls that keep it.
+//! - `deque`: the rule of one deque, which holds whoever takes from it, and the operations that keep it.
 //! - `member`: one worker.
 //! - `room`: the memory of a pool, reserved before its jobs are known.
 //! - `joins`: what the workers know of the deques, put together when they have ended.

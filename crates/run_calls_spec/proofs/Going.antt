@@ -1,6 +1,7 @@
 -- What a call is handed goes out: the frames that carry it are made in the period in which it is handed over or in the
 -- next one.
-use Rattle.std.proofs.Common.{◌≡◌, refl, sym, ap, ◌∙◌, subst, ℕ, zero, suc, ◌+◌, ◌-◌, ◌*◌, ◌<◌, ◌≤◌, Bool, true, false, Some, List, [], ◌∷◌, ◌++◌, length, map, reverse, inl, inr, arith, length-append}
+use Rattle.std.proofs.Common.{◌≡◌, refl, sym, ap, ◌∙◌, subst, ℕ, zero, suc, ◌+◌, ◌-◌, ◌*◌, ◌<◌, ◌≤◌, Bool, true, false, Some, List, [], ◌∷◌, ◌++◌, length, map}
+use Rattle.std.proofs.Common.{reverse, inl, inr, arith, length-append}
 use Rattle.std.specs.Prelude.{if◌then◌else◌, nat_lt, is_some, filter, Contains}
 use Rattle.std.proofs.lemmas.Bool.{cases_lt, and_from, le-leb, lt-ltb, or_left, or_right, eq-eqb}
 use Rattle.std.proofs.lemmas.List.{length-reverse}

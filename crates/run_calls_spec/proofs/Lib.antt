@@ -8,3 +8,4 @@ pub mod Sent
 pub mod Carried
 pub mod OnLine
 pub mod Going
+pub mod Apart

@@ -1,5 +1,6 @@
 -- Where the bits of a frame stand on the Down line.
-use Rattle.std.proofs.Common.{◌≡◌, refl, sym, ap, ◌∙◌, ℕ, zero, suc, ◌+◌, ◌-◌, ◌*◌, ◌<◌, ◌≤◌, Some, List, [], ◌∷◌, ◌++◌, length, reverse, replicate, get_or, inl, inr, arith, append_assoc, length-append}
+use Rattle.std.proofs.Common.{◌≡◌, refl, sym, ap, ◌∙◌, ℕ, zero, suc, ◌+◌, ◌-◌, ◌*◌, ◌<◌, ◌≤◌, Some, List, [], ◌∷◌, ◌++◌, length, reverse, replicate, get_or}
+use Rattle.std.proofs.Common.{inl, inr, arith, append_assoc, length-append}
 use Rattle.std.specs.List.{flat_map, zip}
 use Rattle.std.proofs.lemmas.Bool.{cases_lt}
 use Rattle.std.proofs.lemmas.List.{append-nil, length-reverse, length-replicate, length-take, get_or-take, get_or-append-add, get_or_append_left}

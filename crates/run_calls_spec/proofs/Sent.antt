@@ -1,5 +1,6 @@
 -- The frames of a call as they are sent, by their numbers.
-use Rattle.std.proofs.Common.{◌≡◌, refl, sym, ap, ◌∙◌, subst, ℕ, zero, suc, ◌+◌, ◌-◌, ◌<◌, ◌≤◌, Bool, true, Option, Some, None, List, [], ◌∷◌, ◌++◌, length, map, take, drop, reverse, get_or, inl, inr, arith, length-append}
+use Rattle.std.proofs.Common.{◌≡◌, refl, sym, ap, ◌∙◌, subst, ℕ, zero, suc, ◌+◌, ◌-◌, ◌<◌, ◌≤◌, Bool, true, Option, Some, None, List, [], ◌∷◌, ◌++◌, length}
+use Rattle.std.proofs.Common.{map, take, drop, reverse, get_or, inl, inr, arith, length-append}
 use Rattle.std.specs.Prelude.{if◌then◌else◌, ◌&&◌, not, nat_lt, is_some, is_none, unwrap_or, filter, Contains, ◌↔◌}
 use Rattle.std.proofs.lemmas.Bool.{and_from, lt-ltb, cases_lt, cond-false}
 use Rattle.std.proofs.lemmas.List.{map-append, length-map, length-reverse, drop_more, take-append-drop, get_or_append_left, get_or_push}

@@ -1,12 +1,13 @@
 -- The frames of a call's downlink, and which of them carries what its partner hands over in a period. Frames are
 -- numbered from 0.
-use Rattle.std.specs.Prelude.{◌≤◌, ◌<◌, ℕ, ◌+◌, ◌-◌, ◌*◌, List, length, slice_index_or}
+use Rattle.std.specs.Prelude.{◌≡◌, ◌≤◌, ◌<◌, ℕ, ◌+◌, ◌-◌, ◌*◌, None, List, length, map, slice_index_or}
 use Rattle.trau_frame.specs.declared.frames.DownFrame.{DownFrame}
 use Rattle.trau_frame.specs.declared.frames.DownFrame.TheVariants.{Idle}
 use Rattle.switchboard.specs.declared.act.Span as board
 use Rattle.down_framer.specs.ByNumber.{when}
 use Rattle.call_spec.specs.Call.{Call, Span}
-use Rattle.call_spec.specs.Down.{frame_by_number, frames_of_call, HasItem, down_frames}
+use Rattle.call_spec.specs.Out.{out}
+use Rattle.call_spec.specs.Down.{without_items, frame_by_number, frames_of_call, HasItem, down_frames}
 use Rattle.run_spec.specs.Run.{Run, start_in}
 use Rattle.run_calls_spec.specs.Whole.{span_for, whole_call, IsBridged}
 
@@ -24,6 +25,10 @@ frame_as_sent r c j = slice_index_or (sent_frames r c) j Idle
 abbrev pub frame_place : Run → ℕ → ℕ → ℕ
 frame_place r c j = 320 + 2 * (frame_by_number (whole_call r c) j).start
 
+-- the period of the run in which it is made
+abbrev pub made_in : Run → ℕ → ℕ → ℕ
+made_in r c j = start_in r c + when (frame_by_number (whole_call r c) j).start
+
 -- frame j of call c carries what the call is handed in period t of the run, one of span x
 abbrev pub CarriesHanded : Run → ℕ → ℕ → board.Span → ℕ → Type 0
 CarriesHanded r c t x j = HasItem (whole_call r c) (span_for r c x) j (t - x.from)
@@ -39,9 +44,24 @@ pub record Sends (r : Run) (c t : ℕ) (x : board.Span) (j : ℕ) : Type 0 where
 pub record WaitsUnsent (r : Run) (c u t : ℕ) (x : board.Span) : Type 0 where
   pub bridged : IsBridged r c t x
   pub handed : t < u
-  pub unsent : (j : ℕ) → CarriesHanded r c t x j → u ≤ start_in r c + when (frame_by_number (whole_call r c) j).start
+  pub unsent : (j : ℕ) → CarriesHanded r c t x j → u ≤ made_in r c j
 
 -- the first frame made in a span's first period or later
 pub record IsFirstOfSpan (call : Call) (span : Span) (j : ℕ) : Type 0 where
   pub begun : span.from ≤ when (frame_by_number call j).start
   pub first : (i : ℕ) → i < j → when (frame_by_number call i).start < span.from
+
+-- ---- what doesn't depend on what is handed over
+
+-- the same call, but for the items that are handed over in its spans
+pub record HasOtherItems (call other : Call) : Type 0 where
+  pub spans : map without_items other.spans ≡ map without_items call.spans
+  pub rest : other ≡ record call { spans = other.spans }
+
+-- Its lines are the same but in frames that carry an item: so the Out line, the frames that are made, each with its start, its
+-- shift and the period of which it carries the item, and what is sent in each that carries none.
+pub record DiffersInItems (call other : Call) : Type 0 where
+  pub out_line : out other ≡ out call
+  pub made : frames_of_call other ≡ frames_of_call call
+  pub sent : (j : ℕ) → j < length (frames_of_call call) → (frame_by_number call j).carries ≡ None →
+      slice_index_or (down_frames other (frames_of_call other)) j Idle ≡ slice_index_or (down_frames call (frames_of_call call)) j Idle

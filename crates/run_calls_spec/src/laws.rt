@@ -12,7 +12,6 @@ ghost use Rattle.switchboard.specs.declared.act.Span.{Span};
 ghost use Rattle.switchboard.specs.Calls.{opened_at};
 ghost use Rattle.frame_sync.specs.declared.yields.Yield.TheVariants.{Frame};
 ghost use Rattle.call_leg.specs.Uplink.{handed_fields};
-ghost use Rattle.down_framer.specs.ByNumber.{when};
 ghost use Rattle.call_spec.specs.Call.{Call, Span as CallSpan};
 ghost use Rattle.call_spec.specs.Out.{out};
 ghost use Rattle.call_spec.specs.Down.{frame_by_number, frames_of_call, down};
@@ -21,7 +20,7 @@ ghost use Rattle.run_spec.specs.Run.{Run, done_in, spans_in, start_in, end_in, p
 ghost use Rattle.run_spec.specs.Lines.{out_of_call, down_of_call};
 ghost use Rattle.run_spec.specs.Facts.{carries_in, sent_by, span_line};
 ghost use Rattle.run_calls_spec.specs.Whole.{span_for, whole_call, IsBridged, item_for, yield_on, frame_on};
-ghost use Rattle.run_calls_spec.specs.Sent.{frame_count, sent_frames, frame_as_sent, frame_place, CarriesHanded, Sends, WaitsUnsent, IsFirstOfSpan};
+ghost use Rattle.run_calls_spec.specs.Sent.{frame_count, sent_frames, frame_as_sent, frame_place, made_in, CarriesHanded, Sends, WaitsUnsent, IsFirstOfSpan, HasOtherItems, DiffersInItems};
 
 use call_spec::{a_call_by_its_periods, frames_of_a_call};
 use rx_handler::laws::{the_newest_is_the_last, the_table_looks_back};
@@ -103,7 +102,7 @@ pub fn items_go_out_in_order_and_once()
     // It is made in the period in which it is handed over or in the next one. So between periods at most one handed frame
     // waits: that of the period just over.
     ensures soon { (r : Run) (c t : ℕ) (x : Span) (j : ℕ) → AreOrders r.orders → IsBridged r c t x → CarriesHanded r c t x j →
-        let made = start_in r c + when (frame_by_number (whole_call r c) j).start in (t ≤ made) × (made ≤ t + 1) }
+        (t ≤ made_in r c j) × (made_in r c j ≤ t + 1) }
     ensures one_waits { (r : Run) (c u t : ℕ) (x : Span) → AreOrders r.orders → WaitsUnsent r c u t x → u ≡ t + 1 }
 
     // The report counts what goes out: the frames made that carry what was handed over in the span. In each direction at
@@ -115,3 +114,10 @@ pub fn items_go_out_in_order_and_once()
     items_are_the_partners_frames();
     frames_of_a_call();
 }
+
+/// Nothing else on a call's lines depends on what is handed to it: had it been handed other items in the same spans, they would
+/// be the same but in frames that carry an item.
+pub fn items_change_nothing_else()
+    ensures { (r : Run) (c : ℕ) (other : Call) → AreOrders r.orders → is_some (opened_at c (done_in r)) ≡ true →
+        HasOtherItems (whole_call r c) other → DiffersInItems (whole_call r c) other }
+{}

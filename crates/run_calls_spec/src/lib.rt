@@ -12,6 +12,6 @@
 mod laws;
 
 pub use laws::{
-    calls_are_whole, items_are_the_partners_frames, items_go_out_in_order_and_once,
-    lines_are_of_whole_calls,
+    calls_are_whole, items_are_the_partners_frames, items_change_nothing_else,
+    items_go_out_in_order_and_once, lines_are_of_whole_calls,
 };

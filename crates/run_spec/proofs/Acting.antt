@@ -18,7 +18,8 @@ use Rattle.switchboard.proofs.Appending.{after, bridges-more}
 use Rattle.call_leg.specs.Settings.{Settings, new_settings, with_level, with_mode, with_bridge, without_bridge}
 use Rattle.run_spec.specs.Run.{Run, whole_in, level_by, mode_by, level_after, dtx_mode_after}
 use Rattle.run_spec.specs.Now.{IsSoFar, settings_now, changed_by}
-use Rattle.run_spec.proofs.Lists.{each_weaker, find_none, any_none, no}
+use Rattle.switchboard.proofs.Lists.{not_both}
+use Rattle.run_spec.proofs.Lists.{each_weaker, find_none, any_none}
 use Rattle.run_spec.proofs.Executing.{AreReplies, run_replies, last_reply}
 use Rattle.run_spec.proofs.Showing.{ShownBy, shown, done}
 use Rattle.run_spec.proofs.Standing.{Standing, lasts_from}
@@ -148,7 +149,7 @@ settings_more r t u ds o (Ok (act.Closed d p)) c s l w h q = by (c == d || is_th
   where
     partner : (z : Option Bridge) → bridge_of (gone_at (whole_in r) t ds) ds d ≡ z → is_this c p ≡ true →
         bridged_more (whole_in r) t ds (done o (Ok (act.Closed d p))) c ≡ false
-    partner None e f = absurd (no _ (ap (is_this c) (h.1 ∙ ap (option_map (other d)) e)) f)
+    partner None e f = absurd (not_both _ (ap (is_this c) (h.1 ∙ ap (option_map (other d)) e)) f)
     partner (Some z) e f =
         let g : c ≡ other d z = eqb-true c (other d z) (ap (is_this c) (sym (h.1 ∙ ap (option_map (other d)) e)) ∙ f) in
         ap (bridged_more (whole_in r) t ds (done o (Ok (act.Closed d p)))) g ∙ closed_partner (whole_in r) t u ds o d p z s l e

@@ -1,5 +1,6 @@
 -- A call's bridges don't overlap after more orders either.
-use Rattle.std.proofs.Common.{◌≡◌, refl, sym, ap, ◌∙◌, subst, ℕ, ◌+◌, ◌<◌, ◌≤◌, Bool, true, false, Option, Some, None, List, [], ◌∷◌, ◌++◌, map, inl, inr, arith}
+use Rattle.std.proofs.Common.{◌≡◌, refl, sym, ap, ◌∙◌, subst, ℕ, ◌+◌, ◌<◌, ◌≤◌, Bool, true, false, Option, Some, None, List, [], ◌∷◌, ◌++◌, map, inl, inr}
+use Rattle.std.proofs.Common.{arith}
 use Rattle.std.specs.Prelude.{Result, Ok, Err, ◌&&◌, ◌||◌, ◌==◌, nat_lt}
 use Rattle.std.specs.List.{AllByRecursion}
 use Rattle.std.proofs.lemmas.Bool.{cases_Bool, eqb-true, eq-eqb, or_cases, or_left, or_right, lt-ltb, ltb-false, cases_order}
@@ -13,7 +14,8 @@ use Rattle.switchboard.specs.Calls.{Done, is_this, opened_at, closed_at, is_open
 use Rattle.switchboard.specs.Bridges.{bridge_by, bridges, joins, other, lasts, bridge_of, bridge_ended}
 use Rattle.switchboard.specs.Replies.{known_of, reply_to}
 use Rattle.switchboard.proofs.Appending.{or_else, after, bridges-more}
-use Rattle.run_spec.proofs.Lists.{each_append, each_map, each_weaker, each_both, none_each, no}
+use Rattle.switchboard.proofs.Lists.{not_both}
+use Rattle.run_spec.proofs.Lists.{each_append, each_map, each_weaker, each_both, none_each}
 use Rattle.run_spec.proofs.Executing.{AreReplies}
 use Rattle.run_spec.proofs.Showing.{ShownBy, shown, opens, closes, done}
 use Rattle.run_spec.proofs.OpenCalls.{open_facts, shut_cases, gone_is, opened_kept, gone_kept, opened_cases, closed_cases}
@@ -76,7 +78,7 @@ over_now whole t u ds x y l past f w = by x.ended refl
 
     later : (s : ℕ) → is_this u (Some s) ≡ false → s ≤ t → nat_lt s u ≡ true
     later s f k = elim (cases_order u s) [
-      | inl e ↦ absurd (no _ f (eq-eqb u s e))
+      | inl e ↦ absurd (not_both _ f (eq-eqb u s e))
       | inr (inl e) ↦ absurd (omega arith)
       | inr (inr e) ↦ lt-ltb s u e
     ]
@@ -89,7 +91,7 @@ over_now whole t u ds x y l past f w = by x.ended refl
         | inr q ↦ by_a whole u ds x q
       ]
       | inl p ↦ elim (cases_Bool (is_open (gone_at whole u ds) ds x.b)) [
-        | inl q ↦ absurd (no _ f (lasts_from (gone_at whole u ds) ds x e p q))
+        | inl q ↦ absurd (not_both _ f (lasts_from (gone_at whole u ds) ds x e p q))
         | inr q ↦ elim (shut_cases (gone_at whole u ds) ds x.b y.start_b y.opened_b q) [
           | inl z ↦ by_a whole u ds x (other x.b x.a y.start_a z.0 y.opened_a (y.shut_b z.0 e z.1) (past x.b z.0 z.1))
           | inr z ↦ by_b whole u ds x z

@@ -9,10 +9,11 @@ use Rattle.switchboard.specs.declared.table.Bridge.{Bridge}
 use Rattle.switchboard.specs.Calls.{Done, opened_at, closed_at, is_open, gone_at}
 use Rattle.switchboard.specs.Bridges.{bridges, joins, other, lasts, bridge_of}
 use Rattle.switchboard.specs.Ends.{start_of}
+use Rattle.switchboard.proofs.Lists.{not_both}
 use Rattle.call_leg.specs.Settings.{Settings, settings_later, without_bridge}
 use Rattle.run_spec.specs.Run.{Run, whole_in, level_after, dtx_mode_after}
 use Rattle.run_spec.specs.Now.{has_period, bridge_now, settings_now, settings_in}
-use Rattle.run_spec.proofs.Lists.{each_weaker, find_same, find_and, found, one_found, none_each, any_none, no}
+use Rattle.run_spec.proofs.Lists.{each_weaker, find_same, find_and, found, one_found, none_each, any_none}
 use Rattle.run_spec.proofs.Standing.{IsSoundBridge, Standing, standing_one}
 use Rattle.run_spec.proofs.OpenCalls.{open_from, gone_is}
 use Rattle.run_spec.proofs.Settling.{start_is, has}
@@ -74,7 +75,7 @@ test_and true true a b true false f g = sym (second (a && b))
     second false = refl
 test_and true true a b true true f g = sym (cc (f refl, g refl))
 
--- **The bridge of a call in a settings_later period is the one that lasts now, where both of its calls have the period.**
+-- **The bridge of a call in a later period is the one that lasts now, where both of its calls have the period.**
 pub bridge_later : (r : Run) (t u k : ℕ) (ds : List Done) (c : ℕ) → Standing (whole_in r) t ds → t ≤ u → u ≤ k →
     bridge_now r ds k c ≡ elim (bridge_of (gone_at (whole_in r) u ds) ds c) [
       | None ↦ None
@@ -126,7 +127,7 @@ bridge_each whole t u ds c d x s l e j = by (bridge_of (gone_at whole u ds) ds d
 
     by : (o : Option Bridge) → bridge_of (gone_at whole u ds) ds d ≡ o → o ≡ Some x
     by None f =
-        absurd (no _
+        absurd (not_both _
         (found (λ x. (joins d x && lasts (gone_at whole u ds) ds x) ≡ false) (λ x. joins c x && lasts (gone_at whole u ds) ds x) (bridges ds) x
         (none_each _ (bridges ds) f) e).0 passes)
     by (Some y) f =
@@ -196,9 +197,9 @@ settings_bridged r t u ds c s l = by (bridge_of (gone_at (whole_in r) u ds) ds c
         }) e
 
 -- **After a period that is set which the period was worked with, but that no bridge starts.**
-pub settings_later : (r : Run) (t u : ℕ) (ds : List Done) (c : ℕ) → Standing (whole_in r) t ds → t ≤ u → u < r.periods →
+pub next_settings : (r : Run) (t u : ℕ) (ds : List Done) (c : ℕ) → Standing (whole_in r) t ds → t ≤ u → u < r.periods →
     settings_now r ds (u + 1) c ≡ settings_later (settings_in r ds u c)
-settings_later r t u ds c s l m =
+next_settings r t u ds c s l m =
     same_settings _ _ _ _ _ _ _ _ refl refl
     (any_none _ (bridges ds)
     (each_weaker (IsSoundBridge (whole_in r) t ds) _ (bridges ds)

@@ -1,5 +1,6 @@
 -- What the frames of a downlink carry.
-use Rattle.std.proofs.Common.{◌≡◌, refl, sym, ap, ◌∙◌, ℕ, suc, ◌+◌, ◌*◌, ◌<◌, ◌≤◌, Bool, true, false, Option, Some, None, List, [], ◌∷◌, length, inl, inr, arith, ◌-◌}
+use Rattle.std.proofs.Common.{◌≡◌, refl, sym, ap, ◌∙◌, ℕ, suc, ◌+◌, ◌*◌, ◌<◌, ◌≤◌, Bool, true, false, Option, Some, None, List, [], ◌∷◌, length, inl, inr}
+use Rattle.std.proofs.Common.{arith, ◌-◌}
 use Rattle.std.specs.Prelude.{◌&&◌, is_some, filter, nat_le, nat_lt, ◌==◌, if◌then◌else◌}
 use Rattle.std.specs.List.{AllByRecursion}
 use Rattle.std.proofs.lemmas.Bool.{cases_Bool, cases_lt, cases_eq, le-leb, lt-leb, lt-ltb, le-ltb, eq-eqb, ne_eqb, cond_both, and_from}
@@ -8,7 +9,8 @@ use Rattle.down_framer.proofs.Due.{hands_at-late, hands_at-old, due-some, due-no
 use Rattle.call_leg.specs.Down.{CallFrame}
 use Rattle.call_leg.specs.Places.{carried}
 use Rattle.run_spec.specs.Facts.{carries_in}
-use Rattle.run_spec.proofs.Lists.{each_weaker, no}
+use Rattle.switchboard.proofs.Lists.{not_both}
+use Rattle.run_spec.proofs.Lists.{each_weaker}
 
 -- a frame carries what was handed over in a bridge: where that is the latest one, from its start on, else before
 pub record Carries {A : Type 0} (ps : List (Period A)) (epoch h : ℕ) : Type 0 where
@@ -77,7 +79,7 @@ carries_new : {A : Type 0} (p : Period A) (past : List (Period A)) (fs : List (M
 carries_new p past fs h e =
     let d = due_parts (p ∷ past) fs h e in
     record {
-      inside = elim (cases_lt h (length (p ∷ past))) [ inl l ↦ l | inr l ↦ absurd (no _ (hands_at-late (p ∷ past) h l) d.3) ];
+      inside = elim (cases_lt h (length (p ∷ past))) [ inl l ↦ l | inr l ↦ absurd (not_both _ (hands_at-late (p ∷ past) h l) d.3) ];
       bridged = d.3;
       start = d.0;
       latest = d.1;

@@ -1,5 +1,6 @@
 -- Which periods a bridge covers: none of them once it was over, and none just before the next one.
-use Rattle.std.proofs.Common.{◌≡◌, refl, sym, ap, ◌∙◌, subst, ℕ, ◌+◌, ◌<◌, ◌≤◌, min, Bool, true, false, Option, Some, None, List, [], ◌∷◌, ◌++◌, inl, inr, ◌⊎◌, arith}
+use Rattle.std.proofs.Common.{◌≡◌, refl, sym, ap, ◌∙◌, subst, ℕ, ◌+◌, ◌<◌, ◌≤◌, min, Bool, true, false, Option, Some, None, List, [], ◌∷◌, ◌++◌, inl, inr, ◌⊎◌}
+use Rattle.std.proofs.Common.{arith}
 use Rattle.std.specs.Prelude.{Result, Ok, Err, ◌&&◌, ◌||◌, unwrap_or, nat_le, nat_lt, ◌==◌, if◌then◌else◌}
 use Rattle.std.specs.List.{AllByRecursion, list_any}
 use Rattle.std.proofs.lemmas.Bool.{and_parts, cases_Bool, leb-true, lt-leb, ltb-true, le-ltb, eqb-true, or_cases}
@@ -12,10 +13,11 @@ use Rattle.switchboard.specs.Calls.{Done, opened_at, closed_at, gone_at}
 use Rattle.switchboard.specs.Bridges.{bridge_by, bridges, joins}
 use Rattle.switchboard.specs.Ends.{Given, whole_of, lack_of, ends_at, span_of}
 use Rattle.run_spec.specs.Run.{Run, given_in, done_in, spans_in, is_of}
-use Rattle.run_spec.proofs.Lists.{each_weaker, any_map, no}
+use Rattle.run_spec.proofs.Lists.{each_weaker, any_map}
 use Rattle.run_spec.proofs.Standing.{IsSoundBridge, NeverOverlap, Standing, RisesFrom, is_before, over_by}
 use Rattle.run_spec.proofs.OpenCalls.{gone_is}
 use Rattle.switchboard.proofs.Whole.{end_by}
+use Rattle.switchboard.proofs.Lists.{not_both}
 use Rattle.run_spec.proofs.Settling.{bridge_stamps, at_of, to_of, ends_by, covers}
 
 -- a call has no more periods than its lines give
@@ -75,7 +77,7 @@ over_within given P v ds x s y o = elim (or_cases (is_before v x.ended) (gone_at
     least u a b v (inr h) = omega arith
 
     by_order : (o : Option ℕ) → x.ended ≡ o → is_before v x.ended ≡ true → min (unwrap_or x.ended (min ea eb)) (min ea eb) < v
-    by_order None e p = absurd (no _ (ap (is_before v) e) p)
+    by_order None e p = absurd (not_both _ (ap (is_before v) e) p)
     by_order (Some w) e p =
         let l : w < v = ltb-true w v (sym (ap (is_before v) e) ∙ p) in
         subst (λ (o : Option ℕ). min (unwrap_or o (min ea eb)) (min ea eb) < v) (sym e) (below w (min ea eb) v l)

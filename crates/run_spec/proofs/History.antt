@@ -1,16 +1,18 @@
 -- The periods of a call are a history of its downlink: bridges leave a period between.
 use Rattle.std.proofs.Common.{◌≡◌, refl, sym, ap, ◌∙◌, ℕ, zero, suc, ◌+◌, ◌<◌, ◌≤◌, Bool, true, false, Option, Some, None, inl, inr, arith}
 use Rattle.std.specs.Prelude.{◌&&◌, ◌||◌, is_some, option_map, find, nat_le, nat_lt, ◌==◌}
-use Rattle.std.proofs.lemmas.Bool.{and_parts, and_from, cases_Bool, leb-true, le-leb, ltb-true, lt-ltb, eq-eqb, eqb-true, eqb-false, or_cases, or_left, or_right, true_from_ne_false}
+use Rattle.std.proofs.lemmas.Bool.{and_parts, and_from, cases_Bool, leb-true, le-leb, ltb-true, lt-ltb, eq-eqb, eqb-true, eqb-false, or_cases, or_left}
+use Rattle.std.proofs.lemmas.Bool.{or_right, true_from_ne_false}
 use Rattle.trau_orders.specs.Lists.{AreOrders}
 use Rattle.switchboard.specs.declared.table.Bridge.{Bridge}
 use Rattle.switchboard.specs.Bridges.{bridges, joins}
 use Rattle.switchboard.specs.Ends.{start_of, span_of}
+use Rattle.switchboard.proofs.Lists.{not_both}
 use Rattle.call_leg.specs.Down.{down_periods}
 use Rattle.down_framer.specs.Bridges.{IsHistory, LeavePeriodsBetween}
 use Rattle.down_framer.proofs.FrameLaws.{apart}
 use Rattle.run_spec.specs.Run.{Run, given_in, whole_in, done_in, span_at, handed_to, period_of, periods_to}
-use Rattle.run_spec.proofs.Lists.{find_none, find_map, found, none_each, none_any, no}
+use Rattle.run_spec.proofs.Lists.{find_none, find_map, found, none_each, none_any}
 use Rattle.run_spec.proofs.Standing.{IsSoundBridge}
 use Rattle.run_spec.proofs.Settling.{to_of, start_is, covers}
 use Rattle.run_spec.proofs.SoFar.{run_rises, standing_end}
@@ -66,7 +68,7 @@ covering r c t a e = by (find test (bridges (done_in r))) refl (sym (handed_some
 begins_found : (r : Run) (c t : ℕ) (p : Bridge → Bool) (x : Bridge) → find p (bridges (done_in r)) ≡ Some x → joins c x ≡ true → x.from ≡ t →
     begins r c t ≡ true
 begins_found r c t p x f j e = begins_is r c t ∙ true_from_ne_false _ (λ n.
-    no _ (found (λ y. (joins c y && y.from == t) ≡ false) p (bridges (done_in r)) x (none_any _ (bridges (done_in r)) n) f).0
+    not_both _ (found (λ y. (joins c y && y.from == t) ≡ false) p (bridges (done_in r)) x (none_any _ (bridges (done_in r)) n) f).0
     (and_from _ _ j (eq-eqb x.from t e)))
 
 -- what is handed over begins with a bridge and goes on without a gap
@@ -83,7 +85,7 @@ goes_on r c v a e =
           let m : v + 1 < to_of (span_of (given_in r) r.periods (done_in r) x.0) = x.5 in
           let low : x.0.from ≤ v = below x.0.from v l n in
           or_right (begins r c (v + 1)) (is_some (handed_to r c v)) (handed_some r c v ∙ true_from_ne_false _ (λ g.
-          no _ (found (λ y. covers c v (span_of (given_in r) r.periods (done_in r) y) ≡ false)
+          not_both _ (found (λ y. covers c v (span_of (given_in r) r.periods (done_in r) y) ≡ false)
           (λ x. covers c (v + 1) (span_of (given_in r) r.periods (done_in r) x)) (bridges (done_in r)) x.0 (none_each _ (bridges (done_in r)) (none _ g)) x.1).0
           (and_from _ _ (and_from _ _ x.3 (le-leb x.0.from v low)) (lt-ltb v _ (omega arith)))))
     ]

@@ -3,18 +3,11 @@ use Rattle.std.proofs.Common.{◌≡◌, refl, sym, ap, ◌∙◌, ℕ, Bool, tr
 use Rattle.std.specs.Prelude.{◌&&◌, ◌||◌, if◌then◌else◌, find, option_map, filter}
 use Rattle.std.specs.List.{list_any, AllByRecursion}
 use Rattle.std.proofs.lemmas.Bool.{cases_Bool}
+use Rattle.switchboard.proofs.Lists.{not_both}
 
 -- an answer has one value
 pub one_value : (v : Option ℕ) (a b : ℕ) → v ≡ Some a → v ≡ Some b → a ≡ b
 one_value v a b e f = cc
-
--- a test has one answer
-pub no : (t : Bool) → t ≡ false → t ≡ true → ⊥
-no t p q = cc
-
--- two tests, one after the other
-both : (t : Bool) → t ≡ false → t ≡ true → ⊥
-both t p q = cc
 
 pub each_append : {X : Type 0} (P : X → Type 0) (xs ys : List X) → AllByRecursion P xs → AllByRecursion P ys → AllByRecursion P (xs ++ ys)
 each_append P [] ys h k = k
@@ -186,8 +179,8 @@ pub one_found : {X : Type 0} (p : X → Bool) (xs : List X) (x : X) → AtMostOn
 one_found p [] x h e = tt
 one_found p (y ∷ xs) x h e = elim (cases_Bool (p y)) [
   | inl t ↦ let same : y ≡ x = is y x (p y) (find p xs) t e in
-      (λ s. same, each_weaker (λ z. p z ≡ false) (λ z. p z ≡ true → z ≡ x) xs (λ z f s. absurd (both _ f s)) (none_each p xs (h.0 t)))
-  | inr f ↦ (λ s. absurd (both _ f s), one_found p xs x h.1 (past y (p y) (find p xs) f ∙ e))
+      (λ s. same, each_weaker (λ z. p z ≡ false) (λ z. p z ≡ true → z ≡ x) xs (λ z f s. absurd (not_both _ f s)) (none_each p xs (h.0 t)))
+  | inr f ↦ (λ s. absurd (not_both _ f s), one_found p xs x h.1 (past y (p y) (find p xs) f ∙ e))
 ]
   where
     is : {X : Type 0} (y x : X) (t : Bool) (o : Option X) → t ≡ true → (if t then Some y else o) ≡ Some x → y ≡ x

@@ -1,5 +1,6 @@
 -- A bridge after one more order, and one that it makes.
-use Rattle.std.proofs.Common.{◌≡◌, refl, sym, ap, ◌∙◌, subst, ℕ, ◌+◌, ◌<◌, ◌≤◌, Bool, true, false, Option, Some, None, List, [], ◌∷◌, ◌++◌, inl, inr, ◌⊎◌, arith}
+use Rattle.std.proofs.Common.{◌≡◌, refl, sym, ap, ◌∙◌, subst, ℕ, ◌+◌, ◌<◌, ◌≤◌, Bool, true, false, Option, Some, None, List, [], ◌∷◌, ◌++◌, inl, inr, ◌⊎◌}
+use Rattle.std.proofs.Common.{arith}
 use Rattle.std.specs.Prelude.{Result, Ok, Err, ◌&&◌, option_map, if◌then◌else◌}
 use Rattle.std.specs.List.{AllByRecursion}
 use Rattle.std.proofs.lemmas.Bool.{eq-eqb, and_from, or_left, or_right, ltb-true, ltb-false, false_from_ne_true}
@@ -13,7 +14,8 @@ use Rattle.switchboard.specs.Bridges.{ends_bridge, bridge_by, bridges, joins, ot
 use Rattle.switchboard.specs.Replies.{known_of}
 use Rattle.switchboard.proofs.Appending.{or_else, after}
 use Rattle.switchboard.proofs.MovesParted.{closes_this}
-use Rattle.run_spec.proofs.Lists.{each_weaker, each_all, none_each, AtMostOne, one_found, no}
+use Rattle.switchboard.proofs.Lists.{not_both}
+use Rattle.run_spec.proofs.Lists.{each_weaker, each_all, none_each, AtMostOne, one_found}
 use Rattle.run_spec.proofs.Executing.{closed-append}
 use Rattle.run_spec.proofs.Showing.{ShownBy, closes, done}
 use Rattle.run_spec.proofs.OpenCalls.{open_facts, shut_cases, gone_is, opened_kept, either, closed_cases}
@@ -42,7 +44,7 @@ parted whole t ds (Ok (act.Closed c p)) one h = by (bridge_of (gone_at whole t d
 
     by : (o : Option Bridge) → bridge_of (gone_at whole t ds) ds c ≡ o → AllByRecursion (IsParted whole t ds (Ok (act.Closed c p))) (bridges ds)
     by None e = each_weaker (λ x. (joins c x && lasts (gone_at whole t ds) ds x) ≡ false) (IsParted whole t ds (Ok (act.Closed c p))) (bridges ds)
-        (λ x f d q g j l. let m : joins c x ≡ true = rw (← same_call d q g) j in absurd (no _ f (and_from _ _ m l))) (none_each _ (bridges ds) e)
+        (λ x f d q g j l. let m : joins c x ≡ true = rw (← same_call d q g) j in absurd (not_both _ f (and_from _ _ m l))) (none_each _ (bridges ds) e)
     by (Some z) e = each_weaker (λ x. (joins c x && lasts (gone_at whole t ds) ds x) ≡ true → x ≡ z) (IsParted whole t ds (Ok (act.Closed c p))) (bridges ds)
         (λ x f d q g j l.
         let m : joins c x ≡ true = rw (← same_call d q g) j in
@@ -117,7 +119,8 @@ sound_more whole t ds o r s l h x y cut = record {
         let v : is_open (gone_at whole o.stamp ds) ds x.a ≡ true = open_call x.a k.0 k.1 in
         let z : is_open (gone_at whole o.stamp ds) ds x.b ≡ false =
         false_from_ne_true _
-        (λ b. no _ w (cut x.a k.0 k.1 (or_left _ _ (eq-eqb x.a x.a refl)) (lasts_from (gone_at whole o.stamp ds) ds x (after_none (done o r) x n).0 v b))) in
+        (λ b. not_both _ w (cut x.a k.0 k.1 (or_left _ _ (eq-eqb x.a x.a refl))
+        (lasts_from (gone_at whole o.stamp ds) ds x (after_none (done o r) x n).0 v b))) in
         let g = other_gone whole t o.stamp ds x.a x.b y.start_a y.start_b s l y.opened_a y.opened_b (λ e f. y.shut_b e (after_none (done o r) x n).0 f) v z in
         omega (arith, k.2)
   ];
@@ -129,7 +132,8 @@ sound_more whole t ds o r s l h x y cut = record {
         let v : is_open (gone_at whole o.stamp ds) ds x.b ≡ true = open_call x.b k.0 k.1 in
         let z : is_open (gone_at whole o.stamp ds) ds x.a ≡ false =
         false_from_ne_true _
-        (λ b. no _ w (cut x.b k.0 k.1 (or_right _ _ (eq-eqb x.b x.b refl)) (lasts_from (gone_at whole o.stamp ds) ds x (after_none (done o r) x n).0 b v))) in
+        (λ b. not_both _ w (cut x.b k.0 k.1 (or_right _ _ (eq-eqb x.b x.b refl))
+        (lasts_from (gone_at whole o.stamp ds) ds x (after_none (done o r) x n).0 b v))) in
         let g = other_gone whole t o.stamp ds x.b x.a y.start_b y.start_a s l y.opened_b y.opened_a (λ e f. y.shut_a e (after_none (done o r) x n).0 f) v z in
         omega (arith, k.2)
   ];

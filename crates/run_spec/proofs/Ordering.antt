@@ -17,7 +17,7 @@ use Rattle.switchboard.specs.Replies.{known_of}
 use Rattle.switchboard.proofs.Appending.{or_else, after, bridges-more}
 use Rattle.switchboard.proofs.Steps.{after_kept}
 use Rattle.run_spec.specs.Run.{level_by, mode_by, level_after, dtx_mode_after}
-use Rattle.run_spec.proofs.Lists.{each_weaker, find_same, find_map, find_none, find_front, any_map, no}
+use Rattle.run_spec.proofs.Lists.{each_weaker, find_same, find_map, find_none, find_front, any_map}
 use Rattle.run_spec.proofs.Executing.{AreReplies, opened-append, closed-append}
 use Rattle.run_spec.proofs.Showing.{ShownBy, shown, done}
 use Rattle.run_spec.proofs.Standing.{IsSoundBridge, Standing, lasts_parts, lasts_from}

@@ -7,13 +7,14 @@ use Rattle.switchboard.specs.declared.table.Bridge.{Bridge}
 use Rattle.switchboard.specs.Calls.{Done, gone_at}
 use Rattle.switchboard.specs.Bridges.{bridges, joins, other, lasts, bridge_of}
 use Rattle.switchboard.specs.Ends.{start_of}
+use Rattle.switchboard.proofs.Lists.{not_both}
 use Rattle.call_leg.specs.Settings.{Settings, settings_later, without_bridge, period_with}
 use Rattle.run_spec.specs.Run.{Run, whole_in, up_in, pcm_in}
 use Rattle.run_spec.specs.Now.{IsSoFar, has_period, bridge_now, handed_now, period_now, settings_now, after_periods}
 use Rattle.run_spec.proofs.Lists.{found}
 use Rattle.run_spec.proofs.Standing.{IsSoundBridge, Standing}
 use Rattle.run_spec.proofs.SoFar.{standing_now}
-use Rattle.run_spec.proofs.Bridging.{bridge_each, joins_other, bridge_later, settings_bridged, settings_later}
+use Rattle.run_spec.proofs.Bridging.{bridge_each, joins_other, bridge_later, settings_bridged, next_settings}
 
 -- only that a bridge starts doesn't stay
 after_is : (k : ℕ) (now : Settings) → after_periods (suc k) now ≡ record { level = now.level; mode = now.mode; starts = false; bridged = now.bridged }
@@ -29,7 +30,7 @@ next t k = omega arith
 settings_after : (r : Run) (t k : ℕ) (ds : List Done) (c : ℕ) → Standing (whole_in r) t ds → t + k < r.periods →
     settings_now r ds (t + suc k) c ≡ with_bridged (is_some (bridge_now r ds (t + k) c)) (settings_now r ds t c)
 settings_after r t k ds c s l =
-    ap (λ v. settings_now r ds v c) (next t k) ∙ settings_later r t (t + k) ds c s (omega arith) l
+    ap (λ v. settings_now r ds v c) (next t k) ∙ next_settings r t (t + k) ds c s (omega arith) l
     ∙ ap settings_later (settings_bridged r t (t + k) ds c s (omega arith))
 
 -- **A call that lies in no bridge goes on alone.**
@@ -56,13 +57,10 @@ both_have r k ds c x b j h p = elim (cases_Bool (c == x.a)) [
       ap (λ t. t && has_period r ds k x.b) (ap (has_period r ds k) (sym (eqb-true c x.a e)) ∙ h) ∙ (ap (has_period r ds k) (sym o) ∙ p)
   | inr e ↦
       let o : other c x ≡ x.a = ap (λ (t : Bool). if t then x.b else x.a) e in
-      let q : c ≡ x.b = elim (or_cases (c == x.a) (c == x.b) j) [ inl f ↦ absurd (no _ e f) | inr f ↦ eqb-true c x.b f ] in
+      let q : c ≡ x.b = elim (or_cases (c == x.a) (c == x.b) j) [ inl f ↦ absurd (not_both _ e f) | inr f ↦ eqb-true c x.b f ] in
       ap (λ t. has_period r ds k x.a && t) (ap (has_period r ds k) (sym q) ∙ h) ∙ last (has_period r ds k x.a) ∙ (ap (has_period r ds k) (sym o) ∙ p)
 ]
   where
-    no : (t : Bool) → t ≡ false → t ≡ true → ⊥
-    no t p q = cc
-
     last : (b : Bool) → (b && true) ≡ b
     last true = refl
     last false = refl

@@ -1,5 +1,6 @@
 -- What a call sends of a bridge is known once its next bridge begins, or once it has ended.
-use Rattle.std.proofs.Common.{◌≡◌, refl, sym, ap, ◌∙◌, subst, ℕ, zero, suc, ◌+◌, ◌-◌, ◌<◌, ◌≤◌, Bool, true, false, Some, List, [], ◌∷◌, ◌++◌, length, inl, inr, arith}
+use Rattle.std.proofs.Common.{◌≡◌, refl, sym, ap, ◌∙◌, subst, ℕ, zero, suc, ◌+◌, ◌-◌, ◌<◌, ◌≤◌, Bool, true, false, Some, List, [], ◌∷◌, ◌++◌, length, inl, inr}
+use Rattle.std.proofs.Common.{arith}
 use Rattle.std.specs.Prelude.{◌&&◌, is_some, find, filter, ◌==◌, if◌then◌else◌}
 use Rattle.std.specs.List.{AllByRecursion, list_any}
 use Rattle.std.proofs.lemmas.Bool.{and_from, cases_Bool, cases_lt, cases_order, eq-eqb, ne_eqb, eqb-true, or_left, or_right}
@@ -9,6 +10,7 @@ use Rattle.switchboard.specs.declared.table.Bridge.{Bridge}
 use Rattle.switchboard.specs.Calls.{Done}
 use Rattle.switchboard.specs.Bridges.{bridges, joins}
 use Rattle.switchboard.specs.Ends.{start_of, span_of}
+use Rattle.switchboard.proofs.Lists.{not_both}
 use Rattle.down_framer.specs.Made.{latest_start, hands_at, epoch_of}
 use Rattle.call_leg.specs.Periods.{CallPeriod, bridges_begun}
 use Rattle.call_leg.specs.Settings.{Settings, epoch_now}
@@ -16,7 +18,7 @@ use Rattle.call_leg.specs.Down.{down_period, down_periods, frames_of}
 use Rattle.call_leg.specs.Places.{carried, sent_now}
 use Rattle.run_spec.specs.Run.{Run, given_in, whole_in, done_in, handed_to, period_of, periods_to}
 use Rattle.run_spec.specs.Facts.{sent_in}
-use Rattle.run_spec.proofs.Lists.{each_append, each_back, each_front, each_weaker, each_both, found, any_none, no}
+use Rattle.run_spec.proofs.Lists.{each_append, each_back, each_front, each_weaker, each_both, found, any_none}
 use Rattle.run_spec.proofs.Standing.{IsSoundBridge, NeverOverlap, Standing, over_by}
 use Rattle.run_spec.proofs.Settling.{to_of, covers}
 use Rattle.run_spec.proofs.SoFar.{run_rises, standing_end}
@@ -152,7 +154,7 @@ latest_from r c n (suc k) l b = elim (cases_Bool (begins r c (start_of (done_in 
     l,
   )
   | inr g ↦
-      let d : n ≤ k = less n k l (λ e. no _ g (ap (λ n. begins r c (start_of (done_in r) c + n)) (sym e) ∙ b)) in
+      let d : n ≤ k = less n k l (λ e. not_both _ g (ap (λ n. begins r c (start_of (done_in r) c + n)) (sym e) ∙ b)) in
       let m = latest_from r c n k d b in (
         m.0,
         ap (λ (t : Bool). if t then Some (length (down_periods (periods_to r c (suc k)))) else latest_start (down_periods (periods_to r c (suc k)))) g ∙ m.1,

@@ -14,7 +14,8 @@ use Rattle.switchboard.specs.Calls.{Done, opened_at}
 use Rattle.switchboard.specs.Bridges.{bridges, other}
 use Rattle.switchboard.specs.Ends.{start_of, span_of, spans_of}
 use Rattle.call_leg.specs.Periods.{CallPeriod}
-use Rattle.run_spec.specs.Run.{Run, whole_in, given_in, done_in, spans_in, level_after, dtx_mode_after, done_to, up_in, pcm_in, ups_to, item_of, is_of, partner_in, handed_to, period_of}
+use Rattle.run_spec.specs.Run.{Run, whole_in, given_in, done_in, spans_in, level_after, dtx_mode_after, done_to, up_in, pcm_in, ups_to, item_of, is_of}
+use Rattle.run_spec.specs.Run.{partner_in, handed_to, period_of}
 use Rattle.run_spec.specs.Now.{IsSoFar, NoOrderTo, bridge_now, handed_now, period_now}
 use Rattle.run_spec.proofs.Lists.{each_weaker, found}
 use Rattle.run_spec.proofs.Executing.{after_all}

@@ -7,7 +7,8 @@ use Rattle.switchboard.specs.declared.table.Bridge.{Bridge}
 use Rattle.switchboard.specs.Calls.{Done, opened_at, closed_at, is_open, gone_at}
 use Rattle.switchboard.specs.Bridges.{bridges, joins, other, lasts}
 use Rattle.switchboard.proofs.Appending.{after}
-use Rattle.run_spec.proofs.Lists.{each_weaker, each_both, find_none, AtMostOne, no}
+use Rattle.switchboard.proofs.Lists.{not_both}
+use Rattle.run_spec.proofs.Lists.{each_weaker, each_both, find_none, AtMostOne}
 use Rattle.run_spec.proofs.OpenCalls.{open_facts, gone_later}
 
 -- a bridge after some orders, none of them later than t
@@ -80,10 +81,10 @@ over_lasts whole v u ds x o l e =
     let a = open_facts (gone_at whole u ds) ds x.a p.1 in
     let b = open_facts (gone_at whole u ds) ds x.b p.2 in
     elim (or_cases (is_before v x.ended) (gone_at whole v ds x.a || gone_at whole v ds x.b) o) [
-      | inl q ↦ no (is_before v x.ended) (ap (is_before v) p.0) q
+      | inl q ↦ not_both (is_before v x.ended) (ap (is_before v) p.0) q
       | inr q ↦ elim (or_cases (gone_at whole v ds x.a) (gone_at whole v ds x.b) q) [
-        | inl r ↦ no _ a.3 (gone_later whole v u ds x.a l r)
-        | inr r ↦ no _ b.3 (gone_later whole v u ds x.b l r)
+        | inl r ↦ not_both _ a.3 (gone_later whole v u ds x.a l r)
+        | inr r ↦ not_both _ b.3 (gone_later whole v u ds x.b l r)
       ]
     ]
 

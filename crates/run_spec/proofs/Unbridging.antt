@@ -8,7 +8,8 @@ use Rattle.switchboard.specs.declared.act.Act.TheVariants as act
 use Rattle.switchboard.specs.declared.table.Bridge.{Bridge}
 use Rattle.switchboard.specs.Calls.{Done, is_this, opened_at, closed_at, is_open, has_ended, gone_at}
 use Rattle.switchboard.specs.Bridges.{ends_bridge, bridges, joins, other, lasts, bridge_of}
-use Rattle.run_spec.proofs.Lists.{each_weaker, each_both, found, one_found, none_each, no}
+use Rattle.switchboard.proofs.Lists.{not_both}
+use Rattle.run_spec.proofs.Lists.{each_weaker, each_both, found, one_found, none_each}
 use Rattle.run_spec.proofs.Showing.{done}
 use Rattle.run_spec.proofs.Standing.{IsSoundBridge, Standing, standing_one}
 use Rattle.run_spec.proofs.Bridging.{bridge_each, joins_other}
@@ -46,7 +47,8 @@ unbridged whole t u ds o c d z s l e j =
     let g = and_parts (joins c y) (lasts_more whole t ds x y) p in
     let h = lasted whole t u ds x y f.0 g.1 in
     let same : y ≡ z = f.1 (and_from _ _ g.0 h.0) in
-    no _ (ap (λ (y : Bridge). ends_bridge y.a y.b (Ok (act.Unbridged z.a z.b))) (sym same) ∙ h.1) (and_from _ _ (eq-eqb z.a z.a refl) (eq-eqb z.b z.b refl))))
+    not_both _ (ap (λ (y : Bridge). ends_bridge y.a y.b (Ok (act.Unbridged z.a z.b))) (sym same) ∙ h.1)
+    (and_from _ _ (eq-eqb z.a z.a refl) (eq-eqb z.b z.b refl))))
     (each_both _ _ (bridges ds) s.sound (one_found _ (bridges ds) z (standing_one whole u t ds c s l) (bridge_each whole u t ds d c z s l e j))))
   where
     x : Done
@@ -138,7 +140,7 @@ other_is c d z j k n = elim (cases_Bool (d == z.a)) [
   ]
   | inr e ↦ elim (or_cases (c == z.a) (c == z.b) j) [
     | inl f ↦ eqb-true c z.a f ∙ sym (ap (λ (t : Bool). if t then z.b else z.a) e)
-    | inr f ↦ elim (or_cases (d == z.a) (d == z.b) k) [ inl g ↦ absurd (no _ e g) | inr g ↦ absurd (n (eqb-true c z.b f ∙ sym (eqb-true d z.b g))) ]
+    | inr f ↦ elim (or_cases (d == z.a) (d == z.b) k) [ inl g ↦ absurd (not_both _ e g) | inr g ↦ absurd (n (eqb-true c z.b f ∙ sym (eqb-true d z.b g))) ]
   ]
 ]
 
@@ -157,12 +159,12 @@ closed_other whole t u ds o c d p s l e n m =
     -- no bridge of both lasts
     alone : (o : Option Bridge) → bridge_of (gone_at whole t ds) ds d ≡ o →
         AllByRecursion (λ y. joins c y ≡ true → joins d y ≡ true → lasts (gone_at whole t ds) ds y ≡ false) (bridges ds)
-    alone None f = each_weaker _ _ (bridges ds) (λ y h j k. false_from_ne_true _ (λ q. no _ h (and_from _ _ k q))) (none_each _ (bridges ds) f)
+    alone None f = each_weaker _ _ (bridges ds) (λ y h j k. false_from_ne_true _ (λ q. not_both _ h (and_from _ _ k q))) (none_each _ (bridges ds) f)
     alone (Some z) f = each_weaker _ _ (bridges ds) (λ y h j k. false_from_ne_true _ (λ q.
         let same : y ≡ z = h (and_from (joins d y) (lasts (gone_at whole t ds) ds y) k q) in
         let this : c ≡ other d z = other_is c d z (subst (λ (y : Bridge). joins c y ≡ true) same j) (subst (λ (y : Bridge). joins d y ≡ true) same k) apart in
         let g : p ≡ Some (other d z) = e ∙ ap (option_map (other d)) f in
-        no _ m (ap (is_this c) g ∙ eq-eqb c (other d z) this)))
+        not_both _ m (ap (is_this c) g ∙ eq-eqb c (other d z) this)))
         (one_found _ (bridges ds) z (standing_one whole u t ds d s l) f)
 
     unended : (y : Bridge) (p : Option ℕ) → joins d y ≡ false → ends_bridge y.a y.b (Ok (act.Closed d p)) ≡ false

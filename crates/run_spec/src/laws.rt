@@ -33,7 +33,7 @@ ghost use Rattle.run_spec.specs.Mark.{Joins};
 ghost use Rattle.run_spec.specs.Facts.{opened_calls, call_line, span_line, sent_by, report_of};
 ghost use Rattle.run_spec.specs.Now.{IsSoFar, NoOrderTo, has_period, bridge_now, handed_now, period_now, settings_now, settings_in, changed_by, after_periods};
 
-/// Orders are executed in one go or in several alike. Those that are executed settings_later leave the earlier ones as they
+/// Orders are executed in one go or in several alike. Those that are executed later leave the earlier ones as they
 /// were, and add one reply each.
 pub fn executing_adds()
     ensures front { (whole : ℕ → ℕ) (ds : List Done) (xs ys : List Order) → executed whole ds (xs ++ ys) ≡ executed whole (executed whole ds xs) ys }
@@ -41,7 +41,7 @@ pub fn executing_adds()
         (more : List Done) × (executed whole ds os ≡ ds ++ more) × (map (λ d. d.order) more ≡ os) }
 {}
 
-/// How a run goes on: from its start, to a settings_later clock where no order that is left comes before, and by the next order.
+/// How a run goes on: from its start, to a later clock where no order that is left comes before, and by the next order.
 pub fn runs_go_on()
     ensures start { (r : Run) → AreOrders r.orders → IsSoFar r 0 [] r.orders }
     ensures clock { (r : Run) (t u : ℕ) (ds : List Done) (left : List Order) → IsSoFar r t ds left →
@@ -66,7 +66,7 @@ pub fn runs_are_whole()
         opened_at c ds ≡ Some s → law_in r c ≡ law_at c ds }
 {}
 
-/// Period u of an open call is settled once the orders up to it were executed: no settings_later order and no end changes it.
+/// Period u of an open call is settled once the orders up to it were executed: no later order and no end changes it.
 pub fn periods_are_settled()
     ensures period { (r : Run) (t u : ℕ) (ds : List Done) (left : List Order) (c s : ℕ) → IsSoFar r t ds left →
         t ≤ u → u < r.periods → NoOrderTo u left → opened_at c ds ≡ Some s → period_of r c (u - s) ≡ period_now r ds u c }
@@ -89,7 +89,7 @@ pub fn bridges_go_on()
     ensures same { (r : Run) (t k : ℕ) (ds : List Done) (left : List Order) (c : ℕ) (x : Bridge) → IsSoFar r t ds left → t ≤ k →
         bridge_of (gone_at (whole_in r) t ds) ds c ≡ Some x → has_period r ds k c ≡ true →
         bridge_now r ds k c ≡ (if has_period r ds k (other c x) then Some x else None) }
-    ensures settings_later { (r : Run) (t u k : ℕ) (ds : List Done) (left : List Order) (c : ℕ) → IsSoFar r t ds left → t ≤ u → u ≤ k →
+    ensures later { (r : Run) (t u k : ℕ) (ds : List Done) (left : List Order) (c : ℕ) → IsSoFar r t ds left → t ≤ u → u ≤ k →
         bridge_now r ds k c ≡ elim (bridge_of (gone_at (whole_in r) u ds) ds c) [
           | None ↦ None
           | Some x ↦ if has_period r ds k x.a && has_period r ds k x.b then Some x else None
@@ -212,7 +212,7 @@ pub fn handed_frames_are_sent_or_lost()
 {}
 
 /// How many frames of a bridge a call sends is what its leg tells where the call's next bridge is made, or at its end:
-/// no frame that is made settings_later carries what was handed over in the bridge. k is the place of the call's latest bridge.
+/// no frame that is made later carries what was handed over in the bridge. k is the place of the call's latest bridge.
 pub fn sent_frames_are_told()
     ensures bridge { (r : Run) (t : ℕ) (ds : List Done) (d : Done) (left : List Order) (a b c s k : ℕ) (x : Span) → IsSoFar r t ds (d.order ∷ left) →
         d.order.stamp ≡ t → t < r.periods → IsRun (whole_in r) (ds ++ d ∷ []) → d.result ≡ Ok (act.Bridged a b) → (c == a || c == b) ≡ true →
@@ -223,7 +223,7 @@ pub fn sent_frames_are_told()
         sent_by r (get_or (spans_in r) k x) c ≡ sent_now (periods_to r c (t - s)) (settings_now r ds t c) }
 {}
 
-/// A run to its end writes what it writes to an earlier period, and behind that the octets of the settings_later periods.
+/// A run to its end writes what it writes to an earlier period, and behind that the octets of the later periods.
 pub fn a_run_is_joined_of_two()
     ensures { (r : Run) (p : ℕ) → AreOrders r.orders → p ≤ r.periods → Joins r p }
 {}

@@ -33,7 +33,7 @@ good_same p k g (y ∷ since) h e old =
     let other : (g == k) ≡ false = grind arith in
     let count : k - g ≡ suc (length since) = sym e in rw (other, count)
 
--- how far the noise has moved_to
+-- how far the noise has moved
 moved_same : (old q : Fields) (k g : ℕ) (since : List Heard) → length since ≡ k - g → approached old q g k ≡ moved_to old q since
 moved_same old q k g since e = ap (λ n. mix_of old q (min (n + 1) 8)) (sym e)
 

@@ -3,7 +3,7 @@
 //! Between the frames that a search finds in an uplink (`trau_frame`) and the decoder, or the partner of a bridged
 //! call: takes what each period of 20 ms yields, and answers the speech that it brought, a frame that stands for lost
 //! speech (`rx_subst`), a frame of comfort noise in the far side's pauses (`rx_noise`), or that the call is quiet.
-//! A further descriptor in the same pause is approached over eight periods.
+//! A further descriptor in the same pause is approached over eight periods, unless the noise has begun to fall.
 //! Both kinds of made frames draw from one random source, which starts at the call's number and is never set again.
 //!
 //! `state` has what is kept from period to period, `hearing` how a period changes it, `frames` the frame that it

@@ -5,7 +5,7 @@
 //! far its level has fallen since descriptors stopped coming, and the call's random source, and makes a frame that the
 //! decoder takes in the place of speech. Used by `rx_handler`, which says how far the level has fallen.
 //!
-//! A new descriptor is approached in eight steps: `mix` gives the descriptor that is reached after some of them.
+//! A further descriptor of a pause is approached in eight steps: `mix` gives the one that is reached after some of them.
 //!
 //! Definitions: `specs/Noise.antt` (a noise frame), `specs/Mix.antt` (the way from one descriptor to the next). GSM 06.12
 //! says what a noise frame is made from; the numbers are this project's profile.

@@ -7,7 +7,7 @@
 //!
 //! The rules are this project's profile. Whether a call is open or bridged is defined over the whole list of executed
 //! orders and the ends of the calls; the code keeps a table of calls and bridges. `act` has the plain values, `board`
-//! the calls of the crate, `reply` the tests of an order, and `table` what is kept.
+//! the functions of the crate, `reply` the tests of an order, and `table` what is kept.
 //!
 //! Definitions: `specs/Calls.antt` (open, ended, and by which law), `specs/Bridges.antt` (bridged, which order ended a bridge),
 //! `specs/Replies.antt` (the seven refusals and their order), `specs/Runs.antt` (a whole list of orders),

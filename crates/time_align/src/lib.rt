@@ -7,7 +7,8 @@
 //!
 //! `shift` has the table, `align` what is kept from one operation to the next. Definitions: `specs/Shift.antt` (the
 //! table), `specs/History.antt` (all that happened), `specs/Memory.antt`, `specs/Step.antt` and `specs/Stands.antt` (what
-//! is kept, each operation, and what the memory stands for). Used by the downlink framer and by a call's leg.
+//! is kept, each operation, and what the memory stands for). Used by the downlink framer, a call's leg
+//! and the base station's end.
 #![tactic(auto)]
 
 mod align;

@@ -11,7 +11,7 @@ use Rattle.std.proofs.lemmas.List.Sums.{position_or_len_is}
 use Rattle.std.proofs.lemmas.List.FromFn.{length-range_with_len, get_or-range_with_len}
 use Rattle.trau_alaw.specs.Companding.{Companding, magnitude, has_magnitude, contains, octet_of, IsOnlyOctet, PartsWords}
 
--- what contains of each number of a table
+-- what holds of each number of a table
 pub entry : (p : ℕ → Bool) (len n : ℕ) → list_all p (range_with_len 0 len) ≡ true → n < len → p n ≡ true
 entry p len n t h =
     let e : get_or (range_with_len 0 len) n 0 ≡ n = get_or-range_with_len 0 len n 0 h ∙ omega arith in
@@ -131,7 +131,7 @@ one_octet law key start laid (negsuc n) a b h g p q =
 
 -- ---- the octet of a code
 
--- the octet of a code whose interval has the word's magnitude contains the word
+-- the octet of a code whose interval has the word's magnitude holds the word
 holds-code : (law : Companding) (key : ℕ) (start : ℕ → ℕ) → IsLaid law key start → (x : ℤ) (code : ℕ) → code < 256 →
     IsIn start (code % 128) (magnitude x) → (x <ℤ pos 0 → code < 128) → (pos 0 ≤ℤ x → 128 ≤ code) → contains (law (bit_xor code key)) x ≡ true
 holds-code law key start laid (pos n) code h i low high =

@@ -1,4 +1,4 @@
--- The octets of mu-law, and the one whose interval contains a value.
+-- The octets of mu-law, and the one whose interval holds a value.
 use Rattle.std.proofs.Common.{◌≡◌, ℕ, ◌+◌, ◌/◌, ◌%◌, ◌<◌, ◌≤◌, Bool, true, false, nat_eq, nat_le, nat_lt, if◌then◌else◌, bit_xor, ℤ, pos, ◌<ℤ◌, ◌≤ℤ◌, refl, arith}
 use Rattle.std.specs.Prelude.{◌==◌, ◌||◌}
 use Rattle.std.specs.List.{list_all, range_with_len}
@@ -86,7 +86,7 @@ only_octet x code h a low high =
     (rw same (in_interval (code % 128) (magnitude x) (omega arith) a))
     (λ l. let g = low l in omega arith) (λ l. let g = high l in omega arith))
 
--- each octet but one contains the middle of its own interval
+-- each octet but one holds the middle of its own interval
 middle_table : list_all (λ octet. (octet == 127) || contains (mulaw octet) (middle (mulaw octet))) (range_with_len 0 256) ≡ true
 unfolding mulaw
 middle_table = refl

@@ -1,4 +1,4 @@
--- The octets of A-law, and the one whose interval contains a value.
+-- The octets of A-law, and the one whose interval holds a value.
 use Rattle.std.proofs.Common.{◌≡◌, ℕ, ◌+◌, ◌/◌, ◌%◌, ◌<◌, ◌≤◌, true, nat_eq, nat_le, bit_xor, ℤ, pos, ◌<ℤ◌, ◌≤ℤ◌, refl, arith}
 use Rattle.std.specs.List.{list_all, range_with_len}
 use Rattle.std.proofs.lemmas.Bool.{eqb-true}
@@ -54,7 +54,7 @@ only_octet x code h a low high =
     let next = start-next (code % 128) (omega arith) in
     laid.only_octet alaw 85 start alaw_laid x code h (record { at_least = l; within = omega arith }) low high
 
--- each octet contains the middle of its own interval
+-- each octet holds the middle of its own interval
 middle_table : list_all (λ octet. contains (alaw octet) (middle (alaw octet))) (range_with_len 0 256) ≡ true
 unfolding alaw
 middle_table = refl

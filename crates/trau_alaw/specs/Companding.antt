@@ -28,15 +28,15 @@ abbrev pub contains : Interval → ℤ → Bool
 contains i (pos n) = i.is_positive && has_magnitude i n
 contains i (negsuc n) = not i.is_positive && has_magnitude i n
 
--- the middle of the interval, with its sign
+-- the value that stands for the interval: its centre, with its sign
 abbrev pub middle : Interval → ℤ
 middle i = if i.is_positive then pos i.centre else neg_ℤ (pos i.centre)
 
--- the octet whose interval contains the value; a law has one for each value of 16 bits
+-- the octet whose interval holds the value; a law has one for each value of 16 bits
 unfoldable pub octet_of : Companding → ℤ → ℕ
 octet_of law x = position_or_len (λ octet. contains (law octet) x) (range_with_len 0 256)
 
--- the octet's interval contains the value, and no other octet's does
+-- the octet's interval holds the value, and no other octet's does
 pub record IsOnlyOctet (law : Companding) (x : ℤ) (octet : ℕ) : Type 0 where
   pub is_octet : octet < 256
   pub within : IsTrue (contains (law octet) x)

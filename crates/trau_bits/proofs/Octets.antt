@@ -2,10 +2,8 @@
 use Rattle.std.proofs.Common.{◌≡◌, ℕ, ◌+◌, ◌-◌, ◌*◌, ◌/◌, ◌%◌, ◌^◌, ◌<◌, ◌≤◌, suc, zero, List, map, length, get_or, sym, ap, ◌∙◌, lit<, arith}
 use Rattle.std.specs.List.{range_with_len, sum}
 use Rattle.std.specs.Int.{bit_at}
-use Rattle.std.proofs.lemmas.List.FromFn.{length-map-range_with_len, get_or-map-range_with_len, sum_by-map-range_with_len_more, fill_by_all}
+use Rattle.std.proofs.lemmas.List.FromFn.{length-map-range_with_len, get_or-map-range_with_len, fill_by_all}
 use Rattle.std.proofs.lemmas.Grind.{same_number_lists}
-use Rattle.std.proofs.Math.Nat.{pow-succ', mul-le-mul_right, mod-eq_of_lt}
-use Rattle.std.proofs.Math.Pow.{pow_pos}
 use Rattle.trau_bits.specs.Bits.{bits_of, AreBits, octet_at, octets_of}
 use Rattle.trau_bits.proofs.BitList.{length-bits_of, get_or-bits_of, bits_of-injective}
 
@@ -51,7 +49,7 @@ bit_at-sum_of_eight f h (suc (suc (suc (suc (suc (suc zero)))))) l = omega arith
 bit_at-sum_of_eight f h (suc (suc (suc (suc (suc (suc (suc zero))))))) l = omega arith
 bit_at-sum_of_eight f h (suc (suc (suc (suc (suc (suc (suc (suc j)))))))) l = absurd (omega arith)
 
-eight_at : (bits : List ℕ) (first : ℕ) → AreBits bits → first + 8 ≤ length bits → EightBits (λ j. get_or bits (first + j) 0)
+pub eight_at : (bits : List ℕ) (first : ℕ) → AreBits bits → first + 8 ≤ length bits → EightBits (λ j. get_or bits (first + j) 0)
 eight_at bits first h l = eight_bits (λ j. get_or bits (first + j) 0) (λ k below. h (first + k) 0 (omega arith))
 
 pub octet_at-below : (bits : List ℕ) (first : ℕ) → AreBits bits → first + 8 ≤ length bits → octet_at bits first < 256
@@ -99,48 +97,6 @@ octets_of-bits_of bytes small h =
     (λ k below. octets_of-below (bits_of bytes) h k 0 below)
     (λ k below. small k 0 below)
     (bits_of-octets_of (bits_of bytes) (length bytes) (length-bits_of bytes) h)
-
--- a bit goes to its place in an octet of which the first j bits stand: nothing is lost, and the octet stays in its range
-pub record TakesBit (octet bit j : ℕ) : Type 0 where
-  pub whole : bit * 2 ^ (7 - j) % 256 ≡ bit * 2 ^ (7 - j)
-  pub fits : octet + bit * 2 ^ (7 - j) < 256
-  pub room : octet + bit * 2 ^ (7 - j) + 2 ^ (8 - (j + 1)) ≤ 256
-
-pub takes_bit : (octet bit j : ℕ) → j < 8 → bit < 2 → octet + 2 ^ (8 - j) ≤ 256 → TakesBit octet bit j
-takes_bit octet bit j below small h =
-    let here : 8 - j ≡ suc (7 - j) = omega arith in
-    let doubled : 2 ^ (8 - j) ≡ 2 * 2 ^ (7 - j) = ap (λ n. 2 ^ n) here ∙ pow-succ' 2 (7 - j) in
-    let next : 8 - (j + 1) ≡ 7 - j = omega arith in
-    let after : 2 ^ (8 - (j + 1)) ≡ 2 ^ (7 - j) = ap (λ n. 2 ^ n) next in
-    let one : bit ≤ 1 = omega arith in
-    let most : bit * 2 ^ (7 - j) ≤ 1 * 2 ^ (7 - j) = mul-le-mul_right (2 ^ (7 - j)) one in
-    let some : 0 < 2 ^ (7 - j) = pow_pos (7 - j) in
-    let fits : bit * 2 ^ (7 - j) < 256 = omega arith in
-    record {
-      whole = mod-eq_of_lt fits;
-      fits = omega arith;
-      room = omega arith;
-    }
-
--- the sum of the first j bits, each at its place
-abbrev pub sum_of_first : List ℕ → ℕ → ℕ → ℕ
-sum_of_first bits first n = sum (map (λ j. get_or bits (first + j) 0 * 2 ^ (7 - j)) (range_with_len 0 n))
-
--- the loop that fills an octet from its most significant bit on
-pub record FilledOctet (bits : List ℕ) (first octet j : ℕ) : Type 0 where
-  pub sum : octet ≡ sum_of_first bits first j
-  pub room : octet + 2 ^ (8 - j) ≤ 256
-
-pub filled_more : (bits : List ℕ) (first octet j : ℕ) → j < 8 → get_or bits (first + j) 0 < 2 → FilledOctet bits first octet j →
-    FilledOctet bits first (octet + get_or bits (first + j) 0 * 2 ^ (7 - j) % 256) (j + 1)
-filled_more bits first octet j below small h =
-    let t : TakesBit octet (get_or bits (first + j) 0) j = takes_bit octet (get_or bits (first + j) 0) j below small h.room in
-    let more : sum_of_first bits first (j + 1) ≡ sum_of_first bits first j + get_or bits (first + j) 0 * 2 ^ (7 - j) =
-    sum_by-map-range_with_len_more (λ x. x) (λ j. get_or bits (first + j) 0 * 2 ^ (7 - j)) 0 j j (omega arith) in
-    record {
-      sum = ap (λ x. octet + x) t.whole ∙ ap (λ x. x + get_or bits (first + j) 0 * 2 ^ (7 - j)) h.sum ∙ sym more;
-      room = rw (t.whole) t.room;
-    }
 
 -- octets that were written one by one are all octets of the bits
 pub filled_octets : (bits bytes : List ℕ) → length bits ≡ 8 * length bytes →

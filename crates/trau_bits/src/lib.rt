@@ -5,7 +5,8 @@
 //! Definitions: `specs/Bits.antt`. Used by every crate that reads or writes frames on a line.
 #![tactic(auto)]
 
-ghost use Rattle.std.specs.Prelude.{◌≡◌, ◌+◌, ◌*◌, ◌^◌, ◌<◌, ◌≤◌, length, slice_index, slice_set};
+ghost use Rattle.std.specs.Prelude.{◌≡◌, ◌+◌, ◌-◌, ◌*◌, ◌^◌, ◌<◌, ◌≤◌, ℕ, length, slice_index, slice_set};
+ghost use Rattle.std.specs.Int.{bit_at};
 ghost use Rattle.trau_bits.specs.Bits.{bits_of, octet_at, octets_of, AreBits};
 
 pub mod laws;
@@ -34,17 +35,26 @@ pub fn put_bit(bytes: &mut [u8], i: usize, bit: u8)
     }
 }
 
+// A word with eight bits, nine places apart. Its product with another word of eight octets turns bits that stand eight
+// places apart into bits that stand side by side, and back. No two bits meet in one place, so nothing carries.
+const NINE_APART: u64 = 0x8040_2010_0804_0201;
+
 // The octet of the eight bits from `first` on.
 fn octet(bits: &[u8], first: usize) -> u8
     requires bits { AreBits bits.now }
     requires within { first + 8 ≤ length bits.now }
     ensures { result ≡ octet_at bits.now first }
 {
-    let mut octet = 0;
-    for j in 0..8 {
-        octet += bits[first + j] << (7 - j);
-    }
-    octet
+    let mut eight = [0; 8];
+    eight.copy_from_slice(&bits[first..first + 8]);
+    (u64::from_le_bytes(eight).wrapping_mul(NINE_APART) >> 56) as u8
+}
+
+// The eight bits of an octet.
+fn eight_bits(octet: u8) -> [u8; 8]
+    ensures { (j : ℕ) → j < 8 → slice_index result j ≡ bit_at octet (7 - j) }
+{
+    (u64::from(octet).wrapping_mul(NINE_APART) >> 7 & 0x0101_0101_0101_0101).to_le_bytes()
 }
 
 /// Packs the bits, eight to an octet, over all of the octets.
@@ -66,8 +76,6 @@ pub fn unpack(bytes: &[u8], bits: &mut [u8])
     ensures are_bits { AreBits bits.new }
 {
     for (k, byte) in bytes.iter().enumerate() {
-        for j in 0..8 {
-            bits[8 * k + j] = *byte >> (7 - j) & 1;
-        }
+        bits[8 * k..8 * k + 8].copy_from_slice(&eight_bits(*byte));
     }
 }

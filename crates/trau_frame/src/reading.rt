@@ -20,7 +20,7 @@ fn flag(bits: &[u8; 320], c: usize) -> bool
 }
 
 // The number in `n` control bits from C`first` on, the first of them the highest.
-#[tactic(auto, unfolding(crate::specs::Frame::number_of))]
+#[tactic(auto, unfolding(crate::specs::Frame::number_in))]
 fn number(bits: &[u8; 320], first: usize, n: usize) -> u8
     requires bits { AreBits bits.now }
     requires low { 1 ≤ first }

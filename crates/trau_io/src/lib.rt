@@ -2,8 +2,8 @@
 //!
 //! Below everything that reads or writes: tools, rounds and the top call move octets through the two
 //! traits of this crate and know nothing else of the outside. `MemTrunk` and `MemDesk` hold everything
-//! in memory and tell all of it, with cuts, failures and room set by their maker; files and the
-//! standard streams stand in `trau_files`. Beside the traits stand the plain values that tell a call's
+//! in memory and tell all of it, with failures and room set by their maker, the lines of a `MemTrunk` also
+//! with cuts; files and the standard streams stand in `trau_files`. Beside the traits stand the plain values that tell a call's
 //! end and its counts.
 //!
 //! The meanings of lines and desks, and all limits, are this project's profile.

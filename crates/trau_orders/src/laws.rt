@@ -2,7 +2,8 @@
 
 ghost use Rattle.trau_orders.specs.Text.{SpellsOneList, GoodOrBad, HasOneFirst};
 
-/// The lines of a text spell one list of orders at most; where they do, none of them is bad; else one is the first.
+/// The lines of a text spell one list of orders at most; where they do, none of them is bad; and one at most is the first
+/// bad one.
 pub fn one_answer()
     ensures orders { SpellsOneList }
     ensures good { GoodOrBad }

@@ -17,7 +17,7 @@ pub enum What {
     /// The law is that of its lines from and to the exchange.
     OpenCall { call: u32, law: Law },
     CloseCall(u32),
-    /// Each call's speech frames go out on the other's downlink, bits unchanged.
+    /// Each call's effective frames go out on the other's downlink; of good speech the bits unchanged.
     Bridge(u32, u32),
     /// The call's bridge ends.
     Unbridge(u32),

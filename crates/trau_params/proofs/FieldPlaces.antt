@@ -7,9 +7,10 @@ use Rattle.std.proofs.lemmas.List.FromFn.{get_or-map-range_with_len}
 use Rattle.trau_params.specs.declared.params.Params.{Params}
 use Rattle.trau_params.specs.Widths.{larc_widths, block_widths}
 use Rattle.trau_params.specs.FieldBits.{low_bits, field_bits}
-use Rattle.trau_params.specs.Bits260.{bits260, bits260_of, block_values, block_bits}
+use Rattle.trau_params.specs.Bits260.{bits260, bits260_of, block_values}
 use Rattle.trau_params.specs.Places.{FieldsStand}
 use Rattle.trau_params.specs.Shape.{HasShape}
+use Rattle.trau_params.proofs.BlockBits.{block_bits}
 use Rattle.trau_params.proofs.Fronts.{length-low_bits}
 
 -- ---- a field among fields

@@ -1,4 +1,5 @@
 pub mod AreBits
+pub mod BlockBits
 pub mod FieldPlaces
 pub mod FieldsRead
 pub mod FieldsWritten

@@ -9,8 +9,9 @@ use Rattle.std.proofs.lemmas.Nat.{pow-add}
 use Rattle.trau_params.specs.declared.params.Params.{Params}
 use Rattle.trau_params.specs.Widths.{larc_widths, block_widths, pulse_widths, FitWidth}
 use Rattle.trau_params.specs.FieldBits.{low_bits, field_bits}
-use Rattle.trau_params.specs.Bits260.{bits260, bits260_of, block_values, block_bits, SameFields}
+use Rattle.trau_params.specs.Bits260.{bits260, bits260_of, block_values, SameFields}
 use Rattle.trau_params.specs.Shape.{HasShape}
+use Rattle.trau_params.proofs.BlockBits.{block_bits}
 use Rattle.trau_params.proofs.Fronts.{length-low_bits, low_bits-front}
 
 -- ---- two lists of the same length in front

@@ -15,12 +15,9 @@ values_in f j =
 unfoldable pub bits260 : Fields → List ℕ
 bits260 f = field_bits larc_widths f.larc ++ flat_map (λ j. field_bits block_widths (values_in f j)) (range_with_len 0 4)
 
--- the values and the bits of block j of a frame, and the bits of the frame
+-- the values of block j of a frame, and the bits of the frame
 abbrev pub block_values : Params → ℕ → List ℕ
 block_values p j = values_in (fields_of p) j
-
-abbrev pub block_bits : Params → ℕ → List ℕ
-block_bits p j = field_bits block_widths (block_values p j)
 
 unfoldable pub bits260_of : Params → List ℕ
 bits260_of p = bits260 (fields_of p)

@@ -62,7 +62,8 @@ pub record MergeRun (before now : ℕ → Side → LineState) (desk desk' : Desk
   pub others : AllButFive before now call Out Up
   pub tells : TellsText (merge_text end) (merge_end end) desk desk' result
 
--- 4 comes exactly where the desk's writing count rose, 6 exactly where the count of the slot's line or of a channel's rose and 4 isn't due, and else 0
+-- 4 comes only where the desk's writing count rose, 6 only where the count of the slot's line or of a channel's rose; where
+-- one became greater, its status comes, 4 before 6; else 0
 pub record SlotCauses (slot slot' : LineState) (channels channels' : ℕ → LineState) (desk desk' : DeskState) (status : ℕ) : Type 0 where
   pub known : (status ≡ 0) ⊎ (status ≡ 4) ⊎ (status ≡ 6)
   pub desk_failed : status ≡ 4 → Rose desk.write_faults desk'.write_faults

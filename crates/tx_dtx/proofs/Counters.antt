@@ -13,7 +13,7 @@ use Rattle.tx_dtx.specs.Stands.{elapsed_of, Stands}
 
 -- ---- how many frames since the last SID
 
--- one frame elapsed_later
+-- one frame later
 elapsed-later : (o : Option SidPlace) → elapsed_of (option_map one_later o) ≡ elapsed_later (elapsed_of o)
 elapsed-later None = refl
 elapsed-later (Some place) = let e : min (place.since + 1) 24 ≡ min (min place.since 24 + 1) 24 = omega arith in e
@@ -23,7 +23,7 @@ hangs_by : (o : Option SidPlace) → nat_le 24 (elapsed_later (elapsed_of o)) �
 hangs_by None = refl
 hangs_by (Some place) = grind (arith, common_steps)
 
--- the last SID is the same one frame elapsed_later
+-- the last SID is the same one frame later
 sid-later : (sid : Fields) (o : Option SidPlace) → IfSome o (λ place. sid ≡ sid_of place.four) →
     IfSome (option_map one_later o) (λ place. sid ≡ sid_of place.four)
 sid-later sid None h = tt
@@ -112,7 +112,7 @@ sid-counts f past m n l s =
       sid = subst (λ o. IfSome o (λ place. sid_of (f.measures ∷ m.recent) ≡ sid_of place.four)) (sym place) (ap sid_of four);
     }
 
--- whether the pause hangs, at its first frame and elapsed_later
+-- whether the pause hangs, at its first frame and later
 pub hangs-now : (f : Coded) (past : List Coded) (m : TxMemory) → is_active f ≡ false → pause_of past < 4 → Stands past m →
     hangs_at (pause_of past + 1) (elapsed_later m.elapsed) m.hangs ≡ is_none (sid_used (before_pause past))
 hangs-now f [] m n l s = ap (λ e. nat_le 24 (elapsed_later e)) s.elapsed

@@ -1,13 +1,13 @@
 -- What is sent by the memory is what the stretch says.
-use Rattle.std.proofs.Common.{◌≡◌, ◌+◌, ◌<◌, ◌≤◌, min, Bool, true, false, if◌then◌else◌, nat_le, Option, Some, None, List, [], ◌∷◌, take, refl, sym, ap, ◌∙◌, arith, inl, inr, subst}
+use Rattle.std.proofs.Common.{◌≡◌, ◌+◌, ◌<◌, ◌≤◌, min, Bool, true, false, if◌then◌else◌, nat_le, Option, Some, None, List, [], ◌∷◌, ◌++◌, take, refl, sym, ap, ◌∙◌, arith, inl, inr, subst}
 use Rattle.std.specs.Prelude.{option_map, is_none, IfSome, ◌==◌}
 use Rattle.std.proofs.lemmas.Bool.{cases_Bool, cases_lt, cond-true, cond-false, le-leb, eq-eqb, ne_eqb}
 use Rattle.trau_params.specs.Fields.{Fields}
 use Rattle.tx_dtx.specs.Stretch.{Coded, is_active, Sent}
 use Rattle.tx_dtx.specs.SilenceDescriptor.{sid_of}
-use Rattle.tx_dtx.specs.Sent.{SidPlace, one_later, pause_of, is_sid_place, newest_four, latest_place, before_pause, still_used, itself, silence, sent_early, sent_of}
-use Rattle.tx_dtx.specs.Memory.{TxMemory}
-use Rattle.tx_dtx.specs.Step.{after_active, remembered, described, early, paused, sent_after, next_sent}
+use Rattle.tx_dtx.specs.Sent.{SidPlace, one_later, pause_of, is_sid_place, newest_four, latest_place, before_pause, still_used, itself, silence, sent_early, sent_of, all_sent}
+use Rattle.tx_dtx.specs.Memory.{TxMemory, home_memory}
+use Rattle.tx_dtx.specs.Step.{after_active, remembered, described, early, paused, sent_after, next_sent, sent_in_turn}
 use Rattle.tx_dtx.specs.Stands.{Stands}
 use Rattle.tx_dtx.proofs.Counters.{no_place, recent-more, newest-four, pause-length, Counts, not_place, active-counts, one_longer, sid-counts, hangs-now, early-counts}
 
@@ -152,3 +152,19 @@ stepped_by m f sent between now t r = ap (λ (out : Sent × TxMemory). let s : S
 pub step-history : (m : TxMemory) (f : Coded) (sent : Sent) (now : TxMemory) (past : List Coded) → next_sent m f ≡ (sent, now) → Stands past m →
     Stands (f ∷ past) now × (sent ≡ sent_of f past)
 step-history m f sent now past e s = subst (λ (out : Sent × TxMemory). Stands (f ∷ past) out.1 × (out.0 ≡ sent_of f past)) e (step-stands f past m s)
+
+-- ---- a whole stretch
+
+-- at home nothing was sent
+home-stands : Stands [] home_memory
+home-stands = record { run = refl; elapsed = refl; hangs = λ some. absurd (omega arith); sid = tt; recent = refl }
+
+-- frames one after another
+pub in_turn : (past : List Coded) → Stands past (sent_in_turn past).1 × ((sent_in_turn past).0 ≡ all_sent past)
+unfolding sent_in_turn all_sent
+in_turn [] = (home-stands, refl)
+in_turn (f ∷ past) =
+    let memory = (sent_in_turn past).1 in
+    let before = in_turn past in
+    let newest = step-stands f past memory before.0 in
+    (newest.0, ap (λ sent. sent ++ (next_sent memory f).0 ∷ []) before.1 ∙ ap (λ z. all_sent past ++ z ∷ []) newest.1)

@@ -1,10 +1,10 @@
 -- The transmit side from frame to frame (this project's profile, in the manner of GSM 06.31 and GSM 06.12).
-use Rattle.std.specs.Prelude.{ℕ, ◌+◌, Bool, false, if◌then◌else◌, ◌==◌, nat_le, min, List, ◌∷◌, take}
+use Rattle.std.specs.Prelude.{ℕ, ◌+◌, Bool, false, if◌then◌else◌, ◌==◌, nat_le, min, List, [], ◌∷◌, ◌++◌, take}
 use Rattle.trau_params.specs.Fields.{Fields}
 use Rattle.tx_dtx.specs.Stretch.{Measures, Coded, is_active, Sent}
 use Rattle.tx_dtx.specs.SilenceDescriptor.{sid_of}
 use Rattle.tx_dtx.specs.Sent.{itself}
-use Rattle.tx_dtx.specs.Memory.{TxMemory}
+use Rattle.tx_dtx.specs.Memory.{TxMemory, home_memory}
 
 -- one frame more since the last SID
 abbrev pub elapsed_later : ℕ → ℕ
@@ -58,3 +58,11 @@ sent_after m f = if is_active f then (itself f.fields, after_active m) else paus
 -- one frame: what is sent of it, and the memory after it
 unfoldable pub next_sent : TxMemory → Coded → Sent × TxMemory
 next_sent m f = let step = sent_after m f in (step.0, remembered step.1 f.measures)
+
+-- frames one after another from home, the newest first: all that is sent, and the memory after them
+unfoldable pub sent_in_turn : List Coded → List Sent × TxMemory
+sent_in_turn [] = ([], home_memory)
+sent_in_turn (f ∷ past) =
+    let before = sent_in_turn past in
+    let newest = next_sent before.1 f in
+    (before.0 ++ newest.0 ∷ [], newest.1)

@@ -6,13 +6,15 @@
 //! A pause's first four frames are sent themselves, as a hangover, or are the last SID where it is less than 24 frames
 //! old. Voice activity is a level: a frame is active where its peak reaches it.
 //!
-//! `tx` has what is kept from frame to frame, `sid` makes a SID. Definitions: `specs/Sent.antt` (what is sent of a whole
-//! stretch, by looking back), `specs/SilenceDescriptor.antt`, `specs/Stretch.antt` (what a frame is), `specs/Memory.antt`,
-//! `specs/Step.antt` and `specs/Stands.antt` (what is kept, one frame, and what the memory stands for). Used by a call's
-//! leg.
+//! `tx` has what is kept from frame to frame, `sid` makes a SID, `laws` has a law. Definitions: `specs/Sent.antt` (what is
+//! sent of a whole stretch, by looking back), `specs/SilenceDescriptor.antt`, `specs/Stretch.antt` (what a frame is),
+//! `specs/Memory.antt`, `specs/Step.antt` and `specs/Stands.antt` (what is kept, one frame, and what the memory stands
+//! for). Used by a call's leg.
 #![tactic(auto)]
 
+mod laws;
 mod sid;
 mod tx;
 
+pub use laws::whole_list;
 pub use tx::Tx;

@@ -122,7 +122,7 @@ impl Tx {
     }
 
     // Takes a frame: what is sent of it, and SP.
-    #[tactic(auto, unfolding(crate::specs::Step::taken))]
+    #[tactic(auto, unfolding(crate::specs::Step::sent_after))]
     fn take(&mut self, p: &Params, t: &Trace, peak: i16, level: i16, on: bool) -> (Params, bool)
         ensures { sent_after self.old (coded_frame p.now t.now peak level on) ≡ (sent_frame result.0 result.1, self.new) }
     {

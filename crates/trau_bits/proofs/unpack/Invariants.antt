@@ -1,9 +1,6 @@
-use Rattle.std.proofs.Common.{◌≡◌, ℕ, ◌+◌, ◌*◌, ◌<◌, get_or}
+use Rattle.std.proofs.Common.{◌≡◌, ℕ, ◌*◌, ◌<◌, get_or}
 use Rattle.trau_bits.specs.Bits.{bit_of}
 use Rattle.trau_bits.proofs.unpack.Given as goal
 
 abbrev pub invariant-loop-k : goal.invariant-loop-k
 invariant-loop-k l = (i : ℕ) → i < 8 * l.k → get_or l.bits i 0 ≡ bit_of l.bytes i
-
-abbrev pub invariant-loop-j : goal.invariant-loop-j
-invariant-loop-j l = (i : ℕ) → i < 8 * l.k + l.j → get_or l.bits i 0 ≡ bit_of l.bytes i

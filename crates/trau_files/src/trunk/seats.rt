@@ -94,7 +94,7 @@ impl<F: Drop> Seats<F> {
         None
     }
 
-    /// OnlyCloses the file in the next seat, where there is one.
+    /// Closes the file in the next seat, where there is one.
     pub fn free_next(&mut self)
         ensures others { OnlyCloses self.old self.new }
         ensures number { length self.new ≡ length self.old }
@@ -102,7 +102,7 @@ impl<F: Drop> Seats<F> {
         self.files[self.next as usize] = None;
     }
 
-    /// OnlyCloses the file before the next seat, which is the last one from now on.
+    /// Closes the file before the next seat, which is the last one from now on.
     pub fn lessen(&mut self)
         ensures others { OnlyCloses self.old self.new }
         ensures number { length self.new ≡ length self.old }

@@ -4,8 +4,8 @@ use Rattle.trau_io.specs.declared.line.Side.{Side}
 use Rattle.trau_io.specs.Lines.{LineState}
 use Rattle.farm_rounds.specs.Numbers.{is_among}
 use Rattle.farm_run.specs.Stages.{Reaches}
-use Rattle.farm_run.proofs.Clocks.{none_among}
-use Rattle.farm_run.proofs.Stepping.{OrdersDone, orders_done, ok_both, orders_more, stage_behind, idle_reaches}
+use Rattle.farm_run.proofs.Clocks.Idle.{none_among}
+use Rattle.farm_run.proofs.Clocks.Stepping.{OrdersDone, orders_done, ok_both, orders_more, stage_behind, idle_reaches}
 use Rattle.farm_run.proofs.clock.step.Goals as goal
 
 pub execute_orders-requires-clause-clock : goal.execute_orders-requires-clause-clock
@@ -28,23 +28,28 @@ returns-then-is_empty-clause-reaches g c =
     let b = c.execute_orders.new.board in
     let farm = c.execute_orders.new.farm in
     let j = c.execute_orders.new.journal in
-    let o : OrdersDone c.args.stage b farm j = orders_done c.args.stage c.execute_orders.new.board c.execute_orders.new.farm c.execute_orders.new.journal e.clock e.shut e.bridges e.kept e.ended e.failed e.knows e.over e.follows e.told e.openings e.noted in
+    let o : OrdersDone c.args.stage b farm j = orders_done c.args.stage c.execute_orders.new.board c.execute_orders.new.farm c.execute_orders.new.journal
+    e.clock e.shut e.bridges e.kept e.ended e.failed e.knows e.over e.follows e.told e.openings e.noted in
     orders_more s b farm j c.requires.stage o c.args.pace.now.batch _ lines lines c.idle_until.ensures.later
-    (idle_reaches c.args.pace.now.batch (record s { board = b; farm = farm; journal = j }) c.idle_until.result lines (stage_behind s b farm j c.requires.stage o) (omega (arith, c.idle_until.ensures.later))
+    (idle_reaches c.args.pace.now.batch (record s { board = b; farm = farm; journal = j }) c.idle_until.result lines
+    (stage_behind s b farm j c.requires.stage o) (omega (arith, c.idle_until.ensures.later))
     (subst (λ (x : Option ℕ). IfSome x (λ m. c.idle_until.result ≤ m)) c.next_stamp-next.ensures.stamp c.idle_until.ensures.clear)
     (λ d. sym (c.live_calls.ensures.calls d) ∙ none_among c.live_calls.result.now d (sym c.is_empty.ensures ∙ c.if-is_empty.true)))
 
 pub work_round-requires-clause-stage : goal.work_round-requires-clause-stage
 work_round-requires-clause-stage g c κs lives =
     let e = c.in_ok-execute_orders.ensures in
-    stage_behind c.args.stage _ _ _ c.requires.stage (orders_done c.args.stage c.execute_orders.new.board c.execute_orders.new.farm c.execute_orders.new.journal e.clock e.shut e.bridges e.kept e.ended e.failed e.knows e.over e.follows e.told e.openings e.noted)
+    stage_behind c.args.stage _ _ _ c.requires.stage
+    (orders_done c.args.stage c.execute_orders.new.board c.execute_orders.new.farm c.execute_orders.new.journal e.clock e.shut e.bridges e.kept e.ended e.failed
+    e.knows e.over e.follows e.told e.openings e.noted)
 
 pub work_round-requires-clause-live : goal.work_round-requires-clause-live
 work_round-requires-clause-live g c κs lives = λ d. ap (λ (xs : List ℕ). is_among xs d) (sym c.live_calls.ensures.value) ∙ c.live_calls.ensures.calls d
 
 pub work_round-requires-clause-clear : goal.work_round-requires-clause-clear
 work_round-requires-clause-clear g c κs lives =
-    subst (λ (s : Option ℕ). IfSome s (λ s. c.args.stage.clock + c.round_periods-periods.result ≤ s)) c.next_stamp-next.ensures.stamp c.round_periods-periods.ensures.clear
+    subst (λ (s : Option ℕ). IfSome s (λ s. c.args.stage.clock + c.round_periods-periods.result ≤ s)) c.next_stamp-next.ensures.stamp
+    c.round_periods-periods.ensures.clear
 
 pub returns-clause-reaches : goal.returns-clause-reaches
 returns-clause-reaches g c =
@@ -55,7 +60,15 @@ returns-clause-reaches g c =
     let b = c.execute_orders.new.board in
     let farm = c.execute_orders.new.farm in
     let j = c.execute_orders.new.journal in
-    let o : OrdersDone c.args.stage b farm j = orders_done c.args.stage c.execute_orders.new.board c.execute_orders.new.farm c.execute_orders.new.journal e.clock e.shut e.bridges e.kept e.ended e.failed e.knows e.over e.follows e.told e.openings e.noted in
-    ok_both (λ after. after.clock ≡ c.args.stage.clock + c.round_periods-periods.result) (λ after. Reaches c.args.pace.now.batch (record c.args.stage { board = c.execute_orders.new.board; farm = c.execute_orders.new.farm; journal = c.execute_orders.new.journal }) after (g.T.Trunk.lines c.args.trunk.now) (g.T.Trunk.lines c.work_round.new.trunk))
+    let o : OrdersDone c.args.stage b farm j = orders_done c.args.stage c.execute_orders.new.board c.execute_orders.new.farm c.execute_orders.new.journal
+    e.clock e.shut e.bridges e.kept e.ended e.failed e.knows e.over e.follows e.told e.openings e.noted in
+    ok_both (λ after. after.clock ≡ c.args.stage.clock + c.round_periods-periods.result)
+    (λ after. Reaches c.args.pace.now.batch (record c.args.stage {
+      board = c.execute_orders.new.board;
+      farm = c.execute_orders.new.farm;
+      journal =
+          c.execute_orders.new.journal;
+    }) after (g.T.Trunk.lines c.args.trunk.now) (g.T.Trunk.lines c.work_round.new.trunk))
     (λ after. Reaches c.args.pace.now.batch c.args.stage after (g.T.Trunk.lines c.args.trunk.now) (g.T.Trunk.lines c.work_round.new.trunk)) c.work_round.result
-    (λ after clock reaches. orders_more s b farm j c.requires.stage o c.args.pace.now.batch after before now (omega (arith, clock, c.round_periods-periods.ensures.some)) reaches) c.work_round.ensures.clock c.work_round.ensures.reaches
+    (λ after clock reaches. orders_more s b farm j c.requires.stage o c.args.pace.now.batch after before now
+    (omega (arith, clock, c.round_periods-periods.ensures.some)) reaches) c.work_round.ensures.clock c.work_round.ensures.reaches

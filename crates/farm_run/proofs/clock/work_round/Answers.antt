@@ -6,34 +6,39 @@ use Rattle.trau_io.specs.Lines.{LineState}
 use Rattle.switchboard.specs.State.{State, orders_of}
 use Rattle.run_spec.specs.Run.{Run}
 use Rattle.farm_rounds.specs.Working.{RoundMemory, GainsFailed}
-use Rattle.farm_run.proofs.RoundTaken.{IsRound}
+use Rattle.farm_run.proofs.Rounds.Taken.{IsRound}
 use Rattle.farm_run.specs.Clock.{IsAtClock, EndsRound}
 use Rattle.farm_run.specs.Outgoing.{is_held}
 use Rattle.farm_run.specs.Stages.{OpenedBefore}
 use Rattle.farm_run.specs.Ending.{AreShut}
 use Rattle.farm_run.specs.Journal.{JournalMemory}
-use Rattle.farm_run.proofs.Cutting.{on_err}
-use Rattle.farm_run.proofs.FewEnds.{new_ends, shut_more}
+use Rattle.farm_run.proofs.Lines.Cutting.{on_err}
+use Rattle.farm_run.proofs.Told.Few.{new_ends, shut_more}
 use Rattle.farm_run.specs.Standing.{Standing, standing, StandingGoesOn, HasFlags, MeetsRun}
-use Rattle.farm_run.proofs.Knowing.{known_round}
-use Rattle.farm_run.proofs.RoundListed.{order_after, knows_after, goes_after, meets_run, listed_back}
-use Rattle.farm_run.proofs.Told.{told_done, told_orders}
-use Rattle.farm_run.proofs.Making.{IsMade, made_octets, made_open, made_partners, made_stands, made_tallies}
-use Rattle.farm_run.proofs.WorkedRound as parts
-use Rattle.farm_run.proofs.WorkedRound.{FilledRound, WorkedRound, outgoing_between}
-use Rattle.farm_run.proofs.Counts.{fell_round, tells_round}
-use Rattle.farm_run.proofs.Sides.{sides_more, sides_filled}
-use Rattle.farm_run.proofs.RoundClock.{tells_numbers, tells_open, tells_apart, tells_late, clock_after}
-use Rattle.farm_run.proofs.RoundLines.{clock_is, ends_are, told_is, written_after}
-use Rattle.farm_run.proofs.RoundShort.{short_after, short_more}
-use Rattle.farm_run.proofs.RoundSums.{sums_after}
-use Rattle.farm_run.proofs.RoundTallies.{tallies_after}
+use Rattle.farm_run.proofs.Noted.Knowing.{known_round}
+use Rattle.farm_run.proofs.Listed.Round.{order_after, listed_back}
+use Rattle.farm_run.proofs.Listed.Behind.{knows_after, goes_after, meets_run}
+use Rattle.farm_run.proofs.Told.Boards.{told_done, told_orders}
+use Rattle.farm_run.proofs.Worked.Making.{IsMade, made_octets, made_open, made_partners, made_stands, made_tallies}
+use Rattle.farm_run.proofs.Worked.Facts as parts
+use Rattle.farm_run.proofs.Worked.Round.{FilledRound, WorkedRound}
+use Rattle.farm_run.proofs.Worked.Facts.{outgoing_between}
+use Rattle.farm_run.proofs.Listed.Counts.{fell_round, tells_round}
+use Rattle.farm_run.proofs.Lines.Sides.{sides_more, sides_filled}
+use Rattle.farm_run.proofs.Worked.Clock.{tells_numbers, tells_open, tells_apart, tells_late, clock_after}
+use Rattle.farm_run.proofs.Worked.Lines.{clock_is}
+use Rattle.farm_run.proofs.Worked.Board.{ends_are, told_is}
+use Rattle.farm_run.proofs.Worked.Written.{written_after}
+use Rattle.farm_run.proofs.Worked.Short.{short_after, short_more}
+use Rattle.farm_run.proofs.Worked.Sums.{sums_after}
+use Rattle.farm_run.proofs.Worked.Tallies.{tallies_after}
 use Rattle.std.proofs.lemmas.Result.{IfOk-from_err}
 use Rattle.farm_run.proofs.clock.work_round.Goals as goal
 use Rattle.farm_run.proofs.clock.work_round.Given.{Over}
 
 -- the round up to its work
-front : (g : Over) (c : goal.After-ends g) → FilledRound c.args.stage.clock c.args.periods c.args.stage.farm (g.T.Trunk.lines c.args.trunk.now) (g.T.Trunk.lines c.fill.new.trunk)
+front : (g : Over) (c : goal.After-ends g) → FilledRound c.args.stage.clock c.args.periods c.args.stage.farm (g.T.Trunk.lines c.args.trunk.now)
+    (g.T.Trunk.lines c.fill.new.trunk)
     c.in_ok-round.round.seats c.fill.new.self.seats c.work-worked.result.seats c.ends.result.now
 front g c =
     let plan = c.in_ok-round.ensures in
@@ -48,7 +53,8 @@ front g c =
       worked_number = work.number;
       worked_rising = work.rising;
       places = work.places;
-      told = c.ends.ensures ∙ work.ends ∙ ap (λ (t : ℕ). filter_map (seat_end t) c.work-worked.result.seats) (ap (λ (p : RoundMemory). p.start) fill.kept ∙ plan.start);
+      told = c.ends.ensures ∙ work.ends ∙ ap (λ (t : ℕ). filter_map (seat_end t) c.work-worked.result.seats)
+          (ap (λ (p : RoundMemory). p.start) fill.kept ∙ plan.start);
     }
 
 pub tell_ends-requires-clause-numbers : goal.tell_ends-requires-clause-numbers
@@ -64,10 +70,12 @@ pub tell_ends-requires-clause-late : goal.tell_ends-requires-clause-late
 tell_ends-requires-clause-late g c = tells_late _ _ c.args.stage.board _ _ _ _ _ _ _ (front g c) c.requires.stage.clock
 
 pub tell_ends-requires-clause-new : goal.tell_ends-requires-clause-new
-tell_ends-requires-clause-new g c = new_ends c.args.stage.board c.args.stage.journal.ends c.ends.result.now c.requires.stage.shut (tells_open _ _ c.args.stage.board _ _ _ _ _ _ _ (front g c) c.requires.stage.clock)
+tell_ends-requires-clause-new g c = new_ends c.args.stage.board c.args.stage.journal.ends c.ends.result.now c.requires.stage.shut
+    (tells_open _ _ c.args.stage.board _ _ _ _ _ _ _ (front g c) c.requires.stage.clock)
 
 -- the whole round
-round : (g : Over) (c : goal.After-settle-farm g) → WorkedRound c.args.stage.clock c.args.periods c.args.stage.farm c.settle-farm.result (g.T.Trunk.lines c.args.trunk.now) (g.T.Trunk.lines c.settle-farm.new.trunk) c.ends.result.now
+round : (g : Over) (c : goal.After-settle-farm g) → WorkedRound c.args.stage.clock c.args.periods c.args.stage.farm c.settle-farm.result
+    (g.T.Trunk.lines c.args.trunk.now) (g.T.Trunk.lines c.settle-farm.new.trunk) c.ends.result.now
 round g c =
     let plan = c.in_ok-round.ensures in
     let fill = c.fill.ensures in
@@ -107,14 +115,16 @@ round g c =
       worked_number = work.number;
       worked_rising = work.rising;
       places = work.places;
-      told = c.ends.ensures ∙ work.ends ∙ ap (λ (t : ℕ). filter_map (seat_end t) c.work-worked.result.seats) (ap (λ (p : RoundMemory). p.start) fill.kept ∙ plan.start);
+      told = c.ends.ensures ∙ work.ends ∙ ap (λ (t : ℕ). filter_map (seat_end t) c.work-worked.result.seats)
+          (ap (λ (p : RoundMemory). p.start) fill.kept ∙ plan.start);
       drains = settled.settles;
       held = is_held c.args.stage.outgoing;
       writes = settled.written;
       back = settled.back;
       drained_others = settled.others;
       drained_number = settled.number;
-      gains = subst (λ before. GainsFailed before c.settle-farm.result.failed settled.seats) (work.failed ∙ ap (λ (p : RoundMemory). p.failed) fill.kept ∙ plan.failed) settled.gains;
+      gains = subst (λ before. GainsFailed before c.settle-farm.result.failed settled.seats)
+          (work.failed ∙ ap (λ (p : RoundMemory). p.failed) fill.kept ∙ plan.failed) settled.gains;
       know = settled.know;
       is_open = made_open _ _ _ _ _ made;
       partners = made_partners _ _ _ _ _ made;
@@ -133,16 +143,20 @@ in_run : (g : Over) (c : goal.After-settle-farm g) (r : Run) (first : _) (last :
 in_run g c r first last l at = record { so_far = at.follows.so_far; some = c.requires.some; within = l; clear = c.requires.clear }
 
 -- the round is that of a run that goes on from behind it
-meets : (g : Over) (c : goal.After-settle-farm g) (r : Run) (last : Standing) → HasFlags r last → StandingGoesOn (standing c.tell_ends.new.board c.settle-farm.result.failed (g.T.Trunk.lines c.settle-farm.new.trunk)) last →
+meets : (g : Over) (c : goal.After-settle-farm g) (r : Run) (last : Standing) → HasFlags r last →
+    StandingGoesOn (standing c.tell_ends.new.board c.settle-farm.result.failed (g.T.Trunk.lines c.settle-farm.new.trunk)) last →
     MeetsRun r c.args.periods (round g c).filled (standing c.tell_ends.new.board c.settle-farm.result.failed (g.T.Trunk.lines c.settle-farm.new.trunk)) last
 meets g c r last flags on =
     let told = c.tell_ends.ensures in
-    meets_run _ _ c.args.stage.board _ _ _ _ _ (round g c) c.requires.stage.clock c.requires.stage.knows c.tell_ends.new.board told.told told.open r last flags on
+    meets_run _ _ c.args.stage.board _ _ _ _ _ (round g c) c.requires.stage.clock c.requires.stage.knows c.tell_ends.new.board told.told
+    told.open r last flags on
 
 -- what it tells, notes and keeps of the calls that end in it
 ends : (g : Over) (c : goal.After-settle-farm g) (r : Run) (first : _) (last : Standing) → HasFlags r last → c.args.stage.clock + c.args.periods ≤ r.periods →
-    StandingGoesOn (standing c.tell_ends.new.board c.settle-farm.result.failed (g.T.Trunk.lines c.settle-farm.new.trunk)) last → IsAtClock r c.args.stage.clock c.args.stage.board c.args.stage.farm.groups last first (g.T.Trunk.lines c.args.trunk.now) →
-    EndsRound r c.args.stage.clock c.args.periods c.args.stage.board c.tell_ends.new.board c.args.stage.journal c.tell_ends.new.journal c.args.stage.farm.tallies c.settle-farm.result.tallies
+    StandingGoesOn (standing c.tell_ends.new.board c.settle-farm.result.failed (g.T.Trunk.lines c.settle-farm.new.trunk)) last →
+    IsAtClock r c.args.stage.clock c.args.stage.board c.args.stage.farm.groups last first (g.T.Trunk.lines c.args.trunk.now) →
+    EndsRound r c.args.stage.clock c.args.periods c.args.stage.board c.tell_ends.new.board c.args.stage.journal c.tell_ends.new.journal
+    c.args.stage.farm.tallies c.settle-farm.result.tallies
 ends g c r first last flags l on at =
     let told = c.tell_ends.ensures in
     let w = round g c in
@@ -177,9 +191,18 @@ returns-clause-reaches g c =
       stage = record {
         clock = clock_after _ _ b _ _ _ _ _ w a b' c.bridges_join_two.ensures c.requires.clear told.told told.open told.partner;
         shut = subst (λ (j : JournalMemory). AreShut b' j.ends) (sym told.noted)
-            (shut_more b b' c.args.stage.journal.ends c.ends.result.now c.requires.stage.shut (tells_open _ _ b _ _ _ _ _ _ _ (parts.front _ _ _ _ _ _ _ w) a) told.told told.open);
-        bridges = (let noted = ap (λ (j : JournalMemory). length j.bridges) told.noted in let done = ap length (ap (λ (s : State). s.done) told.told ∙ told_done b c.ends.result.now) in omega (arith, noted, done, c.requires.stage.bridges));
-        ended = omega (arith, c.settle-farm.ensures.ended, c.work-worked.ensures.ended, ap (λ (p : RoundMemory). p.ended) c.fill.ensures.kept, c.in_ok-round.ensures.ended);
+            (shut_more b b' c.args.stage.journal.ends c.ends.result.now c.requires.stage.shut
+            (tells_open _ _ b _ _ _ _ _ _ _ (parts.front _ _ _ _ _ _ _ w) a) told.told told.open);
+        bridges = (let noted = ap (λ (j : JournalMemory). length j.bridges) told.noted in
+            let done = ap length (ap (λ (s : State). s.done) told.told ∙ told_done b c.ends.result.now) in
+            omega (arith, noted, done, c.requires.stage.bridges));
+        ended = omega (
+          arith,
+          c.settle-farm.ensures.ended,
+          c.work-worked.ensures.ended,
+          ap (λ (p : RoundMemory). p.ended) c.fill.ensures.kept,
+          c.in_ok-round.ensures.ended,
+        );
         knows = knows_after _ _ b _ _ _ _ _ w a knows b' told.told told.open;
         few = (let kept = ap length (ap (λ (s : State). orders_of s) told.told ∙ told_orders b c.ends.result.now) in omega (arith, kept, c.requires.stage.few));
       };
@@ -188,19 +211,24 @@ returns-clause-reaches g c =
       openings = λ z l openings. subst (λ (j : JournalMemory). OpenedBefore z j.calls) (sym told.noted) openings;
       fell = fell_round _ _ _ _ _ _ _ w;
       failed = λ first later failed. tells_round _ _ _ _ _ _ _ w first later failed (order_after _ _ b _ _ _ _ _ w a knows b' told.told told.open failed.order);
-      sides = sides_more _ _ _ (sides_filled _ _ c.in_ok-round.round.seats c.fill.new.self.seats _ c.fill.ensures.fills c.fill.ensures.others) c.settle-farm.ensures.sides;
+      sides = sides_more _ _ _ (sides_filled _ _ c.in_ok-round.round.seats c.fill.new.self.seats _ c.fill.ensures.fills c.fill.ensures.others)
+          c.settle-farm.ensures.sides;
       goes = goes_after _ _ b _ _ _ _ _ w a knows b' told.told told.open;
       back = λ held. record {
         lines = λ d side o. ap (λ (lines : ℕ → Side → LineState). lines d side) (w.back held).0 ∙ outgoing_between _ _ _ _ _ _ _ w d side o;
         listed = λ d side o. listed_back _ _ b _ _ _ _ _ w a knows b' told.told told.open held d side o;
       };
-      run = λ r first last flags l on at. clock_is r _ _ b _ _ first _ _ _ w (in_run g c r first last l at) m b' last at (meets g c r last flags on) a knows told.told told.open;
+      run = λ r first last flags l on at. clock_is r _ _ b _ _ first _ _ _ w (in_run g c r first last l at) m b' last at
+          (meets g c r last flags on) a knows told.told told.open;
       known = λ r first last flags l on at known.
-          known_round r t n b b' c.args.stage.journal c.tell_ends.new.journal c.args.stage.farm.tallies c.settle-farm.result.tallies (in_run g c r first last l at) (ends g c r first last flags l on at) known;
+          known_round r t n b b' c.args.stage.journal c.tell_ends.new.journal c.args.stage.farm.tallies c.settle-farm.result.tallies
+          (in_run g c r first last l at) (ends g c r first last flags l on at) known;
       wrote = λ held from before r first last flags l on at wrote.
-          written_after r _ _ b _ _ first _ _ _ w (in_run g c r first last l at) m b' last at (meets g c r last flags on) a knows told.told told.open held from before wrote;
+          written_after r _ _ b _ _ first _ _ _ w (in_run g c r first last l at) m b' last at
+          (meets g c r last flags on) a knows told.told told.open held from before wrote;
       sums = λ summed r first last flags l on at sums.
-          sums_after r _ _ b _ _ first _ _ _ w (in_run g c r first last l at) m b' last at (meets g c r last flags on) a knows told.told told.open _ _ (c.settle-farm.ensures.adds summed) sums;
+          sums_after r _ _ b _ _ first _ _ _ w (in_run g c r first last l at) m b' last at (meets g c r last flags on) a knows told.told told.open _ _
+          (c.settle-farm.ensures.adds summed) sums;
       short = λ r first last flags l on at short.
           short_more r c.args.pace.now.batch t (t + n) c.args.stage.farm.failed c.settle-farm.result.failed (omega (arith, c.requires.few))
           (short_after r _ _ b _ _ first _ _ _ w (in_run g c r first last l at) m b' last at (meets g c r last flags on) a knows told.told told.open) short;

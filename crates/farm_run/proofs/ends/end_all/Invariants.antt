@@ -1,7 +1,7 @@
 use Rattle.std.proofs.Common.{◌≡◌, map, take}
 use Rattle.farm_run.specs.Journal.{with_ends}
 use Rattle.farm_run.specs.Ending.{limit_at}
-use Rattle.farm_run.proofs.Ending.{IsTold}
+use Rattle.farm_run.proofs.Told.Ends.{IsTold}
 use Rattle.farm_run.proofs.ends.end_all.Given as goal
 
 abbrev pub invariant-loop-call : goal.invariant-loop-call

@@ -4,8 +4,9 @@ use Rattle.std.proofs.lemmas.List.{get_or_default, take_all}
 use Rattle.switchboard.specs.Open.{partner_now}
 use Rattle.farm_run.specs.Ending.{partner_past}
 use Rattle.farm_run.specs.Journal.{JournalMemory}
-use Rattle.farm_run.proofs.FewEnds.{not_noted}
-use Rattle.farm_run.proofs.Ending.{no_end, none_told, no_ends_noted, none_past, told_all, all_noted, front, apart_front, partner_more, noted_more, told_step, told_open, told_late}
+use Rattle.farm_run.proofs.Told.Few.{not_noted}
+use Rattle.farm_run.proofs.Told.Next.{no_end, front, apart_front, partner_more, noted_more}
+use Rattle.farm_run.proofs.Told.Ends.{none_told, no_ends_noted, none_past, told_all, all_noted, told_step, told_open, told_late}
 use Rattle.farm_run.proofs.ends.tell_ends.Goals as goal
 
 pub loop-end-init : goal.loop-end-init
@@ -20,7 +21,8 @@ ended-requires-clause-open c =
     (c.requires.open i no_end c.loop-end-test.true) c.loop-end.invariant.told
 
 pub ended-requires-clause-late : goal.ended-requires-clause-late
-ended-requires-clause-late c = told_late c.args.board.now c.loop-end.board _ _ c.loop-end.invariant.told (c.requires.late c.loop-end.end-index no_end c.loop-end-test.true)
+ended-requires-clause-late c =
+    told_late c.args.board.now c.loop-end.board _ _ c.loop-end.invariant.told (c.requires.late c.loop-end.end-index no_end c.loop-end-test.true)
 
 pub loop-end-preserved : goal.loop-end-preserved
 loop-end-preserved c =
@@ -29,11 +31,13 @@ loop-end-preserved c =
     let e = slice_index_or ends i no_end in
     let is : e ≡ get_or ends i e = sym (get_or_default ends i e no_end c.loop-end-test.true) in
     record {
-      told = told_step c.args.board.now c.loop-end.board c.ended.new.self ends i e c.loop-end-test.true is c.ended.ensures.state c.ended.ensures.open c.loop-end.invariant.told;
+      told = told_step c.args.board.now c.loop-end.board c.ended.new.self ends i e c.loop-end-test.true is c.ended.ensures.state c.ended.ensures.open
+          c.loop-end.invariant.told;
       noted = noted_more ends i e c.args.journal.now c.loop-end.journal c.end.new.self c.loop-end-test.true is c.end.ensures c.loop-end.invariant.noted;
       partner = λ d.
           c.ended.ensures.partner d
-          ∙ partner_more (partner_now c.args.board.now) c.bridges_join_two.ensures.both_ways _ e (apart_front ends i e c.requires.apart c.loop-end-test.true is) (partner_now c.loop-end.board) c.loop-end.invariant.partner d
+          ∙ partner_more (partner_now c.args.board.now) c.bridges_join_two.ensures.both_ways _ e (apart_front ends i e c.requires.apart c.loop-end-test.true is)
+          (partner_now c.loop-end.board) c.loop-end.invariant.partner d
           ∙ ap (λ xs. partner_past xs (partner_now c.args.board.now) d) (sym (front ends i e c.loop-end-test.true is));
     }
 
@@ -45,7 +49,8 @@ end-requires-clause-new c =
     let ends = c.args.ends.now in
     let i = c.loop-end.end-index in
     let e = slice_index_or ends i no_end in
-    not_noted c.args.journal.now.ends (take i ends) e _ (ap (λ (j : JournalMemory). j.ends) c.loop-end.invariant.noted) (c.requires.new i no_end c.loop-end-test.true)
+    not_noted c.args.journal.now.ends (take i ends) e _ (ap (λ (j : JournalMemory). j.ends) c.loop-end.invariant.noted)
+    (c.requires.new i no_end c.loop-end-test.true)
     (apart_front ends i e c.requires.apart c.loop-end-test.true (sym (get_or_default ends i e no_end c.loop-end-test.true)))
 
 pub returns-clause-told : goal.returns-clause-told
@@ -55,7 +60,9 @@ pub returns-clause-noted : goal.returns-clause-noted
 returns-clause-noted c = all_noted c.args.ends.now c.loop-end.end-index c.args.journal.now c.loop-end.journal c.loop-end-test.false c.loop-end.invariant.noted
 
 pub returns-clause-open : goal.returns-clause-open
-returns-clause-open c = (told_all c.args.board.now c.loop-end.board c.args.ends.now c.loop-end.end-index c.loop-end-test.false c.loop-end.invariant.told).is_open
+returns-clause-open c =
+    (told_all c.args.board.now c.loop-end.board c.args.ends.now c.loop-end.end-index c.loop-end-test.false c.loop-end.invariant.told).is_open
 
 pub returns-clause-partner : goal.returns-clause-partner
-returns-clause-partner c d = c.loop-end.invariant.partner d ∙ ap (λ xs. partner_past xs (partner_now c.args.board.now) d) (take_all c.loop-end.end-index c.args.ends.now c.loop-end-test.false)
+returns-clause-partner c d = c.loop-end.invariant.partner d ∙ ap (λ xs. partner_past xs (partner_now c.args.board.now) d)
+    (take_all c.loop-end.end-index c.args.ends.now c.loop-end-test.false)

@@ -2,7 +2,7 @@ use Rattle.std.proofs.Common.{◌≡◌, ℕ, take}
 use Rattle.switchboard.specs.Open.{partner_now}
 use Rattle.farm_run.specs.Journal.{with_ends}
 use Rattle.farm_run.specs.Ending.{partner_past}
-use Rattle.farm_run.proofs.Ending.{IsTold}
+use Rattle.farm_run.proofs.Told.Ends.{IsTold}
 use Rattle.farm_run.proofs.ends.tell_ends.Given as goal
 
 abbrev pub invariant-loop-end : goal.invariant-loop-end

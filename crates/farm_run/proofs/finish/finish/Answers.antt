@@ -2,15 +2,17 @@ use Rattle.std.proofs.Common.{◌≡◌, sym, ◌∙◌, ℕ, true}
 use Rattle.switchboard.specs.Open.{open_now}
 use Rattle.call_number.specs.CallNumber.{IsCallNumber}
 use Rattle.farm_rounds.specs.Numbers.{is_among}
-use Rattle.farm_run.proofs.FewEnds.{new_limits}
-use Rattle.farm_run.proofs.LastEnds.{all_among, reported_ok}
+use Rattle.farm_run.proofs.Told.Few.{new_limits}
+use Rattle.farm_run.proofs.Reported.LastEnds.{all_among, reported_ok}
 use Rattle.farm_run.proofs.finish.finish.Goals as goal
 
 pub end_all-requires-clause-open : goal.end_all-requires-clause-open
-end_all-requires-clause-open c = all_among (λ d. open_now c.args.board.now d ≡ true) c.live_calls.result.now (λ d q. sym (c.requires.matches.is_open d) ∙ sym (c.live_calls.ensures.calls d) ∙ q)
+end_all-requires-clause-open c = all_among (λ d. open_now c.args.board.now d ≡ true) c.live_calls.result.now
+    (λ d q. sym (c.requires.matches.is_open d) ∙ sym (c.live_calls.ensures.calls d) ∙ q)
 
 pub end_all-requires-clause-numbers : goal.end_all-requires-clause-numbers
-end_all-requires-clause-numbers c = all_among IsCallNumber c.live_calls.result.now (λ d q. c.requires.matches.number d (sym (c.requires.matches.is_open d) ∙ sym (c.live_calls.ensures.calls d) ∙ q))
+end_all-requires-clause-numbers c = all_among IsCallNumber c.live_calls.result.now
+    (λ d q. c.requires.matches.number d (sym (c.requires.matches.is_open d) ∙ sym (c.live_calls.ensures.calls d) ∙ q))
 
 pub returns-clause-reports : goal.returns-clause-reports
 returns-clause-reports c =
@@ -19,7 +21,8 @@ returns-clause-reports c =
     let ended = c.end_all.ensures in
     let h = c.report.ensures in
     let among : (d : ℕ) → is_among calls d ≡ open_now c.args.board.now d = λ d. c.live_calls.ensures.calls d ∙ c.requires.matches.is_open d in
-    reported_ok c.args.board.now c.end_all.new.board farm.groups farm.tallies c.args.journal.now c.end_all.new.journal calls c.args.orders c.args.periods c.report.result
+    reported_ok c.args.board.now c.end_all.new.board farm.groups farm.tallies c.args.journal.now c.end_all.new.journal calls c.args.orders
+    c.args.periods c.report.result
     among c.live_calls.ensures.rising ended.told (ended.none among) ended.noted h.replies h.left h.sorted h.calls h.whole
 
 pub end_all-requires-clause-rising : goal.end_all-requires-clause-rising
@@ -28,7 +31,8 @@ end_all-requires-clause-rising c = c.live_calls.ensures.rising
 pub end_all-requires-clause-new : goal.end_all-requires-clause-new
 end_all-requires-clause-new c =
     new_limits c.args.board.now c.args.journal.now.ends c.args.periods c.live_calls.result.now c.requires.shut
-    (all_among (λ d. open_now c.args.board.now d ≡ true) c.live_calls.result.now (λ d q. sym (c.requires.matches.is_open d) ∙ sym (c.live_calls.ensures.calls d) ∙ q))
+    (all_among (λ d. open_now c.args.board.now d ≡ true) c.live_calls.result.now
+    (λ d q. sym (c.requires.matches.is_open d) ∙ sym (c.live_calls.ensures.calls d) ∙ q))
 
 pub returns-clause-failed : goal.returns-clause-failed
 returns-clause-failed c = c.report.ensures.failed

@@ -7,13 +7,15 @@ use Rattle.switchboard.specs.Open.{opened_now, open_now, partner_now, opened_aft
 use Rattle.farm_run.specs.Match.{histories_at}
 use Rattle.farm_run.specs.Journal.{JournalMemory}
 use Rattle.farm_run.specs.Noted.{Noted}
-use Rattle.farm_run.proofs.NotedOrders.{noted_accepted, noted_quiet}
-use Rattle.farm_run.proofs.Matching.{fits, named, matches_more, matches_same}
-use Rattle.farm_run.proofs.Following.{due_of, told_kept, left_fewer, ahead_more, follows_more, follows_same}
+use Rattle.farm_run.proofs.Noted.Orders.{noted_quiet}
+use Rattle.farm_run.proofs.Noted.Accepted.{noted_accepted}
+use Rattle.farm_run.proofs.Ordered.Matching.{fits, named, matches_more, matches_same}
+use Rattle.farm_run.proofs.Ordered.Due.{due_of, told_kept, left_fewer, ahead_more}
+use Rattle.farm_run.proofs.Ordered.Following.{follows_more, follows_same}
 use Rattle.farm_run.specs.Standing.{KnowsListed}
 use Rattle.farm_run.specs.Ending.{AreShut}
-use Rattle.farm_run.proofs.FewEnds.{closes_once, one_more, shut_ordered, shut_same}
-use Rattle.farm_run.proofs.Boards.{over_turned, knows_more, knows_same}
+use Rattle.farm_run.proofs.Told.Few.{closes_once, one_more, shut_ordered, shut_same}
+use Rattle.farm_run.proofs.Listed.Boards.{over_turned, knows_more, knows_same}
 use Rattle.trau_io.specs.declared.line.Line.{Line}
 use Rattle.switchboard.specs.State.{State}
 use Rattle.farm_run.specs.Match.{AtClock, FollowsRun}
@@ -23,26 +25,34 @@ use Rattle.farm_run.proofs.orders.execute.Goals as goal
 pub note-requires-clause-numbers : goal.note-requires-clause-numbers
 note-requires-clause-numbers c =
     named c.args.board.now c.args.farm.now.groups c.in-Ok.act c.requires.clock.matches
-    (subst (λ x. IfOk x (λ (a : Act). Finds a (opened_now c.args.board.now) (open_now c.args.board.now) (partner_now c.args.board.now))) c.in-Ok.is c.in-Some.ensures.finds)
+    (subst (λ x. IfOk x (λ (a : Act). Finds a (opened_now c.args.board.now) (open_now c.args.board.now) (partner_now c.args.board.now))) c.in-Ok.is
+    c.in-Some.ensures.finds)
 
 pub note-requires-clause-once : goal.note-requires-clause-once
 note-requires-clause-once c =
     closes_once c.args.board.now c.args.journal.now.ends c.in-Ok.act c.requires.shut
-    (subst (λ x. IfOk x (λ (a : Act). Finds a (opened_now c.args.board.now) (open_now c.args.board.now) (partner_now c.args.board.now))) c.in-Ok.is c.in-Some.ensures.finds)
+    (subst (λ x. IfOk x (λ (a : Act). Finds a (opened_now c.args.board.now) (open_now c.args.board.now) (partner_now c.args.board.now))) c.in-Ok.is
+    c.in-Some.ensures.finds)
 
 pub note-requires-clause-room : goal.note-requires-clause-room
 note-requires-clause-room c =
-    let more = one_more c.args.board.now c.turn.new.self (left_fewer _ _ _ _ (due_of c.args.board.now c.turn.new.self c.args.clock c.in-Some.reply (sym c.in-Some.is ∙ c.turn.ensures.answer) c.turn.ensures.state)) c.turn.ensures.kept in
+    let more = one_more c.args.board.now c.turn.new.self (left_fewer _ _ _ _
+    (due_of c.args.board.now c.turn.new.self c.args.clock c.in-Some.reply (sym c.in-Some.is ∙ c.turn.ensures.answer) c.turn.ensures.state))
+    c.turn.ensures.kept in
     omega (arith, more.0, c.requires.few, c.requires.bridges)
 
 pub returns-in_ok-apply-clause-bridges : goal.returns-in_ok-apply-clause-bridges
 returns-in_ok-apply-clause-bridges c =
-    let more = one_more c.args.board.now c.turn.new.self (left_fewer _ _ _ _ (due_of c.args.board.now c.turn.new.self c.args.clock c.in-Some.reply (sym c.in-Some.is ∙ c.turn.ensures.answer) c.turn.ensures.state)) c.turn.ensures.kept in
+    let more = one_more c.args.board.now c.turn.new.self (left_fewer _ _ _ _
+    (due_of c.args.board.now c.turn.new.self c.args.clock c.in-Some.reply (sym c.in-Some.is ∙ c.turn.ensures.answer) c.turn.ensures.state))
+    c.turn.ensures.kept in
     omega (arith, more.1, c.requires.bridges, c.note.ensures.bridges)
 
 pub returns-in_default-result-clause-bridges : goal.returns-in_default-result-clause-bridges
 returns-in_default-result-clause-bridges c =
-    let more = one_more c.args.board.now c.turn.new.self (left_fewer _ _ _ _ (due_of c.args.board.now c.turn.new.self c.args.clock c.in-Some.reply (sym c.in-Some.is ∙ c.turn.ensures.answer) c.turn.ensures.state)) c.turn.ensures.kept in
+    let more = one_more c.args.board.now c.turn.new.self (left_fewer _ _ _ _
+    (due_of c.args.board.now c.turn.new.self c.args.clock c.in-Some.reply (sym c.in-Some.is ∙ c.turn.ensures.answer) c.turn.ensures.state))
+    c.turn.ensures.kept in
     omega (arith, more.1, c.requires.bridges)
 
 pub turn-requires-clause-orders : goal.turn-requires-clause-orders
@@ -54,7 +64,8 @@ turn-requires-clause-ends c = c.requires.clock.ends
 pub apply-requires : goal.apply-requires
 apply-requires c =
     fits c.args.board.now c.args.farm.now.groups c.in-Ok.act c.requires.clock.matches
-    (subst (λ x. IfOk x (λ (a : Act). Finds a (opened_now c.args.board.now) (open_now c.args.board.now) (partner_now c.args.board.now))) c.in-Ok.is c.in-Some.ensures.finds)
+    (subst (λ x. IfOk x (λ (a : Act). Finds a (opened_now c.args.board.now) (open_now c.args.board.now) (partner_now c.args.board.now))) c.in-Ok.is
+    c.in-Some.ensures.finds)
     (subst (λ x. IfOk x IsInRange) c.in-Ok.is c.in-Some.ensures.range)
 
 pub returns-in_ok-apply-clause-clock : goal.returns-in_ok-apply-clause-clock
@@ -63,7 +74,8 @@ returns-in_ok-apply-clause-clock c =
     let e = c.in-Some.ensures in
     record {
       orders = subst AreOrders (sym c.turn.ensures.kept) c.requires.clock.orders;
-      ahead = ahead_more b c.turn.new.self c.args.clock c.in-Some.reply c.requires.clock.orders (due_of b c.turn.new.self c.args.clock c.in-Some.reply (sym c.in-Some.is ∙ c.turn.ensures.answer) c.turn.ensures.state);
+      ahead = ahead_more b c.turn.new.self c.args.clock c.in-Some.reply c.requires.clock.orders
+          (due_of b c.turn.new.self c.args.clock c.in-Some.reply (sym c.in-Some.is ∙ c.turn.ensures.answer) c.turn.ensures.state);
       past = omega (arith, e.last refl);
       ends = c.turn.ensures.told c.args.clock c.requires.clock.ends;
       matches = matches_more b c.turn.new.self c.args.farm.now.groups c.apply.new.self.groups c.in-Ok.act c.requires.clock.matches
@@ -77,7 +89,8 @@ pub returns-in_ok-apply-clause-follows : goal.returns-in_ok-apply-clause-follows
 returns-in_ok-apply-clause-follows c = λ r under f.
     let b = c.args.board.now in
     let e = c.in-Some.ensures in
-    follows_more r c.args.clock b c.turn.new.self c.in-Some.reply c.args.farm.now.groups (due_of b c.turn.new.self c.args.clock c.in-Some.reply (sym c.in-Some.is ∙ c.turn.ensures.answer) c.turn.ensures.state)
+    follows_more r c.args.clock b c.turn.new.self c.in-Some.reply c.args.farm.now.groups
+    (due_of b c.turn.new.self c.args.clock c.in-Some.reply (sym c.in-Some.is ∙ c.turn.ensures.answer) c.turn.ensures.state)
     under (c.turn.ensures.run _ f.so_far.replies f.tells) f c.in-Ok.act c.in-Ok.is
     (subst (λ x. IfOk x (λ (a : Act). Finds a (opened_now b) (open_now b) (partner_now b))) c.in-Ok.is e.finds)
     (subst (λ x. IfOk x (λ (a : Act). (c' : ℕ) → open_now c.turn.new.self c' ≡ open_after a (open_now b) c')) c.in-Ok.is e.open)
@@ -91,7 +104,8 @@ returns-in_default-result-clause-clock c =
     let same : IsAsBefore b c.turn.new.self = subst (λ x. OnErr x (IsAsBefore b c.turn.new.self)) c.in_default-result.is e.stays in
     record {
       orders = subst AreOrders (sym c.turn.ensures.kept) c.requires.clock.orders;
-      ahead = ahead_more b c.turn.new.self c.args.clock c.in-Some.reply c.requires.clock.orders (due_of b c.turn.new.self c.args.clock c.in-Some.reply (sym c.in-Some.is ∙ c.turn.ensures.answer) c.turn.ensures.state);
+      ahead = ahead_more b c.turn.new.self c.args.clock c.in-Some.reply c.requires.clock.orders
+          (due_of b c.turn.new.self c.args.clock c.in-Some.reply (sym c.in-Some.is ∙ c.turn.ensures.answer) c.turn.ensures.state);
       past = omega (arith, e.last refl);
       ends = c.turn.ensures.told c.args.clock c.requires.clock.ends;
       matches = matches_same b c.turn.new.self c.args.farm.now.groups c.requires.clock.matches same.is_open same.partner;
@@ -102,7 +116,8 @@ returns-in_default-result-clause-follows c = λ r under f.
     let b = c.args.board.now in
     let e = c.in-Some.ensures in
     let same : IsAsBefore b c.turn.new.self = subst (λ x. OnErr x (IsAsBefore b c.turn.new.self)) c.in_default-result.is e.stays in
-    follows_same r c.args.clock b c.turn.new.self c.in-Some.reply c.args.farm.now.groups (due_of b c.turn.new.self c.args.clock c.in-Some.reply (sym c.in-Some.is ∙ c.turn.ensures.answer) c.turn.ensures.state)
+    follows_same r c.args.clock b c.turn.new.self c.in-Some.reply c.args.farm.now.groups
+    (due_of b c.turn.new.self c.args.clock c.in-Some.reply (sym c.in-Some.is ∙ c.turn.ensures.answer) c.turn.ensures.state)
     under (c.turn.ensures.run _ f.so_far.replies f.tells) f c.in_default-result.field-0 c.in_default-result.is same.is_open
 
 pub returns-in_ok-apply-clause-noted : goal.returns-in_ok-apply-clause-noted
@@ -113,7 +128,8 @@ returns-in_ok-apply-clause-noted c = λ r under f noted.
     let farm = c.args.farm.now in
     let h = histories_at r b.done c.args.clock in
     subst (λ (j : JournalMemory). Noted r n.done c.args.clock j c.apply.new.self.tallies) (sym (c.note.ensures.noted h f.stands))
-    (noted_accepted r c.args.clock b n c.in-Some.reply farm.groups c.apply.new.self.groups (due_of b n c.args.clock c.in-Some.reply (sym c.in-Some.is ∙ c.turn.ensures.answer) c.turn.ensures.state)
+    (noted_accepted r c.args.clock b n c.in-Some.reply farm.groups c.apply.new.self.groups
+    (due_of b n c.args.clock c.in-Some.reply (sym c.in-Some.is ∙ c.turn.ensures.answer) c.turn.ensures.state)
     under f (returns-in_ok-apply-clause-follows c r under f) c.args.journal.now farm.tallies c.apply.new.self.tallies noted c.in-Ok.act c.in-Ok.is
     (subst (λ x. IfOk x (λ (a : Act). Finds a (opened_now b) (open_now b) (partner_now b))) c.in-Ok.is e.finds)
     (subst (λ x. IfOk x (λ (a : Act). (c' : ℕ) → opened_now n c' ≡ opened_after a (opened_now b) c')) c.in-Ok.is e.opened)
@@ -126,8 +142,10 @@ returns-in_default-result-clause-noted c = λ r under f noted.
     let n = c.turn.new.self in
     let farm = c.args.farm.now in
     let same : IsAsBefore b n = subst (λ x. OnErr x (IsAsBefore b n)) c.in_default-result.is c.in-Some.ensures.stays in
-    noted_quiet r c.args.clock b n c.in-Some.reply farm.groups farm.groups (due_of b n c.args.clock c.in-Some.reply (sym c.in-Some.is ∙ c.turn.ensures.answer) c.turn.ensures.state)
-    under f (returns-in_default-result-clause-follows c r under f) (Err c.in_default-result.field-0) c.args.journal.now farm.tallies farm.tallies c.in_default-result.is refl same.opened same.is_open (λ d. refl) noted
+    noted_quiet r c.args.clock b n c.in-Some.reply farm.groups farm.groups
+    (due_of b n c.args.clock c.in-Some.reply (sym c.in-Some.is ∙ c.turn.ensures.answer) c.turn.ensures.state)
+    under f (returns-in_default-result-clause-follows c r under f) (Err c.in_default-result.field-0) c.args.journal.now farm.tallies farm.tallies
+    c.in_default-result.is refl same.opened same.is_open (λ d. refl) noted
 
 pub returns-in_ok-apply-clause-knows : goal.returns-in_ok-apply-clause-knows
 returns-in_ok-apply-clause-knows c = λ knows.
@@ -177,7 +195,8 @@ pub returns-in_default-result-clause-failed : goal.returns-in_default-result-cla
 returns-in_default-result-clause-failed c = refl
 
 pub returns-in_default-result-clause-knows : goal.returns-in_default-result-clause-knows
-returns-in_default-result-clause-knows c = λ knows. knows_same c.args.board.now c.turn.new.self _ c.args.farm.now.groups c.args.farm.now.failed c.turn.ensures.state knows
+returns-in_default-result-clause-knows c =
+    λ knows. knows_same c.args.board.now c.turn.new.self _ c.args.farm.now.groups c.args.farm.now.failed c.turn.ensures.state knows
 
 pub returns-in_default-result-clause-over : goal.returns-in_default-result-clause-over
 returns-in_default-result-clause-over c = over_turned c.args.board.now c.turn.new.self _ c.turn.ensures.state
@@ -192,7 +211,8 @@ pub returns-in_default-clause-failed : goal.returns-in_default-clause-failed
 returns-in_default-clause-failed c = refl
 
 pub returns-in_default-clause-knows : goal.returns-in_default-clause-knows
-returns-in_default-clause-knows c = λ knows. knows_same c.args.board.now c.turn.new.self _ c.args.farm.now.groups c.args.farm.now.failed c.turn.ensures.state knows
+returns-in_default-clause-knows c =
+    λ knows. knows_same c.args.board.now c.turn.new.self _ c.args.farm.now.groups c.args.farm.now.failed c.turn.ensures.state knows
 
 pub returns-in_default-clause-over : goal.returns-in_default-clause-over
 returns-in_default-clause-over c = over_turned c.args.board.now c.turn.new.self _ c.turn.ensures.state
@@ -201,7 +221,9 @@ pub returns-in_ok-apply-clause-done : goal.returns-in_ok-apply-clause-done
 returns-in_ok-apply-clause-done c = λ e. cc
 
 pub returns-in_ok-apply-clause-left : goal.returns-in_ok-apply-clause-left
-returns-in_ok-apply-clause-left c = λ e. left_fewer _ _ _ _ (due_of c.args.board.now c.turn.new.self c.args.clock c.in-Some.reply (sym c.in-Some.is ∙ c.turn.ensures.answer) c.turn.ensures.state)
+returns-in_ok-apply-clause-left c =
+    λ e. left_fewer _ _ _ _ (due_of c.args.board.now c.turn.new.self c.args.clock c.in-Some.reply
+    (sym c.in-Some.is ∙ c.turn.ensures.answer) c.turn.ensures.state)
 
 pub returns-in_ok-apply-clause-told : goal.returns-in_ok-apply-clause-told
 returns-in_ok-apply-clause-told c = told_kept c.args.board.now c.turn.new.self _ c.turn.ensures.state
@@ -210,7 +232,9 @@ pub returns-in_default-result-clause-done : goal.returns-in_default-result-claus
 returns-in_default-result-clause-done c = λ e. cc
 
 pub returns-in_default-result-clause-left : goal.returns-in_default-result-clause-left
-returns-in_default-result-clause-left c = λ e. left_fewer _ _ _ _ (due_of c.args.board.now c.turn.new.self c.args.clock c.in-Some.reply (sym c.in-Some.is ∙ c.turn.ensures.answer) c.turn.ensures.state)
+returns-in_default-result-clause-left c =
+    λ e. left_fewer _ _ _ _ (due_of c.args.board.now c.turn.new.self c.args.clock c.in-Some.reply
+    (sym c.in-Some.is ∙ c.turn.ensures.answer) c.turn.ensures.state)
 
 pub returns-in_default-result-clause-told : goal.returns-in_default-result-clause-told
 returns-in_default-result-clause-told c = told_kept c.args.board.now c.turn.new.self _ c.turn.ensures.state
@@ -238,7 +262,8 @@ pub returns-in_default-clause-follows : goal.returns-in_default-clause-follows
 returns-in_default-clause-follows c = λ r under f. subst (λ (s : State). FollowsRun r c.args.clock s c.args.farm.now.groups) (same_board c) f
 
 pub returns-in_default-clause-noted : goal.returns-in_default-clause-noted
-returns-in_default-clause-noted c = λ r under f noted. subst (λ (s : State). Noted r s.done c.args.clock c.args.journal.now c.args.farm.now.tallies) (same_board c) noted
+returns-in_default-clause-noted c =
+    λ r under f noted. subst (λ (s : State). Noted r s.done c.args.clock c.args.journal.now c.args.farm.now.tallies) (same_board c) noted
 
 pub returns-in_err-apply : goal.returns-in_err-apply
 returns-in_err-apply c =

@@ -21,7 +21,8 @@ invariant-loop l = record {
   follows : (r : Run) → l.clock < r.periods → FollowsRun r l.clock l.initial.board l.initial.farm.groups → FollowsRun r l.clock l.board l.farm.groups;
   told : l.board.told ≡ l.initial.board.told;
   openings : (n : ℕ) → l.clock < n → OpenedBefore n l.initial.journal.calls → OpenedBefore n l.journal.calls;
-  noted : (r : Run) → l.clock < r.periods → FollowsRun r l.clock l.initial.board l.initial.farm.groups → Noted r l.initial.board.done l.clock l.initial.journal l.initial.farm.tallies → Noted r l.board.done l.clock l.journal l.farm.tallies;
+  noted : (r : Run) → l.clock < r.periods → FollowsRun r l.clock l.initial.board l.initial.farm.groups →
+      Noted r l.initial.board.done l.clock l.initial.journal l.initial.farm.tallies → Noted r l.board.done l.clock l.journal l.farm.tallies;
 }
 
 abbrev pub decreases-loop : goal.decreases-loop

@@ -4,8 +4,8 @@ use Rattle.std.proofs.lemmas.List.{get_or_default, take_all}
 use Rattle.trau_io.specs.declared.ends.CallEnd.{CallEnd}
 use Rattle.farm_rounds.specs.declared.tally.Tally.{Tally}
 use Rattle.farm_run.specs.Facts.{kept_in}
-use Rattle.farm_run.proofs.Ending.{no_end}
-use Rattle.farm_run.proofs.Reporting.{kept_value, ends_more, line_more}
+use Rattle.farm_run.proofs.Told.Next.{no_end}
+use Rattle.farm_run.proofs.Reported.Reporting.{kept_value, ends_more, line_more}
 use Rattle.farm_run.proofs.report.ended_lines.Goals as goal
 
 pub loop-end-preserved : goal.loop-end-preserved
@@ -16,9 +16,11 @@ loop-end-preserved c =
     let e = slice_index_or xs i no_end in
     let is = sym (get_or_default xs i e no_end c.loop-end-test.true) in
     record {
-      ends = ends_more c.args.journal.now.ends xs i e c.from.result c.counts.result c.loop-end.lines.items c.push.new.self.items c.ends-end-items.ensures.ends c.loop-end-test.true is c.loop-end.invariant.ends c.in_ok-push.ensures.items;
+      ends = ends_more c.args.journal.now.ends xs i e c.from.result c.counts.result c.loop-end.lines.items c.push.new.self.items c.ends-end-items.ensures.ends
+          c.loop-end-test.true is c.loop-end.invariant.ends c.in_ok-push.ensures.items;
       lines = λ h g.
-          line_more c.args.journal.now.ends xs c.args.journal.now.calls (kept_in farm.tallies h) i e c.from.result c.counts.result c.loop-end.lines.items c.push.new.self.items c.ends-end-items.ensures.ends c.loop-end-test.true is c.from.ensures
+          line_more c.args.journal.now.ends xs c.args.journal.now.calls (kept_in farm.tallies h) i e c.from.result c.counts.result c.loop-end.lines.items
+          c.push.new.self.items c.ends-end-items.ensures.ends c.loop-end-test.true is c.from.ensures
           (kept_value (λ (t : Tally). t.counts) h farm.groups farm.tallies e.call c.counts.result g (λ x. c.counts.ensures.live h x g) c.counts.ensures.ended)
           (c.loop-end.invariant.lines h g) c.in_ok-push.ensures.items;
     }

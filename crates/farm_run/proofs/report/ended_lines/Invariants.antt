@@ -7,5 +7,6 @@ use Rattle.farm_run.proofs.report.ended_lines.Given as goal
 abbrev pub invariant-loop-end : goal.invariant-loop-end
 invariant-loop-end l = record {
   ends : map (λ (x : CallLine). x.end) l.lines.items ≡ take l.end-index l.journal.ends;
-  lines : (h : ℕ → Option CallHistory) → GroupsStand h l.farm.groups → l.lines.items ≡ map (call_line l.journal.calls (kept_in l.farm.tallies h)) (take l.end-index l.journal.ends);
+  lines : (h : ℕ → Option CallHistory) → GroupsStand h l.farm.groups →
+      l.lines.items ≡ map (call_line l.journal.calls (kept_in l.farm.tallies h)) (take l.end-index l.journal.ends);
 }

@@ -9,7 +9,7 @@ use Rattle.farm_run.specs.declared.notes.BridgeNote.{BridgeNote}
 use Rattle.farm_run.specs.declared.notes.Opening.{Opening}
 use Rattle.farm_run.specs.Journal.{JournalMemory}
 use Rattle.farm_run.specs.Facts.{kept_in, call_line, span_lines}
-use Rattle.farm_run.proofs.Reporting.{length-numbered}
+use Rattle.farm_run.proofs.Reported.Reporting.{length-numbered}
 use Rattle.std.proofs.lemmas.Result.{IfOk-from_err}
 use Rattle.farm_run.proofs.report.report.Goals as goal
 
@@ -27,28 +27,65 @@ returns-clause-left c = omega (arith, c.saturating_sub.ensures, ap length c.repl
 
 pub returns-clause-ends : goal.returns-clause-ends
 returns-clause-ends c =
-    subst (λ (es : List CallEnd). IsPermutation es (map (λ (l : CallLine). l.end) c.by_number.result.items)) (c.in_ok-calls.ensures.ends ∙ c.settle_all.ensures.ends)
+    subst (λ (es : List CallEnd). IsPermutation es (map (λ (l : CallLine). l.end) c.by_number.result.items))
+    (c.in_ok-calls.ensures.ends ∙ c.settle_all.ensures.ends)
     (IsPermutation-map (λ (l : CallLine). l.end) _ _ c.by_number.ensures.same)
 
 pub returns-in_err-calls : goal.returns-in_err-calls
 returns-in_err-calls c =
     let no = c.from_residual.ensures.0 in
-    record { replies = IfOk-from_err _ _ no; failed = IfOk-from_err _ _ no; left = IfOk-from_err _ _ no; sorted = IfOk-from_err _ _ no; ends = IfOk-from_err _ _ no; calls = IfOk-from_err _ _ no; spans = IfOk-from_err _ _ no; whole = IfOk-from_err _ _ no }
+    record {
+      replies = IfOk-from_err _ _ no;
+      failed = IfOk-from_err _ _ no;
+      left = IfOk-from_err _ _ no;
+      sorted = IfOk-from_err _ _ no;
+      ends = IfOk-from_err _ _ no;
+      calls = IfOk-from_err _ _ no;
+      spans = IfOk-from_err _ _ no;
+      whole = IfOk-from_err _ _ no;
+    }
 
 pub returns-in_err-to_vec : goal.returns-in_err-to_vec
 returns-in_err-to_vec c =
     let no = c.from_residual-in_err-to_vec.ensures.0 in
-    record { replies = IfOk-from_err _ _ no; failed = IfOk-from_err _ _ no; left = IfOk-from_err _ _ no; sorted = IfOk-from_err _ _ no; ends = IfOk-from_err _ _ no; calls = IfOk-from_err _ _ no; spans = IfOk-from_err _ _ no; whole = IfOk-from_err _ _ no }
+    record {
+      replies = IfOk-from_err _ _ no;
+      failed = IfOk-from_err _ _ no;
+      left = IfOk-from_err _ _ no;
+      sorted = IfOk-from_err _ _ no;
+      ends = IfOk-from_err _ _ no;
+      calls = IfOk-from_err _ _ no;
+      spans = IfOk-from_err _ _ no;
+      whole = IfOk-from_err _ _ no;
+    }
 
 pub returns-in_err-span_lines : goal.returns-in_err-span_lines
 returns-in_err-span_lines c =
     let no = c.from_residual-in_err-span_lines.ensures.0 in
-    record { replies = IfOk-from_err _ _ no; failed = IfOk-from_err _ _ no; left = IfOk-from_err _ _ no; sorted = IfOk-from_err _ _ no; ends = IfOk-from_err _ _ no; calls = IfOk-from_err _ _ no; spans = IfOk-from_err _ _ no; whole = IfOk-from_err _ _ no }
+    record {
+      replies = IfOk-from_err _ _ no;
+      failed = IfOk-from_err _ _ no;
+      left = IfOk-from_err _ _ no;
+      sorted = IfOk-from_err _ _ no;
+      ends = IfOk-from_err _ _ no;
+      calls = IfOk-from_err _ _ no;
+      spans = IfOk-from_err _ _ no;
+      whole = IfOk-from_err _ _ no;
+    }
 
 pub returns-in_err-to_vec-2 : goal.returns-in_err-to_vec-2
 returns-in_err-to_vec-2 c =
     let no = c.from_residual-in_err-to_vec-2.ensures.0 in
-    record { replies = IfOk-from_err _ _ no; failed = IfOk-from_err _ _ no; left = IfOk-from_err _ _ no; sorted = IfOk-from_err _ _ no; ends = IfOk-from_err _ _ no; calls = IfOk-from_err _ _ no; spans = IfOk-from_err _ _ no; whole = IfOk-from_err _ _ no }
+    record {
+      replies = IfOk-from_err _ _ no;
+      failed = IfOk-from_err _ _ no;
+      left = IfOk-from_err _ _ no;
+      sorted = IfOk-from_err _ _ no;
+      ends = IfOk-from_err _ _ no;
+      calls = IfOk-from_err _ _ no;
+      spans = IfOk-from_err _ _ no;
+      whole = IfOk-from_err _ _ no;
+    }
 
 pub returns-clause-calls : goal.returns-clause-calls
 returns-clause-calls c = λ h g.

@@ -5,7 +5,8 @@ use Rattle.farm_run.proofs.report.settle_all.Given as goal
 
 abbrev pub invariant-loop-k : goal.invariant-loop-k
 invariant-loop-k l = record {
-  settled : (h : ℕ → Option CallHistory) → GroupsStand h l.farm.groups → l.journal ≡ settled_each (kept_in l.farm.tallies h) (take l.k l.initial.journal.ends) l.initial.journal;
+  settled : (h : ℕ → Option CallHistory) → GroupsStand h l.farm.groups →
+      l.journal ≡ settled_each (kept_in l.farm.tallies h) (take l.k l.initial.journal.ends) l.initial.journal;
   ends : l.journal.ends ≡ l.initial.journal.ends;
   calls : l.journal.calls ≡ l.initial.journal.calls;
 }

@@ -1,4 +1,6 @@
-use Rattle.std.proofs.Common.{◌≡◌, ◌∷◌, ◌∙◌, ap, subst}
+use Rattle.std.proofs.Common.{◌≡◌, ◌≢◌, ◌∷◌, ◌∙◌, length, ap, subst}
+use Rattle.std.specs.Array.{IsWholeChunk}
+use Rattle.std.proofs.lemmas.Option.{MatchOption-at_some}
 use Rattle.fr_encoder.specs.Encoded.{encoded_of, encoding_of}
 use Rattle.fr_encoder.specs.Stands.{Stands}
 use Rattle.farm_tools.specs.Made.{frame_of_encoded}

@@ -1,6 +1,6 @@
 use Rattle.std.proofs.Common.{◌≡◌, max, inl, inr, subst, rules, Ok}
 use Rattle.farm_run.specs.declared.pace.Pace.{Pace}
-use Rattle.farm_run.specs.Resuming.{IsResumeCutShort}
+use Rattle.farm_run.specs.Resuming.{FindsDifference, IsResumeCutShort}
 use Rattle.farm_top.specs.Farm.{EndsWith}
 use Rattle.farm_top.specs.Resume.{differs_text}
 use Rattle.farm_top.proofs.Headlining.{marked_orders_read, resumed_and_told}
@@ -27,7 +27,8 @@ returns-in-Ok-Ran g c =
 pub returns-in-Ok-Differs : goal.returns-in-Ok-Differs
 returns-in-Ok-Differs g c =
     let read = c.in-Ok.ensures in
-    let finds = rw c.in-Ok-Differs.field-0-is at c.in-Ok-Differs.ensures.resumes in
+    let finds = subst (λ (p : Pace). FindsDifference c.in-Ok.marked.orders p c.in-Ok.marked.mark (g.T.Trunk.lines c.args.trunk.now)
+    (g.T.Trunk.lines c.resume.new.trunk) c.in-Ok-Differs.call) c.pace_of.ensures (rw c.in-Ok-Differs.field-0-is at c.in-Ok-Differs.ensures.resumes) in
     let is : c.as_bytes.result.now ≡ differs_text c.in-Ok-Differs.call = search rules in
     record {
       read = g.D.Desk.desk c.read_marked_orders.new.desk;
@@ -49,7 +50,7 @@ pub returns : goal.returns
 returns g c =
     let read = c.in-Ok.ensures in
     let cut = subst
-    (λ (p : Pace). IsResumeCutShort c.in-Ok.marked.orders (max c.in-Ok.marked.mark.period p.periods) c.in-Ok.marked.mark.period
+    (λ (p : Pace). IsResumeCutShort c.in-Ok.marked.orders (max c.in-Ok.marked.mark.period p.periods) c.in-Ok.marked.mark
     (g.T.Trunk.lines c.args.trunk.now) (g.T.Trunk.lines c.resume.new.trunk))
     c.pace_of.ensures c.in-Err-resume.ensures.cut in
     record {

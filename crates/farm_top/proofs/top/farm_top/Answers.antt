@@ -1,11 +1,13 @@
 use Rattle.std.proofs.Common.{◌≡◌, ◌⊎◌, inl, inr, ℕ, refl, arith, rules}
 use Rattle.farm_top.specs.Top.{IsInRange}
-use Rattle.farm_top.proofs.Asking.{drill_carried, follow_carried, in_range, is_command, listing_carried, live_carried, merge_carried, no_command, no_following, no_listing, no_merge, no_split, no_tool, resume_carried, run_carried, save_carried, split_carried, tool_carried}
+use Rattle.farm_top.proofs.Asking.{drill_carried, follow_carried, in_range, is_command, listing_carried, live_carried, merge_carried, no_command, no_following}
+use Rattle.farm_top.proofs.Asking.{no_listing, no_merge, no_split, no_tool, resume_carried, run_carried, save_carried, split_carried, tool_carried}
 use Rattle.farm_top.proofs.Carrying.{causes, clean, listing_causes, listing_clean}
 use Rattle.farm_top.proofs.Drilling.{drill_ends, not_six}
 use Rattle.farm_top.proofs.FarmCausing.{run_causes, save_causes}
-use Rattle.farm_run.proofs.Cutting.{cut_first}
-use Rattle.farm_top.proofs.FarmCleaning.{run_clean, run_complete, run_cut_short, run_ended, run_headline, run_leaves, save_clean, save_complete, save_cut_short, save_ended, save_headline, save_leaves}
+use Rattle.farm_run.proofs.Lines.Cutting.{cut_first}
+use Rattle.farm_top.proofs.FarmCleaning.{run_clean, run_complete, run_cut_short, run_ended, run_headline, run_leaves, save_clean, save_complete, save_cut_short}
+use Rattle.farm_top.proofs.FarmCleaning.{save_ended, save_headline, save_leaves}
 use Rattle.farm_top.proofs.Ending.{not_usage}
 use Rattle.farm_top.proofs.Living.{live_ends}
 use Rattle.farm_top.proofs.ResumeReading.{resume_causes}

@@ -1,5 +1,5 @@
 use Rattle.run_spec.proofs.SoFar.{standing_now}
-use Rattle.run_spec.proofs.Bridging.{settings_later}
+use Rattle.run_spec.proofs.Bridging.{next_settings}
 use Rattle.run_spec.proofs.Acting.{settings_ordered}
 use Rattle.run_spec.proofs.laws.settings_follow.Goals as goal
 
@@ -7,4 +7,4 @@ pub returns-clause-order : goal.returns-clause-order
 returns-clause-order g = settings_ordered
 
 pub returns-clause-period : goal.returns-clause-period
-returns-clause-period g = λ r t u ds left c s. settings_later r t u ds c (standing_now r t ds left s)
+returns-clause-period g = λ r t u ds left c s. next_settings r t u ds c (standing_now r t ds left s)

@@ -1,9 +1,15 @@
 use Rattle.std.proofs.Common.{IfSome, sym, subst, rules}
 use Rattle.ccu_end.specs.Found.{HaveBits}
 use Rattle.ccu_end.specs.Heard.{frames_of}
+use Rattle.frame_sync.proofs.Kept.{second_period}
 use Rattle.ccu_end.proofs.Waits.{last-bits}
 use Rattle.ccu_end.proofs.Periods.{stands-next}
 use Rattle.ccu_end.proofs.station.Ccu.feed.Goals as goal
+
+pub returns-clause-last : goal.returns-clause-last
+returns-clause-last c =
+    second_period c.self.inside.last _ c.two_periods-window.result c.args.octets.now (search rules) c.told-octets c.two_periods-window.ensures.value
+    c.copy_from_slice.ensures.after
 
 pub returns-clause-history : goal.returns-clause-history
 returns-clause-history c =
@@ -12,7 +18,7 @@ returns-clause-history c =
       frames = search rules;
       low = search rules;
       counted = search rules;
-      last = search rules;
+      last = returns-clause-last c;
       want = search rules;
       waiting = search rules;
       answer = search rules;

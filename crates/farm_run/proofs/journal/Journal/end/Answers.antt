@@ -2,8 +2,8 @@ use Rattle.std.proofs.Common.{◌≡◌, ap, ◌∙◌, false, arith, List}
 use Rattle.trau_io.specs.declared.ends.CallEnd.{CallEnd}
 use Rattle.farm_run.specs.Going.{is_told}
 use Rattle.farm_run.specs.Journal.{JournalMemory, with_end}
-use Rattle.farm_run.proofs.FewEnds.{room_for}
-use Rattle.farm_run.proofs.Places.{journal-ended}
+use Rattle.farm_run.proofs.Told.Few.{room_for}
+use Rattle.farm_run.proofs.Noted.Places.{journal-ended}
 use Rattle.farm_run.proofs.journal.Journal.end.Goals as goal
 
 -- the call's end isn't among those that are kept
@@ -17,7 +17,8 @@ push_reserved-requires c =
 
 pub invariant_of-self : goal.invariant_of-self
 invariant_of-self c = (
-  journal-ended c.self.inside.calls.items c.self.inside.ends.items c.push_reserved.new.self.items c.self.inside.bridges.items c.args.end c.self.invariant.0 c.requires.number
+  journal-ended c.self.inside.calls.items c.self.inside.ends.items c.push_reserved.new.self.items c.self.inside.bridges.items c.args.end
+      c.self.invariant.0 c.requires.number
       (ap (λ (j : JournalMemory). is_told c.args.end.call j.ends) c.self.view_is ∙ c.requires.new) c.push_reserved.ensures.items,
   omega (arith, c.push_reserved.ensures.capacity, c.self.invariant.1),
   c.self.invariant.2,

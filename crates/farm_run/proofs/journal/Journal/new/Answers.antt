@@ -3,14 +3,15 @@ use Rattle.farm_run.specs.declared.notes.Opening.{Opening}
 use Rattle.farm_run.specs.declared.notes.BridgeNote.{BridgeNote}
 use Rattle.trau_io.specs.declared.ends.CallEnd.{CallEnd}
 use Rattle.farm_run.specs.Journal.{no_opening}
-use Rattle.farm_run.proofs.Places.{journal-new}
+use Rattle.farm_run.proofs.Noted.Places.{journal-new}
 use Rattle.farm_run.proofs.journal.Journal.new.Goals as goal
 
 calls : (c : goal.In_ok-bridges) → c.in_ok-calls.calls.items ≡ replicate 4097 no_opening
 calls c = c.in_ok-calls.ensures.items_if_clones_equal (λ y h. h)
 
 pub invariant_of-result : goal.invariant_of-result
-invariant_of-result c = (journal-new _ _ _ (calls c) c.in_ok-ends.ensures.items, omega (arith, c.in_ok-ends.ensures.capacity), omega (arith, c.in_ok-bridges.ensures.capacity))
+invariant_of-result c =
+    (journal-new _ _ _ (calls c) c.in_ok-ends.ensures.items, omega (arith, c.in_ok-ends.ensures.capacity), omega (arith, c.in_ok-bridges.ensures.capacity))
 
 pub returns : goal.returns
 returns c =

@@ -1,5 +1,5 @@
 use Rattle.std.proofs.Common.{arith}
-use Rattle.farm_run.proofs.Places.{place_known}
+use Rattle.farm_run.proofs.Noted.Places.{place_known}
 use Rattle.farm_run.proofs.journal.Journal.settle.Goals as goal
 
 pub index-bridge-requires : goal.index-bridge-requires

@@ -5,8 +5,9 @@ use Rattle.trau_params.specs.Widths.{larc_widths, block_widths}
 use Rattle.trau_bits.specs.Bits.{AreBits}
 use Rattle.trau_params.specs.FieldBits.{field_bits}
 use Rattle.trau_params.specs.Block.{bits_of_block}
-use Rattle.trau_params.specs.Bits260.{bits260, bits260_of, block_bits}
+use Rattle.trau_params.specs.Bits260.{bits260, bits260_of}
 use Rattle.trau_params.proofs.AreBits.{AreBits-bits260_of}
+use Rattle.trau_params.proofs.BlockBits.{block_bits}
 use Rattle.trau_params.proofs.Fronts.{flat_map-range-more}
 use Rattle.trau_params.proofs.params.Params.to_bits.Goals as goal
 

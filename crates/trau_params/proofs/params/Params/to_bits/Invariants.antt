@@ -2,7 +2,7 @@ use Rattle.std.proofs.Common.{◌≡◌, ◌+◌, ◌*◌, ◌++◌, take, lengt
 use Rattle.std.specs.List.{range_with_len, flat_map}
 use Rattle.trau_params.specs.Widths.{larc_widths}
 use Rattle.trau_params.specs.FieldBits.{field_bits}
-use Rattle.trau_params.specs.Bits260.{block_bits}
+use Rattle.trau_params.proofs.BlockBits.{block_bits}
 use Rattle.trau_params.proofs.params.Params.to_bits.Given as goal
 
 -- LARc and the first j blocks stand

@@ -1,6 +1,0 @@
-use Rattle.std.proofs.Common.{◌≡◌}
-use Rattle.call_leg.specs.Memory.{periods_of_leg}
-use Rattle.call_tests.proofs.call_leg_tests.sends_all.Given as goal
-
-abbrev pub invariant-loop-k : goal.invariant-loop-k
-invariant-loop-k l = periods_of_leg l.leg ≡ l.k

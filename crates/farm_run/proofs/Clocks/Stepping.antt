@@ -1,0 +1,165 @@
+-- A stretch of a run: the orders of the clock, and behind them a round, or none where no call is open.
+use Rattle.std.proofs.Common.{◌≡◌, refl, sym, ap, ◌∙◌, subst, ℕ, ◌<◌, ◌≤◌, true, false, List, length, arith}
+use Rattle.std.specs.Prelude.{is_some, IfSome, Result, Ok, Err, IfOk}
+use Rattle.trau_io.specs.declared.line.Line.{Line}
+use Rattle.trau_io.specs.declared.line.Side.{Side}
+use Rattle.trau_io.specs.Lines.{LineState}
+use Rattle.switchboard.specs.Calls.{is_open, gone_at}
+use Rattle.switchboard.specs.State.{State, first_stamp, orders_of}
+use Rattle.farm_rounds.specs.Calls.{call_in}
+use Rattle.farm_rounds.specs.Memory.{FarmMemory}
+use Rattle.run_spec.specs.Run.{Run, whole_in}
+use Rattle.farm_run.specs.declared.stage.Stage.{Stage}
+use Rattle.farm_run.specs.Ending.{AreShut}
+use Rattle.farm_run.specs.Journal.{JournalMemory}
+use Rattle.farm_run.specs.Match.{AtClock, FollowsRun}
+use Rattle.farm_run.specs.Noted.{Noted}
+use Rattle.farm_run.specs.Runs.{TellsFailed, FailedShort, is_listed}
+use Rattle.farm_run.specs.Stages.{IsStage, OpenedBefore, Reaches}
+use Rattle.farm_run.specs.Standing.{Standing, standing, is_over, KnowsListed}
+use Rattle.farm_run.specs.Clock.{IsAtClock, WrittenFrom}
+use Rattle.farm_run.proofs.Clocks.First.{fell_none}
+use Rattle.farm_run.proofs.Clocks.Idle.{clock_on, goes_on, written_on, none_alive}
+use Rattle.farm_run.proofs.Noted.Knowing.{known_idle}
+use Rattle.farm_run.proofs.Clocks.Meeting.{stays, ordered}
+use Rattle.farm_run.proofs.Noted.Truly.{truly_same}
+use Rattle.farm_run.proofs.Lines.Sides.{sides_none}
+use Rattle.farm_run.proofs.Clocks.Summing.{sums_on}
+
+-- what follows from what a call gives, where it gives it
+pub ok_more : {T E : Type 0} (P Q : T → Type 0) (o : Result T E) → ((x : T) → P x → Q x) → IfOk o P → IfOk o Q
+ok_more P Q (Ok x) h p = h x p
+ok_more P Q (Err e) h p = tt
+
+-- from two facts of a result
+pub ok_both : {T E : Type 0} (P Q R : T → Type 0) (o : Result T E) → ((x : T) → P x → Q x → R x) → IfOk o P → IfOk o Q → IfOk o R
+ok_both P Q R (Ok x) h p q = h x p q
+ok_both P Q R (Err e) h p q = tt
+
+-- the orders of a clock were executed
+pub record OrdersDone (s : Stage) (b : State) (farm : FarmMemory) (j : JournalMemory) : Type 0 where
+  pub clock : AtClock s.clock b farm.groups
+  pub shut : AreShut b j.ends
+  pub bridges : length j.bridges ≤ length b.done
+  pub kept : orders_of b ≡ orders_of s.board
+  pub ended : farm.ended ≡ s.farm.ended
+  pub failed : farm.failed ≡ s.farm.failed
+  pub knows : KnowsListed s.board s.farm.groups s.farm.failed → KnowsListed b farm.groups farm.failed
+  pub over : (c : ℕ) → is_over s.board c ≡ true → is_over b c ≡ true
+  pub follows : (r : Run) → s.clock < r.periods → FollowsRun r s.clock s.board s.farm.groups → FollowsRun r s.clock b farm.groups
+  pub told : b.told ≡ s.board.told
+  pub openings : (n : ℕ) → s.clock < n → OpenedBefore n s.journal.calls → OpenedBefore n j.calls
+  pub noted : (r : Run) → s.clock < r.periods → FollowsRun r s.clock s.board s.farm.groups → Noted r s.board.done s.clock s.journal s.farm.tallies →
+      Noted r b.done s.clock j farm.tallies
+
+-- **The orders of the clock are done.**
+pub orders_done : (s : Stage) (b : State) (farm : FarmMemory) (j : JournalMemory) → AtClock s.clock b farm.groups → AreShut b j.ends →
+    length j.bridges ≤ length b.done → orders_of b ≡ orders_of s.board → farm.ended ≡ s.farm.ended → farm.failed ≡ s.farm.failed →
+    (KnowsListed s.board s.farm.groups s.farm.failed → KnowsListed b farm.groups farm.failed) → ((c : ℕ) → is_over s.board c ≡ true → is_over b c ≡ true) →
+    ((r : Run) → s.clock < r.periods → FollowsRun r s.clock s.board s.farm.groups → FollowsRun r s.clock b farm.groups) → b.told ≡ s.board.told →
+    ((n : ℕ) → s.clock < n → OpenedBefore n s.journal.calls → OpenedBefore n j.calls) →
+    ((r : Run) → s.clock < r.periods → FollowsRun r s.clock s.board s.farm.groups → Noted r s.board.done s.clock s.journal s.farm.tallies →
+    Noted r b.done s.clock j farm.tallies) → OrdersDone s b farm j
+orders_done s b farm j clock shut bridges kept ended failed knows over follows told openings noted = record {
+  clock = clock;
+  shut = shut;
+  bridges = bridges;
+  kept = kept;
+  ended = ended;
+  failed = failed;
+  knows = knows;
+  over = over;
+  follows = follows;
+  told = told;
+  openings = openings;
+  noted = noted;
+}
+
+module _ (s : Stage) (b : State) (farm : FarmMemory) (j : JournalMemory) (stage : IsStage s) (o : OrdersDone s b farm j) where
+  -- the stage at the later clock
+  abbrev behind : Stage
+  behind = record s { board = b; farm = farm; journal = j }
+
+  -- **What holds at a clock holds behind its orders.**
+  pub stage_behind : IsStage (record s { board = b; farm = farm; journal = j })
+  stage_behind = record {
+    clock = o.clock;
+    shut = o.shut;
+    bridges = o.bridges;
+    ended = (let e = stage.ended in let same = o.ended in omega (arith, e, same));
+    knows = o.knows stage.knows;
+    few = (let few = stage.few in let same = ap length o.kept in omega (arith, few, same));
+  }
+
+  -- **They come in front of what comes next.**
+  pub orders_more : (batch : ℕ) (u : Stage) (before now : ℕ → Side → LineState) → s.clock < u.clock →
+      Reaches batch (record s { board = b; farm = farm; journal = j }) u before now → Reaches batch s u before now
+  orders_more batch u before now less h = record {
+    later = omega (arith, less);
+    stage = h.stage;
+    kept = h.kept ∙ o.kept;
+    way = h.way;
+    openings = λ n l openings. h.openings n l (o.openings n (omega (arith, less, l)) openings);
+    fell = h.fell;
+    failed = λ first fell failed. h.failed first fell (subst (λ (ls : List Line). TellsFailed first before ls) (sym o.failed) failed);
+    sides = h.sides;
+    goes = ordered s.board b s.farm.failed farm.failed before (standing u.board u.farm.failed now) o.over o.failed h.goes;
+    back = λ held. let k = h.back held in record {
+      lines = k.lines;
+      listed = λ c side i. k.listed c side i ∙ ap (λ (ls : List Line). is_listed ls c side) o.failed;
+    };
+    run = λ r first last flags within on at. h.run r first last flags within on (here r first last within at);
+    known = λ r first last flags within on at known.
+        h.known r first last flags within on (here r first last within at) (record {
+          truly = truly_same r s.board b o.told known.truly;
+          noted = o.noted r (under r within) at.follows known.noted;
+        });
+    wrote = λ held from l r first last flags within on at wrote.
+        h.wrote held from l r first last flags within on (here r first last within at)
+        (subst (λ (ls : List Line). WrittenFrom r from s.clock (is_listed ls) first before) (sym o.failed) wrote);
+    sums = λ summed r first last flags within on at sums. h.sums summed r first last flags within on (here r first last within at) sums;
+    short = λ r first last flags within on at short. h.short r first last flags within on (here r first last within at)
+        (subst (λ (ls : List Line). FailedShort r batch (is_listed ls)) (sym o.failed) short);
+  }
+    where
+      under : (r : Run) → u.clock ≤ r.periods → s.clock < r.periods
+      under r within = omega (arith, less, within)
+
+      here : (r : Run) (first : ℕ → Side → LineState) (last : Standing) → u.clock ≤ r.periods → IsAtClock r s.clock s.board s.farm.groups last first before →
+          IsAtClock r s.clock b farm.groups last first before
+      here r first last within at = record { follows = o.follows r (under r within) at.follows; lines = at.lines }
+
+-- **Where no call is open, the clock goes on up to the next order.**
+pub idle_reaches : (batch : ℕ) (s : Stage) (u : ℕ) (lines : ℕ → Side → LineState) → IsStage s → s.clock ≤ u → IfSome (first_stamp s.board.left) (λ m. u ≤ m) →
+    ((c : ℕ) → is_some (call_in s.farm.groups c) ≡ false) →
+    Reaches batch s (record s { clock = u }) lines lines
+idle_reaches batch s u lines stage later clear none = record {
+  later = later;
+  stage = record {
+    clock = clock_on s.clock u s.board s.farm.groups stage.clock later clear;
+    shut = stage.shut;
+    bridges = stage.bridges;
+    ended = (let e = stage.ended in omega (arith, e, later));
+    knows = stage.knows;
+    few = stage.few;
+  };
+  kept = refl;
+  way = record { held = refl; summed = refl };
+  openings = λ n l openings. openings;
+  fell = fell_none lines;
+  failed = λ first fell failed. failed;
+  sides = sides_none lines;
+  goes = stays (standing s.board s.farm.failed lines);
+  back = λ held. record { lines = λ c side o. refl; listed = λ c side o. refl };
+  run = λ r first last flags within on at. goes_on r s.clock u s.board s.farm.groups last first lines at later within clear (shut r first last at);
+  known = λ r first last flags within on at known. known_idle r s.clock u s.board s.farm.tallies s.journal later (shut r first last at) known;
+  wrote = λ held from l r first last flags within on at wrote. written_on r s.clock u s.board s.farm.groups last first lines at later within clear
+      (shut r first last at) from (is_listed s.farm.failed) wrote;
+  sums = λ summed r first last flags within on at sums. sums_on r s.clock u s.board s.farm.groups last first lines at later within clear
+      (shut r first last at) _ sums;
+  short = λ r first last flags within on at short. short;
+}
+  where
+    shut : (r : Run) (first : ℕ → Side → LineState) (last : Standing) → IsAtClock r s.clock s.board s.farm.groups last first lines → (c : ℕ) →
+        is_open (gone_at (whole_in r) s.clock s.board.done) s.board.done c ≡ false
+    shut r first last at = none_alive r s.clock s.board s.farm.groups stage.clock at.follows.tells none

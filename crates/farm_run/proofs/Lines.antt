@@ -1,0 +1,6 @@
+-- What a run leaves on the lines, to its end or where want of memory cuts it short.
+pub mod Being
+pub mod Gaining
+pub mod Sides
+pub mod Cutting
+pub mod Telling

@@ -1,0 +1,149 @@
+-- A run that want of memory cut short.
+use Rattle.std.proofs.Common.{◌≡◌, refl, sym, subst, ℕ, ◌-◌, ◌≤◌, List, [], arith}
+use Rattle.std.specs.Prelude.{min, Result, Ok, Err, OnErr}
+use Rattle.std.specs.Io.KnownBytes.{Appends}
+use Rattle.std.proofs.KnownBytes.{Appends-nil}
+use Rattle.trau_io.specs.declared.line.Line.{Line}
+use Rattle.trau_io.specs.declared.line.Side.{Side}
+use Rattle.trau_io.specs.declared.line.Side.TheVariants.{Down, Out}
+use Rattle.trau_io.specs.Lines.{LineState}
+use Rattle.trau_orders.specs.declared.order.Order.{Order}
+use Rattle.switchboard.specs.Ends.{start_of}
+use Rattle.switchboard.specs.State.{State}
+use Rattle.farm_rounds.specs.declared.call.Group.{Group}
+use Rattle.round_lines.specs.Rounds.{IsOutgoing}
+use Rattle.farm_checkpoint.specs.Marks.{MarkView}
+use Rattle.run_spec.specs.Run.{Run, done_in, end_in, IsOpened, worked_to}
+use Rattle.run_spec.specs.Mark.{marked_calls}
+use Rattle.farm_run.specs.Runs.{TellsFailed, KeepsSides, ReadsOn, IsRunOver, is_listed}
+use Rattle.farm_run.specs.Standing.{standing}
+use Rattle.farm_run.specs.Fronts.{LeavesFronts, IsCutShort}
+use Rattle.farm_run.specs.Resuming.{IsResumeCutShort}
+use Rattle.farm_run.specs.Clock.{WrittenFrom, IsAtClock}
+use Rattle.farm_run.proofs.Lines.Being.{there_is}
+use Rattle.farm_run.proofs.Clocks.First.{tells_none}
+use Rattle.farm_run.proofs.Clocks.Last.{all_out, all_down}
+use Rattle.farm_run.proofs.Lines.Sides.{sides_none}
+use Rattle.farm_run.proofs.Lines.Gaining.{out_front, down_front, out_front_from, down_front_from}
+
+-- what holds whatever came out holds of an error
+pub on_err : {T E P : Type 0} (o : Result T E) → P → OnErr o P
+on_err (Ok x) p = tt
+on_err (Err e) p = p
+
+-- a fact of an error that follows from another
+pub err_more : {T E P Q : Type 0} (o : Result T E) → (P → Q) → OnErr o P → OnErr o Q
+err_more (Ok x) h p = tt
+err_more (Err e) h p = h p
+
+-- **At a clock each outgoing line holds a front of what the run gives.**
+fronts_at : (r : Run) (t : ℕ) (b : State) (groups : List Group) (failed : List Line) (first now : ℕ → Side → LineState) →
+    IsAtClock r t b groups (standing b failed now) first now →
+    WrittenFrom r 0 t (is_listed failed) first now → LeavesFronts r first now
+fronts_at r t b groups failed first now at wrote = record {
+  out = λ c i. out_front r c (worked_to r t c) (end_in r c - start_of (done_in r) c) (is_listed failed c Out) (first c Out) (now c Out)
+      (least (end_in r c) (start_of (done_in r) c)) (all_out r t c (is_listed failed) first now wrote i);
+  down = λ c i. down_front r c (worked_to r t c) (end_in r c - start_of (done_in r) c) (is_listed failed c Down) (first c Down) (now c Down)
+      (least (end_in r c) (start_of (done_in r) c)) (all_down r t c (is_listed failed) first now wrote i);
+  others = at.lines.others;
+}
+  where
+    least : (e s : ℕ) → min t e - s ≤ e - s
+    least e s = omega arith
+
+-- **A run that ends at a clock is cut short there.**
+pub cut_at : (os : List Order) (periods t : ℕ) (b : State) (groups : List Group) (failed : List Line) (first now : ℕ → Side → LineState) →
+    TellsFailed first now failed → KeepsSides first now → ReadsOn first now →
+    ((r : Run) → IsRunOver os r.periods (is_listed failed) first now r → periods ≤ r.periods → IsAtClock r t b groups (standing b failed now) first now) →
+    ((r : Run) → IsRunOver os r.periods (is_listed failed) first now r → periods ≤ r.periods → WrittenFrom r 0 t (is_listed failed) first now) →
+    IsCutShort os periods first now
+cut_at os periods t b groups failed first now tells sides reads goes wrote = record {
+  fails = is_listed failed;
+  told = tells.failures;
+  sides = sides;
+  reads = reads;
+  fronts = λ r run.
+      let e = run.same_periods in
+      let is = subst (λ (p : ℕ). IsRunOver os p (is_listed failed) first now r) (sym e) run in
+      fronts_at r t b groups failed first now (goes r is (omega (arith, e))) (wrote r is (omega (arith, e)));
+  there = λ are told. there_is os periods (is_listed failed) first now are
+      (λ c s n i. let octets = told c s n i in let k = reads c s octets.0 i octets.1 in (octets.0, k.0, octets.1, k.1));
+}
+
+-- **So is one that didn't begin.**
+pub cut_first : (os : List Order) (periods : ℕ) (lines : ℕ → Side → LineState) → IsCutShort os periods lines lines
+cut_first os periods lines = record {
+  fails = is_listed [];
+  told = (tells_none lines).failures;
+  sides = sides_none lines;
+  reads = λ c s octets i e. (0, e);
+  there = λ are told. there_is os periods (is_listed []) lines lines are (λ c s n i. let octets = told c s n i in (octets.0, 0, octets.1, octets.1));
+  fronts = λ r run. record {
+    out = λ c i. (0, Appends-nil (lines c Out).written);
+    down = λ c i. (0, Appends-nil (lines c Down).written);
+    others = λ c s none. refl;
+  };
+}
+
+-- ---- a resumed run
+
+-- **So is one that wrote nothing yet.**
+pub cut_before : (os : List Order) (periods : ℕ) (mark : MarkView) (failed : List Line) (first now : ℕ → Side → LineState) → TellsFailed first now failed →
+    KeepsSides first now → ReadsOn first now →
+    ((c : ℕ) (s : Side) → IsOutgoing s → now c s ≡ first c s) →
+    ((r : Run) → IsRunOver os periods (is_listed failed) first now r → (c : ℕ) (s : Side) → (IsOpened r c → ⊥) → now c s ≡ first c s) →
+    IsResumeCutShort os periods mark first now
+cut_before os periods mark failed first now tells sides reads unwritten others = record {
+  fails = is_listed failed;
+  told = tells.failures;
+  sides = sides;
+  reads = reads;
+  fronts = λ r run. record {
+    out = λ c i. (0, none (first c Out) (now c Out) (unwritten c Out tt));
+    down = λ c i. (0, none (first c Down) (now c Down) (unwritten c Down tt));
+    others = others r run;
+  };
+  held = λ r run differs. unwritten;
+  there = λ are told n. there_is os n (is_listed failed) first now are
+      (λ c s n i. let octets = told c s n i in let k = reads c s octets.0 i octets.1 in (octets.0, k.0, octets.1, k.1));
+}
+  where
+    none : (was is : LineState) → is ≡ was → Appends was.written is.written []
+    none was is e = subst (λ (l : LineState). Appends was.written l.written []) (sym e) (Appends-nil was.written)
+
+-- **So is one that stops at a clock behind the mark's period, where the mark is the run's.**
+pub cut_behind : (os : List Order) (periods : ℕ) (mark : MarkView) (t : ℕ) (b : State) (groups : List Group) (failed : List Line)
+    (first now : ℕ → Side → LineState) → mark.period ≤ t → TellsFailed first now failed → KeepsSides first now → ReadsOn first now →
+    ((r : Run) → IsRunOver os mark.period (is_listed failed) first now r → marked_calls r ≡ mark.calls) →
+    ((r : Run) → IsRunOver os r.periods (is_listed failed) first now r → periods ≤ r.periods → IsAtClock r t b groups (standing b failed now) first now) →
+    ((r : Run) → IsRunOver os r.periods (is_listed failed) first now r → periods ≤ r.periods → WrittenFrom r mark.period t (is_listed failed) first now) →
+    IsResumeCutShort os periods mark first now
+cut_behind os periods mark t b groups failed first now behind tells sides reads same goes wrote = record {
+  fails = is_listed failed;
+  told = tells.failures;
+  sides = sides;
+  reads = reads;
+  fronts = λ r run.
+      let e = run.same_periods in
+      let is = subst (λ (p : ℕ). IsRunOver os p (is_listed failed) first now r) (sym e) run in
+      let here = goes r is (omega (arith, e)) in
+      let written = wrote r is (omega (arith, e)) in
+      record {
+        out = λ c i. out_front_from r c (worked_to r mark.period c) (worked_to r t c) (end_in r c - start_of (done_in r) c)
+            (is_listed failed c Out) (first c Out)
+            (now c Out) (sooner (end_in r c) (start_of (done_in r) c)) (least (end_in r c) (start_of (done_in r) c)) (written.out c i);
+        down = λ c i. down_front_from r c (worked_to r mark.period c) (worked_to r t c) (end_in r c - start_of (done_in r) c)
+            (is_listed failed c Down) (first c Down)
+            (now c Down) (sooner (end_in r c) (start_of (done_in r) c)) (least (end_in r c) (start_of (done_in r) c)) (written.down c i);
+        others = here.lines.others;
+      };
+  held = λ r run differs. absurd (differs (same r run));
+  there = λ are told n. there_is os n (is_listed failed) first now are
+      (λ c s n i. let octets = told c s n i in let k = reads c s octets.0 i octets.1 in (octets.0, k.0, octets.1, k.1));
+}
+  where
+    least : (e s : ℕ) → min t e - s ≤ e - s
+    least e s = omega arith
+
+    sooner : (e s : ℕ) → min mark.period e - s ≤ min t e - s
+    sooner e s = omega arith

@@ -1,0 +1,200 @@
+-- The calls that are over stay so, and what orders leave of what is known of the listed lines.
+use Rattle.std.proofs.Common.{◌≡◌, refl, sym, ap, ◌∙◌, subst, ℕ, zero, suc, ◌≤◌, Bool, true, false, not, ◌&&◌, Option, Some, None, List, [], ◌∷◌, length, get_or, set, inl, inr, arith}
+use Rattle.std.specs.Prelude.{◌==◌, ◌||◌, if◌then◌else◌, is_some, option_map, IfSome}
+use Rattle.std.proofs.lemmas.Bool.{cases_Bool, cases_lt, eqb-true, eq-eqb, true≢false}
+use Rattle.std.proofs.lemmas.List.{get_or-set_same, get_or-set_other}
+use Rattle.trau_io.specs.declared.line.Line.{Line}
+use Rattle.trau_io.specs.declared.line.Side.{Side}
+use Rattle.trau_io.specs.declared.line.Side.TheVariants.{Down, Out}
+use Rattle.trau_io.specs.declared.ends.CallEnd.{CallEnd}
+use Rattle.trau_orders.specs.declared.order.Order.{Order}
+use Rattle.switchboard.specs.declared.act.Act.{Act}
+use Rattle.switchboard.specs.declared.act.Act.TheVariants as act
+use Rattle.switchboard.specs.Calls.{Done, opened_at, closed_at}
+use Rattle.switchboard.specs.State.{State, gone_in, after_turn, told_more}
+use Rattle.switchboard.specs.Open.{opened_now, open_now, partner_now, Finds}
+use Rattle.switchboard.proofs.Appending.{or_else}
+use Rattle.run_spec.proofs.Executing.{opened-append, closed-append}
+use Rattle.farm_rounds.specs.declared.call.Call.{Call}
+use Rattle.farm_rounds.specs.declared.call.Group.{Group}
+use Rattle.farm_rounds.specs.Calls.{call_in}
+use Rattle.farm_rounds.specs.Acts.{new_call, bridged_call, parted, set_by, changed, freed, calls_after}
+use Rattle.farm_run.specs.Going.{told_after}
+use Rattle.farm_run.specs.Runs.{is_listed}
+use Rattle.farm_run.specs.Standing.{is_over, KnowsListed}
+use Rattle.farm_run.proofs.Told.Boards.{told_done}
+use Rattle.farm_run.proofs.Listed.Tests.{or_cases, or_first, or_second, is_false}
+
+-- ---- a call that is open, and one that is over
+
+-- tests of an open call
+not_over_by : (p q g : Bool) → (p && not q && not g) ≡ true → (g || q) ≡ false
+not_over_by true false false e = refl
+not_over_by true false true e = cc
+not_over_by true true g e = cc
+not_over_by false q g e = cc
+
+-- **An open call isn't over.**
+pub not_over : (b : State) (c : ℕ) → open_now b c ≡ true → is_over b c ≡ false
+not_over b c o = not_over_by (is_some (opened_at c b.done)) (is_some (closed_at c b.done)) (gone_in b c) o
+
+-- nor is a call open that is over
+pub over_shut : (b : State) (c : ℕ) → is_over b c ≡ true → open_now b c ≡ false
+over_shut b c e = is_false (open_now b c) (λ o. true≢false (sym e ∙ not_over b c o))
+
+-- an open call was opened
+pub open_opened : (b : State) (c : ℕ) → open_now b c ≡ true → opened_now b c ≡ true
+open_opened b c o = by (opened_now b c) (is_some (closed_at c b.done)) (gone_in b c) o
+  where
+    by : (p q g : Bool) → (p && not q && not g) ≡ true → p ≡ true
+    by true q g e = refl
+    by false q g e = cc
+
+-- ---- ends are told
+
+-- a call that is gone stays so when an end is told
+gone_one : (s : State) (call at c : ℕ) → gone_in s c ≡ true → gone_in (told_more s call at) c ≡ true
+gone_one s call at c e = elim (cases_Bool (c == call)) [
+  | inl q ↦
+      let same = eqb-true c call q in
+      elim (cases_lt call (length s.told)) [
+        | inl l ↦ ap (λ (d : ℕ). is_some (get_or (set s.told call (Some at)) d None)) same ∙ ap is_some (get_or-set_same s.told call (Some at) None l)
+        | inr l ↦ ap (λ (xs : List (Option ℕ)). is_some (get_or xs c None)) (set_past s.told call l) ∙ e
+      ]
+  | inr q ↦ ap is_some (get_or-set_other s.told call c (Some at) None (λ f. true≢false (sym (eq-eqb c call f) ∙ q))) ∙ e
+]
+  where
+    set_past : (xs : List (Option ℕ)) (i : ℕ) → length xs ≤ i → set xs i (Some at) ≡ xs
+    set_past [] i l = refl
+    set_past (x ∷ xs) zero l = absurd (omega arith)
+    set_past (x ∷ xs) (suc i) l = ap (λ (ys : List (Option ℕ)). x ∷ ys) (set_past xs i (omega arith))
+
+-- and when several are
+gone_told : (s : State) (ends : List CallEnd) (c : ℕ) → gone_in s c ≡ true → gone_in (told_after s ends) c ≡ true
+gone_told s [] c e = e
+gone_told s (d ∷ ends) c e = gone_told (told_more s d.call d.at) ends c (gone_one s d.call d.at c e)
+
+-- **A call that is over stays so when ends are told ..**
+pub over_told : (s : State) (ends : List CallEnd) (c : ℕ) → is_over s c ≡ true → is_over (told_after s ends) c ≡ true
+over_told s ends c e = elim (or_cases (gone_in s c) (is_some (closed_at c s.done)) e) [
+  | inl g ↦ or_first (gone_in (told_after s ends) c) (is_some (closed_at c (told_after s ends).done)) (gone_told s ends c g)
+  | inr q ↦ or_second (gone_in (told_after s ends) c) (is_some (closed_at c (told_after s ends).done))
+      (ap (λ (ds : List Done). is_some (closed_at c ds)) (told_done s ends) ∙ q)
+]
+
+-- ---- orders
+
+-- an order that was found is found with more behind it
+some_more : (o p : Option ℕ) → is_some o ≡ true → is_some (or_else o p) ≡ true
+some_more (Some x) p e = refl
+some_more None p e = cc
+
+-- **.. and when an order is executed.**
+pub over_turned : (s n : State) (o : Option Order) → n ≡ after_turn s o → (c : ℕ) → is_over s c ≡ true → is_over n c ≡ true
+over_turned s n o e c h = subst (λ (m : State). is_over m c ≡ true) (sym e) (by o)
+  where
+    by : (o : Option Order) → is_over (after_turn s o) c ≡ true
+    by None = h
+    by (Some x) = elim (or_cases (gone_in s c) (is_some (closed_at c s.done)) h) [
+      | inl g ↦ or_first (gone_in s c) (is_some (closed_at c (after_turn s (Some x)).done)) g
+      | inr q ↦ or_second (gone_in s c) (is_some (closed_at c (after_turn s (Some x)).done))
+          (ap is_some (closed-append c s.done _) ∙ some_more (closed_at c s.done) _ q)
+    ]
+
+-- a call that was opened was so after one more order
+opened_turned : (s n : State) (o : Option Order) → n ≡ after_turn s o → (c : ℕ) → opened_now s c ≡ true → opened_now n c ≡ true
+opened_turned s n o e c h = subst (λ (m : State). opened_now m c ≡ true) (sym e) (by o)
+  where
+    by : (o : Option Order) → opened_now (after_turn s o) c ≡ true
+    by None = h
+    by (Some x) = ap is_some (opened-append c s.done _) ∙ some_more (opened_at c s.done) _ h
+
+-- ---- what the calls know
+
+module _ (failed : List Line) where
+  -- a call of the farm has its outgoing lines' marks as they are listed
+  abbrev Knows : ℕ → Call → Type 0
+  Knows c x = (x.down_failed ≡ is_listed failed c Down) × (x.out_failed ≡ is_listed failed c Out)
+
+  -- what an order does to a call leaves its lines
+  abbrev Leaves : (Call → Call) → Type 0
+  Leaves g = (c : ℕ) (x : Call) → Knows c x → Knows c (g x)
+
+  -- that holds of each of two calls, where it holds of one or the other
+  either : (c : ℕ) (s : Bool) (o p : Option Call) → (s ≡ true → IfSome o (Knows c)) → IfSome p (Knows c) → IfSome (if s then o else p) (Knows c)
+  either c true o p h k = h refl
+  either c false o p h k = k
+
+  -- and of a call that is changed in other fields
+  mapped : (c : ℕ) (g : Call → Call) → Leaves g → (o : Option Call) → IfSome o (Knows c) → IfSome (option_map g o) (Knows c)
+  mapped c g l None h = tt
+  mapped c g l (Some x) h = l c x h
+
+  -- so it does of all calls where one is changed
+  changed_knows : (n : ℕ) (g : Call → Call) (f : ℕ → Option Call) → Leaves g → ((c : ℕ) → IfSome (f c) (Knows c)) → (c : ℕ) → IfSome (changed n g f c) (Knows c)
+  changed_knows n g f l h c = either c (n == c) (option_map g (f c)) (f c) (λ e. mapped c g l (f c) (h c)) (h c)
+
+  -- or freed of its partner
+  freed_knows : (p : Option ℕ) (g : Call → Call) (f : ℕ → Option Call) → Leaves g → ((c : ℕ) → IfSome (f c) (Knows c)) → (c : ℕ) →
+      IfSome (freed p g f c) (Knows c)
+  freed_knows None g f l h c = h c
+  freed_knows (Some p) g f l h c = changed_knows p g f l h c
+
+  -- no line of a call that the order opens is listed
+  abbrev IsNew : Act → Type 0
+  IsNew (act.Opened n law) = (s : Side) → is_listed failed n s ≡ false
+  IsNew _ = Unit {0}
+
+  -- and after any act, if a call that it opens has no listed line
+  after_knows : (a : Act) (f : ℕ → Option Call) → IsNew a → ((c : ℕ) → IfSome (f c) (Knows c)) → (c : ℕ) → IfSome (calls_after a f c) (Knows c)
+  after_knows (act.Opened n law) f new h c =
+      either c (n == c) (Some (new_call n law)) (f c)
+      (λ e. let same =
+      eqb-true n c e in (sym (new Down) ∙ ap (λ (d : ℕ). is_listed failed d Down) same, sym (new Out) ∙ ap (λ (d : ℕ). is_listed failed d Out) same)) (h c)
+  after_knows (act.Closed n p) f new h c = either c (n == c) None (freed p parted f c) (λ e. tt) (freed_knows p parted f (λ d x k. k) h c)
+  after_knows (act.Bridged a b) f new h c =
+      changed_knows a bridged_call (changed b bridged_call f) (λ d x k. k) (changed_knows b bridged_call f (λ d x k. k) h) c
+  after_knows (act.Unbridged a b) f new h c = changed_knows a parted (changed b parted f) (λ d x k. k) (changed_knows b parted f (λ d x k. k) h) c
+  after_knows (act.LevelSet n level) f new h c = changed_knows n (set_by (act.LevelSet n level)) f (λ d x k. k) h c
+  after_knows (act.DtxSet n mode) f new h c = changed_knows n (set_by (act.DtxSet n mode)) f (λ d x k. k) h c
+
+  -- from calls that are there to all
+  each : (c : ℕ) (o : Option Call) → ((y : Call) → o ≡ Some y → Knows c y) → IfSome o (Knows c)
+  each c None k = tt
+  each c (Some y) k = k y refl
+
+  -- and back
+  known : (c : ℕ) (x : Call) (o : Option Call) → IfSome o (Knows c) → o ≡ Some x → Knows c x
+  known c x None k r = cc
+  known c x (Some y) k r = subst (Knows c) (some y x r) k
+    where
+      some : (a b : Call) → Some a ≡ Some b → a ≡ b
+      some a b r = cc
+
+-- **After an accepted order the same is known of the listed lines.**
+pub knows_more : (s n : State) (o : Option Order) (groups after : List Group) (failed : List Line) (a : Act) → n ≡ after_turn s o →
+    Finds a (opened_now s) (open_now s) (partner_now s) →
+    ((c : ℕ) → call_in after c ≡ calls_after a (call_in groups) c) → KnowsListed s groups failed → KnowsListed n after failed
+knows_more s n o groups after failed a e finds calls k = record {
+  opened = λ c side l. opened_turned s n o e c (k.opened c side l);
+  ended = λ c side i l. over_turned s n o e c (k.ended c side i l);
+  calls = λ c x q. known failed c x (calls_after a (call_in groups) c)
+      (after_knows failed a (call_in groups) (new a finds) (λ d. each failed d (call_in groups d) (k.calls d)) c) (sym (calls c) ∙ q);
+}
+  where
+    new : (a : Act) → Finds a (opened_now s) (open_now s) (partner_now s) → IsNew failed a
+    new (act.Opened m law) f = λ side. is_false (is_listed failed m side) (λ l. true≢false (sym (k.opened m side l) ∙ f.1))
+    new (act.Closed m p) f = tt
+    new (act.Bridged m p) f = tt
+    new (act.Unbridged m p) f = tt
+    new (act.LevelSet m level) f = tt
+    new (act.DtxSet m mode) f = tt
+
+-- **.. and after a refused one.**
+pub knows_same : (s n : State) (o : Option Order) (groups : List Group) (failed : List Line) → n ≡ after_turn s o → KnowsListed s groups failed →
+    KnowsListed n groups failed
+knows_same s n o groups failed e k = record {
+  opened = λ c side l. opened_turned s n o e c (k.opened c side l);
+  ended = λ c side i l. over_turned s n o e c (k.ended c side i l);
+  calls = k.calls;
+}

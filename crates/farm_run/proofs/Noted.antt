@@ -1,0 +1,12 @@
+-- What is noted of a run in its journal.
+pub mod Noting
+pub mod Opened
+pub mod Orders
+pub mod Accepted
+pub mod Rounds
+pub mod Truly
+pub mod Settling
+pub mod Bridging
+pub mod Places
+pub mod Openings
+pub mod Knowing

@@ -1,0 +1,200 @@
+-- What is noted of a run, from round to round.
+use Rattle.std.proofs.Common.{◌≡◌, refl, sym, ap, ◌∙◌, subst, ℕ, suc, ◌+◌, ◌-◌, ◌≤◌, Bool, true, false, not, ◌&&◌, ◌||◌, Option, Some, None, List, [], ◌∷◌, arith}
+use Rattle.std.specs.Prelude.{min, nat_lt, is_some, IfSome, if◌then◌else◌}
+use Rattle.std.specs.List.{AllByRecursion, filter_map}
+use Rattle.std.proofs.Math.Bool.{and-false}
+use Rattle.std.proofs.lemmas.Bool.{and_parts, true≢false}
+use Rattle.std.proofs.lemmas.List.{length-replicate}
+use Rattle.trau_io.specs.declared.ends.CallEnd.{CallEnd}
+use Rattle.trau_orders.specs.declared.order.Order.{Order}
+use Rattle.switchboard.specs.Calls.{Done, opened_at, closed_at, is_open, gone_at}
+use Rattle.switchboard.specs.Bridges.{bridges}
+use Rattle.switchboard.specs.Ends.{end_of, start_of, ends_at}
+use Rattle.switchboard.specs.Stands.{IsLatest}
+use Rattle.switchboard.specs.State.{first_stamp}
+use Rattle.call_leg.specs.Periods.{CallPeriod, bridges_begun}
+use Rattle.call_leg.specs.Settings.{Settings}
+use Rattle.call_leg.specs.Counted.{call_counts}
+use Rattle.call_leg.specs.Down.{frames_of}
+use Rattle.call_leg.specs.Places.{carried, sent_now}
+use Rattle.round_lines.specs.Seats.{SeatMemory}
+use Rattle.round_lines.specs.Rounds.{seat_end}
+use Rattle.farm_rounds.specs.declared.tally.Tally.{Tally}
+use Rattle.farm_rounds.specs.Memory.{tally_in}
+use Rattle.farm_rounds.specs.Histories.{tally_of}
+use Rattle.run_spec.specs.Run.{Run, given_in, whole_in, done_in, periods_to}
+use Rattle.run_spec.specs.Now.{IsSoFar, settings_now}
+use Rattle.run_spec.proofs.Lists.{each_weaker}
+use Rattle.run_spec.proofs.SoFar.{so_far_later}
+use Rattle.run_spec.proofs.Settling.{start_is}
+use Rattle.run_spec.proofs.OpenCalls.{open_facts}
+use Rattle.run_spec.proofs.Going.{start_run}
+use Rattle.run_spec.proofs.Sent.{sent_at_end}
+use Rattle.farm_run.specs.declared.notes.Opening.{Opening}
+use Rattle.farm_run.specs.Journal.{JournalMemory, no_opening, opening_of, new_journal, with_ends}
+use Rattle.farm_run.specs.Going.{places_in, ends_within, is_told}
+use Rattle.farm_run.proofs.Rounds.Taken.{IsRound, IsSeat}
+use Rattle.farm_run.specs.Ending.{AreApart}
+use Rattle.farm_run.specs.Noted.{is_opened, ended_at, IsKept, Noted}
+use Rattle.farm_run.proofs.Rounds.Open.{shut_after}
+use Rattle.farm_run.proofs.Rounds.Ends.{end_within, start_kept, ends_there}
+use Rattle.farm_run.proofs.Told.Seats.{each_end}
+use Rattle.farm_run.proofs.Told.Boards.{gone_round}
+use Rattle.farm_run.proofs.Noted.Noting.{IsNewEnd, noted_ends, noted_same}
+
+-- ---- before the first order
+
+-- **Nothing is known, and nothing is noted.**
+pub noted_start : (r : Run) (t : ℕ) (tallies : List Tally) → Noted r [] t new_journal tallies
+noted_start r t tallies = record {
+  ends = record { each = tt; apart = tt; told = λ c. refl };
+  places = record {
+    long = length-replicate 4097 no_opening;
+    numbers = λ c o. cc;
+    from = λ c o. cc;
+    latest = λ c o. cc;
+    count = refl;
+    calls = λ k. (refl, refl);
+    apart = λ k l. absurd (omega arith);
+  };
+  sent = λ c k l m h. absurd (omega arith);
+  kept = λ c h. cc;
+}
+
+-- ---- what is kept of a call at its end
+
+-- how many frames were sent depends on no setting but whether a bridge starts
+sent_by_start : (ts : List CallPeriod) (now other : Settings) → now.starts ≡ other.starts → sent_now ts now ≡ sent_now ts other
+sent_by_start ts now other e = ap (λ (b : Bool). carried (if b then suc (bridges_begun ts) else bridges_begun ts) (frames_of ts)) e
+
+-- **What is told of it at the period at which it ends is right.**
+pub kept_at_end : (r : Run) (t : ℕ) (ds : List Done) (left : List Order) (calls : List Opening) (c : ℕ) (now : Settings) →
+    IsSoFar r t ds left → is_opened ds c ≡ true →
+    (is_opened ds c ≡ true → IsLatest (bridges ds) c (opening_of calls c).bridge) → ends_at (given_in r) r.periods (done_in r) c ≡ t →
+    now.starts ≡ (settings_now r ds t c).starts →
+    IsKept r calls c (tally_of (periods_to r c (t - start_of ds c)) now)
+kept_at_end r t ds left calls c now so o latest e starts = by (opened_at c ds) refl o
+  where
+    by : (s : Option ℕ) → opened_at c ds ≡ s → is_some s ≡ true → IsKept r calls c (tally_of (periods_to r c (t - start_of ds c)) now)
+    by None q f = absurd (true≢false (sym f))
+    by (Some s) q f =
+        let begins : start_of (done_in r) c ≡ start_of ds c = start_run r t ds left c s so q ∙ sym (start_is ds c s q) in
+        record {
+          counts = ap (λ (m : ℕ). call_counts (periods_to r c m))
+              (sym (ap (λ (m : ℕ). ends_at (given_in r) r.periods (done_in r) c - m) begins ∙ ap (λ (m : ℕ). m - start_of ds c) e));
+          sent = λ k g.
+              ap (λ (m : ℕ). sent_now (periods_to r c (t - m)) now) (start_is ds c s q)
+              ∙ sent_by_start (periods_to r c (t - s)) now (settings_now r ds t c) starts
+              ∙ sym (sent_at_end r t ds left c s k _ so q (subst (IsLatest (bridges ds) c) g (latest o)) e);
+        }
+
+-- ---- the clock goes on
+
+-- **While no call is open nothing comes to be known.**
+pub noted_jump : (r : Run) (t u : ℕ) (ds : List Done) (j : JournalMemory) (tallies : List Tally) → t ≤ u →
+    ((c : ℕ) → is_open (gone_at (whole_in r) t ds) ds c ≡ false) → Noted r ds t j tallies → Noted r ds u j tallies
+noted_jump r t u ds j tallies l none n = noted_same r ds (ended_at r ds t) (ended_at r ds u) j (tally_in tallies) (tally_in tallies) n
+    (λ c. ap (λ (s : Bool). is_opened ds c && not s) (later c ∙ sym (none c))) (λ c. refl)
+  where
+    later : (c : ℕ) → is_open (gone_at (whole_in r) u ds) ds c ≡ false
+    later c =
+        subst (λ (v : ℕ). is_open (gone_at (whole_in r) v ds) ds c ≡ false) (let e : t + (u - t) ≡ u = omega arith in e) (shut_after r t (u - t) ds c (none c))
+
+-- ---- a round
+
+-- an end that a round tells: its call's lines end it there
+abbrev pub IsRoundEnd : Run → List Done → ℕ → ℕ → CallEnd → Type 0
+IsRoundEnd r ds t n e = (ends_within r ds t n e.call ≡ true) × (e ≡ end_of (given_in r) r.periods (done_in r) e.call (start_of ds e.call))
+
+-- **The ends that the seats of a round tell are such.**
+pub each_round_end : (r : Run) (t n : ℕ) (ds : List Done) (left : List Order) (seats : List SeatMemory) → IsRound r t n ds left →
+    AllByRecursion (IsSeat r ds t n) seats → AllByRecursion (IsRoundEnd r ds t n) (filter_map (seat_end t) seats)
+each_round_end r t n ds left seats h a = each_end (IsRoundEnd r ds t n) r t n ds left seats h a (λ c w.
+    subst (λ (d : ℕ). (ends_within r ds t n d ≡ true)
+    × (end_of (given_in r) r.periods (done_in r) c (start_of ds c) ≡ end_of (given_in r) r.periods (done_in r) d (start_of ds d)))
+    (sym (ap (λ (e : CallEnd). e.call) (end_within r t n ds left c h w))) (w, refl))
+
+-- who has ended after it
+module _ (r : Run) (t n : ℕ) (ds : List Done) (c : ℕ) where
+  -- tests before the round, behind it, and in it
+  abbrev gone_before : Bool
+  gone_before = gone_at (whole_in r) t ds c
+
+  abbrev gone_then : Bool
+  gone_then = gone_at (whole_in r) (t + n) ds c
+
+  abbrev fewer : Bool
+  fewer = nat_lt (places_in r ds t n c) n
+
+  tests : (a b w : Bool) → b ≡ (a || (not a && w)) → not (not b) ≡ (not (not a) || (not a && w))
+  tests true true w e = refl
+  tests false true true e = refl
+  tests false false false e = refl
+  tests true false w e = cc
+  tests false true false e = cc
+  tests false false true e = cc
+
+  by : (o l : Option ℕ) → opened_at c ds ≡ o → closed_at c ds ≡ l →
+      (is_some o && not (is_some o && not (is_some l) && not gone_then))
+      ≡ ((is_some o && not (is_some o && not (is_some l) && not gone_before)) || ((is_some o && not (is_some l) && not gone_before) && fewer))
+  by None l p q = refl
+  by (Some s) (Some e) p q = refl
+  by (Some s) None p q =
+      tests gone_before gone_then fewer
+      (gone_round r t n ds c (ap is_some p) q ∙ ap
+      (λ (o : Option ℕ). gone_before || ((is_some o && not (is_some (closed_at c ds)) && not gone_before) && fewer)) p
+      ∙ ap (λ (l : Option ℕ). gone_before || ((true && not (is_some l) && not gone_before) && fewer)) q)
+
+  -- a call has ended behind the round where it had before, or ends in it
+  ended_round : ended_at r ds (t + n) c ≡ (ended_at r ds t c || ends_within r ds t n c)
+  ended_round = by (opened_at c ds) (closed_at c ds) refl refl
+
+-- an open call hasn't ended
+pub open_not_ended : (r : Run) (t : ℕ) (ds : List Done) (c : ℕ) → is_open (gone_at (whole_in r) t ds) ds c ≡ true →
+    (ended_at r ds t c ≡ false) × (is_opened ds c ≡ true)
+open_not_ended r t ds c o = let p = open_facts (gone_at (whole_in r) t ds) ds c o in
+    (ap (λ (s : Bool). is_opened ds c && not s) o ∙ and-false (is_opened ds c), ap is_some p.1)
+
+-- no order comes up to a clock before
+sooner : (u v : ℕ) (left : List Order) → u ≤ v → IfSome (first_stamp left) (λ s. v ≤ s) → IfSome (first_stamp left) (λ s. u ≤ s)
+sooner u v [] l h = tt
+sooner u v (o ∷ left) l h = omega arith
+
+-- **After a round whose ends were noted, and whose tallies tell of the calls that it ended, what is noted is right again.**
+pub noted_round : (r : Run) (t n : ℕ) (ds : List Done) (left : List Order) (j : JournalMemory) (tallies tallies' : List Tally) (ends : List CallEnd) →
+    IsRound r t n ds left → Noted r ds t j tallies →
+    AllByRecursion (IsRoundEnd r ds t n) ends → AreApart ends → ((c : ℕ) → is_told c ends ≡ ends_within r ds t n c) →
+    ((c : ℕ) → ends_within r ds t n c ≡ true →
+    (now : Settings) × (now.starts ≡ (settings_now r ds (t + places_in r ds t n c) c).starts)
+    × (tally_in tallies' c ≡ tally_of (periods_to r c (t + places_in r ds t n c - start_of ds c)) now)) →
+    ((c : ℕ) → ends_within r ds t n c ≡ false → tally_in tallies' c ≡ tally_in tallies c) → Noted r ds (t + n) (with_ends ends j) tallies'
+noted_round r t n ds left j tallies tallies' ends h noted each apart told kept same =
+    noted_same r ds (λ c. ended_at r ds t c || is_told c ends) (ended_at r ds (t + n)) (with_ends ends j) (tally_in tallies') (tally_in tallies')
+    (noted_ends r ds (ended_at r ds t) j (tally_in tallies) (tally_in tallies') ends noted
+    (each_weaker (IsRoundEnd r ds t n) (IsNewEnd r (ended_at r ds t)) ends new each) apart (λ c q. right c (sym (told c) ∙ q))
+    (λ c q. same c (sym (told c) ∙ q)))
+    (λ c. ended_round r t n ds c ∙ ap (λ (s : Bool). ended_at r ds t c || s) (sym (told c))) (λ c. refl)
+  where
+    opened : (c : ℕ) → ends_within r ds t n c ≡ true → is_open (gone_at (whole_in r) t ds) ds c ≡ true
+    opened c w = (and_parts (is_open (gone_at (whole_in r) t ds) ds c) (nat_lt (places_in r ds t n c) n) w).0
+
+    new : (e : CallEnd) → IsRoundEnd r ds t n e → IsNewEnd r (ended_at r ds t) e
+    new e k = (
+      (open_not_ended r t ds e.call (opened e.call k.0)).0,
+      k.1 ∙ ap (end_of (given_in r) r.periods (done_in r) e.call) (sym (start_kept r t n ds left e.call h (opened e.call k.0))),
+    )
+
+    far : (m : ℕ) → m ≤ n → IsSoFar r (t + m) ds left
+    far m l = so_far_later r t (t + m) ds left h.so_far (omega arith) (sooner (t + m) (t + n) left (omega arith) h.clear)
+
+    within : (m : ℕ) → min n m ≤ n
+    within m = omega arith
+
+    right : (c : ℕ) → ends_within r ds t n c ≡ true → IsKept r j.calls c (tally_in tallies' c)
+    right c w =
+        let k = kept c w in
+        let places = noted.places in
+        subst (IsKept r j.calls c) (sym k.2)
+        (kept_at_end r (t + places_in r ds t n c) ds left j.calls c k.0 (far (places_in r ds t n c) (within (start_of ds c + whole_in r c - t)))
+        (open_not_ended r t ds c (opened c w)).1 (places.latest c)
+        (ends_there r t n ds left c h w) k.1)

@@ -1,0 +1,5 @@
+-- One more order: the board, the farm and the definition of the run go on together.
+pub mod Matching
+pub mod Due
+pub mod Changing
+pub mod Following

@@ -1,0 +1,5 @@
+-- The report of a run.
+pub mod Finishing
+pub mod Reporting
+pub mod Rising
+pub mod LastEnds

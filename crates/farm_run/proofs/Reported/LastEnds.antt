@@ -1,0 +1,220 @@
+-- The end of a run: the calls that are open end with it, and the report is the definition's.
+use Rattle.std.proofs.Common.{◌≡◌, refl, sym, ap, ◌∙◌, subst, ℕ, ◌+◌, ◌-◌, ◌<◌, ◌≤◌, Bool, true, false, not, ◌&&◌, ◌||◌, Option, Some, None, List, [], ◌∷◌, ◌++◌, length, map, arith}
+use Rattle.std.specs.Prelude.{◌==◌, is_some, IfOk, Result, Ok, Err}
+use Rattle.std.specs.List.{All, AllByRecursion}
+use Rattle.std.specs.List.Sorted.{IsNonDecreasingBy, IsPermutation}
+use Rattle.std.proofs.lemmas.Bool.{eq-eqb, or_left, or_right}
+use Rattle.std.proofs.lemmas.List.{length-map, length-append}
+use Rattle.std.proofs.lemmas.List.Elements.{All-from_recursion}
+use Rattle.trau_io.specs.declared.line.Line.{Line}
+use Rattle.trau_io.specs.declared.ends.CallEnd.{CallEnd}
+use Rattle.switchboard.specs.declared.act.Reply.{Reply}
+use Rattle.switchboard.specs.Calls.{Done, opened_at, closed_at, is_open, gone_at}
+use Rattle.switchboard.specs.State.{State, told_in, numbered}
+use Rattle.switchboard.specs.Runs.{AllEnded}
+use Rattle.switchboard.specs.Ends.{Given, end_of, start_of, ends_at, spans_of}
+use Rattle.switchboard.specs.Open.{open_now}
+use Rattle.farm_report.specs.declared.report.CallLine.{CallLine}
+use Rattle.farm_report.specs.declared.report.SpanLine.{SpanLine}
+use Rattle.farm_report.specs.View.{ReportView}
+use Rattle.farm_rounds.specs.declared.call.Group.{Group}
+use Rattle.farm_rounds.specs.declared.tally.Tally.{Tally}
+use Rattle.farm_rounds.specs.Memory.{tally_in}
+use Rattle.farm_rounds.specs.Numbers.{IsRising, is_among}
+use Rattle.farm_rounds.specs.Histories.{CallHistory, GroupsStand, kept_of}
+use Rattle.run_spec.specs.Run.{Run, given_in, whole_in, done_in, periods_to, law_in}
+use Rattle.run_spec.specs.Facts.{report_of}
+use Rattle.run_spec.specs.Now.{IsSoFar, settings_now}
+use Rattle.run_spec.proofs.Lists.{each_map, each_weaker}
+use Rattle.run_spec.proofs.SoFar.{standing_now}
+use Rattle.run_spec.proofs.Going.{start_run}
+use Rattle.run_spec.proofs.Ending.{end_limit, all_done, report_end}
+use Rattle.farm_run.specs.Match.{past_if, histories_at}
+use Rattle.farm_run.specs.Journal.{JournalMemory, with_ends}
+use Rattle.farm_run.specs.Facts.{span_lines, kept_in, call_line, settled_each}
+use Rattle.farm_run.specs.Going.{told_after, is_told}
+use Rattle.farm_run.specs.Ending.{limit_at}
+use Rattle.farm_run.specs.Noted.{call_end_in, is_opened, ended_at, IsKept, IsNoted, TellsTruly, IsAtEnd}
+use Rattle.farm_run.proofs.Rounds.Open.{open_at}
+use Rattle.farm_run.proofs.Told.Boards.{told_done}
+use Rattle.farm_run.proofs.Listed.Tests.{no}
+use Rattle.farm_run.proofs.Ordered.Due.{open_told}
+use Rattle.farm_run.proofs.Told.Ends.{limits_told, limits_apart}
+use Rattle.farm_run.proofs.Noted.Noting.{IsNewEnd, noted_ends, noted_same}
+use Rattle.farm_run.proofs.Noted.Rounds.{kept_at_end, open_not_ended}
+use Rattle.farm_run.proofs.Noted.Truly.{truly_told}
+use Rattle.farm_run.proofs.Reported.Finishing.{calls_reported, spans_reported}
+
+-- what holds of each number that is among these holds of all of them
+pub each_among : (P : ℕ → Type 0) (calls : List ℕ) → ((c : ℕ) → is_among calls c ≡ true → P c) → AllByRecursion P calls
+each_among P [] h = tt
+each_among P (c ∷ calls) h =
+    (h c (or_left (c == c) (is_among calls c) (eq-eqb c c refl)), each_among P calls (λ d q. h d (or_right (c == d) (is_among calls d) q)))
+
+-- from each number that is among some to all of them
+pub all_among : (P : ℕ → Type 0) (calls : List ℕ) → ((c : ℕ) → is_among calls c ≡ true → P c) → All P calls
+all_among P calls h = All-from_recursion P calls (each_among P calls h)
+
+-- ---- the calls that are open
+
+module _ (r : Run) (t : ℕ) (b : State) (groups : List Group) (tallies : List Tally) (j : JournalMemory) (end : IsAtEnd r t b groups tallies j) (calls : List ℕ)
+    (among : (c : ℕ) → is_among calls c ≡ open_now b c) where
+  -- the run so far
+  abbrev so : IsSoFar r t b.done b.left
+  so = let follows = end.follows in follows.so_far
+
+  -- what is kept of each call at the run's end
+  abbrev tally : ℕ → Tally
+  tally = kept_in tallies (histories_at r b.done t)
+
+  -- the ends that the run's end makes
+  abbrev last : List CallEnd
+  last = map (limit_at r.periods) calls
+
+  -- they are open by the definition too
+  open_is : (c : ℕ) → is_open (gone_at (whole_in r) t b.done) b.done c ≡ is_among calls c
+  open_is c = let follows = end.follows in sym (open_told (whole_in r) t b follows.tells c) ∙ sym (among c)
+
+  -- the run's end is theirs
+  limit_is : (c : ℕ) → is_among calls c ≡ true → call_end_in r c ≡ limit_at r.periods c
+  limit_is c q =
+      let at = open_at r t b.done c (standing_now r t b.done b.left so) (open_is c ∙ q) in
+      let clock = end.clock c (sym (among c) ∙ q) in
+      let alive = at.alive in
+      ap (end_of (given_in r) r.periods (done_in r) c) (start_run r t b.done b.left c (start_of b.done c) so at.opened)
+      ∙ end_limit r t b.done b.left c (start_of b.done c) so end.none_left at.unclosed (subst (λ (v : ℕ). v ≤ start_of b.done c + whole_in r c) clock alive)
+
+  -- each is the run's end of a call that hasn't ended before
+  pub each_last : AllByRecursion (λ e. (ended_at r b.done t e.call ≡ false) × (e ≡ call_end_in r e.call)) last
+  each_last = each_map (IsNewEnd r (ended_at r b.done t)) (limit_at r.periods) calls
+      (each_among (λ c. IsNewEnd r (ended_at r b.done t) (limit_at r.periods c)) calls
+      (λ c q. ((open_not_ended r t b.done c (open_is c ∙ q)).0, sym (limit_is c q))))
+
+  -- what is kept of them is what was counted so far
+  kept_is : (c : ℕ) → is_told c last ≡ true → IsKept r j.calls c (kept_in tallies (histories_at r b.done t) c)
+  kept_is c q =
+      let k = sym (limits_told r.periods c calls) ∙ q in
+      let o = open_is c ∙ k in
+      let noted = end.noted in
+      let places = noted.places in
+      subst (IsKept r j.calls c)
+      (sym (ap (λ (s : Bool). kept_of (past_if s (law_in r c) (periods_to r c (t - start_of b.done c)) (settings_now r b.done t c)) (tally_in tallies c)) o))
+      (kept_at_end r t b.done b.left j.calls c (settings_now r b.done t c) so (open_not_ended r t b.done c o).1 (places.latest c)
+      (ap (λ (e : CallEnd). e.at) (limit_is c k) ∙ sym (end.clock c (sym (among c) ∙ k))) refl)
+
+  -- of other calls what was kept stays
+  kept_same : (c : ℕ) → is_told c last ≡ false → kept_in tallies (histories_at r b.done t) c ≡ tally_in tallies c
+  kept_same c q = ap (λ (s : Bool). kept_of (past_if s (law_in r c) (periods_to r c (t - start_of b.done c)) (settings_now r b.done t c)) (tally_in tallies c))
+      (open_is c ∙ sym (limits_told r.periods c calls) ∙ q)
+
+  -- **Then all calls that were opened have ended, and what is noted of them is right.**
+  noted_last : IsRising calls → IsNoted r b.done (is_opened b.done) (with_ends last j) (kept_in tallies (histories_at r b.done t))
+  noted_last rising =
+      noted_same r b.done (λ c. ended_at r b.done t c || is_told c last) (is_opened b.done) (with_ends last j) (kept_in tallies (histories_at r b.done t))
+      (kept_in tallies (histories_at r b.done t))
+      (noted_ends r b.done (ended_at r b.done t) j (tally_in tallies) (kept_in tallies (histories_at r b.done t)) last end.noted each_last
+      (limits_apart r.periods calls rising) kept_is kept_same)
+      (λ c. sym (ap (λ (s : Bool). ended_at r b.done t c || s) (limits_told r.periods c calls ∙ sym (open_is c))
+      ∙ all (is_opened b.done c) (is_open (gone_at (whole_in r) t b.done) b.done c) (λ o. (open_not_ended r t b.done c o).1))) (λ c. refl)
+    where
+      all : (o l : Bool) → (l ≡ true → o ≡ true) → ((o && not l) || l) ≡ o
+      all true true h = refl
+      all true false h = refl
+      all false false h = refl
+      all false true h = sym (h refl)
+
+  -- **The board was told all ends.**
+  all_told : (now : State) → now ≡ told_after b last → ((c : ℕ) → open_now now c ≡ false) → AllEnded (given_in r) r.periods now
+  all_told now told none c o l = by (told_in now c) refl
+    where
+      done_is : now.done ≡ b.done
+      done_is = ap (λ (s : State). s.done) told ∙ told_done b last
+
+      truly : TellsTruly r now
+      truly = subst (TellsTruly r) (sym told) (truly_told r b last (each_weaker (IsNewEnd r (ended_at r b.done t))
+          (λ e. e.at ≡ ends_at (given_in r) r.periods (done_in r) e.call) last (λ e h. ap (λ (x : CallEnd). x.at) h.1) each_last) end.truly)
+
+      all : done_in r ≡ now.done
+      all = all_done r t b.done b.left so end.none_left ∙ sym done_is
+
+      live : told_in now c ≡ None → open_now now c ≡ true
+      live q =
+          ap (λ (g : Option ℕ). is_some (opened_at c now.done) && not (is_some (closed_at c now.done)) && not (is_some g)) q
+          ∙ ap (λ (l : Option ℕ). is_some (opened_at c now.done) && not (is_some l) && true) l ∙ ap (λ (s : Bool). s && true && true) o
+
+      by : (v : Option ℕ) → told_in now c ≡ v → told_in now c ≡ Some (ends_at (given_in r) r.periods now.done c)
+      by None q = absurd (no (open_now now c) (none c) (live q))
+      by (Some at) q = q ∙ ap Some (sym (truly c at q) ∙ ap (λ (ds : List Done). ends_at (given_in r) r.periods ds c) all)
+
+  -- ---- the report
+
+  -- reports of the same parts are the same
+  same_report : (replies replies' : List Reply) (spans spans' : List SpanLine) (lines lines' : List CallLine) (failed : List Line) (left left' : ℕ) →
+      replies ≡ replies' → spans ≡ spans' → lines ≡ lines' → left ≡ left' →
+      ◌≡◌ {A = ReportView} (record { replies = replies; spans = spans; calls = lines; failed = failed; left = left }) (record {
+        replies = replies';
+        spans = spans';
+        calls = lines';
+        failed = failed;
+        left = left';
+      })
+  same_report replies replies' spans spans' lines lines' failed left left' p q s u =
+      ap {B = ReportView} (λ (x : List Reply). record { replies = x; spans = spans; calls = lines; failed = failed; left = left }) p
+      ∙ ap {B = ReportView} (λ (x : List SpanLine). record { replies = replies'; spans = x; calls = lines; failed = failed; left = left }) q
+      ∙ ap {B = ReportView} (λ (x : List CallLine). record { replies = replies'; spans = spans'; calls = x; failed = failed; left = left }) s
+      ∙ ap {B = ReportView} (λ (x : ℕ). record { replies = replies'; spans = spans'; calls = lines'; failed = failed; left = x }) u
+
+  -- **What is reported then is the definition's report.**
+  pub reported : (now : State) (j' : JournalMemory) (report : ReportView) → IsRising calls → now ≡ told_after b last →
+      ((c : ℕ) → open_now now c ≡ false) → j' ≡ with_ends last j →
+      report.replies ≡ numbered 0 now.done → report.left ≡ length r.orders - length now.done → IsNonDecreasingBy (λ l. l.end.call) report.calls →
+      IsPermutation (map (call_line j'.calls (kept_in tallies (histories_at r b.done t))) j'.ends) report.calls →
+      (AllEnded (given_in r) r.periods now → report.spans ≡ span_lines (spans_of (given_in r) r.periods now.done)
+      (settled_each (kept_in tallies (histories_at r b.done t)) j'.ends j').bridges) →
+      report ≡ report_of r report.failed
+  reported now j' report rising told none noted replies left sorted shuffled spans =
+      same_report report.replies _ report.spans _ report.calls _ report.failed report.left _ (replies ∙ ap (numbered 0) done_is)
+      (spans (all_told now told none) ∙ ap (λ (k : JournalMemory). span_lines (spans_of (given_in r) r.periods now.done)
+      (settled_each tally k.ends k).bridges) noted
+      ∙ ap (λ (ds : List Done). span_lines (spans_of (given_in r) r.periods ds) (settled_each tally (j.ends ++ last) (with_ends last j)).bridges) done_is
+      ∙ spans_reported r t b.done b.left (with_ends last j) tally so all (noted_last rising))
+      (calls_reported r b.done (with_ends last j) tally report.calls all (noted_last rising) sorted
+      (subst (λ (k : JournalMemory). IsPermutation (map (call_line k.calls tally) k.ends) report.calls) noted shuffled) 4096 numbers)
+      (left ∙ rest)
+      ∙ sym (report_end r t b.done b.left report.failed so end.none_left)
+    where
+      done_is : now.done ≡ b.done
+      done_is = ap (λ (s : State). s.done) told ∙ told_done b last
+
+      all : done_in r ≡ b.done
+      all = all_done r t b.done b.left so end.none_left
+
+      numbers : (c : ℕ) → is_opened b.done c ≡ true → (1 ≤ c) × (c < 1 + 4096)
+      numbers c o = let noted = end.noted in let places = noted.places in let k = places.numbers c o in (k.0, let most = k.1 in omega arith)
+
+      rest : length r.orders - length now.done ≡ length b.left
+      rest =
+          let whole : length (map (λ (d : Done). d.order) b.done) + length b.left ≡ length r.orders =
+          sym (length-append (map (λ (d : Done). d.order) b.done) b.left) ∙ ap length so.listed in
+          let mapped : length (map (λ (d : Done). d.order) b.done) ≡ length b.done = length-map b.done (λ (d : Done). d.order) in
+          let same : length now.done ≡ length b.done = ap length done_is in
+          omega (arith, whole, mapped, same)
+
+-- **The same of whatever the report gives.**
+pub reported_ok : {E : Type 0} (b now : State) (groups : List Group) (tallies : List Tally) (j j' : JournalMemory) (calls : List ℕ) (orders periods : ℕ)
+    (x : Result ReportView E) →
+    ((c : ℕ) → is_among calls c ≡ open_now b c) → IsRising calls → now ≡ told_after b (map (limit_at periods) calls) → ((c : ℕ) → open_now now c ≡ false) →
+    j' ≡ with_ends (map (limit_at periods) calls) j →
+    IfOk x (λ v. v.replies ≡ numbered 0 now.done) → IfOk x (λ v. v.left ≡ orders - length now.done) →
+    IfOk x (λ v. IsNonDecreasingBy (λ l. l.end.call) v.calls) →
+    IfOk x (λ v. (h : ℕ → Option CallHistory) → GroupsStand h groups → IsPermutation (map (call_line j'.calls (kept_in tallies h)) j'.ends) v.calls) →
+    IfOk x (λ v. (h : ℕ → Option CallHistory) (given : ℕ → Given) (last : ℕ) → GroupsStand h groups → AllEnded given last now →
+    v.spans ≡ span_lines (spans_of given last now.done) (settled_each (kept_in tallies h) j'.ends j').bridges) →
+    IfOk x (λ v. (r : Run) (t : ℕ) → IsAtEnd r t b groups tallies j → r.periods ≡ periods → length r.orders ≡ orders → v ≡ report_of r v.failed)
+reported_ok b now groups tallies j j' calls orders periods (Err e) among rising told none noted replies left sorted lines spans = tt
+reported_ok b now groups tallies j j' calls orders periods (Ok v) among rising told none noted replies left sorted lines spans = λ r t end p o.
+    let follows = end.follows in
+    let h = histories_at r b.done t in
+    reported r t b groups tallies j end calls among now j' v rising (told ∙ ap (λ (n : ℕ). told_after b (map (limit_at n) calls)) (sym p)) none
+    (noted ∙ ap (λ (n : ℕ). with_ends (map (limit_at n) calls) j) (sym p)) replies
+    (left ∙ ap (λ (n : ℕ). n - length now.done) (sym o)) sorted (lines h follows.stands) (spans h (given_in r) r.periods follows.stands)

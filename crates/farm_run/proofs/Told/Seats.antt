@@ -1,0 +1,149 @@
+-- The ends that the seats of a round tell are those of the calls that their lines ended within it.
+use Rattle.std.proofs.Common.{◌≡◌, refl, sym, ap, ◌∙◌, subst, ℕ, suc, ◌+◌, ◌<◌, ◌≤◌, Bool, true, false, Option, Some, None, List, [], ◌∷◌, length, inl, inr, arith}
+use Rattle.std.specs.Prelude.{◌&&◌, ◌||◌, nat_lt, ◌==◌, if◌then◌else◌}
+use Rattle.std.specs.List.{AllByRecursion, filter_map, cons_option}
+use Rattle.std.proofs.lemmas.Bool.{cases_Bool, ltb-true, eqb-true, and_parts}
+use Rattle.trau_io.specs.declared.ends.CallEnd.{CallEnd}
+use Rattle.trau_orders.specs.declared.order.Order.{Order}
+use Rattle.switchboard.specs.Calls.{Done, is_open, gone_at}
+use Rattle.switchboard.specs.Ends.{lack_of, end_of, start_of, ends_at}
+use Rattle.round_lines.specs.Seats.{SeatMemory}
+use Rattle.round_lines.specs.Places as places
+use Rattle.round_lines.specs.Rounds.{Rising, call_at, seat_end}
+use Rattle.run_spec.specs.Run.{Run, given_in, whole_in, done_in}
+use Rattle.run_spec.proofs.Settling.{at_of}
+use Rattle.farm_run.specs.Going.{places_in, ends_within, is_told}
+use Rattle.farm_run.proofs.Rounds.Taken.{IsRound, IsSeat, has_seat}
+use Rattle.farm_run.specs.Ending.{AreApart}
+use Rattle.farm_run.proofs.Rounds.Ends.{end_within, ends_there, round_end}
+
+-- the run's end of a call
+abbrev run_end : Run → List Done → ℕ → CallEnd
+run_end r ds c = end_of (given_in r) r.periods (done_in r) c (start_of ds c)
+
+-- the call of an end
+abbrev call_of : CallEnd → ℕ
+call_of e = e.call
+
+-- a seat's end is the run's
+seat_end_is : (r : Run) (t n : ℕ) (ds : List Done) (left : List Order) (s : SeatMemory) → IsRound r t n ds left → IsSeat r ds t n s →
+    seat_end t s ≡ (if ends_within r ds t n s.place.call then Some (run_end r ds s.place.call) else None)
+seat_end_is r t n ds left s h k = round_end r t n ds left s.place.call s.place s.up s.pcm h k.open_now k.taken
+
+-- **What holds of the run's end of each call that ends within the round holds of each end that its seats tell.**
+pub each_end : (Q : CallEnd → Type 0) (r : Run) (t n : ℕ) (ds : List Done) (left : List Order) (seats : List SeatMemory) → IsRound r t n ds left →
+    AllByRecursion (IsSeat r ds t n) seats →
+    ((c : ℕ) → ends_within r ds t n c ≡ true → Q (end_of (given_in r) r.periods (done_in r) c (start_of ds c))) →
+    AllByRecursion Q (filter_map (seat_end t) seats)
+each_end Q r t n ds left [] h a q = tt
+each_end Q r t n ds left (s ∷ seats) h a q =
+    subst (λ (o : Option CallEnd). AllByRecursion Q (cons_option o (filter_map (seat_end t) seats))) (sym (seat_end_is r t n ds left s h a.0))
+    (by (ends_within r ds t n s.place.call) refl (each_end Q r t n ds left seats h a.1 q))
+  where
+    by : (b : Bool) → ends_within r ds t n s.place.call ≡ b → AllByRecursion Q (filter_map (seat_end t) seats) →
+        AllByRecursion Q (cons_option (if b then Some (run_end r ds s.place.call) else None) (filter_map (seat_end t) seats))
+    by true e k = (q s.place.call e, k)
+    by false e k = k
+
+-- **Each end is told at the period at which the run ends its call, which lies within the round.**
+pub ends_right : (r : Run) (t n : ℕ) (ds : List Done) (left : List Order) (seats : List SeatMemory) → IsRound r t n ds left →
+    AllByRecursion (IsSeat r ds t n) seats →
+    AllByRecursion (λ e. (t ≤ e.at) × (e.at < t + n) × (e.at ≡ ends_at (given_in r) r.periods (done_in r) e.call)) (filter_map (seat_end t) seats)
+ends_right r t n ds left seats h a = each_end _ r t n ds left seats h a (λ c e. right c e)
+  where
+    right : (c : ℕ) → ends_within r ds t n c ≡ true →
+        (t ≤ at_of (run_end r ds c)) × (at_of (run_end r ds c) < t + n)
+        × (at_of (run_end r ds c) ≡ ends_at (given_in r) r.periods (done_in r) (call_of (run_end r ds c)))
+    right c e =
+        let parts = and_parts (is_open (gone_at (whole_in r) t ds) ds c) (nat_lt (places_in r ds t n c) n) e in
+        let fewer : places_in r ds t n c < n = ltb-true (places_in r ds t n c) n parts.1 in
+        let w = end_within r t n ds left c h e in
+        let at = ap at_of w in (
+          subst (λ (u : ℕ). t ≤ u) (sym at) (omega arith),
+          subst (λ (u : ℕ). u < t + n) (sym at) (more (places_in r ds t n c) fewer),
+          at ∙ sym (ap (ends_at (given_in r) r.periods (done_in r)) (ap call_of w) ∙ ends_there r t n ds left c h e),
+        )
+      where
+        more : (m : ℕ) → m < n → t + m < t + n
+        more m l = omega arith
+
+-- a call's end is told by its seat
+told_seat : (r : Run) (t n : ℕ) (ds : List Done) (left : List Order) (c : ℕ) (seats : List SeatMemory) → IsRound r t n ds left →
+    AllByRecursion (IsSeat r ds t n) seats →
+    is_told c (filter_map (seat_end t) seats) ≡ (has_seat c seats && ends_within r ds t n c)
+told_seat r t n ds left c [] h a = refl
+told_seat r t n ds left c (s ∷ seats) h a =
+    ap (λ (o : Option CallEnd). is_told c (cons_option o (filter_map (seat_end t) seats))) (seat_end_is r t n ds left s h a.0)
+    ∙ by (told_seat r t n ds left c seats h a.1) (ends_within r ds t n s.place.call) refl
+  where
+    same : c == s.place.call ≡ true → (b : Bool) → ends_within r ds t n s.place.call ≡ b → ends_within r ds t n c ≡ b
+    same e b f = ap (ends_within r ds t n) (eqb-true c s.place.call e) ∙ f
+
+    first : (p q e : Bool) → (p ≡ true → e ≡ true) → (p || (q && e)) ≡ ((p || q) && e)
+    first false q e f = refl
+    first true q e f = sym (f refl)
+
+    none : (p q e : Bool) → (p ≡ true → e ≡ false) → (q && e) ≡ ((p || q) && e)
+    none false q e f = refl
+    none true q e f = ap (λ (b : Bool). q && b) (f refl) ∙ nothing q ∙ sym (f refl)
+      where
+        nothing : (q : Bool) → (q && false) ≡ false
+        nothing true = refl
+        nothing false = refl
+
+    by : is_told c (filter_map (seat_end t) seats) ≡ (has_seat c seats && ends_within r ds t n c) → (b : Bool) → ends_within r ds t n s.place.call ≡ b →
+        is_told c (cons_option (if b then Some (run_end r ds s.place.call) else None) (filter_map (seat_end t) seats))
+        ≡ ((c == s.place.call || has_seat c seats) && ends_within r ds t n c)
+    by rest true e =
+        let named : call_of (run_end r ds s.place.call) ≡ s.place.call = ap call_of (end_within r t n ds left s.place.call h e) in
+        ap (λ (d : ℕ). c == d || is_told c (filter_map (seat_end t) seats)) named ∙ ap (λ (b : Bool). c == s.place.call || b) rest
+        ∙ first (c == s.place.call) (has_seat c seats) (ends_within r ds t n c) (λ f. same f true e)
+    by rest false e = rest ∙ none (c == s.place.call) (has_seat c seats) (ends_within r ds t n c) (λ f. same f false e)
+
+-- **Where each open call has a seat, the ends that are told are those of exactly the calls that end within the round.**
+pub told_seats : (r : Run) (t n : ℕ) (ds : List Done) (left : List Order) (seats : List SeatMemory) → IsRound r t n ds left →
+    AllByRecursion (IsSeat r ds t n) seats →
+    ((c : ℕ) → is_open (gone_at (whole_in r) t ds) ds c ≡ true → has_seat c seats ≡ true) → (c : ℕ) →
+    is_told c (filter_map (seat_end t) seats) ≡ ends_within r ds t n c
+told_seats r t n ds left seats h a all c = told_seat r t n ds left c seats h a ∙ by (ends_within r ds t n c) refl
+  where
+    by : (b : Bool) → ends_within r ds t n c ≡ b → (has_seat c seats && b) ≡ b
+    by true e = ap (λ (b : Bool). b && true) (all c (let p = and_parts (is_open (gone_at (whole_in r) t ds) ds c) (nat_lt (places_in r ds t n c) n) e in p.0))
+    by false e = nothing (has_seat c seats)
+      where
+        nothing : (q : Bool) → (q && false) ≡ false
+        nothing true = refl
+        nothing false = refl
+
+-- **No call has two of the ends that seats tell.**
+pub seats_apart : (t : ℕ) (seats : List SeatMemory) → Rising seats → AreApart (filter_map (seat_end t) seats)
+seats_apart t [] r = tt
+seats_apart t (s ∷ seats) r =
+    by (places.whole_in s.place == s.place.periods) (above s.place.call seats (λ j l. r 0 (suc j) (omega arith) (omega arith)))
+    (seats_apart t seats (λ i j l k. r (suc i) (suc j) (omega arith) (omega arith)))
+  where
+    by : (b : Bool) → is_told s.place.call (filter_map (seat_end t) seats) ≡ false → AreApart (filter_map (seat_end t) seats) →
+        AreApart (cons_option (if b then None else Some
+        (record { call = s.place.call; at = t + places.whole_in s.place; cause = lack_of (places.whole_in s.place) (places.given_in s.place) }))
+        (filter_map (seat_end t) seats))
+    by true e k = k
+    by false e k = (e, k)
+
+    above : (c : ℕ) (seats : List SeatMemory) → ((j : ℕ) → j < length seats → c < call_at seats j) → is_told c (filter_map (seat_end t) seats) ≡ false
+    above c [] h = refl
+    above c (x ∷ seats) h = more (places.whole_in x.place == x.place.periods) (above c seats (λ j l. h (suc j) (omega arith)))
+      where
+        more : (b : Bool) → is_told c (filter_map (seat_end t) seats) ≡ false →
+            is_told c
+            (cons_option
+            (if b then None else Some (record {
+              call = x.place.call;
+              at = t + places.whole_in x.place;
+              cause =
+                  lack_of (places.whole_in x.place) (places.given_in x.place);
+            })) (filter_map (seat_end t) seats)) ≡ false
+        more true e = e
+        more false e = elim (cases_Bool (c == x.place.call)) [
+          | inl q ↦ let same = eqb-true c x.place.call q in let l = h 0 (omega arith) in absurd (omega arith)
+          | inr q ↦ ap (λ (b : Bool). b || is_told c (filter_map (seat_end t) seats)) q ∙ e
+        ]

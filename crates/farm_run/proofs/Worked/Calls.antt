@@ -1,0 +1,173 @@
+-- The calls of a round: what was taken of their lines is the run's.
+use Rattle.std.proofs.Common.{◌≡◌, refl, sym, ap, ◌∙◌, subst, ℕ, suc, ◌+◌, ◌-◌, ◌*◌, ◌<◌, Bool, true, false, Some, List, [], ◌∷◌, ◌++◌, length, drop, inl, inr, ◌⊎◌, arith}
+use Rattle.std.specs.Prelude.{◌==◌, is_some, slice_index}
+use Rattle.std.specs.List.{AllByRecursion, filter_map, cons_option}
+use Rattle.std.proofs.lemmas.Bool.{eq-eqb, true≢false}
+use Rattle.std.proofs.lemmas.List.Elements.{recursion_from_All, All-from_get_or}
+use Rattle.std.proofs.lemmas.List.Folds.{list_any_at}
+use Rattle.trau_io.specs.declared.ends.CallEnd.{CallEnd}
+use Rattle.trau_io.specs.declared.line.Side.{Side}
+use Rattle.trau_io.specs.declared.line.Side.TheVariants.{Up, Pcm}
+use Rattle.trau_io.specs.Lines.{LineState}
+use Rattle.round_lines.specs.Places.{PlaceMemory}
+use Rattle.round_lines.specs.Places as places
+use Rattle.round_lines.specs.Seats.{SeatMemory}
+use Rattle.round_lines.specs.Rounds.{seat_at, call_at, seat_end, no_seat}
+use Rattle.switchboard.specs.Calls.{is_open, gone_at}
+use Rattle.switchboard.specs.Ends.{start_of}
+use Rattle.switchboard.specs.State.{State}
+use Rattle.farm_rounds.specs.declared.call.Call.{Call}
+use Rattle.farm_rounds.specs.Calls.{call_in}
+use Rattle.farm_rounds.specs.Memory.{FarmMemory}
+use Rattle.farm_rounds.specs.Working.{goes_on_call}
+use Rattle.farm_rounds.specs.RoundHistories.{seat_of}
+use Rattle.farm_rounds.proofs.Working.{goes_on_at}
+use Rattle.run_spec.specs.Run.{Run, whole_in, IsOpened}
+use Rattle.run_spec.proofs.SoFar.{standing_now}
+use Rattle.run_spec.proofs.Going.{opened_run}
+use Rattle.farm_run.specs.Going.{places_in}
+use Rattle.farm_run.proofs.Rounds.Taken.{IsRound, IsTaken, IsSeat, has_seat}
+use Rattle.farm_run.specs.Runs.{is_listed}
+use Rattle.farm_run.specs.Match.{Matches}
+use Rattle.farm_run.specs.Standing.{Standing, standing, is_over, MeetsRun, IsToCome, never_given}
+use Rattle.farm_run.specs.Clock.{IsAtClock}
+use Rattle.farm_run.proofs.Rounds.Open.{open_at}
+use Rattle.farm_run.proofs.Rounds.Ends.{whole_taken}
+use Rattle.farm_run.proofs.Ordered.Due.{open_told}
+use Rattle.farm_run.proofs.Listed.Counts.{seat_cases}
+use Rattle.farm_run.proofs.Clocks.Reach.{open_before_end, worked_now}
+use Rattle.farm_run.proofs.Worked.Round.{WorkedRound, SeatFacts, filled_call, filled_periods, up_long, pcm_long}
+use Rattle.farm_run.proofs.Worked.Facts.{seat_facts, up_after, pcm_after, incoming_after}
+use Rattle.farm_run.proofs.Rounds.Taking.{met}
+use Rattle.farm_run.proofs.Worked.Seats.{seat_of_at}
+
+-- the ends that seats tell are those of their places
+pub same_ends : (t : ℕ) (ss ts : List SeatMemory) → length ss ≡ length ts → ((k : ℕ) → k < length ts → (seat_at ss k).place ≡ (seat_at ts k).place) →
+    filter_map (seat_end t) ss ≡ filter_map (seat_end t) ts
+same_ends t [] [] e h = refl
+same_ends t [] (x ∷ ts) e h = absurd (omega arith)
+same_ends t (s ∷ ss) [] e h = absurd (omega arith)
+same_ends t (s ∷ ss) (x ∷ ts) e h =
+    ap (λ (p : PlaceMemory). cons_option (places.end_in_round t p) (filter_map (seat_end t) ss)) (h 0 (omega arith))
+    ∙ ap (cons_option (seat_end t x)) (same_ends t ss ts (omega arith) (λ k l. h (suc k) (omega arith)))
+
+module _ (r : Run) (t n : ℕ) (b : State) (farm after : FarmMemory) (first before now : ℕ → Side → LineState) (ends : List CallEnd)
+    (w : WorkedRound t n farm after before now ends) (h : IsRound r t n b.done b.left) (m : Matches b farm.groups) (b' : State) (last : Standing)
+    (at : IsAtClock r t b farm.groups last first before)
+    (meets : MeetsRun r n w.filled (standing b' after.failed now) last) where
+  -- whether a call is open at the clock
+  abbrev alive : ℕ → Bool
+  alive = is_open (gone_at (whole_in r) t b.done) b.done
+
+  -- **The farm's calls are those that are open by the definition.**
+  pub open_is : (c : ℕ) → is_some (call_in farm.groups c) ≡ alive c
+  open_is c = m.is_open c ∙ open_told (whole_in r) t b at.follows.tells c
+
+  -- the run opens it
+  pub opened_is : (c : ℕ) → alive c ≡ true → IsOpened r c
+  opened_is c o =
+      ap is_some (opened_run r t b.done b.left c (start_of b.done c) h.so_far (open_at r t b.done c (standing_now r t b.done b.left h.so_far) o).opened)
+
+  -- what is known of the seat of an open call
+  pub record OpenSeat (c : ℕ) : Type 0 where
+    pub k : ℕ
+    pub within : k < length farm.live
+    pub here : slice_index farm.live k ≡ c
+    pub call : Call
+    pub called : call_in farm.groups c ≡ Some call
+    pub facts : SeatFacts n (before c) (w.between c) (now c) c call (seat_at w.planned k) (seat_at w.filled k) (seat_at w.worked k) (seat_at w.drained k)
+    pub found : seat_of w.filled c ≡ seat_at w.filled k
+    pub number : (seat_at w.filled k).place.call ≡ c
+    pub taken : IsTaken r b.done t n c (seat_at w.filled k).place (seat_at w.filled k).up (seat_at w.filled k).pcm
+    pub whole : places.whole_in (seat_at w.filled k).place ≡ places_in r b.done t n c
+    pub up_left : IsToCome (now c Up) (40 * (t - start_of b.done c) + 40 * n) (r.lines c).up (never_given (last.listed c Up) (last.lines c Up))
+    pub pcm_left : IsToCome (now c Pcm) (160 * (t - start_of b.done c) + 160 * n) (r.lines c).pcm (never_given (last.listed c Pcm) (last.lines c Pcm))
+
+  -- **An open call has a seat, which took what the run's lines give.**
+  pub open_seat : (c : ℕ) → alive c ≡ true → OpenSeat c
+  open_seat c o = by (seat_cases t n farm after before now ends w c)
+    where
+      by : ((k : ℕ) × (k < length farm.live) × (slice_index farm.live k ≡ c)) ⊎ (is_some (call_in farm.groups c) ≡ false) → OpenSeat c
+      by (inr q) = absurd (true≢false (sym o ∙ sym (open_is c) ∙ q))
+      by (inl p) =
+          let f = seat_facts t n farm after before now ends w p.0 c p.1 p.2 in
+          let place = seat_at w.filled p.0 in
+          let called = filled_call _ _ _ _ _ _ _ _ f.2.front in
+          let whole : IsOpened r c = opened_is c o in
+          let early = open_before_end r t n b.done b.left c h o in
+          let now_is = worked_now r t n b.done b.left c h o in
+          let up_rest = never_given (last.listed c Up) (last.lines c Up) in
+          let pcm_rest = never_given (last.listed c Pcm) (last.lines c Pcm) in
+          let up_told : IsToCome (before c Up) (40 * (t - start_of b.done c)) (r.lines c).up up_rest = at.lines.up_read c whole (inl early)
+          ∙ ap (λ (i : ℕ). Some (drop (40 * i) (r.lines c).up ++ up_rest)) now_is in
+          let pcm_told : IsToCome (before c Pcm) (160 * (t - start_of b.done c)) (r.lines c).pcm pcm_rest = at.lines.pcm_read c whole (inl early)
+          ∙ ap (λ (i : ℕ). Some (drop (160 * i) (r.lines c).pcm ++ pcm_rest)) now_is in
+          let long : p.0 < length w.filled = omega (arith, p.1, w.number, w.filled_number) in
+          let is_met = met r b.done t n c (before c) (w.between c) (seat_at w.planned p.0) place (standing b' after.failed now) last f.2.front.fills called
+          (filled_periods _ _ _ _ _ _ _ _ f.2.front)
+          (up_long _ _ _ _ _ _ _ _ f.2.front) (pcm_long _ _ _ _ _ _ _ _ f.2.front) meets.on (meets.flags.up c) (meets.flags.pcm c)
+          (λ side i. ap (λ (d : ℕ). is_listed after.failed d side) (sym called) ∙ meets.listed p.0 side long i)
+          (λ l. ap (is_over b') (sym called) ∙ meets.over p.0 long l)
+          (incoming_after t n farm after before now ends w c) up_told pcm_told in
+          record {
+            k = p.0;
+            within = p.1;
+            here = p.2;
+            call = f.0;
+            called = f.1;
+            facts = f.2;
+            found = ap (seat_of w.filled) (sym called) ∙ seat_of_at w.filled p.0 w.rising long;
+            number = called;
+            taken = is_met.taken;
+            whole = whole_taken r t n b.done b.left c place.place place.up place.pcm h o is_met.taken;
+            up_left = ap (λ (l : LineState). l.to_come) (up_after t n farm after before now ends w c) ∙ is_met.up_left;
+            pcm_left = ap (λ (l : LineState). l.to_come) (pcm_after t n farm after before now ends w c) ∙ is_met.pcm_left;
+          }
+
+  -- ---- the round's seats and ends
+
+  -- there are as many seats as open calls
+  long : length w.filled ≡ length farm.live
+  long = w.filled_number ∙ w.number
+
+  -- a seat that took what the run's lines give its call is one of the run's round
+  seat_is : (c : ℕ) (s : SeatMemory) → alive c ≡ true → s.place.call ≡ c → IsTaken r b.done t n c s.place s.up s.pcm → IsSeat r b.done t n s
+  seat_is c s o e k = record { open_now = ap alive e ∙ o; taken = subst (λ (d : ℕ). IsTaken r b.done t n d s.place s.up s.pcm) (sym e) k }
+
+  -- **Each seat is one of the run's round.**
+  pub all_seats : AllByRecursion (IsSeat r b.done t n) w.filled
+  all_seats = recursion_from_All (IsSeat r b.done t n) w.filled (All-from_get_or (IsSeat r b.done t n) w.filled no_seat each)
+    where
+      each : (k : ℕ) → k < length w.filled → IsSeat r b.done t n (seat_at w.filled k)
+      each k l =
+          let c = slice_index farm.live k in
+          let f = seat_facts t n farm after before now ends w k c (omega (arith, l, long)) refl in
+          let o : alive c ≡ true = sym (open_is c) ∙ ap is_some f.1 in
+          let s = open_seat c o in
+          let called = filled_call _ _ _ _ _ _ _ _ f.2.front in
+          let same : seat_at w.filled s.k ≡ seat_at w.filled k = sym s.found ∙ ap (seat_of w.filled) (sym called) ∙ seat_of_at w.filled k w.rising l in
+          subst (IsSeat r b.done t n) same (seat_is c (seat_at w.filled s.k) o s.number s.taken)
+
+  -- each open call has one
+  pub all_have_seats : (c : ℕ) → alive c ≡ true → has_seat c w.filled ≡ true
+  all_have_seats c o =
+      let s = open_seat c o in
+      let l = s.within in
+      list_any_at (λ x. c == x.place.call) w.filled s.k no_seat (omega (arith, l, long)) (eq-eqb c (call_at w.filled s.k) (sym s.number))
+
+  -- the ends that are told are those of the filled seats
+  pub ends_filled : ends ≡ filter_map (seat_end t) w.filled
+  ends_filled = w.told ∙ same_ends t w.worked w.filled w.worked_number w.places
+
+  -- **A call goes on exactly where its lines give all periods of the round.**
+  pub goes_on_is : (c : ℕ) → alive c ≡ true → goes_on_call w.worked c ≡ (places_in r b.done t n c == n)
+  goes_on_is c o =
+      let s = open_seat c o in
+      let l = s.within in
+      let within : s.k < length w.worked = omega (arith, l, long, w.worked_number) in
+      let place : (seat_at w.worked s.k).place ≡ (seat_at w.filled s.k).place = s.facts.front.place in
+      ap (goes_on_call w.worked) (sym (ap (λ (p : PlaceMemory). p.call) place ∙ s.number))
+      ∙ goes_on_at w.worked s.k w.worked_rising within
+      ∙ ap (λ (p : PlaceMemory). places.whole_in p == p.periods) place
+      ∙ ap (λ (i : ℕ). i == (seat_at w.filled s.k).place.periods) s.whole
+      ∙ ap (λ (i : ℕ). places_in r b.done t n c == i) s.taken.periods

@@ -1,0 +1,171 @@
+-- A round of the farm by what its parts tell: its seats as they were planned, filled, worked and drained.
+use Rattle.std.proofs.Common.{◌≡◌, refl, sym, ap, ◌∙◌, subst, ℕ, suc, ◌*◌, ◌<◌, Bool, true, false, ◌&&◌, Option, Some, None, List, [], ◌∷◌, length, arith}
+use Rattle.std.specs.Prelude.{◌==◌, ◌||◌, if◌then◌else◌, is_some, slice_index}
+use Rattle.std.specs.List.{filter_map}
+use Rattle.std.proofs.lemmas.Bool.{eqb-true}
+use Rattle.std.proofs.lemmas.List.{length-replicate}
+use Rattle.trau_io.specs.declared.ends.CallEnd.{CallEnd}
+use Rattle.trau_io.specs.declared.line.Side.{Side}
+use Rattle.trau_io.specs.Lines.{LineState}
+use Rattle.round_lines.specs.Transfer.{fails_now}
+use Rattle.round_lines.specs.Places.{PlaceMemory, IsFresh, TellsFaults, outlet_before}
+use Rattle.round_lines.specs.Seats.{SeatMemory, Fills, Drains, new_seat}
+use Rattle.round_lines.specs.Rounds.{Each, KeepsButEach, IsIncoming, IsOutgoing, Rising, seat_at, call_at, seat_end}
+use Rattle.farm_rounds.specs.declared.call.Call.{Call}
+use Rattle.farm_rounds.specs.Calls.{call_in, partner_in}
+use Rattle.farm_rounds.specs.Numbers.{is_among}
+use Rattle.farm_rounds.specs.Memory.{FarmMemory, tally_in}
+use Rattle.farm_rounds.specs.Histories.{CallHistory, GroupsStand, kept_of}
+use Rattle.farm_rounds.specs.Working.{GainsFailed, goes_on_call, partner_past}
+use Rattle.farm_rounds.specs.RoundHistories.{seat_for, worked_histories, AreWorked, KnowFailed, those_that}
+use Rattle.farm_rounds.proofs.Rising.{there}
+use Rattle.farm_run.specs.Outgoing.{Settles}
+
+-- what a round of n periods from t on did to the farm and the lines, and the ends that it told
+pub record WorkedRound (t n : ℕ) (farm after : FarmMemory) (before now : ℕ → Side → LineState) (ends : List CallEnd) : Type 0 where
+  pub planned : List SeatMemory
+  pub filled : List SeatMemory
+  pub worked : List SeatMemory
+  pub drained : List SeatMemory
+  pub between : ℕ → Side → LineState
+  pub live : (c : ℕ) → is_among farm.live c ≡ is_some (call_in farm.groups c)
+  pub number : length planned ≡ length farm.live
+  pub seats : (k : ℕ) → k < length farm.live → seat_at planned k ≡ seat_for n (slice_index farm.live k) (call_in farm.groups (slice_index farm.live k))
+  pub fills : Each Fills before between planned filled (length planned)
+  pub filled_others : KeepsButEach IsIncoming before between planned (length planned)
+  pub filled_number : length filled ≡ length planned
+  pub rising : Rising filled
+  pub worked_number : length worked ≡ length filled
+  pub worked_rising : Rising worked
+  pub places : (k : ℕ) → k < length filled → (seat_at worked k).place ≡ (seat_at filled k).place
+  pub told : ends ≡ filter_map (seat_end t) worked
+  pub drains : Each Settles between now worked drained (length worked)
+  pub held : Bool
+  pub writes : held ≡ false → Each Drains between now worked drained (length worked)
+  pub back : held ≡ true → (now ≡ between) × (drained ≡ worked)
+  pub drained_others : KeepsButEach IsOutgoing between now worked (length worked)
+  pub drained_number : length drained ≡ length worked
+  pub gains : GainsFailed farm.failed after.failed drained
+  pub know : KnowFailed drained after.groups
+  pub is_open : (c : ℕ) → is_some (call_in after.groups c) ≡ (is_among farm.live c && goes_on_call worked c)
+  pub partners : (c : ℕ) → partner_in after.groups c ≡ partner_past (goes_on_call worked) (partner_in farm.groups) c
+  pub octets : (h : ℕ → Option CallHistory) → GroupsStand h farm.groups → AreWorked filled (worked_histories filled (partner_in farm.groups) h) worked
+  pub stands : (h : ℕ → Option CallHistory) → GroupsStand h farm.groups →
+      GroupsStand (those_that (goes_on_call worked) (worked_histories filled (partner_in farm.groups) h)) after.groups
+  pub tallies : (h : ℕ → Option CallHistory) → GroupsStand h farm.groups → (c : ℕ) →
+      tally_in after.tallies c ≡ (if goes_on_call worked c then tally_in farm.tallies c else kept_of (worked_histories filled (partner_in farm.groups) h c)
+      (tally_in farm.tallies c))
+
+-- the same up to its work
+pub record FilledRound (t n : ℕ) (farm : FarmMemory) (before between : ℕ → Side → LineState) (planned filled worked : List SeatMemory)
+    (ends : List CallEnd) : Type 0 where
+  pub live : (c : ℕ) → is_among farm.live c ≡ is_some (call_in farm.groups c)
+  pub number : length planned ≡ length farm.live
+  pub seats : (k : ℕ) → k < length farm.live → seat_at planned k ≡ seat_for n (slice_index farm.live k) (call_in farm.groups (slice_index farm.live k))
+  pub fills : Each Fills before between planned filled (length planned)
+  pub filled_number : length filled ≡ length planned
+  pub worked_number : length worked ≡ length filled
+  pub worked_rising : Rising worked
+  pub places : (k : ℕ) → k < length filled → (seat_at worked k).place ≡ (seat_at filled k).place
+  pub told : ends ≡ filter_map (seat_end t) worked
+
+-- ---- the seats
+
+-- the place of a number that is among others
+pub among_place : (xs : List ℕ) (c : ℕ) → is_among xs c ≡ true → (k : ℕ) × (k < length xs) × (slice_index xs k ≡ c)
+among_place [] c e = cc
+among_place (x ∷ xs) c e = by (x == c) refl e (among_place xs c)
+  where
+    by : (b : Bool) → (x == c) ≡ b → (b || is_among xs c) ≡ true → (is_among xs c ≡ true → (k : ℕ) × (k < length xs) × (slice_index xs k ≡ c)) →
+        (k : ℕ) × (k < length (x ∷ xs)) × (slice_index (x ∷ xs) k ≡ c)
+    by true q h rest = (0, omega arith, eqb-true x c q)
+    by false q h rest = let p = rest h in (suc p.0, (let l = p.1 in omega arith), p.2)
+
+-- the seat of a call in a round, up to its work
+pub record FrontFacts (n : ℕ) (before between : Side → LineState) (c : ℕ) (call : Call) (planned filled worked : SeatMemory) : Type 0 where
+  pub made : planned ≡ new_seat c n call.down_failed call.out_failed
+  pub fills : Fills before between planned filled
+  pub place : worked.place ≡ filled.place
+
+module _ (n : ℕ) (before between : Side → LineState) (c : ℕ) (call : Call) (planned filled worked : SeatMemory)
+    (f : FrontFacts n before between c call planned filled worked) where
+  -- reading changes the marks of the incoming lines alone
+  kept_place : filled.place ≡ record planned.place { up = filled.place.up; pcm = filled.place.pcm }
+  kept_place = ap (λ (s : SeatMemory). s.place) f.fills.kept
+
+  -- the seat is this call's, before the work
+  pub filled_call : filled.place.call ≡ c
+  filled_call = ap (λ (p : PlaceMemory). p.call) kept_place ∙ ap (λ (s : SeatMemory). s.place.call) f.made
+
+  -- and behind it
+  pub worked_call : worked.place.call ≡ c
+  worked_call = ap (λ (p : PlaceMemory). p.call) f.place ∙ filled_call
+
+  -- it is for so many periods
+  pub filled_periods : filled.place.periods ≡ n
+  filled_periods = ap (λ (p : PlaceMemory). p.periods) kept_place ∙ ap (λ (s : SeatMemory). s.place.periods) f.made
+
+  -- its buffers have the octets of so many
+  pub up_long : length filled.up ≡ 40 * n
+  up_long = f.fills.up_length ∙ ap (λ (s : SeatMemory). length s.up) f.made ∙ length-replicate (40 * n) 0
+
+  pub pcm_long : length filled.pcm ≡ 160 * n
+  pcm_long = f.fills.pcm_length ∙ ap (λ (s : SeatMemory). length s.pcm) f.made ∙ length-replicate (160 * n) 0
+
+  -- its outgoing lines stand as the call had them
+  pub worked_down : worked.place.down ≡ outlet_before call.down_failed
+  worked_down = ap (λ (p : PlaceMemory). p.down) (f.place ∙ kept_place) ∙ ap (λ (s : SeatMemory). s.place.down) f.made
+
+  pub worked_out : worked.place.out ≡ outlet_before call.out_failed
+  worked_out = ap (λ (p : PlaceMemory). p.out) (f.place ∙ kept_place) ∙ ap (λ (s : SeatMemory). s.place.out) f.made
+
+-- and up to the round's end
+pub record SeatFacts (n : ℕ) (before between now : Side → LineState) (c : ℕ) (call : Call) (planned filled worked drained : SeatMemory) : Type 0 where
+  pub front : FrontFacts n before between c call planned filled worked
+  pub drains : Settles between now worked drained
+
+module _ (n : ℕ) (before between now : Side → LineState) (c : ℕ) (call : Call) (planned filled worked drained : SeatMemory)
+    (f : SeatFacts n before between now c call planned filled worked drained) where
+  -- the seat is this call's behind the writing too
+  pub drained_call : drained.place.call ≡ c
+  drained_call = ap (λ (s : SeatMemory). s.place.call) f.drains.kept ∙ worked_call n before between c call planned filled worked f.front
+
+  -- a line that stands as it did before the round hasn't failed in it
+  not_yet : (b : Bool) → fails_now (outlet_before b) ≡ false
+  not_yet true = refl
+  not_yet false = refl
+
+  -- no line of a planned seat has failed in the round
+  fresh : IsFresh planned.place
+  fresh = (
+    ap (λ (s : SeatMemory). fails_now s.place.down) f.front.made ∙ not_yet call.down_failed,
+    ap (λ (s : SeatMemory). fails_now s.place.out) f.front.made
+        ∙ not_yet call.out_failed,
+  )
+
+  -- **At the round's end its marks tell which of its lines' counts rose.**
+  pub tells_seat : TellsFaults before now drained.place
+  tells_seat = f.drains.faults before (subst (TellsFaults before between) (sym f.front.place) (f.front.fills.faults fresh))
+
+module _ (t n : ℕ) (farm : FarmMemory) (before between : ℕ → Side → LineState) (planned filled worked : List SeatMemory) (ends : List CallEnd)
+    (w : FilledRound t n farm before between planned filled worked ends) where
+  -- **Each open call has its seat.**
+  pub front_facts : (k c : ℕ) → k < length farm.live → slice_index farm.live k ≡ c →
+      (x : Call) × (call_in farm.groups c ≡ Some x) × FrontFacts n (before c) (between c) c x (seat_at planned k) (seat_at filled k) (seat_at worked k)
+  front_facts k c l e = by (call_in farm.groups c) refl (sym (w.live c) ∙ there farm.live c k l e)
+    where
+      by : (o : Option Call) → call_in farm.groups c ≡ o → is_some o ≡ true →
+          (x : Call) × (call_in farm.groups c ≡ Some x) × FrontFacts n (before c) (between c) c x (seat_at planned k) (seat_at filled k) (seat_at worked k)
+      by None q h = cc
+      by (Some x) q h =
+          let made : seat_at planned k ≡ new_seat c n x.down_failed x.out_failed = w.seats k l ∙ ap (λ d. seat_for n d (call_in farm.groups d)) e
+          ∙ ap (seat_for n c) q in
+          let called : call_at planned k ≡ c = ap (λ (s : SeatMemory). s.place.call) made in (
+            x,
+            q,
+            record {
+              made = made;
+              fills = subst (λ d. Fills (before d) (between d) (seat_at planned k) (seat_at filled k)) called (w.fills k (omega (arith, w.number)));
+              place = w.places k (omega (arith, w.number, w.filled_number));
+            },
+          )

@@ -1,0 +1,126 @@
+-- An incoming line that fails in a round gives fewer octets than the round takes of it, and its call ends there.
+use Rattle.std.proofs.Common.{◌≡◌, sym, ap, ◌∙◌, ℕ, ◌+◌, ◌-◌, ◌*◌, ◌<◌, ◌≤◌, Bool, true, false, not, ◌&&◌, List, [], length, inl, inr, arith}
+use Rattle.std.specs.Prelude.{min}
+use Rattle.std.proofs.lemmas.Bool.{cases_Bool, true≢false}
+use Rattle.trau_io.specs.declared.ends.CallEnd.{CallEnd}
+use Rattle.trau_io.specs.declared.line.Line.{Line}
+use Rattle.trau_io.specs.declared.line.Side.{Side}
+use Rattle.trau_io.specs.declared.line.Side.TheVariants.{Up, Pcm}
+use Rattle.trau_io.specs.Lines.{LineState}
+use Rattle.round_lines.specs.Rounds.{seat_at}
+use Rattle.switchboard.specs.Calls.{is_open, gone_at}
+use Rattle.switchboard.specs.Ends.{start_of}
+use Rattle.switchboard.specs.State.{State}
+use Rattle.switchboard.specs.Open.{open_now}
+use Rattle.farm_rounds.specs.Memory.{FarmMemory}
+use Rattle.run_spec.specs.Run.{Run, whole_in, start_in, end_in}
+use Rattle.run_spec.proofs.SoFar.{standing_now}
+use Rattle.farm_run.specs.Going.{places_in, told_after, is_told}
+use Rattle.farm_run.specs.Runs.{FailedIn, FailedShort, is_listed}
+use Rattle.farm_run.specs.Match.{AtClock, Matches}
+use Rattle.farm_run.specs.Standing.{Standing, standing, KnowsListed, MeetsRun}
+use Rattle.farm_run.specs.Clock.{IsAtClock, FailedInRound}
+use Rattle.farm_run.proofs.Rounds.Taken.{IsRound}
+use Rattle.farm_run.proofs.Rounds.Open.{open_at}
+use Rattle.farm_run.proofs.Rounds.Ends.{start_kept}
+use Rattle.farm_run.proofs.Clocks.Reach.{end_after, open_before_end}
+use Rattle.farm_run.proofs.Worked.Round.{WorkedRound, up_long, pcm_long}
+use Rattle.farm_run.proofs.Listed.Round.{listed_kept, listed_incoming}
+use Rattle.farm_run.proofs.Listed.Seated.{fewer_up, fewer_pcm}
+use Rattle.farm_run.proofs.Worked.Calls.{OpenSeat, open_seat, open_is}
+
+module _ (r : Run) (t n : ℕ) (b : State) (farm after : FarmMemory) (first before now : ℕ → Side → LineState) (ends : List CallEnd)
+    (w : WorkedRound t n farm after before now ends) (h : IsRound r t n b.done b.left) (m : Matches b farm.groups) (b' : State) (last : Standing)
+    (at : IsAtClock r t b farm.groups last first before)
+    (meets : MeetsRun r n w.filled (standing b' after.failed now) last) (a : AtClock t b farm.groups) (knows : KnowsListed b farm.groups farm.failed)
+    (told : b' ≡ told_after b ends)
+    (open_then : (c : ℕ) → open_now b' c ≡ (open_now b c && not (is_told c ends))) where
+  -- whether a call is open at the clock
+  abbrev alive : ℕ → Bool
+  alive = is_open (gone_at (whole_in r) t b.done) b.done
+
+  -- what is known of its seat
+  abbrev Seat : ℕ → Type 0
+  Seat c = OpenSeat r t n b farm after first before now ends w h m b' last at meets c
+
+  abbrev seat : (c : ℕ) → alive c ≡ true → Seat c
+  seat c o = open_seat r t n b farm after first before now ends w h m b' last at meets c o
+
+  -- a call that lacks a period of the round ends in it
+  ends_here : (c octets : ℕ) (line : List ℕ) → alive c ≡ true → places_in r b.done t n c < n → length line < octets * (t + n - start_of b.done c) →
+      FailedIn r c octets line t (t + n)
+  ends_here c octets line o less few = record {
+    begun = open_before_end r t n b.done b.left c h o;
+    over = over (end_in r c) (places_in r b.done t n c) less (end_after r t n b.done b.left c h o);
+    within = h.within;
+    short = (let e : t + n - start_in r c ≡ t + n - start_of b.done c = ap (λ (s : ℕ). t + n - s) (start_kept r t n b.done b.left c h o) in
+        omega (arith, few, ap (λ (k : ℕ). octets * k) e));
+  }
+    where
+      over : (e k : ℕ) → k < n → min (t + n) e ≡ t + k → e < t + n
+      over e k l q = omega arith
+
+  -- an open call began before the clock
+  begun : (c : ℕ) → alive c ≡ true → start_of b.done c ≤ t
+  begun c o = (open_at r t b.done c (standing_now r t b.done b.left h.so_far) o).begun
+
+  -- what fewer octets than a round takes are in all
+  few_in_all : (octets count long start : ℕ) → count ≡ min (octets * n) (long - octets * (t - start)) → count < octets * n → start ≤ t →
+      octets * (t - start) + octets * n ≡ octets * (t + n - start) → long < octets * (t + n - start)
+  few_in_all octets count long start e l b s = omega arith
+
+  -- an open call's incoming line that is listed behind the round failed in it
+  up_failed : (c : ℕ) → alive c ≡ true → is_listed after.failed c Up ≡ true → FailedIn r c 40 (r.lines c).up t (t + n)
+  up_failed c o listed =
+      let s = seat c o in
+      let failed : (seat_at w.filled s.k).place.up.failed ≡ true =
+      sym (listed_incoming t n b farm after before now ends w a knows b' told open_then s.k c Up s.within s.here tt) ∙ listed in
+      let less : (seat_at w.filled s.k).place.up.count < 40 * n =
+      (let l = s.facts.front.fills.up.short failed in omega (arith, l, up_long _ _ _ _ _ _ _ _ s.facts.front)) in
+      let lacks : places_in r b.done t n c < n = (let l = fewer_up (seat_at w.filled s.k).place n less in omega (arith, l, s.whole)) in
+      let start = begun c o in
+      ends_here c 40 (r.lines c).up o lacks (few_in_all 40 (seat_at w.filled s.k).place.up.count (length (r.lines c).up)
+      (start_of b.done c) s.taken.up_count less start (spread (start_of b.done c) start))
+    where
+      spread : (s : ℕ) → s ≤ t → 40 * (t - s) + 40 * n ≡ 40 * (t + n - s)
+      spread s l = omega arith
+
+  pcm_failed : (c : ℕ) → alive c ≡ true → is_listed after.failed c Pcm ≡ true → FailedIn r c 160 (r.lines c).pcm t (t + n)
+  pcm_failed c o listed =
+      let s = seat c o in
+      let failed : (seat_at w.filled s.k).place.pcm.failed ≡ true =
+      sym (listed_incoming t n b farm after before now ends w a knows b' told open_then s.k c Pcm s.within s.here tt) ∙ listed in
+      let less : (seat_at w.filled s.k).place.pcm.count < 160 * n =
+      (let l = s.facts.front.fills.pcm.short failed in omega (arith, l, pcm_long _ _ _ _ _ _ _ _ s.facts.front)) in
+      let lacks : places_in r b.done t n c < n = (let l = fewer_pcm (seat_at w.filled s.k).place n less in omega (arith, l, s.whole)) in
+      let start = begun c o in
+      ends_here c 160 (r.lines c).pcm o lacks (few_in_all 160 (seat_at w.filled s.k).place.pcm.count (length (r.lines c).pcm)
+      (start_of b.done c) s.taken.pcm_count less start (spread (start_of b.done c) start))
+    where
+      spread : (s : ℕ) → s ≤ t → 160 * (t - s) + 160 * n ≡ 160 * (t + n - s)
+      spread s l = omega arith
+
+  -- one that isn't open lists no line more
+  still : (c : ℕ) (s : Side) → alive c ≡ false → is_listed after.failed c s ≡ is_listed farm.failed c s
+  still c s o =
+      listed_kept t n b farm after before now ends w a knows b' told open_then c s
+      (open_is r t n b farm after first before now ends w h m b' last at meets c ∙ o)
+
+  -- **Each line that is listed since failed in the round, short of what it takes.**
+  pub short_after : FailedInRound r t (t + n) (is_listed farm.failed) (is_listed after.failed)
+  short_after = record {
+    up = λ c was is. elim (cases_Bool (alive c)) [ inl o ↦ up_failed c o is | inr o ↦ absurd (true≢false (sym is ∙ still c Up o ∙ was)) ];
+    pcm = λ c was is. elim (cases_Bool (alive c)) [ inl o ↦ pcm_failed c o is | inr o ↦ absurd (true≢false (sym is ∙ still c Pcm o ∙ was)) ];
+  }
+
+-- **So each line that is listed by then did, in rounds of at most so many periods.**
+pub short_none : (r : Run) (batch : ℕ) → FailedShort r batch (is_listed [])
+short_none r batch = record { up = λ c e. cc; pcm = λ c e. cc }
+
+-- and behind each round the more
+pub short_more : (r : Run) (batch t u : ℕ) (was is : List Line) → u ≤ t + batch → FailedInRound r t u (is_listed was) (is_listed is) →
+    FailedShort r batch (is_listed was) → FailedShort r batch (is_listed is)
+short_more r batch t u was is l failed short = record {
+  up = λ c e. elim (cases_Bool (is_listed was c Up)) [ inl q ↦ short.up c q | inr q ↦ (t, u, l, failed.up c q e) ];
+  pcm = λ c e. elim (cases_Bool (is_listed was c Pcm)) [ inl q ↦ short.pcm c q | inr q ↦ (t, u, l, failed.pcm c q e) ];
+}
