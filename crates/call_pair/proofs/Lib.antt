@@ -12,3 +12,4 @@ pub mod BridgeEnd
 pub mod UplinkRuns
 pub mod DownlinkRuns
 pub mod Telling
+pub mod Lent

@@ -12,7 +12,7 @@ use Rattle.call_pair.specs.Jobs.{after_turns, finished}
 use Rattle.call_pair.specs.History.{Start, alone_periods, bridged_periods, Begins, HasWorked}
 use Rattle.call_pair.specs.Finished.{OneWorked}
 use Rattle.call_pair.proofs.Places.{is_below}
-use Rattle.call_pair.proofs.Steps.{alone, bridged, turned-alone, alone-worked}
+use Rattle.call_pair.proofs.Steps.{alone, turned-alone, alone-worked}
 
 -- ---- what a half tells of its places
 

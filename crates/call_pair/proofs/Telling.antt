@@ -16,7 +16,7 @@ use Rattle.call_pair.specs.Told.{Hears, Speaks, OneRuns, TwoRun, history_of, ups
 use Rattle.call_pair.proofs.Places.{is_below, not_below}
 use Rattle.call_pair.proofs.Runs.{handed-none, handed-some}
 use Rattle.call_pair.proofs.Sequences.{told}
-use Rattle.call_pair.proofs.Phased.{notes, effs-are, one-phased, two-phased}
+use Rattle.call_pair.proofs.Phased.{effs-are, one-phased, two-phased}
 use Rattle.call_pair.proofs.UplinkRuns.{note-told, none-done, hears}
 use Rattle.call_pair.proofs.DownlinkRuns.{speaks, half-runs}
 

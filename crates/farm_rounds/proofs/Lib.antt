@@ -1,4 +1,5 @@
 pub mod Rising
+pub mod Placing
 pub mod Finding
 pub mod Exchanging
 pub mod Orders

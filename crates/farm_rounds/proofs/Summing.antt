@@ -1,9 +1,11 @@
 -- The sums of lines: a table of zeros, and those of a round.
-use Rattle.std.proofs.Common.{◌≡◌, refl, sym, ap, ◌∙◌, subst, ℕ, zero, suc, ◌+◌, ◌%◌, ◌^◌, ◌<◌, ◌≤◌, List, length, replicate, slice_index_or, sum, arith, inl, inr}
+use Rattle.std.proofs.Common.{◌≡◌, refl, sym, ap, ◌∙◌, subst, ℕ, zero, suc, ◌+◌, ◌%◌, ◌^◌, ◌<◌, ◌≤◌, List, length, get_or, replicate, slice_index_or, sum, arith, inl, inr}
+use Rattle.std.proofs.Math.ListN.{set}
 use Rattle.std.proofs.lemmas.Bool.{cases_lt}
+use Rattle.std.proofs.lemmas.List.{get_or_default, get_or-set_same, get_or-set_other}
 use Rattle.trau_io.specs.declared.line.Side.{Side}
-use Rattle.trau_io.specs.declared.line.Side.TheVariants.{Down, Out}
-use Rattle.trau_io.specs.Places.{place_of}
+use Rattle.trau_io.specs.declared.line.Side.TheVariants.{Up, Pcm, Down, Out}
+use Rattle.trau_io.specs.Places.{number_of_side, place_of}
 use Rattle.round_lines.specs.Seats.{SeatMemory, down_given, out_given}
 use Rattle.round_lines.specs.Rounds.{Rising, IsOutgoing, seat_at, call_at}
 use Rattle.farm_rounds.specs.Sums.{AddsSeat, Adds, no_sums, sum_in}
@@ -17,6 +19,46 @@ zeros (suc n) (suc i) = zeros n i
 -- .. has no sum
 pub no_sum : (n : ℕ) (sums : List ℕ) → sums ≡ replicate n 0 → sum_in sums ≡ no_sums
 no_sum n sums made = λ i. λ c side. (ap (λ (xs : List ℕ). sum_in xs c side) made ∙ zeros n (place_of c side)) i
+
+-- octets are added at the place of their line ..
+pub added_here : (sums old octets : List ℕ) (call at n a b : ℕ) (side : Side) → sums ≡ old → at ≡ place_of call side → at < length sums →
+    n ≡ sum octets % 2 ^ 32 → a ≡ get_or sums at a → b ≡ (a + n) % 2 ^ 32 → sum_in (set sums at b) call side ≡ (sum_in old call side + sum octets) % 2 ^ 32
+added_here sums old octets call at n a b side same here within of before new =
+    let was : a ≡ get_or sums at 0 = before ∙ get_or_default sums at a 0 within in
+    subst (λ (k : ℕ). get_or (set sums at b) k 0 ≡ (get_or sums k 0 + sum octets) % 2 ^ 32) here
+        (get_or-set_same sums at b 0 within ∙ new ∙ omega (arith, was, of))
+    ∙ ap (λ (xs : List ℕ). (sum_in xs call side + sum octets) % 2 ^ 32) same
+
+-- a side has a number of its own, below 4
+side_numbered : ℕ → Side
+side_numbered zero = Up
+side_numbered (suc zero) = Pcm
+side_numbered (suc (suc zero)) = Down
+side_numbered (suc (suc (suc n))) = Out
+
+number_small : (s : Side) → number_of_side s < 4
+number_small Up = omega arith
+number_small Pcm = omega arith
+number_small Down = omega arith
+number_small Out = omega arith
+
+numbered_back : (s : Side) → side_numbered (number_of_side s) ≡ s
+numbered_back Up = refl
+numbered_back Pcm = refl
+numbered_back Down = refl
+numbered_back Out = refl
+
+-- .. and at no other line's
+pub added_elsewhere : (sums old : List ℕ) (call at b : ℕ) (side : Side) → sums ≡ old → at ≡ place_of call side →
+    (c : ℕ) (s : Side) → (c ≡ call → s ≡ side → ⊥) → sum_in (set sums at b) c s ≡ sum_in old c s
+added_elsewhere sums old call at b side same here c s other =
+    get_or-set_other sums at (place_of c s) b 0
+    (λ e.
+    let low = number_small s in
+    let less = number_small side in
+    let sides : number_of_side s ≡ number_of_side side = omega arith in
+    other (omega arith) (sym (numbered_back s) ∙ ap side_numbered sides ∙ numbered_back side))
+    ∙ ap (λ (xs : List ℕ). sum_in xs c s) same
 
 -- both lines of a seat, one after the other
 pub both_added : (seat : SeatMemory) (a b d : ℕ → Side → ℕ) (c : ℕ) → c ≡ seat.place.call →

@@ -1,0 +1,24 @@
+use Rattle.std.proofs.Common.{◌∙◌, arith}
+use Rattle.std.proofs.lemmas.List.{length-set, get_or_default}
+use Rattle.farm_rounds.proofs.Summing.{added_here, added_elsewhere}
+use Rattle.farm_rounds.proofs.sums.Sums.add.Goals as goal
+
+pub index-requires : goal.index-requires
+index-requires c = omega (arith, c.place-at.ensures.within, c.self.invariant)
+
+pub index_mut-requires : goal.index_mut-requires
+index_mut-requires c = omega (arith, c.place-at.ensures.within, c.self.invariant)
+
+pub invariant_of-self : goal.invariant_of-self
+invariant_of-self c = length-set c.self.inside.sums.items c.place-at.result c.wrapping_add.result ∙ c.self.invariant
+
+pub returns-clause-this : goal.returns-clause-this
+returns-clause-this c =
+    added_here c.self.inside.sums.items c.args.self.now c.args.octets.now c.args.line.call c.place-at.result c.sum.result c.index.result.now
+    c.wrapping_add.result c.args.line.side c.self.view_is c.place-at.ensures.value (omega (arith, c.place-at.ensures.within, c.self.invariant)) c.sum.ensures
+    c.index.ensures c.wrapping_add.ensures
+
+pub returns-clause-others : goal.returns-clause-others
+returns-clause-others c =
+    added_elsewhere c.self.inside.sums.items c.args.self.now c.args.line.call c.place-at.result c.wrapping_add.result c.args.line.side c.self.view_is
+    c.place-at.ensures.value
