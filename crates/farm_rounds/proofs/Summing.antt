@@ -26,7 +26,7 @@ pub added_here : (sums old octets : List ℕ) (call at n a b : ℕ) (side : Side
 added_here sums old octets call at n a b side same here within of before new =
     let was : a ≡ get_or sums at 0 = before ∙ get_or_default sums at a 0 within in
     subst (λ (k : ℕ). get_or (set sums at b) k 0 ≡ (get_or sums k 0 + sum octets) % 2 ^ 32) here
-        (get_or-set_same sums at b 0 within ∙ new ∙ omega (arith, was, of))
+    (get_or-set_same sums at b 0 within ∙ new ∙ omega (arith, was, of))
     ∙ ap (λ (xs : List ℕ). (sum_in xs call side + sum octets) % 2 ^ 32) same
 
 -- a side has a number of its own, below 4

@@ -33,8 +33,7 @@ answer_with-self-inside-requires-clause-bits c =
 
 pub invariant_of-self : goal.invariant_of-self
 invariant_of-self c =
-    let near = c.take_period-heard.ensures.near in
-    (
+    let near = c.take_period-heard.ensures.near in (
       omega (arith, c.from.ensures),
       subst AreBits (sym c.copy_from_slice.ensures.after)
           (All-take (λ bit. bit < 2) 320 _
