@@ -50,6 +50,7 @@ ask-none : (m : align.AlignMemory) → after_ask m 0 ≡ m
 unfolding shift_of
 ask-none m = refl
 
+-- the downlink side behind what a note changes
 abbrev heard_by : DownMemory → align.AlignMemory → Bool → Bool → DownMemory
 heard_by d a u q = record d { align = a; dtxd = u; quiet = q }
 

@@ -22,9 +22,11 @@ use Rattle.call_leg.specs.Halves.{UpMemory, Note, dtx_told, note_of, up_turned, 
 
 -- ---- what the functions make of memories
 
+-- what a turn of the uplink half gives
 abbrev three : Note → List ℕ → UpMemory → Note × List ℕ × UpMemory
 three n out u = (n, out, u)
 
+-- what it leaves
 abbrev left : Law → SyncMemory → RxMemory → DecoderMemory → Counts → Bool → UpMemory
 left l a b c d e = record { law = l; search = a; rx = b; decoder = c; counts = d; bridged = e }
 

@@ -76,7 +76,7 @@ fn field_by(offset: u64) -> u8
 /// The field of a period whose last frame this is: 0 where there is none, and while a request waits.
 pub(crate) fn field_where(waiting: Option<u8>, want: u16, last: Option<&Found>) -> u8
     requires { want ≤ 316 }
-    ensures value { result ≡ field_now waiting want (option_copied last) }
+    ensures value { result ≡ field_now waiting want (option_copied last.entry) }
     ensures six_bits { result ≤ 63 }
 {
     match (waiting, last) {
@@ -88,7 +88,7 @@ pub(crate) fn field_where(waiting: Option<u8>, want: u16, last: Option<&Found>) 
 // The data bits of a speech frame.
 fn speech_in(last: Option<&Found>) -> Option<&[u8; 260]>
     requires { IfSome (option_copied last) HaveBits }
-    ensures value { option_copied result ≡ speech_in (option_copied last) }
+    ensures value { option_copied result ≡ speech_in (option_copied last.entry) }
     ensures are_bits { IfSome (option_copied result) AreBits }
 {
     match &last?.frame {
@@ -117,7 +117,7 @@ fn up_frame(kind: Kind, class: Class, align: u8, d: [u8; 260]) -> UpFrame
 pub(crate) fn answer_with(last: Option<&Found>, align: u8) -> UpFrame
     requires bits { IfSome (option_copied last) HaveBits }
     requires six_bits { align ≤ 63 }
-    ensures { up_words_of result ≡ up_words (speech_in (option_copied last)) align }
+    ensures { up_words_of result ≡ up_words (speech_in (option_copied last.entry)) align }
 {
     match speech_in(last) {
         Some(d) => up_frame(Kind::Speech, Class::Good, align, *d),

@@ -94,7 +94,7 @@ fn follow_period<T: Trunk, D: Desk>(
         Filled::Failed(_) => return PeriodEnd::ReadFailed,
     }
     let heard = ccu.feed(&octets);
-    if send_up(ccu, call, trunk).is_err() {
+    if let Err(_) = send_up(ccu, call, trunk) {
         return PeriodEnd::WriteFailed;
     }
     match tell(desk, lines(&heard).as_bytes()) {

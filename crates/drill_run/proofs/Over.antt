@@ -24,9 +24,11 @@ module _ (seed calls periods : ℕ) (d e : DrillMemory) (orders : List Order) (p
   drawn : (c : ℕ) (s : Side) → 1 ≤ c → c ≤ calls → known_lines d c s ≡ state_of (line_of_call seed c periods s)
   drawn = at_first seed calls periods d e orders pace report x
 
+  -- the run of the definition opens the drill's calls alone
   pub drilled_calls : (c : ℕ) → IsOpened (drilled_run seed calls periods) c → (1 ≤ c) × (c ≤ calls)
   drilled_calls c o = its_calls seed calls periods d e orders pace report x (drilled_run seed calls periods) c (sym x.ordered) o
 
+  -- it is a run over these lines where none fails
   is_over : IsRunOver orders pace.periods none_fails (known_lines d) (known_lines e) (drilled_run seed calls periods)
   is_over = record {
     same_orders = sym x.ordered;
@@ -37,6 +39,7 @@ module _ (seed calls periods : ℕ) (d e : DrillMemory) (orders : List Order) (p
     pcm_failed = λ c. refl;
   }
 
+  -- and so where those fail that are listed
   over_listed : IsRunOver orders pace.periods (is_listed report.failed) (known_lines d) (known_lines e) (drilled_run seed calls periods)
   over_listed =
       subst (λ (ls : List Line). IsRunOver orders pace.periods (is_listed ls) (known_lines d) (known_lines e) (drilled_run seed calls periods))

@@ -79,6 +79,7 @@ module _ (seed calls periods : ℕ) (d e : DrillMemory) (orders : List Order) (p
     known : known_lines e c s ≡ state_of line
     ample : IsAmple (room_by periods (number_of_side s)) line
 
+  -- each line of a call is one, with its room
   stands : (c : ℕ) (s : Side) → 1 ≤ c → c ≤ calls → Stands c s
   stands c s first last =
       let f = found_in e.lines (place_of c s) (omega (arith, x.rooms.long, high c s (omega (arith, last, x.few)))) in

@@ -40,9 +40,11 @@ module _ (seed calls callers periods : ℕ) (cs : List Caller) (d : Caller) (k :
         ≡ f (view_of (get_or (get_or cs i d).seats.items k (view_is i h).0))
     part f i h = ap (flat_map f) (view_is i h).1 ∙ append-nil (f (view_of (get_or (get_or cs i d).seats.items k (view_is i h).0)))
 
+    -- what each caller knows of the call
     knows : (i : ℕ) (h : i < callers) → Knows seed callers i k periods (view_of (get_or (get_or cs i d).seats.items k (view_is i h).0))
     knows i h = (x.posted i h).each k (view_is i h).0 x.there
 
+    -- the call is one caller's
     owner : k % callers < callers
     owner = let some = x.some_callers in mod-lt k (omega arith)
 

@@ -50,6 +50,7 @@ weight_in f h (c ∷ cs) (suc i) d there =
     let rest = weight_in f h cs i d (omega arith) in
     omega (arith, rest, ap (weigh f) (turned h c cs), weigh-append f (flat_map h (reverse cs)) (h c))
 
+-- what was seen of two lists was seen of each
 seen_parts : (b : BookState) (xs ys : List BookState) → AllSeen b (xs ++ ys) → AllSeen b xs × AllSeen b ys
 seen_parts b [] ys all = (tt, all)
 seen_parts b (x ∷ xs) ys all = let rest = seen_parts b xs ys all.1 in ((all.0, rest.0), rest.1)
@@ -103,6 +104,7 @@ number_below : (c : ℕ) → 0 < times c all_callers → c < 64
 unfolding all_callers
 number_below c some = elim (cases_lt c 64) [ inl lt ↦ lt | inr le ↦ absurd (omega (arith, some, number_out c 0 64 le)) ]
 
+-- a number of a caller is left where fewer were given
 left_of_all : (c i : ℕ) → i ≤ c → c < 64 → 0 < times c (drop i all_callers)
 unfolding all_callers
 left_of_all c i low high = number_left c i 0 64 (omega (arith, low)) (omega (arith, high))

@@ -51,7 +51,7 @@ made_first call h =
 -- ---- as they are sent
 
 -- frame j as it is sent after those before it
-pub frame_sent : Call → ℕ → DownFrame
+unfoldable pub frame_sent : Call → ℕ → DownFrame
 frame_sent call j = frame_after call (frame_by_number call j) (before (coded_goes_on call) (frame_by_number call j) (first_frames call j))
 
 -- one frame more is sent behind the others

@@ -6,6 +6,7 @@ use Rattle.std.proofs.lemmas.List.{get_or_append_left, get_or-append_right, leng
 use Rattle.std.proofs.lemmas.List.Elements.{All-append, All-take}
 use Rattle.std.proofs.lemmas.List.FromFn.{fill_by_all}
 use Rattle.trau_bits.specs.Bits.{bit_of, bits_of}
+use Rattle.trau_bits.proofs.BitList.{length-bits_of}
 use Rattle.trau_bits.proofs.Joined.{bits_of-append}
 use Rattle.trau_submux.specs.Channels.{IsMerged, subchannel}
 use Rattle.trau_submux.proofs.Channels.{length-subchannel, subchannel-append}

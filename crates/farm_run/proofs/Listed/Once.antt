@@ -1,5 +1,6 @@
 -- The lines that are listed after a round stand in it once each.
-use Rattle.std.proofs.Common.{◌≡◌, refl, sym, ap, ◌∙◌, subst, ℕ, suc, ◌+◌, ◌*◌, ◌<◌, ◌≤◌, Bool, true, false, Some, None, List, [], ◌∷◌, ◌++◌, length, map, arith}
+use Rattle.std.proofs.Common.{◌≡◌, refl, sym, ap, ◌∙◌, subst, ℕ, suc, ◌+◌, ◌*◌, ◌<◌, ◌≤◌, Bool, true, false, Some, None, List, [], ◌∷◌, ◌++◌, length, map}
+use Rattle.std.proofs.Common.{arith}
 use Rattle.std.specs.Prelude.{eqb, ◌==◌, if◌then◌else◌, slice_index}
 use Rattle.std.specs.List.{AllByRecursion, Contains, IsDistinct, filter_map, cons_option}
 use Rattle.std.specs.List.Sorted.{IsNonDecreasing, IsNonDecreasingBy, IsStrictlyIncreasing}

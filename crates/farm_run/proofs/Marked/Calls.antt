@@ -1,5 +1,6 @@
 -- The calls of a mark: those that are live at a run's last period are those that only its end cuts off.
-use Rattle.std.proofs.Common.{◌≡◌, refl, sym, ap, ◌∙◌, subst, ℕ, ◌+◌, ◌-◌, ◌*◌, ◌<◌, ◌≤◌, Bool, true, false, ◌&&◌, Option, Some, None, List, [], ◌∷◌, ◌++◌, length, map, take, get_or, inl, inr, arith}
+use Rattle.std.proofs.Common.{◌≡◌, refl, sym, ap, ◌∙◌, subst, ℕ, ◌+◌, ◌-◌, ◌*◌, ◌<◌, ◌≤◌, Bool, true, false, ◌&&◌, Option, Some, None, List, [], ◌∷◌, ◌++◌}
+use Rattle.std.proofs.Common.{length, map, take, get_or, inl, inr, arith}
 use Rattle.std.specs.Prelude.{is_some, filter, nat_lt, if◌then◌else◌, IfSome}
 use Rattle.std.specs.List.{range_with_len, All}
 use Rattle.std.proofs.lemmas.Bool.{cases_Bool, ltb-true}
@@ -83,7 +84,10 @@ module _ (s : Stage) (live : (c : ℕ) → is_among s.farm.live c ≡ is_some (c
     each = λ i d within.
         let long : length (map (entry_of s) s.farm.live) ≡ length s.farm.live = length-map s.farm.live (entry_of s) in
         let l : i < length s.farm.live = omega arith in
-        subst (IsOpenAtMark n) (sym (get_or-map (entry_of s) s.farm.live i 0 d l)) (record { number = numbers i 0 l; opened = openings (get_or s.farm.live i 0) });
+        subst (IsOpenAtMark n) (sym (get_or-map (entry_of s) s.farm.live i 0 d l)) (record {
+          number = numbers i 0 l;
+          opened = openings (get_or s.farm.live i 0);
+        });
     rising = numbers_rise;
   }
     where

@@ -1,5 +1,6 @@
 -- The finished job of a round leaves a call as the run has it, and its octets are the next of its outgoing lines.
-use Rattle.std.proofs.Common.{◌≡◌, refl, sym, ap, ◌∙◌, subst, ℕ, zero, suc, ◌+◌, ◌-◌, ◌*◌, ◌≤◌, true, Some, None, List, [], ◌∷◌, ◌++◌, length, take, drop, arith}
+use Rattle.std.proofs.Common.{◌≡◌, refl, sym, ap, ◌∙◌, subst, ℕ, zero, suc, ◌+◌, ◌-◌, ◌*◌, ◌≤◌, true, Some, None, List, [], ◌∷◌, ◌++◌, length, take, drop}
+use Rattle.std.proofs.Common.{arith}
 use Rattle.std.proofs.lemmas.List.{length-append, take_at, take-take, drop-drop, drop-take}
 use Rattle.trau_bits.specs.Bits.{octets_of}
 use Rattle.trau_orders.specs.declared.order.Order.{Order}

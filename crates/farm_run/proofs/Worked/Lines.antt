@@ -1,5 +1,6 @@
 -- A round leaves the lines as the run has them behind it, and so all that stands at a clock.
-use Rattle.std.proofs.Common.{◌≡◌, sym, ap, ◌∙◌, subst, ℕ, ◌+◌, ◌-◌, ◌*◌, ◌≤◌, Bool, true, false, not, ◌&&◌, Option, Some, List, ◌++◌, drop, inl, inr, arith, mul-add}
+use Rattle.std.proofs.Common.{◌≡◌, sym, ap, ◌∙◌, subst, ℕ, ◌+◌, ◌-◌, ◌*◌, ◌≤◌, Bool, true, false, not, ◌&&◌, Option, Some, List, ◌++◌, drop, inl, inr, arith}
+use Rattle.std.proofs.Common.{mul-add}
 use Rattle.std.specs.Prelude.{min, if◌then◌else◌, nat_lt}
 use Rattle.std.proofs.lemmas.Bool.{cases_Bool, cases_lt, lt-ltb}
 use Rattle.trau_io.specs.declared.ends.CallEnd.{CallEnd}

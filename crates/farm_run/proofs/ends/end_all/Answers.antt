@@ -6,7 +6,8 @@ use Rattle.farm_run.proofs.Told.Few.{not_noted}
 use Rattle.std.proofs.lemmas.List.{length-map}
 use Rattle.farm_run.specs.Ending.{limit_at}
 use Rattle.farm_run.proofs.Told.Next.{apart_front, noted_more}
-use Rattle.farm_run.proofs.Told.Ends.{limits_apart, limit_there, limits_open, none_open, IsTold, none_told, no_ends_noted, all_noted, told_step, told_open, told_late, told_all}
+use Rattle.farm_run.proofs.Told.Ends.{limits_apart, limit_there, limits_open, none_open, IsTold, none_told, no_ends_noted, all_noted, told_step, told_open}
+use Rattle.farm_run.proofs.Told.Ends.{told_late, told_all}
 use Rattle.farm_run.proofs.ends.end_all.Goals as goal
 
 pub loop-call-init : goal.loop-call-init

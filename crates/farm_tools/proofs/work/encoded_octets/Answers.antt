@@ -9,7 +9,9 @@ use Rattle.farm_tools.proofs.work.encoded_octets.Goals as goal
 
 pub returns-clause-history : goal.returns-clause-history
 returns-clause-history c = λ past stands.
-    let samples = c.expand_all.ensures ∙ expanded-block c.copy_from_slice.new.self c.args.block.now c.copy_from_slice.ensures.after in
+    let period = (MatchOption-at_some (length c.args.block.now ≢ 160) (λ y. IsWholeChunk c.args.block.now y.now 160) c.unwrap-period.result
+    c.unwrap-period.ensures c.as_array.ensures.cases).same in
+    let samples = c.expand_all.ensures ∙ expanded-block c.unwrap-period.result.now c.args.block.now period in
     let one = c.encode.ensures.history past stands in (
       subst (λ x. Stands (x ∷ past) c.encode.new.self) samples one.0,
       c.downlink_frame.ensures.frame

@@ -1,6 +1,5 @@
 use Rattle.std.proofs.Common.{sym, ap, ◌∙◌}
 use Rattle.trau_bits.specs.Bits.{octets_of}
-use Rattle.call_spec.specs.Whole.{periods_of_call}
 use Rattle.run_spec.specs.Run.{who_in}
 use Rattle.call_leg.specs.Out.{out_line}
 use Rattle.run_spec.specs.Lines.{down_octets}

@@ -1,4 +1,6 @@
-use Rattle.std.proofs.Common.{IfSome, sym, subst, rules}
+use Rattle.std.proofs.Common.{◌<◌, IfSome, sym, subst, arith, rules}
+use Rattle.std.proofs.lemmas.List.Elements.{All-take, All-drop}
+use Rattle.trau_bits.specs.Bits.{AreBits}
 use Rattle.ccu_end.specs.Found.{HaveBits}
 use Rattle.ccu_end.specs.Heard.{frames_of}
 use Rattle.frame_sync.proofs.Kept.{second_period}
@@ -28,3 +30,12 @@ pub answer_with-self-inside-requires-clause-bits : goal.answer_with-self-inside-
 answer_with-self-inside-requires-clause-bits c =
     subst (λ x. IfSome x HaveBits) (sym c.last_of-last.ensures)
     (last-bits (frames_of c.take_period-heard.result) c.take_period-heard.ensures.are_bits)
+
+pub invariant_of-self : goal.invariant_of-self
+invariant_of-self c =
+    let near = c.take_period-heard.ensures.near in (
+      omega (arith, c.from.ensures),
+      subst AreBits (sym c.copy_from_slice.ensures.after)
+          (All-take (λ bit. bit < 2) 320 _
+          (All-drop (λ bit. bit < 2) 320 c.two_periods-window.result (c.two_periods-window.ensures.are_bits c.self.invariant.1))),
+    )

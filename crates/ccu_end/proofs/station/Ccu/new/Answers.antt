@@ -8,5 +8,5 @@ pub returns-clause-history : goal.returns-clause-history
 unfolding last_bits
 returns-clause-history c = stands-first _ refl refl refl refl (search rules)
 
-pub invariant_of-result : goal.invariant_of-result
-invariant_of-result c = (omega arith, All-replicate (λ bit. bit < 2) 320 0 (omega arith))
+pub invariant_of-result-2 : goal.invariant_of-result-2
+invariant_of-result-2 c = (omega arith, All-replicate (λ bit. bit < 2) 320 0 (omega arith))
