@@ -1,5 +1,5 @@
 use Rattle.std.proofs.Common.{refl, ◌∙◌, ◌+◌, ◌%◌, ◌^◌, arith}
-use Rattle.std.proofs.lemmas.List.{length-set, get_or_default}
+use Rattle.std.proofs.lemmas.List.{length-set}
 use Rattle.farm_rounds.proofs.Summing.{added_here, added_elsewhere}
 use Rattle.farm_rounds.proofs.sums.Sums.add.Goals as goal
 
@@ -15,10 +15,10 @@ invariant_of-self c = length-set c.self.inside.sums.items c.place-at.result ((c.
 pub returns-clause-this : goal.returns-clause-this
 returns-clause-this c =
     added_here c.self.inside.sums.items c.args.self.now c.args.octets.now c.args.line.call c.place-at.result c.sum.result c.index.result.now
-    ((c.index.result.now + c.sum.result) % 2 ^ 32) c.args.line.side c.self.view_is c.place-at.ensures.value (omega (arith, c.place-at.ensures.within, c.self.invariant)) c.sum.ensures
-    c.index.ensures refl
+    ((c.index.result.now + c.sum.result) % 2 ^ 32) c.args.line.side c.self.view_is c.place-at.ensures.value
+    (omega (arith, c.place-at.ensures.within, c.self.invariant)) c.sum.ensures c.index.ensures refl
 
 pub returns-clause-others : goal.returns-clause-others
 returns-clause-others c =
-    added_elsewhere c.self.inside.sums.items c.args.self.now c.args.line.call c.place-at.result ((c.index.result.now + c.sum.result) % 2 ^ 32) c.args.line.side c.self.view_is
-    c.place-at.ensures.value
+    added_elsewhere c.self.inside.sums.items c.args.self.now c.args.line.call c.place-at.result ((c.index.result.now + c.sum.result) % 2 ^ 32)
+    c.args.line.side c.self.view_is c.place-at.ensures.value
