@@ -95,8 +95,9 @@ impl Book {
         ensures { result ≡ find (is_of_post of number) self.now.history }
     {
         for k in 0..self.history.len() {
-            if is_of_post(&self.history[k], of, number) {
-                return Some(self.history[k]);
+            let entry = &self.history[k];
+            if is_of_post(entry, of, number) {
+                return Some(*entry);
             }
         }
         None

@@ -104,7 +104,11 @@ pub(crate) fn work<R: Wait>(rt: &R, slot: &Slot, me: &mut SlotPass) -> Result<Tu
     let place = book.len() as u32;
     let worked = book.work();
     give_back(rt, slot, me, book);
-    Ok(match worked? {
+    let done = match worked {
+        Ok(done) => done,
+        Err(error) => return Err(error),
+    };
+    Ok(match done {
         Some(entry) => Turn::Did {
             caller: entry.post.caller,
             number: entry.post.number,
