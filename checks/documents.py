@@ -8,9 +8,10 @@ output and standard error together. Each session begins in a folder of its own u
 and `tools` and the scripts `trau` and `demo`, as the top of the repository has them. Nothing is written elsewhere, but
 with --write, which puts the real output into the documents. Fenced blocks are not run.
 
-Three things more are compared: that the files and headings exist to which a document's links lead; that a fenced block
-whose first line names a file, as ```rust crates/C/src/lib.rt, stands in that file word for word; and that each function
-stands in the file that a row of a table names, `CRATE/src/FILE.rt` in its first column and the functions in its second.
+Four things more are compared: that the files and headings exist to which a document's links lead; that a fenced block
+whose first line names a file, as ```rust crates/C/src/lib.rt, stands in that file word for word; that each function stands
+in the file that a row of a table names, `CRATE/src/FILE.rt` in its first column and the functions in its second; and that
+no line is one that git puts where two versions differ.
 """
 
 import difflib
@@ -164,6 +165,12 @@ def functions(text):
     return found
 
 
+def conflicts(lines):
+    """The lines that git put where two versions differ, and that were left there."""
+    left = [number for number, line in enumerate(lines) if line.startswith(("<<<<<<< ", ">>>>>>> "))]
+    return [f"line {number + 1} is left of a merge: {lines[number]}" for number in left]
+
+
 def main():
     failed = False
     for path in documents():
@@ -171,7 +178,7 @@ def main():
         lines = path.read_text().split("\n")
         shown = [(start, end, [line[len(INDENT) :] for line in lines[start:end]]) for start, end in sessions(lines)]
         text = "\n".join(lines)
-        differences = [f"{name}: {fault}" for fault in links(path, text) + quotes(text) + functions(text)]
+        differences = [f"{name}: {fault}" for fault in links(path, text) + quotes(text) + functions(text) + conflicts(lines)]
         new = []
         for number, (start, end, session) in enumerate(shown):
             got = run(session, WORK / f"{number}")
