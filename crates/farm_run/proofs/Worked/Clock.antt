@@ -29,8 +29,8 @@ use Rattle.farm_run.proofs.Told.Ends.{clock_round}
 use Rattle.farm_run.proofs.Told.Seats.{seats_apart}
 use Rattle.farm_run.proofs.Told.Lacking.{each_told, told_goes, has_call}
 use Rattle.farm_run.proofs.Listed.Counts.{seat_cases}
-use Rattle.farm_run.proofs.Worked.Round.{WorkedRound, FilledRound, front, front_facts, up_long, filled_periods, worked_call}
-use Rattle.farm_run.proofs.Worked.Facts.{worked_at}
+use Rattle.farm_run.proofs.Worked.Round.{WorkedRound, FilledRound, front_facts, up_long, filled_periods, worked_call}
+use Rattle.farm_run.proofs.Worked.Facts.{front, worked_at}
 
 -- an end that the board can be told: it lies within the round, and its call is open
 pub record IsRight (t n : ℕ) (b : State) (e : CallEnd) : Type 0 where
