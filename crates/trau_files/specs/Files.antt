@@ -1,5 +1,7 @@
 -- Lines as files: their names, and what is known of them (this project's profile).
-use Rattle.std.specs.Prelude.{◌≡◌, ◌⊎◌, ℕ, ◌+◌, ◌-◌, ◌^◌, min, List, length, ◌++◌, Option, Some, None, IfSome, Result, Ok, Err, codes, decimal, slice_get, slice_set, slice_index_or}
+use Rattle.std.specs.Prelude.{◌≡◌, ◌⊎◌, ℕ, ◌+◌, ◌-◌, ◌^◌, min, List, length, ◌++◌, ◌==◌, true, Option, Some, None, IfSome, Result, Ok, Err, codes, decimal, slice_get, slice_set, slice_index_or}
+use Rattle.std.specs.Fs.{new_options}
+use Rattle.std.specs.declared.fs.options.OpenOptions.{OpenOptions}
 use Rattle.trau_io.specs.declared.line.Failed.{Failed}
 use Rattle.trau_io.specs.declared.line.Side.{Side}
 use Rattle.trau_io.specs.Lines.{LineState}
@@ -64,6 +66,12 @@ file_after call side access at (Err e) = None
 abbrev pub opened : {A E : Type 0} → ℕ → Side → Access → ℕ → Result A E → Option OpenLine
 opened call side access at (Ok a) = Some (record { call = call; side = side; access = access; at = at })
 opened call side access at (Err e) = None
+
+-- how a line's file is opened to go on at this octet: for reading as it is; for writing made anew or emptied where nothing
+-- has been written yet, and else as it is
+abbrev pub options_for : Access → ℕ → OpenOptions
+options_for Reading at = record new_options { read = true }
+options_for Writing at = record new_options { write = true; truncate = at == 0; create = at == 0 }
 
 -- the files that are open, each in a seat: the one in this seat
 abbrev pub in_seat : List (Option OpenLine) → ℕ → Option OpenLine

@@ -3,7 +3,7 @@
 ghost use Rattle.std.specs.Prelude.{◌≡◌, ◌<◌, length, IfOk, All, None};
 ghost use Rattle.std.specs.Io.{ReadsAtMost, WritesAtMost};
 ghost use Rattle.trau_files.specs.declared.trunk.seats.Access.TheVariants.{Reading, Writing};
-ghost use Rattle.trau_files.specs.Files.{IsOpenAt, IsFileOf, OpenAfter, in_seat, file_after, opened};
+ghost use Rattle.trau_files.specs.Files.{IsOpenAt, IsFileOf, OpenAfter, in_seat, file_after, opened, options_for};
 
 use super::name::name_of;
 use super::seats::{Access, OpenFile, Seats};
@@ -110,8 +110,10 @@ fn is_for_want(fault: &io::Error) -> bool {
     matches!(fault.raw_os_error(), Some(NONE_IN_SYSTEM | NONE_IN_PROCESS))
 }
 
-// Where nothing has been written yet, an older file of this name is emptied or a new one is made.
-fn open_at<R: Files>(files: &R, line: Line, access: Access, at: u64) -> io::Result<R::File> {
+// How a line's file is opened. Where nothing has been written yet, an older file of its name is emptied or a new one is made.
+fn options_for(access: Access, at: u64) -> OpenOptions
+    ensures { result ≡ options_for access at }
+{
     let is_written = access == Access::Writing;
     let is_first = is_written && at == 0;
     let mut how = OpenOptions::new();
@@ -119,8 +121,13 @@ fn open_at<R: Files>(files: &R, line: Line, access: Access, at: u64) -> io::Resu
         .write(is_written)
         .create(is_first)
         .truncate(is_first);
+    how
+}
+
+// Opens a line's file at this octet.
+fn open_at<R: Files>(files: &R, line: Line, access: Access, at: u64) -> io::Result<R::File> {
     let name = name_of(line);
-    let mut file = how.open(files, name.as_str())?;
+    let mut file = options_for(access, at).open(files, name.as_str())?;
     if at > 0 {
         file.seek(SeekFrom::Start(at))?;
     }
