@@ -5,7 +5,7 @@ import os
 
 import files
 import frames
-from measure import Command, best_times, difference, say
+from measure import Command, difference, least_processor, say
 
 PEERS = {
     "libgsm": "libgsm `gsm_{way}`",
@@ -45,21 +45,21 @@ def peer(bench, codec, way, count):
     return Command([bench.peers, codec, way.name, f"{codec}.in", made], folder, makes=(made,))
 
 
-def microseconds(bench, command):
-    return best_times(command, bench.runs).processor / bench.frames * 1e6
+def microseconds(bench, way):
+    """A frame's processor time: ours, and that of each peer, taken in turns."""
+    commands = [ours(bench, way, bench.frames), *(peer(bench, codec, way, bench.frames) for codec in PEERS)]
+    return [seconds / bench.frames * 1e6 for seconds in least_processor(commands, bench.turns)]
 
 
-def our_rows(bench, way, by_function):
-    time = microseconds(bench, ours(bench, way, bench.frames))
+def our_rows(way, by_function, time):
     whole, for_files = sum(by_function.values()), files.cost(by_function)
     forms = "A-law and frames of 40 octets"
     yield Row(f"`trau {way.name}`, the whole command", f"{forms}; files", whole, time)
     yield Row(f"`trau {way.name}` without its files", forms, whole - for_files, None)
 
 
-def peer_row(bench, codec, way):
+def peer_row(bench, codec, way, time):
     by_function = difference(lambda count: peer(bench, codec, way, count), *bench.lengths)
-    time = microseconds(bench, peer(bench, codec, way, bench.frames))
     octets = 76 if codec == "spandsp-76" else 33
     contains = f"samples of 16 bits and frames of {octets} octets, in memory"
     return Row(PEERS[codec].format(way=way.name), contains, sum(by_function.values()), time)
@@ -89,5 +89,6 @@ def instructions_by_function(bench, way):
 def measured(bench, way):
     say(f"the codec: {way.name}")
     by_function = instructions_by_function(bench, way)
-    rows = [*our_rows(bench, way, by_function), *(peer_row(bench, codec, way) for codec in PEERS)]
+    time, *theirs = microseconds(bench, way)
+    rows = [*our_rows(way, by_function, time), *(peer_row(bench, codec, way, their) for codec, their in zip(PEERS, theirs))]
     return Measured(way, rows, {codec: equal_frames(bench, codec, way) for codec in PEERS}, by_function)

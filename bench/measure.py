@@ -73,6 +73,15 @@ def best_times(command, runs):
     return Times(min(wall), min(processor), sum(system) / runs)
 
 
+def least_processor(commands, runs):
+    """The least processor time of each command. The commands take turns, so that what else the machine does, and its
+    neighbours, falls on all alike."""
+    for command in commands:
+        say(f"{runs} x {text_of(command)}")
+    turns = [[times_once(command).processor for command in commands] for _ in range(runs)]
+    return [min(of_one) for of_one in zip(*turns)]
+
+
 def peak_kilobytes(command):
     """The peak of resident memory. GNU time starts the command, since a child of a large process would tell the
     parent's peak."""
