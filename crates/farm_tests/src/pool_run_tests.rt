@@ -2,7 +2,8 @@
 
 ghost use Rattle.std.specs.Prelude.{◌≡◌, ◌≤◌, length, vec_len};
 
-use pool_run::{OpenGate, PoolRoom, Work, run_pool};
+use crate::held::{Held, PAIRS};
+use pool_run::{Gate, OpenGate, PoolRoom, Work, run_pool};
 use std::alloc::Global;
 use std::process::Abort;
 use std::sync::Wait;
@@ -68,17 +69,18 @@ fn counters(rt: &impl Abort, alloc: Global, jobs: &[(u32, u32)]) -> Vec<Box<Coun
 }
 
 // What the pool answers.
-fn run_at_once<R: Abort + Threads + Wait + Sync>(
+fn run_at_once<R: Abort + Threads + Wait + Sync, G: Gate + Sync>(
     rt: &R,
     alloc: Global,
     jobs: &[(u32, u32)],
     workers: u32,
     slice: u32,
+    gate: &G,
 ) -> Vec<Box<Counter>>
     requires { (1 ≤ workers) × (workers ≤ 64) × (1 ≤ slice) × (length jobs.now ≤ 4096) }
 {
     let room = PoolRoom::reserve(alloc, workers, jobs.len() as u32).expect(rt, "memory");
-    run_pool(rt, room, counters(rt, alloc, jobs), slice, &OpenGate)
+    run_pool(rt, room, counters(rt, alloc, jobs), slice, gate)
 }
 
 // Whether jobs are finished, by their calls' numbers and what they have written down.
@@ -126,7 +128,14 @@ fn finish<R: Abort + Threads + Wait + Sync>(
     if jobs.len() > 4096 {
         return false;
     }
-    let answer = run_at_once(rt, alloc, jobs, workers.clamp(1, 64), slice.max(1));
+    let answer = run_at_once(
+        rt,
+        alloc,
+        jobs,
+        workers.clamp(1, 64),
+        slice.max(1),
+        &OpenGate,
+    );
     are_finished(&answer, written)
 }
 
@@ -140,5 +149,29 @@ fn each_job_is_finished_in_its_place(rt: HostRuntime) {
                 "{workers} workers, slices of {slice}"
             );
         }
+    }
+}
+
+// Whether each wait of the gate was answered, for three jobs of three places and two workers.
+fn each_wait_is_answered<R: Abort + Threads + Wait + Sync>(
+    rt: &R,
+    alloc: Global,
+    one: u32,
+    other: u32,
+) -> bool {
+    let gate = Held::new(one, other);
+    let _answer = run_at_once(rt, alloc, &[(1, 3), (2, 3), (3, 3)], 2, 1, &gate);
+    gate.each_is_answered()
+}
+
+// Jobs 1 and 3 start in one deque, and job 2 in the other. The worker that is held with one job of a pair can't run the
+// other one: so the other worker has to take it, where it was begun, and both have to be at work at once.
+#[test]
+fn jobs_are_stolen_half_done(rt: HostRuntime) {
+    for (one, other) in &PAIRS {
+        assert!(rt;
+            each_wait_is_answered(&rt, rt.alloc(), *one, *other),
+            "calls {one} and {other}"
+        );
     }
 }
