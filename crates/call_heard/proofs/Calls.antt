@@ -1,5 +1,6 @@
 -- The frames of a call as a whole are found.
-use Rattle.std.proofs.Common.{◌≡◌, refl, sym, ◌∙◌, ap, subst, ℕ, ◌+◌, ◌-◌, ◌*◌, zero, suc, ◌&&◌, nat_le, nat_lt, Some, IfSome, All, List, [], ◌∷◌, ◌++◌, length, map, reverse, get_or, arith, length-append}
+use Rattle.std.proofs.Common.{◌≡◌, refl, sym, ◌∙◌, ap, subst, ℕ, ◌+◌, ◌-◌, ◌*◌, zero, suc, ◌&&◌, nat_le, nat_lt, Some, IfSome, All, List, [], ◌∷◌, ◌++◌, length}
+use Rattle.std.proofs.Common.{map, reverse, get_or, arith, length-append}
 use Rattle.std.specs.List.{zip}
 use Rattle.std.proofs.lemmas.Bool.{cond_both, and_parts, leb-true, ltb-true}
 use Rattle.std.proofs.lemmas.List.{length-map, length-reverse, map-append}

@@ -18,7 +18,8 @@ use Rattle.rx_noise.specs.Mix.{mixed, mix_of}
 use Rattle.rx_handler.specs.Heard.{Heard, Good, Sid, Idle, Lost, heard_speech, heard_frame}
 use Rattle.rx_handler.specs.Origin.{Origin, NoFrame, GoodFrame, LostFrame, NoiseFrame, frame_of}
 use Rattle.rx_handler.specs.Effective.{is_anchor}
-use Rattle.rx_handler.specs.Past.{Anchor, NoAnchor, AtGood, AtSid, anchored, anchor_of, periods_of_fall, moved_to, start_from, old_of, origin_from, effective_of}
+use Rattle.rx_handler.specs.Past.{Anchor, NoAnchor, AtGood, AtSid, anchored, anchor_of, periods_of_fall, moved_to, start_from, old_of, origin_from}
+use Rattle.rx_handler.specs.Past.{effective_of}
 use Rattle.call_leg.specs.Uplink.{Sighting, Nothing, Missed, Framed, heard_as, handed_fields}
 use Rattle.call_leg.specs.Periods.{CallPeriod, heard_of}
 use Rattle.call_heard.proofs.Shapes.{HasShape, length-bits260}

@@ -1,5 +1,6 @@
 -- The made frames of a leg have their lengths, and so are found.
-use Rattle.std.proofs.Common.{◌≡◌, refl, sym, ◌∙◌, ap, subst, ℕ, ◌+◌, ◌*◌, Bool, true, false, if◌then◌else◌, nat_le, Option, Some, None, IfSome, unwrap_or, All, List, [], ◌∷◌, length}
+use Rattle.std.proofs.Common.{◌≡◌, refl, sym, ◌∙◌, ap, subst, ℕ, ◌+◌, ◌*◌, Bool, true, false, if◌then◌else◌, nat_le, Option, Some, None, IfSome, unwrap_or, All}
+use Rattle.std.proofs.Common.{List, [], ◌∷◌, length}
 use Rattle.std.specs.Prelude.{◌==◌, is_some}
 use Rattle.std.proofs.lemmas.Bool.{cond_both}
 use Rattle.std.proofs.lemmas.List.Elements.{All-nil, All-cons, All-head, All-tail}

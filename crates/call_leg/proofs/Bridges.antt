@@ -1,5 +1,6 @@
 -- What is handed over, and the start and the end of a bridge.
-use Rattle.std.proofs.Common.{◌≡◌, refl, sym, ap, ◌∙◌, subst, ℕ, ◌+◌, ◌*◌, ◌≤◌, suc, Bool, true, false, not, ◌&&◌, ◌||◌, nat_le, Option, Some, None, is_some, filter, List, [], ◌∷◌, ◌++◌, length, slice_get, arith, inl, inr}
+use Rattle.std.proofs.Common.{◌≡◌, refl, sym, ap, ◌∙◌, subst, ℕ, ◌+◌, ◌*◌, ◌≤◌, suc, Bool, true, false, not, ◌&&◌, ◌||◌, nat_le, Option, Some, None, is_some}
+use Rattle.std.proofs.Common.{filter, List, [], ◌∷◌, ◌++◌, length, slice_get, arith, inl, inr}
 use Rattle.std.specs.Prelude.{◌==◌}
 use Rattle.std.proofs.lemmas.Bool.{cond-false, cond_both, ne_eqb, true≢false, and_right}
 use Rattle.std.proofs.lemmas.List.{append-nil}

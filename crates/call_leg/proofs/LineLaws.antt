@@ -1,5 +1,6 @@
 -- How long the lines of a call are, and that the Down line is made of bits.
-use Rattle.std.proofs.Common.{◌≡◌, subst, ◌∙◌, ℕ, FitsSigned, w16, ◌*◌, ◌<◌, ℤ, pos, negsuc, true, if◌then◌else◌, nat_le, Option, Some, None, IfSome, unwrap_or, get_or, All, List, [], ◌∷◌, length, drop, replicate, arith, length-take, length-drop}
+use Rattle.std.proofs.Common.{◌≡◌, subst, ◌∙◌, ℕ, FitsSigned, w16, ◌*◌, ◌<◌, ℤ, pos, negsuc, true, if◌then◌else◌, nat_le, Option, Some, None, IfSome, unwrap_or}
+use Rattle.std.proofs.Common.{get_or, All, List, [], ◌∷◌, length, drop, replicate, arith, length-take, length-drop}
 use Rattle.std.specs.Prelude.{◌==◌}
 use Rattle.std.specs.List.{range_with_len}
 use Rattle.std.proofs.lemmas.Bool.{cond_both}
@@ -29,7 +30,8 @@ use Rattle.down_framer.proofs.Store.{made-far}
 use Rattle.call_leg.specs.Who.{Who}
 use Rattle.call_leg.specs.Periods.{CallPeriod, quiet_now, handed_in, bridges_begun}
 use Rattle.call_leg.specs.Out.{plain_stretch, decoded_octets, out_of}
-use Rattle.call_leg.specs.Down.{CallFrame, down_period, down_periods, frames_of, coded_stretch, coded_after, coded_frames, speech, frame_now, bits_now, down_made, down_now}
+use Rattle.call_leg.specs.Down.{CallFrame, down_period, down_periods, frames_of, coded_stretch, coded_after, coded_frames, speech, frame_now, bits_now}
+use Rattle.call_leg.specs.Down.{down_made, down_now}
 
 -- ---- lengths
 

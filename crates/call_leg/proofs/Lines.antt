@@ -1,5 +1,6 @@
 -- The whole Down line.
-use Rattle.std.proofs.Common.{◌≡◌, refl, sym, ap, ◌∙◌, ℕ, ◌+◌, ◌*◌, ◌<◌, zero, suc, Bool, true, false, if◌then◌else◌, nat_le, List, [], ◌∷◌, ◌++◌, length, take, drop, arith, append_assoc}
+use Rattle.std.proofs.Common.{◌≡◌, refl, sym, ap, ◌∙◌, ℕ, ◌+◌, ◌*◌, ◌<◌, zero, suc, Bool, true, false, if◌then◌else◌, nat_le, List, [], ◌∷◌, ◌++◌, length, take}
+use Rattle.std.proofs.Common.{drop, arith, append_assoc}
 use Rattle.std.proofs.lemmas.List.{append-nil, take-append-le}
 use Rattle.down_framer.specs.Made.{Period, next_start, next_frame, grown, frame_on_line}
 use Rattle.down_framer.proofs.Store.{made-far}

@@ -37,7 +37,8 @@ use Rattle.call_leg.specs.Counted.{counted}
 use Rattle.call_leg.specs.Down.{coded_as, speech}
 use Rattle.call_leg.specs.Memory.{CoderMemory, home_coder, DownMemory, home_down, LegMemory}
 use Rattle.call_leg.specs.Places.{in_u32, in_u64}
-use Rattle.call_leg.specs.Step.{played_frame, played, after_sighting, up_worked, coded_next, next_by, thawed, after_made, frame_made, frame_tried, with_framer, down_worked}
+use Rattle.call_leg.specs.Step.{played_frame, played, after_sighting, up_worked, coded_next, next_by, thawed, after_made, frame_made, frame_tried, with_framer}
+use Rattle.call_leg.specs.Step.{down_worked}
 
 -- the downlink side of a new leg is at home
 pub home-step : (law : Law) (f : framer.FramerMemory) (a : align.AlignMemory) (w : List (List ℕ)) (m : CoderMemory) → f ≡ framer.home_memory →

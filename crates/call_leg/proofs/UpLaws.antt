@@ -50,7 +50,8 @@ played-stands law (Made p) alone past m h = played-plain law p past m alone h
 -- ---- what the downlink side hears
 
 -- a field is asked
-asked-kept : (m : AlignMemory) (field : Option ℕ) (fields : List (Option ℕ)) → m.kept ≡ latest_ask fields → (after_asking m field).kept ≡ latest_ask (field ∷ fields)
+asked-kept : (m : AlignMemory) (field : Option ℕ) (fields : List (Option ℕ)) → m.kept ≡ latest_ask fields →
+    (after_asking m field).kept ≡ latest_ask (field ∷ fields)
 asked-kept m None fields e = e
 asked-kept m (Some field) fields e = ap (λ o. asked_then field o) e
 

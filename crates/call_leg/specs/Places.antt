@@ -1,5 +1,6 @@
 -- The law of places: what the downlink side of a leg stands for, by the periods so far. Lists have the newest first.
-use Rattle.std.specs.Prelude.{◌≡◌, ℕ, ◌+◌, ◌*◌, ◌<◌, ◌≤◌, true, not, ◌&&◌, ◌||◌, ◌==◌, if◌then◌else◌, Bool, Option, None, is_some, List, [], ◌∷◌, ◌++◌, length, map, All, option_to_list, suc, min}
+use Rattle.std.specs.Prelude.{◌≡◌, ℕ, ◌+◌, ◌*◌, ◌<◌, ◌≤◌, true, not, ◌&&◌, ◌||◌, ◌==◌, if◌then◌else◌, Bool, Option, None, is_some, List, [], ◌∷◌, ◌++◌, length}
+use Rattle.std.specs.Prelude.{map, All, option_to_list, suc, min}
 use Rattle.trau_alaw.specs.declared.Law.{Law}
 use Rattle.fr_encoder.specs.Stands as encoder
 use Rattle.tx_dtx.specs.Stands as tx

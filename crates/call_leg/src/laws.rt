@@ -64,7 +64,8 @@ pub fn the_handing_over_stands()
 
 /// The downlink half of a period, with its 160 octets of the Pcm line: what it leaves, and its bits of the Down line.
 pub fn the_downlink_half_stands()
-    ensures { (who : Who) (ts : List CallPeriod) (now : Settings) (up pcm : List ℕ) (handed : Option (List ℕ)) (m : LegMemory) → length pcm ≡ 160 → is_some handed ≡ now.bridged →
+    ensures { (who : Who) (ts : List CallPeriod) (now : Settings) (up pcm : List ℕ) (handed : Option (List ℕ)) (m : LegMemory) → length pcm ≡ 160 →
+        is_some handed ≡ now.bridged →
         Midway who ts now up handed m →
         Stands who (period_with now up pcm handed ∷ ts) (settings_later now) (with_down m (down_worked m.down pcm).1)
         × ((down_worked m.down pcm).0 ≡ down_now who (period_with now up pcm handed ∷ ts)) }
@@ -133,5 +134,6 @@ pub fn the_halves_are_the_leg()
     ensures leg { (m : LegMemory) → joined (up_of m) m.down ≡ m }
     ensures up { (m : LegMemory) (up : List ℕ) → let t = up_turned (up_of m) up in up_worked m up ≡ (t.0.eff, t.1, joined t.2 (noted m.down t.0)) }
     ensures down { (d : DownMemory) (n : Note) (pcm : List ℕ) → down_turned d n None pcm ≡ down_worked (noted d n) pcm }
-    ensures handed { (d : DownMemory) (n : Note) (e : EffectiveFields) (pcm : List ℕ) → down_turned d n (Some e) pcm ≡ down_worked (after_handing (noted d n) e) pcm }
+    ensures handed { (d : DownMemory) (n : Note) (e : EffectiveFields) (pcm : List ℕ) →
+        down_turned d n (Some e) pcm ≡ down_worked (after_handing (noted d n) e) pcm }
 {}

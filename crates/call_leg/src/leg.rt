@@ -1,6 +1,7 @@
 //! The leg of a call: what it keeps, and its operations (the halves of a period, bridges, settings, and what it tells).
 
-ghost use Rattle.std.specs.Prelude.{◌≡◌, ◌≤◌, ◌<◌, ◌+◌, ℕ, ℤ, pos, ◌≤ℤ◌, true, false, not, ◌&&◌, ◌==◌, Option, Some, None, is_some, List, [], ◌∷◌, length, IfOk};
+ghost use Rattle.std.specs.Prelude.{◌≡◌, ◌≤◌, ◌<◌, ◌+◌, ℕ, ℤ, pos, ◌≤ℤ◌, true, false, not, ◌&&◌, ◌==◌, Option, Some, None, is_some, List, [], ◌∷◌, length};
+ghost use Rattle.std.specs.Prelude.{IfOk};
 ghost use Rattle.call_number.specs.CallNumber.{IsCallNumber};
 ghost use Rattle.trau_bits.specs.Bits.{bits_of};
 ghost use Rattle.trau_params.specs.Bits260.{bits260};

@@ -148,7 +148,8 @@ impl DownLeg {
 
         // After the periods of any call, with the note of its next one, and an effective frame where it lies in a bridge,
         // the half stands for the call with that period more ..
-        ensures history { (who : Who) (ts : List CallPeriod) (now : Settings) (up : List ℕ) → Between who ts now self.old → note.now ≡ note_in who.number ts up →
+        ensures history { (who : Who) (ts : List CallPeriod) (now : Settings) (up : List ℕ) → Between who ts now self.old →
+            note.now ≡ note_in who.number ts up →
             is_some item.entry ≡ now.bridged →
             Between who (period_with now up pcm.now (handed_bits (item_of (option_copied item.entry))) ∷ ts) (settings_later now) self.new }
 

@@ -1,5 +1,6 @@
 -- What the second phase gives, for every history of its call.
-use Rattle.std.proofs.Common.{◌≡◌, ◌&&◌, ℕ, zero, suc, ◌+◌, ◌*◌, ◌<◌, ◌≤◌, ltb, Bool, true, false, if◌then◌else◌, Option, Some, None, is_some, length, length-append, List, [], ◌∷◌, ◌++◌, drop, refl, sym, ap, subst, ◌∙◌, arith}
+use Rattle.std.proofs.Common.{◌≡◌, ◌&&◌, ℕ, zero, suc, ◌+◌, ◌*◌, ◌<◌, ◌≤◌, ltb, Bool, true, false, if◌then◌else◌, Option, Some, None, is_some, length}
+use Rattle.std.proofs.Common.{length-append, List, [], ◌∷◌, ◌++◌, drop, refl, sym, ap, subst, ◌∙◌, arith}
 use Rattle.trau_bits.specs.Bits.{octets_of}
 use Rattle.trau_params.specs.Bits260.{bits260}
 use Rattle.rx_handler.specs.Origin.{EffectiveFields}

@@ -1,5 +1,6 @@
 -- The two phases of a job, and the run place by place.
-use Rattle.std.proofs.Common.{◌≡◌, ℕ, zero, suc, ◌+◌, ◌-◌, ◌<◌, ◌≤◌, min, max, true, None, List, [], ◌∷◌, ◌++◌, length, take, get_or, length-append, refl, sym, ap, ◌∙◌, ⊎_elim, arith}
+use Rattle.std.proofs.Common.{◌≡◌, ℕ, zero, suc, ◌+◌, ◌-◌, ◌<◌, ◌≤◌, min, max, true, None, List, [], ◌∷◌, ◌++◌, length, take, get_or, length-append, refl, sym}
+use Rattle.std.proofs.Common.{ap, ◌∙◌, ⊎_elim, arith}
 use Rattle.std.proofs.lemmas.Bool.{cases_lt}
 use Rattle.std.proofs.lemmas.List.{get_or-take, get_or-map}
 use Rattle.std.proofs.Math.ListN.{get_or-append}
@@ -12,7 +13,8 @@ use Rattle.call_pair.specs.declared.job.Job.TheVariants.{One, Two}
 use Rattle.call_pair.specs.Places.{pcm_at, with_place, has_place}
 use Rattle.call_pair.specs.Turn.{effective, half_turned_if}
 use Rattle.call_pair.specs.Jobs.{job_left, after_turns, finished}
-use Rattle.call_pair.specs.Phases.{CallMemory, down_before, item_if, effective_in, call_turned, after_call_turns, periods_left, call_finished, turned_down, starting, with_partner, second_phase, half_in, frames_in, effs, half_run}
+use Rattle.call_pair.specs.Phases.{CallMemory, down_before, item_if, effective_in, call_turned, after_call_turns, periods_left, call_finished, turned_down}
+use Rattle.call_pair.specs.Phases.{starting, with_partner, second_phase, half_in, frames_in, effs, half_run}
 use Rattle.call_pair.specs.declared.call_job.Phase.TheVariants.{First, Second}
 use Rattle.call_pair.proofs.Places.{is_below}
 use Rattle.call_pair.proofs.Turns.{turned_is}

@@ -1,5 +1,6 @@
 -- The job of two calls from place to place, for every history of theirs.
-use Rattle.std.proofs.Common.{◌≡◌, ℕ, zero, suc, ◌+◌, ◌<◌, ◌≤◌, max, min, ltb, Bool, true, false, if◌then◌else◌, Option, Some, None, List, ◌∷◌, refl, sym, ap, subst, ◌∙◌, ⊎_elim, arith}
+use Rattle.std.proofs.Common.{◌≡◌, ℕ, zero, suc, ◌+◌, ◌<◌, ◌≤◌, max, min, ltb, Bool, true, false, if◌then◌else◌, Option, Some, None, List, ◌∷◌, refl, sym, ap}
+use Rattle.std.proofs.Common.{subst, ◌∙◌, ⊎_elim, arith}
 use Rattle.std.proofs.lemmas.Bool.{cases_lt}
 use Rattle.trau_params.specs.Bits260.{bits260}
 use Rattle.rx_handler.specs.Origin.{EffectiveFields}
@@ -15,7 +16,8 @@ use Rattle.call_pair.specs.Jobs.{job_left, after_turns, finished}
 use Rattle.call_pair.specs.History.{Start, period_at, handed_at, bridged_periods, settings_past, Begins, HasWorked}
 use Rattle.call_pair.specs.Finished.{HasWorkedBridged, TwoWorked}
 use Rattle.call_pair.proofs.Places.{is_below, not_below, is_same, is_past, is_before}
-use Rattle.call_pair.proofs.Steps.{tells, bridged, left_alone, turned-alone, turned-bridged, tells-is, turned-ends, left_alone-is, effective-is, bridged-worked, first_left-worked, later_left-worked}
+use Rattle.call_pair.proofs.Steps.{tells, bridged, left_alone, turned-alone, turned-bridged, tells-is, turned-ends, left_alone-is, effective-is, bridged-worked}
+use Rattle.call_pair.proofs.Steps.{first_left-worked, later_left-worked}
 use Rattle.call_pair.proofs.RunsAlone.{placed, given-is, begun, begun-left, still-bridged, many-bridged}
 
 -- ---- two calls

@@ -1,5 +1,6 @@
 -- The halves of a half's leg from place to place, where a bridge that it has ends at place m.
-use Rattle.std.proofs.Common.{◌≡◌, ◌==◌, ◌&&◌, ℕ, zero, suc, ◌+◌, ◌*◌, ◌<◌, ◌≤◌, min, ltb, Bool, true, false, if◌then◌else◌, Option, List, refl, sym, ap, ◌∙◌, ⊎_elim, arith}
+use Rattle.std.proofs.Common.{◌≡◌, ◌==◌, ◌&&◌, ℕ, zero, suc, ◌+◌, ◌*◌, ◌<◌, ◌≤◌, min, ltb, Bool, true, false, if◌then◌else◌, Option, List, refl, sym, ap, ◌∙◌}
+use Rattle.std.proofs.Common.{⊎_elim, arith}
 use Rattle.std.proofs.lemmas.Bool.{cases_lt, eq-eqb}
 use Rattle.trau_bits.specs.Bits.{octets_of}
 use Rattle.rx_handler.specs.Origin.{EffectiveFields}

@@ -132,18 +132,21 @@ left_alone-is h others b e = ap (λ (x : Bool). alone (record { leg = if x then 
 -- the first period after the partner's places
 pub first_left-worked : (s : Start) (k others : ℕ) (ts : List CallPeriod) (now : Settings) (h : HalfMemory) → IsIo s.io → k ≤ length ts → k < s.io.given →
     k ≡ others → now.bridged ≡ true →
-    HasWorked s k ts now h → HasWorked s (suc k) (period_with now (up_at k s.io) (pcm_at k s.io) None ∷ ts) (without_bridge (settings_later now)) (left_alone h others)
+    HasWorked s k ts now h → HasWorked s (suc k) (period_with now (up_at k s.io) (pcm_at k s.io) None ∷ ts) (without_bridge (settings_later now))
+    (left_alone h others)
 first_left-worked s k others ts now h room enough below e b w =
     let test : (h.io.done == others) ≡ true = is_same h.io.done others (ap (λ (io : IoMemory). io.done) w.io ∙ e) in
     let off : HasWorked s k ts (without_bridge now) (record { leg = unbridged h.leg; io = h.io }) =
     record { io = w.io; leg = end-stands (who_of s) ts now h.leg b w.leg } in
-    subst (HasWorked s (suc k) (period_with now (up_at k s.io) (pcm_at k s.io) None ∷ ts) (without_bridge (settings_later now))) (sym (left_alone-is h others true test))
+    subst (HasWorked s (suc k) (period_with now (up_at k s.io) (pcm_at k s.io) None ∷ ts) (without_bridge (settings_later now)))
+    (sym (left_alone-is h others true test))
     (alone-worked s k ts (without_bridge now) (record { leg = unbridged h.leg; io = h.io }) room enough below refl off)
 
 -- a later one
 pub later_left-worked : (s : Start) (k others : ℕ) (ts : List CallPeriod) (now : Settings) (h : HalfMemory) → IsIo s.io → k ≤ length ts → k < s.io.given →
     others < k →
-    HasWorked s k ts (without_bridge now) h → HasWorked s (suc k) (period_with now (up_at k s.io) (pcm_at k s.io) None ∷ ts) (without_bridge (settings_later now))
+    HasWorked s k ts (without_bridge now) h →
+    HasWorked s (suc k) (period_with now (up_at k s.io) (pcm_at k s.io) None ∷ ts) (without_bridge (settings_later now))
     (left_alone h others)
 later_left-worked s k others ts now h room enough below past w =
     let done : h.io.done ≡ k = ap (λ (io : IoMemory). io.done) w.io in

@@ -39,9 +39,25 @@ impl Model for LegIo {
 
     ghost Value = { IoMemory };
 
-    ghost view = { λ io. record { call = io.call; up = io.up.items; pcm = io.pcm.items; out = io.out.items; down = io.down.items; given = io.given; done = io.done } };
+    ghost view = { λ io. record {
+      call = io.call;
+      up = io.up.items;
+      pcm = io.pcm.items;
+      out = io.out.items;
+      down = io.down.items;
+      given = io.given;
+      done = io.done;
+    } };
 
-    ghost invariant = { λ io. IsIo (record { call = io.call; up = io.up.items; pcm = io.pcm.items; out = io.out.items; down = io.down.items; given = io.given; done = io.done }) };
+    ghost invariant = { λ io. IsIo (record {
+      call = io.call;
+      up = io.up.items;
+      pcm = io.pcm.items;
+      out = io.out.items;
+      down = io.down.items;
+      given = io.given;
+      done = io.done;
+    }) };
 }
 
 impl LegIo {
@@ -65,7 +81,15 @@ impl LegIo {
     pub fn new(call: u32, buffers: Buffers, given: u32) -> LegIo
         requires call { IsCallNumber call }
         requires room { HaveRoom buffers.up.items buffers.pcm.items buffers.out.items buffers.down.items given }
-        ensures { result ≡ record { call = call; up = buffers.up.items; pcm = buffers.pcm.items; out = buffers.out.items; down = buffers.down.items; given = given; done = 0 } }
+        ensures { result ≡ record {
+          call = call;
+          up = buffers.up.items;
+          pcm = buffers.pcm.items;
+          out = buffers.out.items;
+          down = buffers.down.items;
+          given = given;
+          done = 0;
+        } }
     {
         let Buffers { up, pcm, out, down } = buffers;
         LegIo {

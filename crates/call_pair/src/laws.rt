@@ -50,7 +50,8 @@ pub fn the_run_is_that_of_the_halves()
 /// call's effective frames of the places that both have.
 pub fn the_first_phase_is_told()
     ensures alone { (s : Start) (h : HalfMemory) → Begins s h → Hears s 0 (first_phase 0 h) }
-    ensures bridged { (a b : Start) (g h : HalfMemory) → Begins a g → Begins b h → Hears a (min a.io.given b.io.given) (first_phase (min a.io.given b.io.given) g) }
+    ensures bridged { (a b : Start) (g h : HalfMemory) → Begins a g → Begins b h →
+        Hears a (min a.io.given b.io.given) (first_phase (min a.io.given b.io.given) g) }
     ensures frames { (a b : Start) (g h : HalfMemory) → Begins a g → Begins b h → a.now.bridged ≡ true → b.now.bridged ≡ true →
         let m = min g.io.given h.io.given in (k : ℕ) → k < m → effective_in k (effs m g) ≡ (note_in a.io.call (bridged_periods k a b) (up_at k a.io)).eff }
 {}

@@ -67,9 +67,11 @@ pub(crate) fn work_down(
     requires notes { io.old.done < length notes.now }
     requires partner { (down_before bridge_end io.old.done down.old).bridged ≡ true → io.old.done < length partner.now }
     ensures io { let c = down_before bridge_end io.old.done down.old in
-        io.new ≡ with_place io.old (octets_of (down_turned c (note_at io.old.done notes.now) (item_if c.bridged (effective_in io.old.done (map effective_fields partner.now))) (pcm_at io.old.done io.old)).0) }
+        io.new ≡ with_place io.old (octets_of (down_turned c (note_at io.old.done notes.now)
+        (item_if c.bridged (effective_in io.old.done (map effective_fields partner.now))) (pcm_at io.old.done io.old)).0) }
     ensures down { let c = down_before bridge_end io.old.done down.old in
-        down.new ≡ (down_turned c (note_at io.old.done notes.now) (item_if c.bridged (effective_in io.old.done (map effective_fields partner.now))) (pcm_at io.old.done io.old)).1 }
+        down.new ≡ (down_turned c (note_at io.old.done notes.now) (item_if c.bridged (effective_in io.old.done (map effective_fields partner.now)))
+        (pcm_at io.old.done io.old)).1 }
     ensures bridged { down.new.bridged ≡ (down_before bridge_end io.old.done down.old).bridged }
 {
     end_down(down, io.done == bridge_end);

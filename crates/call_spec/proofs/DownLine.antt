@@ -1,5 +1,6 @@
 -- The Down line, period by period, is the whole one.
-use Rattle.std.proofs.Common.{◌≡◌, refl, sym, ap, ◌∙◌, ℕ, ◌*◌, ◌≤◌, Bool, true, false, ◌&&◌, if◌then◌else◌, nat_le, nat_lt, Option, Some, None, List, [], ◌∷◌, ◌++◌, length, map, take, reverse, replicate, arith, append_assoc, length-append}
+use Rattle.std.proofs.Common.{◌≡◌, refl, sym, ap, ◌∙◌, ℕ, ◌*◌, ◌≤◌, Bool, true, false, ◌&&◌, if◌then◌else◌, nat_le, nat_lt, Option, Some, None, List, [], ◌∷◌}
+use Rattle.std.proofs.Common.{◌++◌, length, map, take, reverse, replicate, arith, append_assoc, length-append}
 use Rattle.std.specs.Prelude.{◌==◌, not, is_none, unwrap_or}
 use Rattle.std.specs.List.{flat_map, zip, list_any}
 use Rattle.std.proofs.lemmas.Bool.{cond-true, cond-false, and_parts, and_right, eqb-true}

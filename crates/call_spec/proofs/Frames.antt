@@ -1,11 +1,13 @@
 -- The frames made in the periods of a history are those of its call.
-use Rattle.std.proofs.Common.{◌≡◌, refl, sym, ap, ◌∙◌, subst, inl, inr, ℕ, ◌+◌, ◌*◌, ◌<◌, ◌≤◌, zero, suc, Bool, true, false, if◌then◌else◌, nat_lt, Option, Some, None, List, [], ◌∷◌, ◌++◌, length, map, reverse, filter, All, arith}
+use Rattle.std.proofs.Common.{◌≡◌, refl, sym, ap, ◌∙◌, subst, inl, inr, ℕ, ◌+◌, ◌*◌, ◌<◌, ◌≤◌, zero, suc, Bool, true, false, if◌then◌else◌, nat_lt, Option}
+use Rattle.std.proofs.Common.{Some, None, List, [], ◌∷◌, ◌++◌, length, map, reverse, filter, All, arith}
 use Rattle.std.proofs.lemmas.Bool.{cases_lt, le-leb, lt-ltb, le-ltb, cond-true, cond-false, and_from}
 use Rattle.std.specs.Prelude.{is_some, ◌-◌, ◌&&◌, nat_le}
 use Rattle.std.proofs.lemmas.List.{map-append, length-map, length-reverse}
 use Rattle.std.proofs.lemmas.List.Elements.{All-head, All-tail}
 use Rattle.down_framer.specs.Made.{MadeFrame, next_start}
-use Rattle.down_framer.specs.ByNumber.{Bridge, NumberedFrame, when, count_from, carried_item, numbered_frames, numbered_start, longer, bridges_in, asked_fields, numbered_of}
+use Rattle.down_framer.specs.ByNumber.{Bridge, NumberedFrame, when, count_from, carried_item, numbered_frames, numbered_start, longer, bridges_in, asked_fields}
+use Rattle.down_framer.specs.ByNumber.{numbered_of}
 use Rattle.down_framer.proofs.FrameLaws.{in_time}
 use Rattle.call_leg.specs.Who.{Who}
 use Rattle.call_leg.specs.Periods.{CallPeriod}

@@ -1,10 +1,12 @@
 -- Of the bridges of a history at most one has an item for each of its frames.
-use Rattle.std.proofs.Common.{◌≡◌, refl, sym, ap, ◌∙◌, subst, inl, inr, ℕ, ◌+◌, ◌-◌, ◌*◌, ◌<◌, zero, suc, Bool, true, false, if◌then◌else◌, nat_le, Option, List, [], ◌∷◌, ◌++◌, length, map, reverse, arith, append_assoc, length-append}
+use Rattle.std.proofs.Common.{◌≡◌, refl, sym, ap, ◌∙◌, subst, inl, inr, ℕ, ◌+◌, ◌-◌, ◌*◌, ◌<◌, zero, suc, Bool, true, false, if◌then◌else◌, nat_le, Option}
+use Rattle.std.proofs.Common.{List, [], ◌∷◌, ◌++◌, length, map, reverse, arith, append_assoc, length-append}
 use Rattle.std.proofs.lemmas.Bool.{cases_lt, leb-true, cond_both, cond-true, cond-false}
 use Rattle.std.proofs.lemmas.List.{reverse-reverse, length-map}
 use Rattle.down_framer.specs.Made.{Period, MadeFrame, next_start, next_frame, grown, made_frames}
 use Rattle.down_framer.specs.Bridges.{IsHistory}
-use Rattle.down_framer.specs.ByNumber.{Bridge, NumberedFrame, when, fields_to, numbered_start, numbered_next, numbered_frames, longer, bridges_in, asked_fields, numbered_of}
+use Rattle.down_framer.specs.ByNumber.{Bridge, NumberedFrame, when, fields_to, numbered_start, numbered_next, numbered_frames, longer, bridges_in, asked_fields}
+use Rattle.down_framer.specs.ByNumber.{numbered_of}
 use Rattle.down_framer.proofs.Timing.{AreMade-made_frames, next_start-grown, AreOnTime, AreOnTime-made_frames, grown-AreOnTime}
 use Rattle.down_framer.proofs.Numbers.{made-numbered}
 use Rattle.down_framer.proofs.Latest.{bridge}

@@ -1,5 +1,6 @@
 -- The call of a history says of each period what the history says.
-use Rattle.std.proofs.Common.{◌≡◌, refl, sym, ap, ◌∙◌, subst, ℕ, ◌*◌, ◌<◌, suc, pos, false, None, List, [], ◌∷◌, ◌++◌, length, map, take, drop, reverse, All, get_or, arith, append_assoc, length-append}
+use Rattle.std.proofs.Common.{◌≡◌, refl, sym, ap, ◌∙◌, subst, ℕ, ◌*◌, ◌<◌, suc, pos, false, None, List, [], ◌∷◌, ◌++◌, length, map, take, drop, reverse, All}
+use Rattle.std.proofs.Common.{get_or, arith, append_assoc, length-append}
 use Rattle.std.specs.List.{range_with_len}
 use Rattle.std.proofs.lemmas.List.{append-nil, reverse-append, reverse-reverse, length-reverse, get_or_append_left, take_at, drop_at}
 use Rattle.std.proofs.lemmas.List.Elements.{All-head, All-tail}

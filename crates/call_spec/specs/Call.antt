@@ -1,6 +1,7 @@
 -- A call by its whole lines and its spans. Its periods of 20 ms are numbered from 0 at its opening, and all lists have
 -- the oldest first.
-use Rattle.std.specs.Prelude.{ℕ, ◌*◌, ◌-◌, zero, suc, ℤ, pos, Bool, false, if◌then◌else◌, ◌==◌, ◌&&◌, nat_le, nat_lt, Option, Some, None, List, [], ◌∷◌, length, map, take, drop, slice_index_or}
+use Rattle.std.specs.Prelude.{ℕ, ◌*◌, ◌-◌, zero, suc, ℤ, pos, Bool, false, if◌then◌else◌, ◌==◌, ◌&&◌, nat_le, nat_lt, Option, Some, None, List, [], ◌∷◌, length}
+use Rattle.std.specs.Prelude.{map, take, drop, slice_index_or}
 use Rattle.std.specs.List.{range_with_len, list_any}
 use Rattle.trau_orders.specs.declared.order.DtxMode.{DtxMode}
 use Rattle.trau_orders.specs.declared.order.DtxMode.TheVariants.{Uplink}

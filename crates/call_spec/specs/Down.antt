@@ -1,7 +1,8 @@
 -- The Down line of a call as a whole: handed frames, idle frames and coded frames (GSM 06.10 and GSM 08.60; which of
 -- them is sent when is this project's profile). Frames are numbered from 0, and lists have the oldest first, but for
 -- those of the frames before one.
-use Rattle.std.specs.Prelude.{◌≡◌, ◌≤◌, ◌<◌, ℕ, ◌*◌, ◌-◌, ℤ, Bool, true, not, ◌&&◌, if◌then◌else◌, nat_le, nat_lt, Some, None, is_none, unwrap_or, List, [], ◌++◌, map, take, drop, replicate, reverse, filter}
+use Rattle.std.specs.Prelude.{◌≡◌, ◌≤◌, ◌<◌, ℕ, ◌*◌, ◌-◌, ℤ, Bool, true, not, ◌&&◌, if◌then◌else◌, nat_le, nat_lt, Some, None, is_none, unwrap_or, List, []}
+use Rattle.std.specs.Prelude.{◌++◌, map, take, drop, replicate, reverse, filter}
 use Rattle.std.specs.List.{flat_map, zip, list_any, list_all}
 use Rattle.trau_alaw.specs.Period.{expanded}
 use Rattle.trau_frame.specs.declared.frames.DownFrame.{DownFrame}

@@ -1,5 +1,6 @@
 -- All frames are found where each stands apart and every other bit is one.
-use Rattle.std.proofs.Common.{◌≡◌, ℕ, ◌+◌, ◌*◌, ◌≤◌, ◌<◌, true, false, nat_le, List, [], ◌∷◌, length, take, get_or, sym, ap, ◌∙◌, ◌⊎◌, inl, inr, arith, length-take}
+use Rattle.std.proofs.Common.{◌≡◌, ℕ, ◌+◌, ◌*◌, ◌≤◌, ◌<◌, true, false, nat_le, List, [], ◌∷◌, length, take, get_or, sym, ap, ◌∙◌, ◌⊎◌, inl, inr, arith}
+use Rattle.std.proofs.Common.{length-take}
 use Rattle.std.proofs.lemmas.Bool.{cases_lt, le-leb, lt-leb, leb-true, and_parts, and_from, false_from_ne_true}
 use Rattle.std.proofs.lemmas.List.{get_or-take}
 use Rattle.trau_frame.specs.Match.{bit_in, frame_at}

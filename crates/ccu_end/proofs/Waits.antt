@@ -1,12 +1,14 @@
 -- A request that waits, frame by frame, is the one that the look back finds.
-use Rattle.std.proofs.Common.{◌≡◌, ℕ, All, IfSome, ◌+◌, Bool, true, false, ◌&&◌, nat_lt, if◌then◌else◌, ◌==◌, Option, Some, None, List, [], ◌∷◌, ◌++◌, length, length-append, append_assoc, refl, sym, ap, ◌∙◌, inl, inr, arith}
+use Rattle.std.proofs.Common.{◌≡◌, ℕ, All, IfSome, ◌+◌, Bool, true, false, ◌&&◌, nat_lt, if◌then◌else◌, ◌==◌, Option, Some, None, List, [], ◌∷◌, ◌++◌, length}
+use Rattle.std.proofs.Common.{length-append, append_assoc, refl, sym, ap, ◌∙◌, inl, inr, arith}
 use Rattle.std.proofs.lemmas.Bool.{cases_lt, cases_eq, eq-eqb, ne_eqb, lt-ltb, le-ltb}
 use Rattle.std.proofs.lemmas.List.{append-nil}
 use Rattle.std.proofs.lemmas.List.Elements.{All-head, All-tail}
 use Rattle.ccu_end.specs.Found.{FoundFrame, HaveBits}
 use Rattle.ccu_end.specs.Window.{low_after}
 use Rattle.ccu_end.specs.Heard.{all_of}
-use Rattle.ccu_end.specs.Asked.{Answered, last_of, place_in, in_step, still_waits, waiting, offset_of, field_for, field_where, field_after, answered, speech_in, up_words, asked}
+use Rattle.ccu_end.specs.Asked.{Answered, last_of, place_in, in_step, still_waits, waiting, offset_of, field_for, field_where, field_after, answered, speech_in}
+use Rattle.ccu_end.specs.Asked.{up_words, asked}
 use Rattle.ccu_end.specs.Step.{wait_next, waits_over, field_now, period_field, asked_with, waiting_after, answer_after}
 
 -- from where on the next frame is looked for, behind two lists

@@ -7,7 +7,8 @@ ghost use Rattle.down_framer.specs.Made.{made_frames};
 ghost use Rattle.down_framer.specs.Stands.{PcmPeriod, PcmFrame};
 ghost use Rattle.ccu_end.specs.Read.{down_frame_in, HasLength};
 ghost use Rattle.ccu_end.specs.Heard.{ArePeriods, line_bits, all_of, AreHeard};
-ghost use Rattle.ccu_end.specs.Found.{FoundFrame, Found, downlink, HaveLength, as_made, all_within, Shifted, shifted_line, AreShifted, found_from, places_from, shifts_of};
+ghost use Rattle.ccu_end.specs.Found.{FoundFrame, Found, downlink, HaveLength, as_made, all_within, Shifted, shifted_line, AreShifted, found_from, places_from};
+ghost use Rattle.ccu_end.specs.Found.{shifts_of};
 
 /// What was written into a downlink frame is read from it.
 pub fn written_downlink_is_read()

@@ -80,7 +80,8 @@ fn follow_period<T: Trunk, D: Desk>(
 ) -> PeriodEnd
     requires number { IsCallNumber call }
     requires fewer { ccu.old.periods < 4294967295 }
-    ensures period { FollowsOn ccu.old ccu.new (T.lines trunk.old call Up) (T.lines trunk.new call Up) (T.lines trunk.old call Down) (T.lines trunk.new call Down) (D.desk desk.old) (D.desk desk.new) result }
+    ensures period { FollowsOn ccu.old ccu.new (T.lines trunk.old call Up) (T.lines trunk.new call Up) (T.lines trunk.old call Down)
+        (T.lines trunk.new call Down) (D.desk desk.old) (D.desk desk.new) result }
     ensures others { AllButTwo (T.lines trunk.old) (T.lines trunk.new) call Up Down }
 {
     let up = Line {
@@ -108,7 +109,8 @@ fn follow_line<T: Trunk, D: Desk>(call: u32, want: u16, trunk: &mut T, desk: &mu
     requires number { IsCallNumber call }
     requires high { want ≤ 316 }
     requires fours { want % 4 ≡ 0 }
-    ensures follows { Follows (T.lines trunk.old call Up) (T.lines trunk.new call Up) (T.lines trunk.old call Down) (T.lines trunk.new call Down) (D.desk desk.old) (D.desk desk.new) want result }
+    ensures follows { Follows (T.lines trunk.old call Up) (T.lines trunk.new call Up) (T.lines trunk.old call Down) (T.lines trunk.new call Down)
+        (D.desk desk.old) (D.desk desk.new) want result }
     ensures others { AllButTwo (T.lines trunk.old) (T.lines trunk.new) call Up Down }
 {
     let mut ccu = Ccu::new(want);

@@ -47,7 +47,8 @@ fn drilled_of(matches: &ArgMatches<'_>) -> Option<Drilled>
 /// The drill that the words after `drill` give.
 pub(crate) fn read_drill(alloc: Global, options: &[String]) -> Result<Drilled, WordsFault>
     ensures ok { IfOk result (λ d. AreDrillOptions (map (λ w. string_bytes w) options.now) d.seed d.calls d.settings) }
-    ensures usage { IsErrOf result WordsFault.Usage → (seed calls : ℕ) (s : TheSettings) → AreDrillOptions (map (λ w. string_bytes w) options.now) seed calls s → ⊥ }
+    ensures usage { IsErrOf result WordsFault.Usage → (seed calls : ℕ) (s : TheSettings) →
+        AreDrillOptions (map (λ w. string_bytes w) options.now) seed calls s → ⊥ }
 {
     let command = drill_command(alloc)?;
     match command.try_get_matches_from(options) {

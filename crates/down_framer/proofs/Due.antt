@@ -1,9 +1,11 @@
 -- Which handed frame is due, and what a period makes of it.
-use Rattle.std.proofs.Common.{◌≡◌, refl, ap, ◌∙◌, ℕ, ◌+◌, ◌*◌, ◌≤◌, ◌<◌, suc, ℤ, pos, Bool, true, false, if◌then◌else◌, nat_le, Option, Some, None, List, [], ◌∷◌, length, filter, arith, inl, inr}
+use Rattle.std.proofs.Common.{◌≡◌, refl, ap, ◌∙◌, ℕ, ◌+◌, ◌*◌, ◌≤◌, ◌<◌, suc, ℤ, pos, Bool, true, false, if◌then◌else◌, nat_le, Option, Some, None, List, []}
+use Rattle.std.proofs.Common.{◌∷◌, length, filter, arith, inl, inr}
 use Rattle.std.specs.Prelude.{◌==◌}
 use Rattle.std.proofs.lemmas.Bool.{cases_lt, lt-leb, le-leb, eq-eqb, ne_eqb, cond_both, cond-true, cond-false}
 use Rattle.time_align.specs.Shift.{latest_shift}
-use Rattle.down_framer.specs.Made.{counted_fields, Period, MadeFrame, octets_to_next, next_start, latest_start, hands_at, made_from, handed_due, next_frame, grown, made_frames}
+use Rattle.down_framer.specs.Made.{counted_fields, Period, MadeFrame, octets_to_next, next_start, latest_start, hands_at, made_from, handed_due, next_frame}
+use Rattle.down_framer.specs.Made.{grown, made_frames}
 
 -- a period that is to come hands nothing over
 pub hands_at-late : {A : Type 0} (ps : List (Period A)) (h : ℕ) → length ps ≤ h → hands_at h ps ≡ false

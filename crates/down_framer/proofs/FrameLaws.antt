@@ -1,9 +1,11 @@
 -- Laws of the made frames.
-use Rattle.std.proofs.Common.{◌≡◌, refl, ap, ◌∙◌, ℕ, ◌+◌, ◌-◌, ◌*◌, ◌≤◌, ◌<◌, false, if◌then◌else◌, nat_le, Option, Some, None, List, [], ◌∷◌, ◌++◌, length, map, All, arith}
+use Rattle.std.proofs.Common.{◌≡◌, refl, ap, ◌∙◌, ℕ, ◌+◌, ◌-◌, ◌*◌, ◌≤◌, ◌<◌, false, if◌then◌else◌, nat_le, Option, Some, None, List, [], ◌∷◌, ◌++◌, length}
+use Rattle.std.proofs.Common.{map, All, arith}
 use Rattle.std.proofs.lemmas.Bool.{cond_both, leb-true}
 use Rattle.std.proofs.lemmas.List.{length-map}
 use Rattle.std.proofs.lemmas.List.Elements.{All-nil, All-cons, All-weaker}
-use Rattle.down_framer.specs.Made.{Period, MadeFrame, next_start, latest_start, hands_at, made_from, handed_due, next_frame, grown, made_frames, frame_on_line, downlink_of}
+use Rattle.down_framer.specs.Made.{Period, MadeFrame, next_start, latest_start, hands_at, made_from, handed_due, next_frame, grown, made_frames, frame_on_line}
+use Rattle.down_framer.specs.Made.{downlink_of}
 use Rattle.down_framer.specs.Bridges.{in_bridge, IsHistory, LeavePeriodsBetween}
 use Rattle.down_framer.specs.ByNumber.{when, numbered_of, numbered_line, newest_bits, AreInTime}
 use Rattle.down_framer.proofs.Timing.{AreMade-made_frames, next_start-grown}

@@ -1,5 +1,6 @@
 -- What each call of a framer does in the history of its periods.
-use Rattle.std.proofs.Common.{◌≡◌, refl, sym, ap, ◌∙◌, subst, inl, inr, ℕ, ◌+◌, ◌-◌, ◌*◌, ℤ, ◌≤◌, ◌<◌, zero, suc, nat_le, List, [], ◌∷◌, ◌++◌, length, take, arith, length-append, length-drop}
+use Rattle.std.proofs.Common.{◌≡◌, refl, sym, ap, ◌∙◌, subst, inl, inr, ℕ, ◌+◌, ◌-◌, ◌*◌, ℤ, ◌≤◌, ◌<◌, zero, suc, nat_le, List, [], ◌∷◌, ◌++◌, length, take}
+use Rattle.std.proofs.Common.{arith, length-append, length-drop}
 use Rattle.std.proofs.lemmas.List.{length-replicate}
 use Rattle.std.proofs.lemmas.Bool.{le-leb, lt-leb, cases_lt}
 use Rattle.down_framer.specs.Made.{Period, octets_to_next, next_start, frame_on_line, next_frame, grown, shift_due, made_frames, downlink_of, down_of}

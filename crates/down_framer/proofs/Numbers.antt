@@ -1,11 +1,13 @@
 -- The frames made in some periods are the numbered ones.
-use Rattle.std.proofs.Common.{◌≡◌, refl, sym, ap, ◌∙◌, subst, ℕ, ◌+◌, ◌*◌, ◌≤◌, ◌<◌, pos, true, nat_le, Option, Some, None, List, [], ◌∷◌, ◌++◌, length, map, take, arith, inl, inr}
+use Rattle.std.proofs.Common.{◌≡◌, refl, sym, ap, ◌∙◌, subst, ℕ, ◌+◌, ◌*◌, ◌≤◌, ◌<◌, pos, true, nat_le, Option, Some, None, List, [], ◌∷◌, ◌++◌, length, map}
+use Rattle.std.proofs.Common.{take, arith, inl, inr}
 use Rattle.std.proofs.lemmas.Bool.{cases_lt, leb-true, cases_Bool, cond_both}
 use Rattle.std.proofs.lemmas.List.{append_assoc}
 use Rattle.time_align.specs.Shift.{latest_shift}
 use Rattle.down_framer.specs.Made.{Period, MadeFrame, next_start, latest_start, made_from, handed_due, counted_fields, next_frame, grown, made_frames}
 use Rattle.down_framer.specs.Bridges.{in_bridge, IsHistory}
-use Rattle.down_framer.specs.ByNumber.{NumberedFrame, when, carried_item, fields_to, numbered_start, numbered_next, numbered_frames, bridges_in, asked_fields, numbered_of}
+use Rattle.down_framer.specs.ByNumber.{NumberedFrame, when, carried_item, fields_to, numbered_start, numbered_next, numbered_frames, bridges_in, asked_fields}
+use Rattle.down_framer.specs.ByNumber.{numbered_of}
 use Rattle.down_framer.proofs.Timing.{AreMade-made_frames, next_start-grown, AreOnTime, AreOnTime-made_frames, grown-AreOnTime}
 use Rattle.down_framer.proofs.Due.{hands_at-new, hands_at-old, made_from-zero, none_made, one_made, no_shift, due-some}
 use Rattle.down_framer.proofs.Waiting.{Phase, phase}

@@ -1,5 +1,6 @@
 -- What the calls on a framer's rings make of them.
-use Rattle.std.proofs.Common.{◌≡◌, refl, sym, ap, subst, ◌∙◌, ◌⊎◌, inl, inr, [], ℕ, ◌+◌, ◌-◌, ◌*◌, ◌≤◌, ◌<◌, ℤ, pos, negsuc, min, List, ◌++◌, length, take, drop, replicate, arith, length-append, length-drop, length-take}
+use Rattle.std.proofs.Common.{◌≡◌, refl, sym, ap, subst, ◌∙◌, ◌⊎◌, inl, inr, [], ℕ, ◌+◌, ◌-◌, ◌*◌, ◌≤◌, ◌<◌, ℤ, pos, negsuc, min, List, ◌++◌, length, take}
+use Rattle.std.proofs.Common.{drop, replicate, arith, length-append, length-drop, length-take}
 use Rattle.std.proofs.lemmas.List.{take_all, drop_all, length-replicate, take-replicate, append_assoc, append-nil}
 use Rattle.std.proofs.lemmas.List.Elements.{All-append, All-replicate, All-take, All-drop}
 use Rattle.circular_buffer.specs.Buffer.{Buffer, buffer, keep_last}

@@ -4,7 +4,8 @@ use Rattle.std.proofs.lemmas.Bool.{cases_lt, cases_Bool, cond-true, cond-false}
 use Rattle.down_framer.specs.Made.{Period, MadeFrame, next_start, latest_start, hands_at, made_from, handed_due, next_frame, grown, made_frames}
 use Rattle.down_framer.specs.Bridges.{in_bridge, IsHistory}
 use Rattle.down_framer.proofs.Timing.{AreMade, AreMade-made_frames}
-use Rattle.down_framer.proofs.Due.{hands_at-late, hands_at-new, hands_at-old, made_from-next, no_shift, due-some, due-none, carries_one, makes_none, made_from-zero, made-later, latest_start-below, outside}
+use Rattle.down_framer.proofs.Due.{hands_at-late, hands_at-new, hands_at-old, made_from-next, no_shift, due-some, due-none, carries_one, makes_none}
+use Rattle.down_framer.proofs.Due.{made_from-zero, made-later, latest_start-below, outside}
 
 -- no frame waits, and within the bridge none has been late
 pub record Level {A : Type 0} (s : ℕ) (ps : List (Period A)) (fs : List (MadeFrame A)) : Type 0 where

@@ -1,6 +1,7 @@
 -- The made frames by their numbers, over a list of bridges and the fields of all periods. Periods and bridges are
 -- counted from the call's opening. Lists of frames have the newest first.
-use Rattle.std.specs.Prelude.{◌≡◌, ◌≤◌, ◌<◌, ℕ, ◌+◌, ◌-◌, ◌*◌, ◌/◌, zero, suc, ℤ, pos, if◌then◌else◌, ◌&&◌, nat_le, nat_lt, Option, Some, None, is_none, List, [], ◌∷◌, ◌++◌, length, map, take, drop, replicate, reverse, filter, find, All}
+use Rattle.std.specs.Prelude.{◌≡◌, ◌≤◌, ◌<◌, ℕ, ◌+◌, ◌-◌, ◌*◌, ◌/◌, zero, suc, ℤ, pos, if◌then◌else◌, ◌&&◌, nat_le, nat_lt, Option, Some, None, is_none, List}
+use Rattle.std.specs.Prelude.{[], ◌∷◌, ◌++◌, length, map, take, drop, replicate, reverse, filter, find, All}
 use Rattle.time_align.specs.Shift.{latest_shift}
 use Rattle.down_framer.specs.Made.{Period, MadeFrame, octets_to_next, next_start, frame_on_line}
 

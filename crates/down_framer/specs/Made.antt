@@ -1,6 +1,7 @@
 -- The frames of a downlink and the line that they make, by absolute places of the Pcm line and of the downlink (this
 -- project's profile, in the manner of GSM 08.60). Lists of periods and of frames have the newest first.
-use Rattle.std.specs.Prelude.{ℕ, ◌+◌, ◌-◌, ◌*◌, ℤ, pos, negsuc, Bool, false, if◌then◌else◌, ◌==◌, nat_le, Option, Some, None, is_none, List, [], ◌∷◌, ◌++◌, length, map, take, drop, replicate, filter, find}
+use Rattle.std.specs.Prelude.{ℕ, ◌+◌, ◌-◌, ◌*◌, ℤ, pos, negsuc, Bool, false, if◌then◌else◌, ◌==◌, nat_le, Option, Some, None, is_none, List, [], ◌∷◌, ◌++◌}
+use Rattle.std.specs.Prelude.{length, map, take, drop, replicate, filter, find}
 use Rattle.time_align.specs.Shift.{latest_shift}
 
 -- A period of 20 ms as the downlink sees it: the alignment field of its uplink frame of speech or idle, if it has one;

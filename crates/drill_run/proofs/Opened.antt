@@ -1,5 +1,6 @@
 -- The calls that a drill opens.
-use Rattle.std.proofs.Common.{◌≡◌, sym, ap, ◌∙◌, subst, ℕ, zero, suc, ◌+◌, ◌≤◌, Bool, true, Option, Some, None, is_some, Ok, Err, List, [], ◌∷◌, ◌++◌, map, inl, inr, arith}
+use Rattle.std.proofs.Common.{◌≡◌, sym, ap, ◌∙◌, subst, ℕ, zero, suc, ◌+◌, ◌≤◌, Bool, true, Option, Some, None, is_some, Ok, Err, List, [], ◌∷◌, ◌++◌, map, inl}
+use Rattle.std.proofs.Common.{inr, arith}
 use Rattle.std.specs.Prelude.{option_map, find, filter, nat_lt, if◌then◌else◌}
 use Rattle.std.specs.List.{AllByRecursion, range_with_len}
 use Rattle.std.proofs.lemmas.Bool.{cases_Bool, eqb-true}
@@ -53,22 +54,26 @@ module _ (P : ℕ → Type 0) where
   abbrev DoneOnly : Done → Type 0
   DoneOnly d = (c : ℕ) → is_this c (opened_by d.result) ≡ true → P c
 
-  executed_only : (whole : ℕ → ℕ) (ds : List Done) (os : List Order) → AllByRecursion DoneOnly ds → AllByRecursion OpensOnly os → AllByRecursion DoneOnly (executed whole ds os)
+  executed_only : (whole : ℕ → ℕ) (ds : List Done) (os : List Order) → AllByRecursion DoneOnly ds → AllByRecursion OpensOnly os →
+      AllByRecursion DoneOnly (executed whole ds os)
   executed_only whole ds [] h k = h
   executed_only whole ds (o ∷ os) h k =
       let gone = gone_at whole o.stamp ds in
       executed_only whole (ds ++ record { order = o; result = reply_to gone ds o } ∷ []) os
-      (each_append DoneOnly ds (record { order = o; result = reply_to gone ds o } ∷ []) h ((λ c e. k.0 c (by_reply (known_of gone o.stamp ds) o.what c e)), tt)) k.1
+      (each_append DoneOnly ds (record { order = o; result = reply_to gone ds o } ∷ []) h ((λ c e. k.0 c (by_reply (known_of gone o.stamp ds) o.what c e)), tt))
+      k.1
 
   some_opened : (c : ℕ) (ds : List Done) → AllByRecursion DoneOnly ds → is_some (opened_at c ds) ≡ true → P c
   some_opened c [] h o = cc
   some_opened c (d ∷ ds) h o = elim (cases_Bool (is_this c (opened_by d.result))) [
     | inl e ↦ h.0 c e
-    | inr e ↦ some_opened c ds h.1 (ap (λ (b : Bool). is_some (option_map (λ (d : Done). d.order.stamp) (if b then Some d else find (λ (d : Done). is_this c (opened_by d.result)) ds))) (sym e) ∙ o)
+    | inr e ↦ some_opened c ds h.1 (ap (λ (b : Bool). is_some
+        (option_map (λ (d : Done). d.order.stamp) (if b then Some d else find (λ (d : Done). is_this c (opened_by d.result)) ds))) (sym e) ∙ o)
   ]
 
   opened_only : (r : Run) (c : ℕ) → AllByRecursion OpensOnly r.orders → IsOpened r c → P c
-  opened_only r c each o = some_opened c (done_in r) (executed_only (whole_in r) [] (filter (λ o. nat_lt o.stamp r.periods) r.orders) tt (each_filter OpensOnly _ r.orders each)) o
+  opened_only r c each o = some_opened c (done_in r)
+      (executed_only (whole_in r) [] (filter (λ o. nat_lt o.stamp r.periods) r.orders) tt (each_filter OpensOnly _ r.orders each)) o
 
 -- ---- the drill's orders
 
@@ -77,17 +82,24 @@ IsDrilledCall calls c = (1 ≤ c) × (c ≤ calls)
 
 openings : (calls first n : ℕ) → 1 ≤ first → first + n ≤ calls + 1 → AllByRecursion (λ c. OpensOnly (IsDrilledCall calls) (opening c)) (range_with_len first n)
 openings calls first zero low high = tt
-openings calls first (suc n) low high = ((λ c e. (omega (arith, e, low), omega (arith, e, high))), openings calls (first + 1) n (omega (arith, low)) (omega (arith, high)))
+openings calls first (suc n) low high = (
+  (λ c e. (omega (arith, e, low), omega (arith, e, high))),
+  openings calls (first + 1) n (omega (arith, low)) (omega (arith, high)),
+)
 
 all_drilled : (calls periods : ℕ) → AllByRecursion (OpensOnly (IsDrilledCall calls)) (drilled_orders calls periods)
 unfolding drilled_orders
 all_drilled calls periods =
-    each_append (OpensOnly (IsDrilledCall calls)) (map opening (range_with_len 1 calls) ++ map (bridging periods) (bridged_calls calls)) (map (unbridging periods) (bridged_calls calls))
+    each_append (OpensOnly (IsDrilledCall calls)) (map opening (range_with_len 1 calls) ++ map (bridging periods) (bridged_calls calls))
+    (map (unbridging periods) (bridged_calls calls))
     (each_append (OpensOnly (IsDrilledCall calls)) (map opening (range_with_len 1 calls)) (map (bridging periods) (bridged_calls calls))
     (each_map (OpensOnly (IsDrilledCall calls)) opening (range_with_len 1 calls) (openings calls 1 calls (omega arith) (omega arith)))
-    (each_map (OpensOnly (IsDrilledCall calls)) (bridging periods) (bridged_calls calls) (each_all (λ d. OpensOnly (IsDrilledCall calls) (bridging periods d)) (bridged_calls calls) (λ d c e. absurd e))))
-    (each_map (OpensOnly (IsDrilledCall calls)) (unbridging periods) (bridged_calls calls) (each_all (λ d. OpensOnly (IsDrilledCall calls) (unbridging periods d)) (bridged_calls calls) (λ d c e. absurd e)))
+    (each_map (OpensOnly (IsDrilledCall calls)) (bridging periods) (bridged_calls calls)
+    (each_all (λ d. OpensOnly (IsDrilledCall calls) (bridging periods d)) (bridged_calls calls) (λ d c e. absurd e))))
+    (each_map (OpensOnly (IsDrilledCall calls)) (unbridging periods) (bridged_calls calls)
+    (each_all (λ d. OpensOnly (IsDrilledCall calls) (unbridging periods d)) (bridged_calls calls) (λ d c e. absurd e)))
 
 -- **A drill opens its own calls alone.**
 pub opened_drilled : (r : Run) (calls periods c : ℕ) → r.orders ≡ drilled_orders calls periods → IsOpened r c → (1 ≤ c) × (c ≤ calls)
-opened_drilled r calls periods c is o = opened_only (IsDrilledCall calls) r c (subst (AllByRecursion (OpensOnly (IsDrilledCall calls))) (sym is) (all_drilled calls periods)) o
+opened_drilled r calls periods c is o = opened_only (IsDrilledCall calls) r c
+    (subst (AllByRecursion (OpensOnly (IsDrilledCall calls))) (sym is) (all_drilled calls periods)) o

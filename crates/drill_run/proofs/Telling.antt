@@ -36,7 +36,8 @@ use Rattle.drill_run.proofs.Quiet.{Drilling, at_first}
 use Rattle.drill_run.proofs.Over.{drill_calm, drill_leaves, drilled_calls, report_is}
 
 -- what the run of a drill knows
-pub drilling_of : (seed calls periods : ℕ) (d e : DrillMemory) (lines : List MemoryLine) (orders : List Order) (pace : Pace) (report : ReportView) (text shown : List ℕ) →
+pub drilling_of : (seed calls periods : ℕ) (d e : DrillMemory) (lines : List MemoryLine) (orders : List Order) (pace : Pace) (report : ReportView)
+    (text shown : List ℕ) →
     SpellsOneList → calls ≤ 256 → d ≡ record { lines = lines; calls = calls; periods = periods } → AreDrilled seed calls periods lines →
     AreLines (text_lines text) (drilled_orders calls periods) → IsWithin text → shown ≡ text → AreLines (text_lines shown) orders →
     AreAmple e → Runs orders pace (known_lines d) (known_lines e) report → pace.periods ≡ periods → Drilling seed calls periods d e orders pace report
@@ -86,35 +87,43 @@ all_written : (before now : Option (List ℕ)) (octets : List ℕ) → before �
 all_written before (Some ys) octets was a = subst (λ (o : Option (List ℕ)). Appends o (Some ys) octets) was a
 all_written before None octets was a = absurd (subst (λ (o : Option (List ℕ)). Appends o None octets) was a)
 
-module _ (seed calls periods : ℕ) (d e : DrillMemory) (orders : List Order) (pace : Pace) (report : ReportView) (x : Drilling seed calls periods d e orders pace report) where
+module _ (seed calls periods : ℕ) (d e : DrillMemory) (orders : List Order) (pace : Pace) (report : ReportView)
+    (x : Drilling seed calls periods d e orders pace report) where
   -- the calls of the report are those of the drill
   pub calls_numbered : All (λ (l : CallLine). IsCallNumber l.end.call) report.calls
   calls_numbered =
       let r = drilled_run seed calls periods in
       let named = each_weaker (λ c. is_some (opened_at c (done_in r)) ≡ true) (λ c. IsCallNumber (call_line r c).end.call) (calls_in r)
-      (λ c o. (let n = drilled_calls seed calls periods d e orders pace report x c o in let few = x.few in subst IsCallNumber (sym (call_of_line r c)) (n.0, omega (arith, n.1, few))))
+      (λ c o. (let n = drilled_calls seed calls periods d e orders pace report x c o in let few = x.few in
+      subst IsCallNumber (sym (call_of_line r c)) (n.0, omega (arith, n.1, few))))
       (each_passes (λ c. is_some (opened_at c (done_in r))) (range_with_len 1 4096)) in
       subst (λ (v : ReportView). All (λ (l : CallLine). IsCallNumber l.end.call) v.calls) (sym (report_is seed calls periods d e orders pace report x))
-      (All-from_recursion (λ (l : CallLine). IsCallNumber l.end.call) (map (call_line r) (calls_in r)) (each_map (λ (l : CallLine). IsCallNumber l.end.call) (call_line r) (calls_in r) named))
+      (All-from_recursion (λ (l : CallLine). IsCallNumber l.end.call) (map (call_line r) (calls_in r))
+      (each_map (λ (l : CallLine). IsCallNumber l.end.call) (call_line r) (calls_in r) named))
 
   sums_same : (c : ℕ) → IsOpened (drilled_run seed calls periods) c →
-      sum_line (call_line (drilled_run seed calls periods) c).end.call (written_in e (call_line (drilled_run seed calls periods) c).end.call Out) (written_in e (call_line (drilled_run seed calls periods) c).end.call Down)
+      sum_line (call_line (drilled_run seed calls periods) c).end.call (written_in e (call_line (drilled_run seed calls periods) c).end.call Out)
+      (written_in e (call_line (drilled_run seed calls periods) c).end.call Down)
       ≡ sum_line c (out_of_call (drilled_run seed calls periods) c) (down_of_call (drilled_run seed calls periods) c)
   sums_same c o =
       let r = drilled_run seed calls periods in
       let n = drilled_calls seed calls periods d e orders pace report x c o in
       let leaves = drill_leaves seed calls periods d e orders pace report x in
-      let out = all_written (known_lines d c Out).written (known_lines e c Out).written (out_of_call r c) (ap (λ (l : LineState). l.written) (at_first seed calls periods d e orders pace report x c Out n.0 n.1)) (leaves.out c o) in
-      let down = all_written (known_lines d c Down).written (known_lines e c Down).written (down_of_call r c) (ap (λ (l : LineState). l.written) (at_first seed calls periods d e orders pace report x c Down n.0 n.1)) (leaves.down c o) in
+      let out = all_written (known_lines d c Out).written (known_lines e c Out).written (out_of_call r c)
+      (ap (λ (l : LineState). l.written) (at_first seed calls periods d e orders pace report x c Out n.0 n.1)) (leaves.out c o) in
+      let down = all_written (known_lines d c Down).written (known_lines e c Down).written (down_of_call r c)
+      (ap (λ (l : LineState). l.written) (at_first seed calls periods d e orders pace report x c Down n.0 n.1)) (leaves.down c o) in
       ap (λ (k : ℕ). sum_line k (written_in e k Out) (written_in e k Down)) (call_of_line r c) ∙ (λ i. sum_line c (out i) (down i))
 
   -- **So the text is the drill's.**
-  text_is : (text : List ℕ) → text ≡ report_text report ++ flat_map (λ (l : CallLine). sum_line l.end.call (written_in e l.end.call Out) (written_in e l.end.call Down)) report.calls →
+  text_is : (text : List ℕ) → text ≡ report_text report
+      ++ flat_map (λ (l : CallLine). sum_line l.end.call (written_in e l.end.call Out) (written_in e l.end.call Down)) report.calls →
       text ≡ text_with_sums (drilled_run seed calls periods)
   unfolding text_with_sums
   text_is text is =
       let r = drilled_run seed calls periods in
-      is ∙ ap (λ (v : ReportView). report_text v ++ flat_map (λ (l : CallLine). sum_line l.end.call (written_in e l.end.call Out) (written_in e l.end.call Down)) v.calls)
+      is ∙ ap (λ (v : ReportView). report_text v
+      ++ flat_map (λ (l : CallLine). sum_line l.end.call (written_in e l.end.call Out) (written_in e l.end.call Down)) v.calls)
       (report_is seed calls periods d e orders pace report x)
       ∙ ap (λ (xs : List ℕ). report_text (report_of r []) ++ xs)
       (flat_map-map (λ (l : CallLine). sum_line l.end.call (written_in e l.end.call Out) (written_in e l.end.call Down)) (call_line r) (calls_in r)
@@ -122,7 +131,8 @@ module _ (seed calls periods : ℕ) (d e : DrillMemory) (orders : List Order) (p
       (each_weaker _ _ (calls_in r) sums_same (each_passes (λ c. is_some (opened_at c (done_in r))) (range_with_len 1 4096))))
 
   pub is_drilled : (text old : List ℕ) (lines : List CallLine) → lines ≡ report.calls → old ≡ report_text report →
-      text ≡ old ++ flat_map (λ (l : CallLine). sum_line l.end.call (written_in e l.end.call Out) (written_in e l.end.call Down)) lines → IsDrilled seed calls periods text
+      text ≡ old ++ flat_map (λ (l : CallLine). sum_line l.end.call (written_in e l.end.call Out) (written_in e l.end.call Down)) lines →
+      IsDrilled seed calls periods text
   is_drilled text old lines listed reported is = record {
     before = known_lines d;
     now = known_lines e;
@@ -130,5 +140,6 @@ module _ (seed calls periods : ℕ) (d e : DrillMemory) (orders : List Order) (p
     ordered = subst AreOrders x.ordered x.are;
     leaves = drill_leaves seed calls periods d e orders pace report x;
     calm = λ c s first last. drill_calm seed calls periods d e orders pace report x c s first last;
-    spelled = text_is text (is ∙ (λ i. reported i ++ flat_map (λ (l : CallLine). sum_line l.end.call (written_in e l.end.call Out) (written_in e l.end.call Down)) (listed i)));
+    spelled = text_is text (is ∙ (λ i. reported i
+        ++ flat_map (λ (l : CallLine). sum_line l.end.call (written_in e l.end.call Out) (written_in e l.end.call Down)) (listed i)));
   }

@@ -1,5 +1,6 @@
 -- The least call number by which two lists of calls differ, once they are known to have the same entries at the front.
-use Rattle.std.proofs.Common.{◌≡◌, ◌≢◌, ℕ, suc, ◌<◌, ◌≤◌, inl, inr, List, [], ◌∷◌, ◌++◌, length, get_or, take, drop, min, Some, None, eqb, refl, sym, ◌∙◌, ap, subst, arith}
+use Rattle.std.proofs.Common.{◌≡◌, ◌≢◌, ℕ, suc, ◌<◌, ◌≤◌, inl, inr, List, [], ◌∷◌, ◌++◌, length, get_or, take, drop, min, Some, None, eqb, refl, sym, ◌∙◌, ap}
+use Rattle.std.proofs.Common.{subst, arith}
 use Rattle.std.specs.List.{All}
 use Rattle.std.specs.Option.{option_or}
 use Rattle.std.proofs.lemmas.Bool.{ne_eqb, cases_order}
@@ -33,7 +34,8 @@ all_above c calls n low above = λ i d within e. omega (arith, low, e, above i d
 
 -- no entry from one on has a smaller number
 from_here : (front : List MarkCall) (x : MarkCall) (back : List MarkCall) (c : ℕ) → NumbersRise (front ++ x ∷ back) → c < x.call → HasNot c (x ∷ back)
-from_here front x back c rises low = All-cons (λ e. e.call ≢ c) x back (λ e. omega (arith, low, e)) (all_above c back x.call (omega (arith, low)) (back_above front x back rises))
+from_here front x back c rises low = All-cons (λ e. e.call ≢ c) x back (λ e. omega (arith, low, e))
+    (all_above c back x.call (omega (arith, low)) (back_above front x back rises))
 
 -- the entries of a number that is in no common front
 entry_behind : (c : ℕ) (front back : List MarkCall) → HasNot c front → entry_of (front ++ back) c ≡ entry_of back c
@@ -73,7 +75,8 @@ pub one_first : (front : List MarkCall) (x y : MarkCall) (back others : List Mar
 one_first front x y back others rises rises' low = record {
   differs = λ e. some_none x (sym (own_entry x back) ∙ sym (entry_behind x.call front (x ∷ back) lacks) ∙ e
       ∙ entry_behind x.call front (y ∷ others) lacks ∙ no_entry x.call (y ∷ others) (from_here front y others x.call rises' low));
-  least = λ d less. same_entry d front (x ∷ back) (y ∷ others) (from_here front x back d rises less) (from_here front y others d rises' (omega (arith, less, low)));
+  least = λ d less. same_entry d front (x ∷ back) (y ∷ others) (from_here front x back d rises less)
+      (from_here front y others d rises' (omega (arith, less, low)));
 }
   where
     lacks : HasNot x.call front
@@ -86,7 +89,8 @@ pub both_have : (front : List MarkCall) (x y : MarkCall) (back others : List Mar
 both_have front x y back others rises rises' same differ = record {
   differs = λ e. differ (some_some x y (sym (own_entry x back) ∙ sym (entry_behind x.call front (x ∷ back) lacks) ∙ e
       ∙ entry_behind x.call front (y ∷ others) lacks ∙ ap (entry_of (y ∷ others)) same ∙ own_entry y others));
-  least = λ d less. same_entry d front (x ∷ back) (y ∷ others) (from_here front x back d rises less) (from_here front y others d rises' (omega (arith, less, same)));
+  least = λ d less. same_entry d front (x ∷ back) (y ∷ others) (from_here front x back d rises less)
+      (from_here front y others d rises' (omega (arith, less, same)));
 }
   where
     lacks : HasNot x.call front
@@ -113,7 +117,8 @@ not_equal one other c is same = is.differs (ap (λ calls. entry_of calls c) same
 
 -- a list with an entry at a place: those in front, the entry, and those behind
 parted : (calls : List MarkCall) (n : ℕ) (x : MarkCall) → n < length calls → x ≡ get_or calls n x → calls ≡ take n calls ++ x ∷ drop (suc n) calls
-parted calls n x within is = sym (take-append-drop n calls) ∙ ap (λ t. take n calls ++ t) (drop-cons calls n x within ∙ ap (λ y. y ∷ drop (suc n) calls) (sym is))
+parted calls n x within is = sym (take-append-drop n calls)
+    ∙ ap (λ t. take n calls ++ t) (drop-cons calls n x within ∙ ap (λ y. y ∷ drop (suc n) calls) (sym is))
 
 -- and one that ends there
 all_front : (calls : List MarkCall) (n : ℕ) → length calls ≤ n → calls ≡ take n calls ++ []

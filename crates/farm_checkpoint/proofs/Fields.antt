@@ -1,5 +1,6 @@
 -- A text has one number behind its first words, and one call on its first line.
-use Rattle.std.proofs.Common.{◌≡◌, ℕ, ◌^◌, ◌<◌, ◌≤◌, Option, Some, None, IfSome, IsNone, List, [], ◌∷◌, ◌++◌, eqb, false, refl, sym, ◌∙◌, ap, subst, arith, append_assoc}
+use Rattle.std.proofs.Common.{◌≡◌, ℕ, ◌^◌, ◌<◌, ◌≤◌, Option, Some, None, IfSome, IsNone, List, [], ◌∷◌, ◌++◌, eqb, false, refl, sym, ◌∙◌, ap, subst, arith}
+use Rattle.std.proofs.Common.{append_assoc}
 use Rattle.std.specs.Prelude.{codes, decimal}
 use Rattle.std.specs.Option.{MatchOption}
 use Rattle.std.proofs.lemmas.Bool.{ne_eqb}
@@ -75,7 +76,8 @@ no_number low high s n words text rest digits back b stop small front at none is
 pub save_field : (period : ℕ) (text rest : List ℕ) → 1 ≤ period → period ≤ 4294967295 → text ≡ save_line period ++ rest →
     IsField 1 4294967295 (codes "save ") 10 text period rest
 unfolding save_line
-save_field period text rest low high e = record { at_least = low; at_most = high; spelled = e ∙ ap (λ t. codes "save " ++ t) (append_assoc (decimal period) (codes "\n") rest) }
+save_field period text rest low high e =
+    record { at_least = low; at_most = high; spelled = e ∙ ap (λ t. codes "save " ++ t) (append_assoc (decimal period) (codes "\n") rest) }
 
 pub save_text : (period : ℕ) (text rest : List ℕ) → IsField 1 4294967295 (codes "save ") 10 text period rest → text ≡ save_line period ++ rest
 unfolding save_line
@@ -108,10 +110,14 @@ pub record Fits (c : MarkCall) : Type 0 where
 
 pub one_call : (c d : MarkCall) (a b : List ℕ) → Fits c → Fits d → call_text c ++ a ≡ call_text d ++ b → (c ≡ d) × (a ≡ b)
 one_call c d a b fits fits' e =
-    let first = one_number 32 c.call d.call _ _ (omega arith) (omega (arith, fits.call)) (omega (arith, fits'.call)) (append_cancel_left (codes "call ") _ _ (sym (spread c a) ∙ e ∙ spread d b)) in
-    let second = one_number 32 c.from d.from _ _ (omega arith) (omega (arith, fits.from)) (omega (arith, fits'.from)) (append_cancel_left (codes "from ") _ _ first.1) in
-    let third = one_number 32 c.out d.out _ _ (omega arith) (omega (arith, fits.out)) (omega (arith, fits'.out)) (append_cancel_left (codes "out ") _ _ second.1) in
-    let fourth = one_number 10 c.down d.down _ _ (omega arith) (omega (arith, fits.down)) (omega (arith, fits'.down)) (append_cancel_left (codes "down ") _ _ third.1) in
+    let first = one_number 32 c.call d.call _ _ (omega arith) (omega (arith, fits.call)) (omega (arith, fits'.call))
+    (append_cancel_left (codes "call ") _ _ (sym (spread c a) ∙ e ∙ spread d b)) in
+    let second = one_number 32 c.from d.from _ _ (omega arith) (omega (arith, fits.from)) (omega (arith, fits'.from))
+    (append_cancel_left (codes "from ") _ _ first.1) in
+    let third = one_number 32 c.out d.out _ _ (omega arith) (omega (arith, fits.out)) (omega (arith, fits'.out))
+    (append_cancel_left (codes "out ") _ _ second.1) in
+    let fourth = one_number 10 c.down d.down _ _ (omega arith) (omega (arith, fits.down)) (omega (arith, fits'.down))
+    (append_cancel_left (codes "down ") _ _ third.1) in
     ((λ i. record { call = first.0 i; from = second.0 i; out = third.0 i; down = fourth.0 i }), fourth.1)
 
 -- a call's line and a number that stands where its own does
@@ -134,17 +140,20 @@ down_field c text rest at_most e = record { at_least = omega arith; at_most = at
 pub after_call : (c : MarkCall) (low m : ℕ) (text one rest : List ℕ) → c.call ≤ 4096 → text ≡ call_text c ++ rest →
     IsField low 4096 (codes "call ") 32 text m one → one ≡ behind_call c rest
 after_call c low m text one rest at_most e read =
-    (one_field low 4096 0 4096 32 m c.call (codes "call ") text one (behind_call c rest) (omega arith) (omega arith) (omega arith) read (call_field c 0 4096 text rest (omega arith) at_most e)).1
+    (one_field low 4096 0 4096 32 m c.call (codes "call ") text one (behind_call c rest) (omega arith) (omega arith) (omega arith) read
+    (call_field c 0 4096 text rest (omega arith) at_most e)).1
 
 pub after_from : (c : MarkCall) (high m : ℕ) (one two rest : List ℕ) → high < 2 ^ 32 → c.from ≤ high → one ≡ behind_call c rest →
     IsField 0 high (codes "from ") 32 one m two → two ≡ behind_from c rest
 after_from c high m one two rest small at_most e read =
-    (one_field 0 high 0 high 32 m c.from (codes "from ") one two (behind_from c rest) (omega arith) (omega (arith, small)) (omega (arith, small)) read (from_field c high one rest at_most e)).1
+    (one_field 0 high 0 high 32 m c.from (codes "from ") one two (behind_from c rest) (omega arith) (omega (arith, small)) (omega (arith, small)) read
+    (from_field c high one rest at_most e)).1
 
 pub after_out : (c : MarkCall) (m : ℕ) (two three rest : List ℕ) → c.out ≤ 4294967295 → two ≡ behind_from c rest →
     IsField 0 4294967295 (codes "out ") 32 two m three → three ≡ behind_out c rest
 after_out c m two three rest at_most e read =
-    (one_field 0 4294967295 0 4294967295 32 m c.out (codes "out ") two three (behind_out c rest) (omega arith) (omega arith) (omega arith) read (out_field c two rest at_most e)).1
+    (one_field 0 4294967295 0 4294967295 32 m c.out (codes "out ") two three (behind_out c rest) (omega arith) (omega arith) (omega arith) read
+    (out_field c two rest at_most e)).1
 
 -- the line of a call whose four numbers were read
 pub line_read : (c : MarkCall) (low high before : ℕ) (text one two three rest : List ℕ) → IsField low high (codes "call ") 32 text c.call one →

@@ -1,5 +1,6 @@
 -- What a front of a text tells: the mark that it begins with, and the first line that no mark has there.
-use Rattle.std.proofs.Common.{◌≡◌, ℕ, suc, ◌+◌, ◌-◌, ◌<◌, ◌≤◌, inl, inr, List, [], ◌∷◌, ◌++◌, length, take, drop, map, refl, sym, ◌∙◌, ap, subst, arith, append_assoc}
+use Rattle.std.proofs.Common.{◌≡◌, ℕ, suc, ◌+◌, ◌-◌, ◌<◌, ◌≤◌, inl, inr, List, [], ◌∷◌, ◌++◌, length, take, drop, map, refl, sym, ◌∙◌, ap, subst, arith}
+use Rattle.std.proofs.Common.{append_assoc}
 use Rattle.std.specs.Prelude.{codes}
 use Rattle.std.specs.List.{All, flat_map, concat}
 use Rattle.std.proofs.lemmas.Bool.{cases_order}
@@ -95,7 +96,8 @@ lines_count mark = omega (arith, length-append (map call_text mark.calls) (order
 
 -- behind calls that a text begins with, a mark with more lines has its next one
 pub next_of : (text rest : List ℕ) (period : ℕ) (calls : List MarkCall) (mark : MarkView) (n : ℕ) → 1 ≤ period → period ≤ 4294967295 → All Fits calls →
-    text ≡ save_line period ++ (flat_map call_text calls ++ rest) → n ≡ suc (suc (length calls)) → HasLines text mark n → (period ≡ mark.period) × Next calls mark.calls rest
+    text ≡ save_line period ++ (flat_map call_text calls ++ rest) → n ≡ suc (suc (length calls)) → HasLines text mark n →
+    (period ≡ mark.period) × Next calls mark.calls rest
 next_of text rest period calls mark n low high fit front number has =
     let lines = subst (HasLines text mark) number has in
     let whole = sym front ∙ lines.whole ∙ append_assoc (save_line mark.period) (concat (take (suc (length calls)) (lines_of mark.calls))) lines.rest in
@@ -114,7 +116,8 @@ not_good_and_bad text mark m n read bad =
     beyond more =
         let count = lines_count mark in
         let few = fewer text bad.before (suc (suc (length mark.calls))) (n - 1) (omega (arith, more, count)) bad.good in
-        let next = next_of text (orders_line ++ read.orders) mark.period mark.calls bad.before (suc (suc (length mark.calls))) read.is.at_least read.is.at_most (fits mark read.is) (read.whole ∙ parts mark read.orders) refl few in
+        let next = next_of text (orders_line ++ read.orders) mark.period mark.calls bad.before (suc (suc (length mark.calls))) read.is.at_least read.is.at_most
+        (fits mark read.is) (read.whole ∙ parts mark read.orders) refl few in
         elim next.1.is [
           | inl (all, last) ↦ absurd (omega (arith, more, count, bad.more, lines_count bad.before, ap length all))
           | inr (y, zs, ahead, line) ↦ not_orders y next.1.after read.orders (sym line)

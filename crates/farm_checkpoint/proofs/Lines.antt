@@ -1,5 +1,6 @@
 -- The lines of calls: a text begins with those of one list of calls.
-use Rattle.std.proofs.Common.{◌≡◌, ℕ, suc, ◌≤◌, ◌⊎◌, inl, inr, List, [], ◌∷◌, ◌++◌, length, take, map, refl, sym, ◌∙◌, ap, arith, append_assoc, append-nil, slice_index}
+use Rattle.std.proofs.Common.{◌≡◌, ℕ, suc, ◌≤◌, ◌⊎◌, inl, inr, List, [], ◌∷◌, ◌++◌, length, take, map, refl, sym, ◌∙◌, ap, arith, append_assoc, append-nil}
+use Rattle.std.proofs.Common.{slice_index}
 use Rattle.std.specs.List.{All, flat_map, concat}
 use Rattle.std.proofs.lemmas.List.Elements.{All-head, All-tail}
 use Rattle.farm_checkpoint.specs.declared.mark.MarkCall.{MarkCall}
@@ -24,10 +25,13 @@ text_of_lines (c ∷ calls) = ap (λ t. call_text c ++ t) (text_of_lines calls) 
 pub one_list : (xs ys : List MarkCall) (a b : List ℕ) → All Fits xs → All Fits ys →
     flat_map call_text xs ++ (orders_line ++ a) ≡ flat_map call_text ys ++ (orders_line ++ b) → (xs ≡ ys) × (a ≡ b)
 one_list [] [] a b fits fits' e = (refl, cc)
-one_list [] (y ∷ ys) a b fits fits' e = absurd (not_orders y (flat_map call_text ys ++ (orders_line ++ b)) a (sym (append_assoc (call_text y) (flat_map call_text ys) _) ∙ sym e))
-one_list (x ∷ xs) [] a b fits fits' e = absurd (not_orders x (flat_map call_text xs ++ (orders_line ++ a)) b (sym (append_assoc (call_text x) (flat_map call_text xs) _) ∙ e))
+one_list [] (y ∷ ys) a b fits fits' e = absurd
+    (not_orders y (flat_map call_text ys ++ (orders_line ++ b)) a (sym (append_assoc (call_text y) (flat_map call_text ys) _) ∙ sym e))
+one_list (x ∷ xs) [] a b fits fits' e = absurd
+    (not_orders x (flat_map call_text xs ++ (orders_line ++ a)) b (sym (append_assoc (call_text x) (flat_map call_text xs) _) ∙ e))
 one_list (x ∷ xs) (y ∷ ys) a b fits fits' e =
-    let first = one_call x y _ _ (All-head Fits x xs fits) (All-head Fits y ys fits') (sym (append_assoc (call_text x) (flat_map call_text xs) _) ∙ e ∙ append_assoc (call_text y) (flat_map call_text ys) _) in
+    let first = one_call x y _ _ (All-head Fits x xs fits) (All-head Fits y ys fits')
+    (sym (append_assoc (call_text x) (flat_map call_text xs) _) ∙ e ∙ append_assoc (call_text y) (flat_map call_text ys) _) in
     let others = one_list xs ys a b (All-tail Fits x xs fits) (All-tail Fits y ys fits') first.1 in
     ((λ i. first.0 i ∷ others.0 i), others.1)
 

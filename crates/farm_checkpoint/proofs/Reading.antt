@@ -1,5 +1,6 @@
 -- A mark that is read line by line.
-use Rattle.std.proofs.Common.{◌≡◌, ℕ, suc, ◌+◌, ◌-◌, ◌<◌, ◌≤◌, inl, inr, List, [], ◌∷◌, ◌++◌, length, take, refl, sym, ◌∙◌, ap, subst, arith, append_assoc, append-nil}
+use Rattle.std.proofs.Common.{◌≡◌, ℕ, suc, ◌+◌, ◌-◌, ◌<◌, ◌≤◌, inl, inr, List, [], ◌∷◌, ◌++◌, length, take, refl, sym, ◌∙◌, ap, subst, arith, append_assoc}
+use Rattle.std.proofs.Common.{append-nil}
 use Rattle.std.specs.List.{All, flat_map, concat}
 use Rattle.std.proofs.lemmas.List.{length-append}
 use Rattle.std.proofs.lemmas.List.Elements.{All-nil, All-push, All-get_or}
@@ -47,11 +48,13 @@ push_call period text calls rest after last c has is_open sums above line shorte
           (λ k d within. omega (arith, above, All-get_or (λ e. e.call ≤ last) calls k d within has.below));
     };
     sums = All-push HasSums calls c has.so_far.sums sums;
-    whole = has.so_far.whole ∙ ap (λ t. flat_map call_text calls ++ t) line ∙ sym (append_assoc (flat_map call_text calls) (call_text c) after) ∙ ap (λ t. t ++ after) pushed;
+    whole = has.so_far.whole ∙ ap (λ t. flat_map call_text calls ++ t) line ∙ sym (append_assoc (flat_map call_text calls) (call_text c) after)
+        ∙ ap (λ t. t ++ after) pushed;
   };
   low = is_open.number.1;
   below = All-push (λ e. e.call ≤ c.call) calls c (weaker c.call (omega (arith, above))) (omega arith);
-  least = λ d least follows. rw (get_or-append_seam calls c [] c) at (All-get_or (λ e. e.call < d.call) (calls ++ c ∷ []) (length calls) c (omega (arith, length-append calls (c ∷ []))) follows);
+  least = λ d least follows. rw (get_or-append_seam calls c [] c) at
+      (All-get_or (λ e. e.call < d.call) (calls ++ c ∷ []) (length calls) c (omega (arith, length-append calls (c ∷ []))) follows);
   size = omega (arith, has.size, shorter, length-append calls (c ∷ []));
 }
   where
@@ -74,7 +77,10 @@ stuck period text calls rest last n has no_call no_orders number = record {
   calls = calls;
   rest = rest;
   good = has.so_far;
-  stuck = record { no_call = λ c after is_open sums follows line. no_call c after is_open sums (has.least c is_open.number.0 follows) line; no_orders = no_orders };
+  stuck = record {
+    no_call = λ c after is_open sums follows line. no_call c after is_open sums (has.least c is_open.number.0 follows) line;
+    no_orders = no_orders;
+  };
   number = number;
 }
 
@@ -83,7 +89,8 @@ lines_before [] = refl
 lines_before (c ∷ calls) = ap (λ t. call_text c ++ t) (lines_before calls)
 
 at_seam : (P : MarkCall → Type 0) (front : List MarkCall) (y : MarkCall) (back : List MarkCall) → All P (front ++ y ∷ back) → P y
-at_seam P front y back all = subst P (get_or-append_seam front y back y) (All-get_or P (front ++ y ∷ back) (length front) y (omega (arith, length-append front (y ∷ back))) all)
+at_seam P front y back all = subst P (get_or-append_seam front y back y)
+    (All-get_or P (front ++ y ∷ back) (length front) y (omega (arith, length-append front (y ∷ back))) all)
 
 -- a bad line behind a good first one is a bad line of the whole text
 pub bad_call : (period n : ℕ) (text behind : List ℕ) → 1 ≤ period → period ≤ 4294967295 → text ≡ save_line period ++ behind → IsBadCall period behind n →
@@ -124,7 +131,8 @@ bad_call period n text behind low high first is = record {
         let are_open = subst (λ ys. All (IsOpenAtMark mark.period) ys) ahead has.is.are_open.each in
         let sums = subst (λ ys. All HasSums ys) ahead has.is.sums in
         let rising = subst NumbersRise ahead has.is.are_open.rising in
-        is.stuck.no_call y after (subst (λ p. IsOpenAtMark p y) (sym same) (at_seam (IsOpenAtMark mark.period) is.calls y zs are_open)) (at_seam HasSums is.calls y zs sums) (front_below is.calls y zs rising) line
+        is.stuck.no_call y after (subst (λ p. IsOpenAtMark p y) (sym same) (at_seam (IsOpenAtMark mark.period) is.calls y zs are_open))
+        (at_seam HasSums is.calls y zs sums) (front_below is.calls y zs rising) line
 
     refute : (mark : MarkView) → HasLines text mark n → period ≡ mark.period → Next is.calls mark.calls is.rest → ⊥
     refute mark has same next =
@@ -159,7 +167,8 @@ bad_first text none = record {
 -- a mark that was read whole
 pub read_whole : (text behind orders : List ℕ) (period : ℕ) (calls : List MarkCall) (octets : ℕ) → 1 ≤ period → period ≤ 4294967295 →
     text ≡ save_line period ++ behind →
-    AreCallLines period behind calls (orders_line ++ orders) → octets ≡ length text - length orders → IsRead text (record { period = period; calls = calls }) octets
+    AreCallLines period behind calls (orders_line ++ orders) → octets ≡ length text - length orders →
+    IsRead text (record { period = period; calls = calls }) octets
 read_whole text behind orders period calls octets low high first are size = record {
   is = record { at_least = low; at_most = high; are_open = are.are_open; sums = are.sums };
   orders = orders;

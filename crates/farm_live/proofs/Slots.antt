@@ -1,5 +1,6 @@
 -- Each step keeps the rule of one slot.
-use Rattle.std.proofs.Common.{◌≡◌, ◌≢◌, ℕ, zero, suc, ◌+◌, ◌≤◌, ◌<◌, true, false, ◌==◌, List, [], ◌∷◌, ◌++◌, set, length, sym, refl, ap, ◌∙◌, subst, ⊎_elim, append-nil, length-append, arith}
+use Rattle.std.proofs.Common.{◌≡◌, ◌≢◌, ℕ, zero, suc, ◌+◌, ◌≤◌, ◌<◌, true, false, ◌==◌, List, [], ◌∷◌, ◌++◌, set, length, sym, refl, ap, ◌∙◌, subst, ⊎_elim}
+use Rattle.std.proofs.Common.{append-nil, length-append, arith}
 use mathlib.Core.Option.{some}
 use lib.ListN.{get_elem?}
 use Rattle.std.proofs.lemmas.List.Elements.{filter-append}
@@ -11,7 +12,8 @@ use Rattle.farm_live.specs.declared.slot.View.{View}
 use Rattle.farm_live.specs.declared.slot.Token.TheVariants.{Here, Out}
 use Rattle.farm_live.specs.Book.{BookState, record_of, of_caller, NumberedFrom}
 use Rattle.trau_num.specs.Weights.{weigh}
-use Rattle.farm_live.specs.Slot.{bit, is_at, times, all_callers, books, BeginsWith, number_of_callers, own_posts, FitsBook, IsRecord, IsSlot, missed, took, BookTells, Took, added, gave, Gave, May}
+use Rattle.farm_live.specs.Slot.{bit, is_at, times, all_callers, books, BeginsWith, number_of_callers, own_posts, FitsBook, IsRecord, IsSlot, missed, took}
+use Rattle.farm_live.specs.Slot.{BookTells, Took, added, gave, Gave, May}
 use Rattle.trau_num.proofs.Weights.{weigh-append, weigh_set, at-le}
 use Rattle.farm_live.proofs.Weights.{both-le, none_weigh, once, has, held, callers_set, posts_made, all_callers_are, few_posts, no_callers}
 use Rattle.farm_live.proofs.Records.{books_append, no_books, no_tokens, begins_itself, seen_further, own_grown, own_else, numbered-append, added_is, cut_grown}

@@ -1,5 +1,6 @@
 -- A book that was taken and is given back: with nothing new, with a post more, and with its first post worked.
-use Rattle.std.proofs.Common.{◌≡◌, ℕ, ◌*◌, ◌<◌, ◌≤◌, true, false, ◌==◌, List, [], ◌∷◌, ◌++◌, length, drop, map, sym, refl, ap, ⊎_elim, ◌∙◌, subst, append_assoc, append-nil, length-append, inl, arith}
+use Rattle.std.proofs.Common.{◌≡◌, ℕ, ◌*◌, ◌<◌, ◌≤◌, true, false, ◌==◌, List, [], ◌∷◌, ◌++◌, length, drop, map, sym, refl, ap, ⊎_elim, ◌∙◌, subst, append_assoc}
+use Rattle.std.proofs.Common.{append-nil, length-append, inl, arith}
 use mathlib.Core.Bool.{cond}
 use Rattle.std.proofs.Math.Seq.{drop-append_seam}
 use Rattle.std.proofs.lemmas.List.{map-append}

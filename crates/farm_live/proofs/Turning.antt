@@ -1,5 +1,6 @@
 -- What a caller's functions do with a slot: the book as it was taken, and as it was given back; and the first book.
-use Rattle.std.proofs.Common.{◌≡◌, ℕ, ◌*◌, ◌<◌, ◌≤◌, true, false, ◌==◌, List, [], ◌∷◌, ◌++◌, length, drop, map, MatchResult, MatchOption, Option, Some, None, Result, Ok, Err, sym, refl, ap, ⊎_elim, ◌∙◌, subst, length-append, inr, arith}
+use Rattle.std.proofs.Common.{◌≡◌, ℕ, ◌*◌, ◌<◌, ◌≤◌, true, false, ◌==◌, List, [], ◌∷◌, ◌++◌, length, drop, map, MatchResult, MatchOption, Option, Some, None}
+use Rattle.std.proofs.Common.{Result, Ok, Err, sym, refl, ap, ⊎_elim, ◌∙◌, subst, length-append, inr, arith}
 use mathlib.Core.Bool.{cond}
 use Rattle.std.proofs.lemmas.List.{length-map}
 use Rattle.std.proofs.Math.Seq.{drop-nil}

@@ -34,7 +34,8 @@ impl Model for Book {
 
     ghost view = { λ b. record { is_of = b.of; history = b.history.items; inbox = b.inbox.items } };
 
-    ghost invariant = { λ b. IsLegal b.of.call b.history.items × Stands (who_at b.of.call) (periods_after [] b.history.items) new_settings b.leg × (periods_of_leg b.leg ≡ length b.history.items) × (b.of.room ≡ b.inbox.capacity) × (b.left.items ≡ []) × (b.inbox.capacity ≤ vec_capacity b.left) };
+    ghost invariant = { λ b. IsLegal b.of.call b.history.items × Stands (who_at b.of.call) (periods_after [] b.history.items) new_settings b.leg ×
+        (periods_of_leg b.leg ≡ length b.history.items) × (b.of.room ≡ b.inbox.capacity) × (b.left.items ≡ []) × (b.inbox.capacity ≤ vec_capacity b.left) };
 }
 
 impl Book {
@@ -75,7 +76,8 @@ impl Book {
     /// Works the first post, if there is one.
     pub(crate) fn work(&mut self) -> Result<Option<Entry>, AllocError>
         requires few { length self.old.history < 4294967295 }
-        ensures answer { MatchResult result (λ r. MatchOption r ((self.old.inbox ≡ []) × (self.new ≡ self.old)) (λ e. Worked self.old e self.new)) (λ _. self.new ≡ self.old) }
+        ensures answer { MatchResult result (λ r. MatchOption r ((self.old.inbox ≡ []) × (self.new ≡ self.old)) (λ e. Worked self.old e self.new))
+            (λ _. self.new ≡ self.old) }
         ensures legal { IsLegal self.new.is_of.call self.new.history }
     {
         if self.inbox.is_empty() {

@@ -64,7 +64,8 @@ fn put_refusal(text: &mut String, order: u32, refusal: Refusal) -> Result<(), Al
 }
 
 fn put_plain(text: &mut String, order: u32, number: u32, call: u32) -> Result<(), AllocError>
-    ensures { OnOk result (string_bytes text.new ≡ string_bytes text.old ++ line_of (codes "order" ∷ decimal order ∷ codes "refused" ∷ decimal number ∷ codes "call" ∷ decimal call ∷ [])) }
+    ensures { OnOk result (string_bytes text.new
+        ≡ string_bytes text.old ++ line_of (codes "order" ∷ decimal order ∷ codes "refused" ∷ decimal number ∷ codes "call" ∷ decimal call ∷ [])) }
 {
     put_numbers(
         text,
@@ -84,7 +85,8 @@ fn put_partner(
     call: u32,
     partner: u32,
 ) -> Result<(), AllocError>
-    ensures { OnOk result (string_bytes text.new ≡ string_bytes text.old ++ line_of (codes "order" ∷ decimal order ∷ codes "refused" ∷ decimal number ∷ codes "call" ∷ decimal call ∷ codes "partner" ∷ decimal partner ∷ [])) }
+    ensures { OnOk result (string_bytes text.new ≡ string_bytes text.old
+        ++ line_of (codes "order" ∷ decimal order ∷ codes "refused" ∷ decimal number ∷ codes "call" ∷ decimal call ∷ codes "partner" ∷ decimal partner ∷ [])) }
 {
     put_numbers(
         text,
@@ -131,7 +133,8 @@ impl Told for CallLine {
 
 // A call and its periods: how its line begins.
 fn put_periods(text: &mut String, line: &CallLine) -> Result<(), AllocError>
-    ensures { OnOk result (string_bytes text.new ≡ string_bytes text.old ++ (codes "call " ++ (decimal line.now.end.call ++ (codes " from " ++ (decimal line.now.from ++ (codes " to " ++ (decimal line.now.end.at ++ codes " "))))))) }
+    ensures { OnOk result (string_bytes text.new ≡ string_bytes text.old ++ (codes "call "
+        ++ (decimal line.now.end.call ++ (codes " from " ++ (decimal line.now.from ++ (codes " to " ++ (decimal line.now.end.at ++ codes " "))))))) }
 {
     put_numbers(
         text,

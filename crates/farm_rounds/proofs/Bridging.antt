@@ -36,16 +36,20 @@ pair_group most x y ne hx hy = elim (cases_Bool (nat_lt x.number y.number)) [
 ]
 
 -- two single calls that leave their groups for a common one are bridged
-pub join_applied : (most : ℕ) (x y : Call) (before now : List Group) → Exchanges (One x ∷ One y ∷ []) (pair_of (bridged_call x) (bridged_call y) ∷ []) before now →
+pub join_applied : (most : ℕ) (x y : Call) (before now : List Group) →
+    Exchanges (One x ∷ One y ∷ []) (pair_of (bridged_call x) (bridged_call y) ∷ []) before now →
     AreGroups most before → x.number ≢ y.number → group_in before x.number ≡ Some (One x) → group_in before y.number ≡ Some (One y) →
     Applied most (act.Bridged x.number y.number) before now
 join_applied most x y before now ex a ne gx gy =
     let hx : IsCall most (bridged_call x) = moved_call most x (bridged_call x) refl refl (found_group most before x.number (One x) a gx).0 in
     let hy : IsCall most (bridged_call y) = moved_call most y (bridged_call y) refl refl (found_group most before y.number (One y) a gy).0 in
     let each : All (IsGroup most) (pair_of (bridged_call x) (bridged_call y) ∷ []) =
-    All-cons (IsGroup most) (pair_of (bridged_call x) (bridged_call y)) [] (pair_group most (bridged_call x) (bridged_call y) ne hx hy) (All-nil (IsGroup most)) in
-    let few : (c : ℕ) → count_by (holds c) (pair_of (bridged_call x) (bridged_call y) ∷ []) + count_by (holds c) before ≤ 1 + count_by (holds c) (One x ∷ One y ∷ []) = λ c.
-    let p : count_by (holds c) (pair_of (bridged_call x) (bridged_call y) ∷ []) ≤ count_by (holds c) (One x ∷ One y ∷ []) = pair_count c (bridged_call x) (bridged_call y) in
+    All-cons (IsGroup most) (pair_of (bridged_call x) (bridged_call y)) [] (pair_group most (bridged_call x) (bridged_call y) ne hx hy)
+    (All-nil (IsGroup most)) in
+    let few : (c : ℕ) → count_by (holds c) (pair_of (bridged_call x) (bridged_call y) ∷ []) + count_by (holds c) before
+    ≤ 1 + count_by (holds c) (One x ∷ One y ∷ []) = λ c.
+    let p : count_by (holds c) (pair_of (bridged_call x) (bridged_call y) ∷ []) ≤ count_by (holds c) (One x ∷ One y ∷ []) =
+    pair_count c (bridged_call x) (bridged_call y) in
     omega (arith, p, a.apart c) in
     let e = exchanged most (One x ∷ One y ∷ []) (pair_of (bridged_call x) (bridged_call y) ∷ []) before now ex a each few in
     let two : calls_held (pair_of (bridged_call x) (bridged_call y) ∷ []) ≡ 2 =

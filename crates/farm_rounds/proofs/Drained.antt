@@ -1,5 +1,6 @@
 -- The farm after a round.
-use Rattle.std.proofs.Common.{◌≡◌, refl, sym, ap, ◌∙◌, subst, ℕ, suc, ◌<◌, ◌≤◌, Bool, true, false, Option, Some, None, List, [], ◌∷◌, length, get_or, arith, inl, inr}
+use Rattle.std.proofs.Common.{◌≡◌, refl, sym, ap, ◌∙◌, subst, ℕ, suc, ◌<◌, ◌≤◌, Bool, true, false, Option, Some, None, List, [], ◌∷◌, length, get_or, arith}
+use Rattle.std.proofs.Common.{inl, inr}
 use Rattle.std.specs.Prelude.{if◌then◌else◌, ◌==◌, ◌||◌, ◌&&◌, not, is_some}
 use Rattle.std.specs.Option.{option_map, option_and_then}
 use Rattle.std.specs.List.{list_any}
@@ -186,7 +187,8 @@ pub passed : (r : WorkedMemory) (groups : List Group) (live : List ℕ) (tallies
 passed r groups live tallies w e s = subst (λ (gs : List Group). IsPassed r gs live tallies) (sym e) (passed_left r live tallies w s)
 
 -- the seats are those of the round's calls
-pub have_seats : (r : WorkedMemory) (numbers : List ℕ) (seats : List SeatMemory) → IsWorkedRound r → numbers ≡ r.live → seats ≡ r.seats → HaveSeats numbers seats
+pub have_seats : (r : WorkedMemory) (numbers : List ℕ) (seats : List SeatMemory) → IsWorkedRound r → numbers ≡ r.live → seats ≡ r.seats →
+    HaveSeats numbers seats
 have_seats r numbers seats w en es =
     subst (λ (xs : List ℕ). HaveSeats xs seats) (sym en)
     (subst (λ (ss : List SeatMemory). HaveSeats r.live ss) (sym es) (record { number = w.numbers; aligned = w.aligned; rising = w.alive.rising }))

@@ -1,5 +1,6 @@
 -- What acts make of a farm.
-use Rattle.std.proofs.Common.{◌≡◌, refl, sym, ap, ◌∙◌, subst, ℕ, ◌+◌, ◌≤◌, true, false, Option, Some, None, List, [], ◌∷◌, ◌++◌, length, replicate, arith, inl, inr}
+use Rattle.std.proofs.Common.{◌≡◌, refl, sym, ap, ◌∙◌, subst, ℕ, ◌+◌, ◌≤◌, true, false, Option, Some, None, List, [], ◌∷◌, ◌++◌, length, replicate, arith, inl}
+use Rattle.std.proofs.Common.{inr}
 use Rattle.std.specs.Prelude.{if◌then◌else◌, ◌==◌, ◌||◌, ◌&&◌, not, is_some}
 use Rattle.std.specs.Option.{option_map}
 use Rattle.std.specs.List.{count_by, All}
@@ -81,7 +82,8 @@ same_freed None f d = refl
 same_freed (Some q) f d = elim (cases_Bool (q == d)) [ inl t ↦ simp t (is_some-map parted (f d)) | inr g ↦ simp g refl ]
 
 -- the numbers of the open calls with that of a new one
-pub open_live : (most c : ℕ) (law : Law) (live now_live : List ℕ) (before now : List Group) → ListsOpenCalls live before → Applied most (act.Opened c law) before now →
+pub open_live : (most c : ℕ) (law : Law) (live now_live : List ℕ) (before now : List Group) → ListsOpenCalls live before →
+    Applied most (act.Opened c law) before now →
     ((d : ℕ) → is_among now_live d ≡ ((c == d) || is_among live d)) → IsRising now_live → length now_live ≡ length live + 1 → ListsOpenCalls now_live now
 open_live most c law live now_live before now k p among rising long = record {
   numbers = λ d. among d ∙ elim (cases_Bool (c == d)) [
@@ -128,7 +130,8 @@ same_held most (act.Opened c law) before now s p = absurd s
 same_held most (act.Closed c q) before now s p = absurd s
 
 -- .. and their numbers
-pub stay_live : (most : ℕ) (a : Act) (live : List ℕ) (before now : List Group) → Stays a → ListsOpenCalls live before → Applied most a before now → ListsOpenCalls live now
+pub stay_live : (most : ℕ) (a : Act) (live : List ℕ) (before now : List Group) → Stays a → ListsOpenCalls live before → Applied most a before now →
+    ListsOpenCalls live now
 stay_live most a live before now s k p = record {
   numbers = λ d. k.numbers d ∙ sym (ap is_some (p.calls d) ∙ same_open a (call_in before) d s);
   rising = k.rising;

@@ -1,5 +1,6 @@
 -- The next group of the jobs is settled.
-use Rattle.std.proofs.Common.{◌≡◌, refl, sym, ap, ◌∙◌, subst, ℕ, ◌+◌, ◌<◌, ◌≤◌, Bool, true, false, Option, Some, None, List, [], ◌∷◌, ◌++◌, length, length-append, append_assoc, suc, take, drop, drop-cons, add-one, arith, inl, inr}
+use Rattle.std.proofs.Common.{◌≡◌, refl, sym, ap, ◌∙◌, subst, ℕ, ◌+◌, ◌<◌, ◌≤◌, Bool, true, false, Option, Some, None, List, [], ◌∷◌, ◌++◌, length}
+use Rattle.std.proofs.Common.{length-append, append_assoc, suc, take, drop, drop-cons, add-one, arith, inl, inr}
 use Rattle.std.specs.Prelude.{if◌then◌else◌, ◌||◌, option_to_list}
 use Rattle.std.specs.List.{list_any, count_by, cons_option}
 use Rattle.std.proofs.lemmas.Bool.{false≢true, or_left, or_right}
@@ -40,7 +41,8 @@ next_group all gs g most a n =
     All-head (IsGroup most) g n.0 (All-second (IsGroup most) gs (g ∷ n.0) (subst (λ (xs : List Group). AreGroups most xs) n.1 a).each)
 
 -- .. whose calls are open ..
-pub next_known : (all gs : List Group) (g : Group) (live : List ℕ) → ListsOpenCalls live all → AreNext all gs g → (c : ℕ) → holds c g ≡ true → is_among live c ≡ true
+pub next_known : (all gs : List Group) (g : Group) (live : List ℕ) → ListsOpenCalls live all → AreNext all gs g → (c : ℕ) → holds c g ≡ true →
+    is_among live c ≡ true
 next_known all gs g live l n c t =
     l.numbers c ∙ some_call all c ∙ ap (λ (xs : List Group). list_any (holds c) xs) n.1 ∙ list_any-append (holds c) gs (g ∷ n.0)
     ∙ or_right (list_any (holds c) gs) (holds c g || list_any (holds c) n.0) (or_left (holds c g) (list_any (holds c) n.0) t)
@@ -83,7 +85,8 @@ few_left stays seat (g ∷ gs) = by (group_left stays seat g) (few_left stays se
   by (Some x) few = omega (arith, few)
 
 -- there is room for what is left of it
-pub room_left : (stays : ℕ → Bool) (seat : ℕ → SeatMemory) (all gs groups : List Group) (g : Group) (live : List ℕ) → ListsOpenCalls live all → AreNext all gs g →
+pub room_left : (stays : ℕ → Bool) (seat : ℕ → SeatMemory) (all gs groups : List Group) (g : Group) (live : List ℕ) → ListsOpenCalls live all →
+    AreNext all gs g →
     groups ≡ groups_left stays seat gs → length groups < length live
 room_left stays seat all gs groups g live l n e =
     omega (arith, ap length e, few_left stays seat gs, ap length n.1, length-append gs (g ∷ n.0), few_groups all, l.count)

@@ -46,7 +46,8 @@ opened_partners g n c law none h d = elim (cases_Bool (c == d)) [
 
 -- two calls are bridged
 pub joined_calls : (g n : Groups) (x y : Call) → x.number ≢ y.number → g x.number ≡ Some (One x) → g y.number ≡ Some (One y) →
-    Finds (One x ∷ One y ∷ []) (pair_of (bridged_call x) (bridged_call y) ∷ []) g n → (d : ℕ) → calls n d ≡ calls_after (act.Bridged x.number y.number) (calls g) d
+    Finds (One x ∷ One y ∷ []) (pair_of (bridged_call x) (bridged_call y) ∷ []) g n → (d : ℕ) →
+    calls n d ≡ calls_after (act.Bridged x.number y.number) (calls g) d
 joined_calls g n x y ne gx gy h d = elim (cases_Bool (x.number == d)) [
   | inl t ↦
       let e = eqb-true x.number d t in
@@ -62,7 +63,8 @@ joined_calls g n x y ne gx gy h d = elim (cases_Bool (x.number == d)) [
 ]
 
 pub joined_partners : (g n : Groups) (x y : Call) → x.number ≢ y.number → g x.number ≡ Some (One x) → g y.number ≡ Some (One y) →
-    Finds (One x ∷ One y ∷ []) (pair_of (bridged_call x) (bridged_call y) ∷ []) g n → (d : ℕ) → partners n d ≡ partners_after (act.Bridged x.number y.number) (partners g) d
+    Finds (One x ∷ One y ∷ []) (pair_of (bridged_call x) (bridged_call y) ∷ []) g n → (d : ℕ) →
+    partners n d ≡ partners_after (act.Bridged x.number y.number) (partners g) d
 joined_partners g n x y ne gx gy h d = elim (cases_Bool (x.number == d)) [
   | inl t ↦
       let e = eqb-true x.number d t in

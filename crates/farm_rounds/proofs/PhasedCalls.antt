@@ -6,7 +6,8 @@ use Rattle.call_pair.specs.declared.job.Job.{Job}
 use Rattle.call_pair.specs.declared.job.Job.TheVariants as job
 use Rattle.call_pair.specs.Memory.{HalfMemory}
 use Rattle.call_pair.specs.Jobs.{has_call, half_of, finished}
-use Rattle.call_pair.specs.Phases.{CallMemory, call_turned, after_call_turns, periods_left, call_finished, turned_down, starting, with_partner, half_in, frames_in, effs, half_run}
+use Rattle.call_pair.specs.Phases.{CallMemory, call_turned, after_call_turns, periods_left, call_finished, turned_down, starting, with_partner, half_in}
+use Rattle.call_pair.specs.Phases.{frames_in, effs, half_run}
 use Rattle.call_pair.proofs.Turns.{call_turn_left}
 use Rattle.call_pair.proofs.Phased.{length-notes, first-finished, one-phased, two-phased}
 use Rattle.farm_rounds.specs.Ordered.{IsParty, other_named, party_of, start_memory}
@@ -96,7 +97,8 @@ bridged_ran m g h f =
     (call_finished (turned_down (with_partner (take n (frames_in (call_finished (starting m h)).notes)) (call_finished (starting m g)))))) end
 
 -- the second phase of a call is the run of its half
-pub ran_at : (most : ℕ) (j : Job) (c : ℕ) → IsFreshJob most j → IsParty (party_of j) → has_call j c ≡ true → half_in (second_of_call j c) ≡ half_of (finished j) c
+pub ran_at : (most : ℕ) (j : Job) (c : ℕ) → IsFreshJob most j → IsParty (party_of j) → has_call j c ≡ true →
+    half_in (second_of_call j c) ≡ half_of (finished j) c
 ran_at most (job.One h) c f p t = bridged_ran 0 h h f.0 ∙ sym (ap (λ (j : Job). half_of j c) (one-phased h f.0))
 ran_at most (job.Two a b) c f p t =
     let m = min a.io.given b.io.given in

@@ -90,7 +90,8 @@ module _ (numbers : List ℕ) (jobs : List Job) (most : ℕ) (groups : AreGroups
       number : length bs ≡ length numbers
       number = sym (length-map bs Some) ∙ ap length e ∙ long
 
-      pub starting_at : (k : ℕ) (j : JobAt jobs most (slice_index numbers k)) → k < length numbers → call_in_place bs k ≡ start_memory j.its (slice_index numbers k)
+      pub starting_at : (k : ℕ) (j : JobAt jobs most (slice_index numbers k)) → k < length numbers →
+          call_in_place bs k ≡ start_memory j.its (slice_index numbers k)
       starting_at k j l =
           same (sym (slot_seated bs k (omega (arith, l, number))) ∙ ap (λ (o : List (Option (Box CallMemory))). slot_at o k) e ∙ s.there k j.its l j.found)
         where
@@ -180,7 +181,8 @@ module _ (numbers : List ℕ) (jobs : List Job) (most : ℕ) (groups : AreGroups
                 ap (λ (o : List (Option (Box CallMemory))). slot_at o k) h ∙ slot_seated rs k (omega (arith, l, ran_number))
                 ∙ ap (λ (cs : List CallMemory). Some (get_or cs k home_call)) g
                 ∙ ap (λ (x : CallMemory). Some x)
-                (get_or-map call_finished (memories_in ms) k home_call home_call (omega (arith, l, many, told_number, length-map ms (λ (b : Box CallMemory). b.value)))
+                (get_or-map call_finished (memories_in ms) k home_call home_call
+                (omega (arith, l, many, told_number, length-map ms (λ (b : Box CallMemory). b.value)))
                 ∙ ap call_finished (met_there k j l))
 
             pub after_number : length after ≡ length numbers

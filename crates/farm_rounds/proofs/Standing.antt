@@ -17,7 +17,8 @@ use Rattle.farm_rounds.specs.declared.tally.Tally.{Tally}
 use Rattle.farm_rounds.specs.Calls.{holds, call_in, partner_in, partner_of}
 use Rattle.farm_rounds.specs.Groups.{AreGroups}
 use Rattle.farm_rounds.specs.Acts.{new_call, bridged_call, parted, set_by, calls_after, partners_after, IsOpen, ActFits, Stays, Applied}
-use Rattle.farm_rounds.specs.Histories.{CallHistory, whose, CallStands, GroupsStand, NoneWaits, NoneDrains, set_now, histories_after, tally_of, kept_of, tallies_after}
+use Rattle.farm_rounds.specs.Histories.{CallHistory, whose, CallStands, GroupsStand, NoneWaits, NoneDrains, set_now, histories_after, tally_of, kept_of}
+use Rattle.farm_rounds.specs.Histories.{tallies_after}
 use Rattle.farm_rounds.proofs.Holding.{bridged, found_group, found_other}
 
 -- ---- one call

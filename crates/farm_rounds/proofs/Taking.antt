@@ -1,5 +1,6 @@
 -- Octets that come out of jobs.
-use Rattle.std.proofs.Common.{◌≡◌, ◌≢◌, refl, sym, ap, ◌∙◌, subst, ℕ, ◌+◌, ◌*◌, ◌<◌, ◌≤◌, true, List, [], ◌∷◌, ◌++◌, length, length-append, get_or, arith, inl, inr}
+use Rattle.std.proofs.Common.{◌≡◌, ◌≢◌, refl, sym, ap, ◌∙◌, subst, ℕ, ◌+◌, ◌*◌, ◌<◌, ◌≤◌, true, List, [], ◌∷◌, ◌++◌, length, length-append, get_or, arith, inl}
+use Rattle.std.proofs.Common.{inr}
 use Rattle.std.specs.Prelude.{slice_set}
 use Rattle.std.proofs.lemmas.Bool.{cases_eq, cases_lt}
 use Rattle.std.proofs.lemmas.List.{length-set, get_or-set_same, get_or-set_other, get_or_append_left, get_or_push}
@@ -10,7 +11,8 @@ use Rattle.round_lines.specs.Places.{PlaceMemory}
 use Rattle.round_lines.specs.Seats.{SeatMemory, Fits}
 use Rattle.round_lines.specs.Rounds.{no_seat}
 use Rattle.farm_rounds.specs.declared.entry.Entry.{Entry}
-use Rattle.farm_rounds.specs.Rounds.{no_job, groups_from, job_at, half_at, HasJob, SameLegs, entry_at, place_numbered, RisingPlaces, HaveJobsAt, half_of_seat, seat_with, AreTaken}
+use Rattle.farm_rounds.specs.Rounds.{no_job, groups_from, job_at, half_at, HasJob, SameLegs, entry_at, place_numbered, RisingPlaces, HaveJobsAt, half_of_seat}
+use Rattle.farm_rounds.specs.Rounds.{seat_with, AreTaken}
 use Rattle.farm_rounds.proofs.JobOctets.{with_has, with_leg, with_other, groups_kept}
 use Rattle.farm_rounds.proofs.Handing.{same_read}
 

@@ -15,7 +15,8 @@ use Rattle.round_lines.specs.Places.{PlaceMemory}
 use Rattle.round_lines.specs.Seats.{SeatMemory, Fills}
 use Rattle.round_lines.specs.Rounds.{Rising, no_seat, seat_at, call_at}
 use Rattle.farm_rounds.specs.declared.entry.Entry.{Entry}
-use Rattle.farm_rounds.specs.Rounds.{no_job, AreReady, job_at, half_at, HasJob, SameLegs, entry_at, HaveJobs, AreHanded, AreSound, HaveTimeUntil, seat_with, Works, IsTimely, groups_from, place_numbered, half_of_seat, AreTaken, EndsShort}
+use Rattle.farm_rounds.specs.Rounds.{no_job, AreReady, job_at, half_at, HasJob, SameLegs, entry_at, HaveJobs, AreHanded, AreSound, HaveTimeUntil, seat_with}
+use Rattle.farm_rounds.specs.Rounds.{Works, IsTimely, groups_from, place_numbered, half_of_seat, AreTaken, EndsShort}
 use Rattle.std.proofs.lemmas.List.Folds.{list_any_at, list_any_none}
 use Rattle.farm_rounds.specs.Settling.{goes_on_in}
 use Rattle.farm_rounds.specs.Working.{RoundMemory, goes_on_call, IsRound}
@@ -47,7 +48,8 @@ pub ready_out : (most : ℕ) (before jobs after : List Job) (entries : List Entr
     apart ≡ map (λ (s : SeatMemory). s.place) seats → AreReady after entries apart
 ready_out most before jobs after entries seats apart last have rising same handed long timely ej ea =
     let number : length apart ≡ length seats = ap (λ (ps : List PlaceMemory). length ps) ea ∙ length-map seats (λ (s : SeatMemory). s.place) in
-    let place : (k : ℕ) → place_numbered apart k ≡ (seat_at seats k).place = λ k. ap (λ (ps : List PlaceMemory). place_numbered ps k) ea ∙ place_of_seat seats k in
+    let place : (k : ℕ) → place_numbered apart k ≡ (seat_at seats k).place =
+    λ k. ap (λ (ps : List PlaceMemory). place_numbered ps k) ea ∙ place_of_seat seats k in
     let job : (j : ℕ) → j < length jobs → job_at after j ≡ finished (job_at jobs j) =
     λ j l. ap (λ (js : List Job). job_at js j) ej ∙ get_or-map finished jobs j no_job no_job l in
     let theirs : (k : ℕ) → k < length seats → HasJob jobs (entry_at entries k).job (call_at seats k) = λ k l. its_job before jobs entries seats k have same l in

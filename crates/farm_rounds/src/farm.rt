@@ -52,7 +52,8 @@ impl Model for Farm {
 
     ghost view = { λ f. record { groups = f.groups.items; live = f.live.items; tallies = f.tallies.items; failed = f.failed.items; ended = f.end } };
 
-    ghost invariant = { λ f. AreGroups f.end f.groups.items × ListsOpenCalls f.live.items f.groups.items × (length f.tallies.items ≡ NUMBERS) × (length f.live.items ≤ vec_capacity f.groups) };
+    ghost invariant = { λ f. AreGroups f.end f.groups.items × ListsOpenCalls f.live.items f.groups.items × (length f.tallies.items ≡ NUMBERS) ×
+        (length f.live.items ≤ vec_capacity f.groups) };
 }
 
 impl Farm {
@@ -85,7 +86,8 @@ impl Farm {
 
         // For all periods that the calls may have had: each call goes on with its own, and of one that ends its counts are
         // kept.
-        ensures history { IfOk result (λ u. (h : ℕ → Option CallHistory) → NoneDrains act.now h → GroupsStand h self.old.groups → GroupsStand (histories_after act.now h) self.new.groups) }
+        ensures history { IfOk result (λ u. (h : ℕ → Option CallHistory) → NoneDrains act.now h → GroupsStand h self.old.groups →
+            GroupsStand (histories_after act.now h) self.new.groups) }
         ensures tallies { IfOk result (λ u. (h : ℕ → Option CallHistory) → GroupsStand h self.old.groups → (c : ℕ) →
             tally_in self.new.tallies c ≡ tallies_after act.now h (tally_in self.old.tallies) c) }
     {
@@ -127,7 +129,8 @@ impl Farm {
         ensures applied { Applied self.old.ended (done.Closed call (partner_in self.old.groups call)) self.old.groups self.new.groups }
         ensures others { self.new ≡ record self.old { groups = self.new.groups; live = self.new.live; tallies = self.new.tallies } }
         ensures tallies { (c : ℕ) → c ≢ call → tally_in self.new.tallies c ≡ tally_in self.old.tallies c }
-        ensures tally { (x : Call) (who : Who) (ts : List CallPeriod) (now : Settings) → call_in self.old.groups call ≡ Some x → Stands who ts now x.leg → tally_in self.new.tallies call ≡ tally_of ts now }
+        ensures tally { (x : Call) (who : Who) (ts : List CallPeriod) (now : Settings) → call_in self.old.groups call ≡ Some x → Stands who ts now x.leg →
+            tally_in self.new.tallies call ≡ tally_of ts now }
     {
         if let Some(ended) = groups::end(&mut self.groups, call) {
             remove_number(&mut self.live, call);

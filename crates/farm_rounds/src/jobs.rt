@@ -1,6 +1,7 @@
 //! The jobs and the seats of a round.
 
-ghost use Rattle.std.specs.Prelude.{◌≡◌, ◌≢◌, ◌+◌, ◌*◌, ◌<◌, ◌≤◌, ℕ, true, false, [], length, map, reverse, slice_index, slice_set, is_some, IfOk, vec_len, vec_capacity};
+ghost use Rattle.std.specs.Prelude.{◌≡◌, ◌≢◌, ◌+◌, ◌*◌, ◌<◌, ◌≤◌, ℕ, true, false, [], length, map, reverse, slice_index, slice_set, is_some, IfOk, vec_len};
+ghost use Rattle.std.specs.Prelude.{vec_capacity};
 ghost use Rattle.std.specs.List.{All};
 ghost use Rattle.std.specs.List.Sorted.{IsPermutation, IsNonDecreasingBy};
 ghost use Rattle.round_lines.specs.Rounds.{Rising, seat_at};
@@ -13,7 +14,8 @@ ghost use Rattle.farm_rounds.specs.Groups.{IsGroup, AreGroups, ListsOpenCalls};
 ghost use Rattle.farm_rounds.specs.Numbers.{IsRising, is_among};
 ghost use Rattle.farm_rounds.specs.Phased.{IsFreshJob, AreEmptyFor, SeatsAreWithin};
 ghost use Rattle.farm_rounds.specs.WorkRooms.{HasRoom};
-ghost use Rattle.farm_rounds.specs.Rounds.{groups_from, IsTimely, first_of, job_made, half_made, entry_for, HaveEntries, BringCalls, AreSeats, job_at, half_at, HasJob, SameLegs, HaveJobs, HaveTimeUntil, HaveTime, AreHanded, AreSound, AreReady, AreTaken, Works, entry_at};
+ghost use Rattle.farm_rounds.specs.Rounds.{groups_from, IsTimely, first_of, job_made, half_made, entry_for, HaveEntries, BringCalls, AreSeats, job_at, half_at};
+ghost use Rattle.farm_rounds.specs.Rounds.{HasJob, SameLegs, HaveJobs, HaveTimeUntil, HaveTime, AreHanded, AreSound, AreReady, AreTaken, Works, entry_at};
 
 use crate::call::{Call, Group};
 use crate::entry::{Entry, NO_ENTRY};

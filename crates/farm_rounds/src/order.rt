@@ -1,6 +1,7 @@
 //! The calls of a round's jobs in rising order of their numbers: taken out of the jobs, and put back into them.
 
-ghost use Rattle.std.specs.Prelude.{◌≡◌, ◌≢◌, ◌+◌, ◌<◌, ◌≤◌, ◌++◌, ◌∷◌, ℕ, List, [], map, length, Option, Some, None, true, false, vec_len, vec_capacity, slice_index, IfOk};
+ghost use Rattle.std.specs.Prelude.{◌≡◌, ◌≢◌, ◌+◌, ◌<◌, ◌≤◌, ◌++◌, ◌∷◌, ℕ, List, [], map, length, Option, Some, None, true, false, vec_len, vec_capacity};
+ghost use Rattle.std.specs.Prelude.{slice_index, IfOk};
 ghost use Rattle.std.specs.Option.{option_map};
 ghost use Rattle.std.specs.List.{All, count_by, list_any};
 ghost use Rattle.call_pair.specs.declared.job.Job.{Job};
@@ -8,7 +9,8 @@ ghost use Rattle.call_pair.specs.Jobs.{has_call, half_of, finished};
 ghost use Rattle.call_pair.specs.Phases.{periods_left, half_in};
 ghost use Rattle.farm_rounds.specs.Numbers.{IsRising, is_among};
 ghost use Rattle.farm_rounds.specs.Phased.{HasNoneDone};
-ghost use Rattle.farm_rounds.specs.Ordered.{AreSpread, AreRun, IsApart, IsHeld, IsParty, IsPlaceOf, job_in, names, other_named, party_of, slot_at, start_memory};
+ghost use Rattle.farm_rounds.specs.Ordered.{AreSpread, AreRun, IsApart, IsHeld, IsParty, IsPlaceOf, job_in, names, other_named, party_of, slot_at};
+ghost use Rattle.farm_rounds.specs.Ordered.{start_memory};
 
 use crate::live::place_in;
 use call_pair::{CallJob, Half, Job};
@@ -101,7 +103,8 @@ fn pair_job(partners: &mut [usize], numbers: &[u32], party: Party)
     requires present { (c : ℕ) → names party c ≡ true → is_among numbers.now c ≡ true }
     ensures paired { (k : ℕ) → k < length numbers.now → names party (slice_index numbers.now k) ≡ true →
         IsPlaceOf numbers.now (other_named party (slice_index numbers.now k)) (slice_index partners.new k) }
-    ensures others { (k : ℕ) → k < length numbers.now → names party (slice_index numbers.now k) ≡ false → slice_index partners.new k ≡ slice_index partners.old k }
+    ensures others { (k : ℕ) → k < length numbers.now → names party (slice_index numbers.now k) ≡ false →
+        slice_index partners.new k ≡ slice_index partners.old k }
     ensures length { length partners.new ≡ length partners.old }
 {
     match party {
@@ -186,7 +189,8 @@ fn take_job(slots: &mut [Option<Box<CallJob>>], numbers: &[u32], party: Party) -
     requires present { (c : ℕ) → names party c ≡ true → is_among numbers.now c ≡ true }
     requires there { (k : ℕ) → k < length numbers.now → names party (slice_index numbers.now k) ≡ true → IsHeld (slot_at slots.old k) }
     ensures job { (j : Job) → party ≡ party_of j →
-        ((k : ℕ) → k < length numbers.now → names party (slice_index numbers.now k) ≡ true → option_map half_in (slot_at slots.old k) ≡ Some (half_of (finished j) (slice_index numbers.now k))) → result ≡ finished j }
+        ((k : ℕ) → k < length numbers.now → names party (slice_index numbers.now k) ≡ true →
+        option_map half_in (slot_at slots.old k) ≡ Some (half_of (finished j) (slice_index numbers.now k))) → result ≡ finished j }
     ensures others { (k : ℕ) → k < length numbers.now → names party (slice_index numbers.now k) ≡ false → slot_at slots.new k ≡ slot_at slots.old k }
     ensures length { length slots.new ≡ length slots.old }
 {

@@ -135,7 +135,8 @@ fn meet_all(
     requires told { (k : ℕ) → k < length jobs.old → IsTold periods (call_in_place jobs.old k) (call_in_place jobs.old (slice_index partners.now k)) }
     requires lists { AreEmptyFor periods frames.items }
     requires enough { length jobs.old ≤ vec_len frames }
-    ensures met { (k : ℕ) → k < length jobs.old → call_in_place jobs.new k ≡ heard_from (call_in_place jobs.old (slice_index partners.now k)) (call_in_place jobs.old k) }
+    ensures met { (k : ℕ) → k < length jobs.old →
+        call_in_place jobs.new k ≡ heard_from (call_in_place jobs.old (slice_index partners.now k)) (call_in_place jobs.old k) }
     ensures length { length jobs.new ≡ length jobs.old }
 {
     let mut frames = frames;

@@ -52,9 +52,27 @@ impl Model for Round {
 
     ghost Value = { RoundMemory };
 
-    ghost view = { λ r. record { start = r.start; ended = r.end; live = r.rest.live.items; tallies = r.rest.tallies.items; failed = r.rest.failed.items; jobs = r.jobs.items; entries = r.entries.items; seats = r.seats.items } };
+    ghost view = { λ r. record {
+      start = r.start;
+      ended = r.end;
+      live = r.rest.live.items;
+      tallies = r.rest.tallies.items;
+      failed = r.rest.failed.items;
+      jobs = r.jobs.items;
+      entries = r.entries.items;
+      seats = r.seats.items;
+    } };
 
-    ghost invariant = { λ r. IsRound (record { start = r.start; ended = r.end; live = r.rest.live.items; tallies = r.rest.tallies.items; failed = r.rest.failed.items; jobs = r.jobs.items; entries = r.entries.items; seats = r.seats.items })
+    ghost invariant = { λ r. IsRound (record {
+      start = r.start;
+      ended = r.end;
+      live = r.rest.live.items;
+      tallies = r.rest.tallies.items;
+      failed = r.rest.failed.items;
+      jobs = r.jobs.items;
+      entries = r.entries.items;
+      seats = r.seats.items;
+    })
         × (r.rest.groups.items ≡ []) × (r.numbers.items ≡ r.rest.live.items) × (r.ends.items ≡ [])
         × (length r.rest.live.items ≤ vec_capacity r.rest.groups) × (length r.rest.live.items ≤ vec_capacity r.ends)
         × (r.start + r.room.phases.periods ≡ r.end) × HasRoom (length r.rest.live.items) r.room.phases.periods r.room

@@ -38,9 +38,25 @@ impl Model for Worked {
 
     ghost Value = { WorkedMemory };
 
-    ghost view = { λ r. record { ended = r.end; live = r.rest.live.items; tallies = r.rest.tallies.items; failed = r.rest.failed.items; jobs = r.jobs.items; seats = r.seats.items; ends = r.ends.items } };
+    ghost view = { λ r. record {
+      ended = r.end;
+      live = r.rest.live.items;
+      tallies = r.rest.tallies.items;
+      failed = r.rest.failed.items;
+      jobs = r.jobs.items;
+      seats = r.seats.items;
+      ends = r.ends.items;
+    } };
 
-    ghost invariant = { λ r. IsWorkedRound (record { ended = r.end; live = r.rest.live.items; tallies = r.rest.tallies.items; failed = r.rest.failed.items; jobs = r.jobs.items; seats = r.seats.items; ends = r.ends.items })
+    ghost invariant = { λ r. IsWorkedRound (record {
+      ended = r.end;
+      live = r.rest.live.items;
+      tallies = r.rest.tallies.items;
+      failed = r.rest.failed.items;
+      jobs = r.jobs.items;
+      seats = r.seats.items;
+      ends = r.ends.items;
+    })
         × (r.rest.groups.items ≡ []) × (r.numbers.items ≡ r.rest.live.items)
         × (length r.rest.live.items ≤ vec_capacity r.rest.groups) × (length r.rest.failed.items + 4 * length r.rest.live.items ≤ vec_capacity r.rest.failed) };
 }

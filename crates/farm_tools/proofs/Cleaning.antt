@@ -1,5 +1,6 @@
 -- What a tool without faults leaves, where the outside tells what it holds.
-use Rattle.std.proofs.Common.{◌≡◌, ◌≢◌, inl, inr, ⊎_elim, ℕ, ◌*◌, ◌-◌, ◌^◌, ◌≤◌, List, [], ◌++◌, length, All, Option, Some, None, Ok, refl, sym, ◌∙◌, ap, arith, append-nil}
+use Rattle.std.proofs.Common.{◌≡◌, ◌≢◌, inl, inr, ⊎_elim, ℕ, ◌*◌, ◌-◌, ◌^◌, ◌≤◌, List, [], ◌++◌, length, All, Option, Some, None, Ok, refl, sym, ◌∙◌, ap, arith}
+use Rattle.std.proofs.Common.{append-nil}
 use Rattle.std.specs.List.{concat}
 use Rattle.std.specs.Io.KnownBytes.{Consumes, Appends, IsAtEnd}
 use Rattle.trau_io.specs.declared.line.Side.{Side}

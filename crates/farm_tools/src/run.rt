@@ -38,7 +38,8 @@ fn ended_inside(tool: Tool, count: usize) -> BlockEnd
 fn run_block<T: Trunk>(work: &mut Work, call: u32, trunk: &mut T) -> BlockEnd
     requires { IsCallNumber call }
     ensures same { tool_of work.new ≡ tool_of work.old }
-    ensures block { RunsOn work.old work.new (T.lines trunk.old call (in_side (tool_of work.old))) (T.lines trunk.new call (in_side (tool_of work.old))) (T.lines trunk.old call (out_side (tool_of work.old))) (T.lines trunk.new call (out_side (tool_of work.old))) result }
+    ensures block { RunsOn work.old work.new (T.lines trunk.old call (in_side (tool_of work.old))) (T.lines trunk.new call (in_side (tool_of work.old)))
+        (T.lines trunk.old call (out_side (tool_of work.old))) (T.lines trunk.new call (out_side (tool_of work.old))) result }
     ensures others { AllButTwo (T.lines trunk.old) (T.lines trunk.new) call (in_side (tool_of work.old)) (out_side (tool_of work.old)) }
 {
     let tool = work.tool();
@@ -71,7 +72,8 @@ fn run_block<T: Trunk>(work: &mut Work, call: u32, trunk: &mut T) -> BlockEnd
 /// 4,294,967,295 blocks count as too.
 pub fn run_tool<T: Trunk>(tool: Tool, call: u32, trunk: &mut T) -> RunEnd
     requires { IsCallNumber call }
-    ensures runs { Runs tool (T.lines trunk.old call (in_side tool)) (T.lines trunk.new call (in_side tool)) (T.lines trunk.old call (out_side tool)) (T.lines trunk.new call (out_side tool)) result }
+    ensures runs { Runs tool (T.lines trunk.old call (in_side tool)) (T.lines trunk.new call (in_side tool)) (T.lines trunk.old call (out_side tool))
+        (T.lines trunk.new call (out_side tool)) result }
     ensures others { AllButTwo (T.lines trunk.old) (T.lines trunk.new) call (in_side tool) (out_side tool) }
 {
     let mut work = Work::new(tool);

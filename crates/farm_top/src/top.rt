@@ -31,7 +31,8 @@ ghost use Rattle.farm_top.specs.ResumeEnded.{JoinsMarked, ResumeDiffers, ResumeE
 ghost use Rattle.farm_top.specs.Save.{CarriesSave, CleanSave, SaveEnded};
 ghost use Rattle.farm_top.specs.Slots.{MergeEnds, SplitEnds};
 ghost use Rattle.farm_top.specs.Top.{Answers, Carries, CarriesAsked, CarriesFrames, IsInRange};
-ghost use Rattle.farm_top.specs.Words.{AreCommand, AsksFor, AsksForDrill, AsksForFollow, AsksForFrames, AsksForLive, AsksForMerge, AsksForResume, AsksForRun, AsksForSave, AsksForSplit, TakeOptions, spelled};
+ghost use Rattle.farm_top.specs.Words.{AreCommand, AsksFor, AsksForDrill, AsksForFollow, AsksForFrames, AsksForLive, AsksForMerge, AsksForResume, AsksForRun};
+ghost use Rattle.farm_top.specs.Words.{AsksForSave, AsksForSplit, TakeOptions, spelled};
 
 use crate::drill::drill_farm;
 use crate::farm::{no_memory, run_farm};
@@ -255,11 +256,13 @@ pub fn farm_top<R: Threads + Wait + Sync, T: Trunk, D: Desk, G: Gate + Sync>(
     ensures save_leaves { (s : Settings) → AsksForSave (spelled words.now) s →
         (orders : List Order) → TellsOrders orders (D.desk desk.old) →
         NoneRose (T.lines trunk.old) (T.lines trunk.new) → (result ≡ 0) ⊎ (result ≡ 4) →
-        (r : Run) → IsRunOver orders s.periods none_fails (T.lines trunk.old) (T.lines trunk.new) r → Leaves r none_fails (T.lines trunk.old) (T.lines trunk.new) }
+        (r : Run) → IsRunOver orders s.periods none_fails (T.lines trunk.old) (T.lines trunk.new) r →
+        Leaves r none_fails (T.lines trunk.old) (T.lines trunk.new) }
     ensures save_headline { (s : Settings) → AsksForSave (spelled words.now) s →
         (orders : List Order) → TellsOrders orders (D.desk desk.old) →
         NoneRose (T.lines trunk.old) (T.lines trunk.new) → (result ≡ 0) ⊎ (result ≡ 4) →
-        (r : Run) → IsRunOver orders s.periods none_fails (T.lines trunk.old) (T.lines trunk.new) r → Headline r none_fails (T.lines trunk.old) (T.lines trunk.new) }
+        (r : Run) → IsRunOver orders s.periods none_fails (T.lines trunk.old) (T.lines trunk.new) r →
+        Headline r none_fails (T.lines trunk.old) (T.lines trunk.new) }
 
     // A run from a mark on: what it does, whatever fails, and why each of its statuses comes.
     ensures resume { (s : Settings) → AsksForResume (spelled words.now) s →
@@ -343,7 +346,8 @@ pub fn farm_top<R: Threads + Wait + Sync, T: Trunk, D: Desk, G: Gate + Sync>(
     ensures run_leaves { (s : Settings) → AsksForRun (spelled words.now) s →
         (orders : List Order) → TellsOrders orders (D.desk desk.old) →
         NoneRose (T.lines trunk.old) (T.lines trunk.new) → (result ≡ 0) ⊎ (result ≡ 4) →
-        (r : Run) → IsRunOver orders s.periods none_fails (T.lines trunk.old) (T.lines trunk.new) r → Leaves r none_fails (T.lines trunk.old) (T.lines trunk.new) }
+        (r : Run) → IsRunOver orders s.periods none_fails (T.lines trunk.old) (T.lines trunk.new) r →
+        Leaves r none_fails (T.lines trunk.old) (T.lines trunk.new) }
 
     // The headline. Whatever the cuts of reads and writes, the orders, the workers, batch and slices and the interleaving of
     // the workers, the octets written on a call's outgoing lines are those of the definition of the call as a whole, of its
@@ -353,7 +357,8 @@ pub fn farm_top<R: Threads + Wait + Sync, T: Trunk, D: Desk, G: Gate + Sync>(
     ensures headline { (s : Settings) → AsksForRun (spelled words.now) s →
         (orders : List Order) → TellsOrders orders (D.desk desk.old) →
         NoneRose (T.lines trunk.old) (T.lines trunk.new) → (result ≡ 0) ⊎ (result ≡ 4) →
-        (r : Run) → IsRunOver orders s.periods none_fails (T.lines trunk.old) (T.lines trunk.new) r → Headline r none_fails (T.lines trunk.old) (T.lines trunk.new) }
+        (r : Run) → IsRunOver orders s.periods none_fails (T.lines trunk.old) (T.lines trunk.new) r →
+        Headline r none_fails (T.lines trunk.old) (T.lines trunk.new) }
 
     // Where nothing fails and the outside tells what it holds, the outgoing line has gained exactly what is made of
     // the incoming line's blocks up to the first refused one, and the desk exactly the text.

@@ -1,5 +1,6 @@
 -- Truncation of one sample after another, in place.
-use Rattle.std.proofs.Common.{◌≡◌, ℕ, ℤ, ◌+◌, ◌<◌, ◌≤◌, pos, set, length, take, drop, List, [], ◌++◌, map, ap, ◌∙◌, arith, length-append, length-take-le, length-drop}
+use Rattle.std.proofs.Common.{◌≡◌, ℕ, ℤ, ◌+◌, ◌<◌, ◌≤◌, pos, set, length, take, drop, List, [], ◌++◌, map, ap, ◌∙◌, arith, length-append, length-take-le}
+use Rattle.std.proofs.Common.{length-drop}
 use Rattle.std.proofs.lemmas.List.{drop_all, take_all, append-nil, get_or_default, length-map}
 use Rattle.std.proofs.lemmas.List.Edits.{map_over_more}
 use Rattle.trau_num.specs.Num.{entry}

@@ -1,5 +1,6 @@
 -- The lanes of the correlations: what fits, and what their sums are.
-use Rattle.std.proofs.Common.{◌≡◌, ℕ, zero, suc, ◌+◌, ◌-◌, ◌*◌, ◌<◌, ◌≤◌, ℤ, pos, ◌+ℤ◌, ◌*ℤ◌, unsigned_abs, FitsSigned, w16, w32, to_z, of_z, fold, map, List, [], ◌∷◌, ◌++◌, length, get_or, refl, ap, sym, subst, ◌∙◌, arith, lit≤, mul-le-mul, inl, inr}
+use Rattle.std.proofs.Common.{◌≡◌, ℕ, zero, suc, ◌+◌, ◌-◌, ◌*◌, ◌<◌, ◌≤◌, ℤ, pos, ◌+ℤ◌, ◌*ℤ◌, unsigned_abs, FitsSigned, w16, w32, to_z, of_z, fold, map, List}
+use Rattle.std.proofs.Common.{[], ◌∷◌, ◌++◌, length, get_or, refl, ap, sym, subst, ◌∙◌, arith, lit≤, mul-le-mul, inl, inr}
 use Rattle.std.specs.List.{range_with_len}
 use Rattle.std.proofs.lemmas.Int.{ints}
 use Rattle.std.specs.Simd.Lanes.{zip2, Each1, chunk}
@@ -9,7 +10,8 @@ use Rattle.std.proofs.lemmas.Bool.{cases_lt}
 use Rattle.trau_num.specs.Num.{l_mult_of, entry}
 use Rattle.trau_lanes.specs.Lanes.{sums_of_pairs}
 use Rattle.trau_lanes.proofs.Eight.{lanes_kept, by_four}
-use Rattle.trau_lanes.proofs.LaneDots.{Within, products_within, sums_within, product_at, row, lanes_passed, pairs_within, length_pairs, Pairs, pair_sum, four_same}
+use Rattle.trau_lanes.proofs.LaneDots.{Within, products_within, sums_within, product_at, row, lanes_passed, pairs_within, length_pairs, Pairs, pair_sum}
+use Rattle.trau_lanes.proofs.LaneDots.{four_same}
 use Rattle.fr_long.specs.Scaling.{AreScaled}
 use Rattle.fr_long.specs.Lag.{correlation_of, sum_of_products, AreSigned16}
 use Rattle.fr_long.specs.Synthesis.{sample_before}

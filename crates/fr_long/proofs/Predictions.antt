@@ -1,5 +1,6 @@
 -- A block has one prediction, and that by the last 120 residuals is that by all earlier residuals.
-use Rattle.std.proofs.Common.{◌≡◌, ℕ, ℤ, ◌-◌, ◌≤◌, pos, ◌+ℤ◌, int_lt, if◌then◌else◌, List, ◌++◌, length, drop, map, fold, replicate, refl, sym, ap, subst, ◌∙◌, inl, inr, ⊎_elim, append_assoc, arith}
+use Rattle.std.proofs.Common.{◌≡◌, ℕ, ℤ, ◌-◌, ◌≤◌, pos, ◌+ℤ◌, int_lt, if◌then◌else◌, List, ◌++◌, length, drop, map, fold, replicate, refl, sym, ap, subst, ◌∙◌}
+use Rattle.std.proofs.Common.{inl, inr, ⊎_elim, append_assoc, arith}
 use Rattle.std.specs.List.{range_with_len}
 use Rattle.std.proofs.lemmas.Int.{ints}
 use Rattle.std.proofs.lemmas.List.{length-append, length-replicate}

@@ -1,5 +1,7 @@
 -- The greatest of 81 numbers by the greatest in each of eight lanes.
-use Rattle.std.proofs.Common.{◌≡◌, ◌⊎◌, ℕ, suc, zero, ◌+◌, ◌-◌, ◌*◌, ◌/◌, ◌%◌, ◌^◌, ◌<◌, ◌≤◌, min, ℤ, pos, ◌≤ℤ◌, FitsSigned, w32, to_z, of_z, int_lt, int_cmp, is_lt, Less, Greater, Equal, Bool, true, false, cond, map, length, get_or, set, replicate, List, [], ◌∷◌, refl, ap, sym, subst, ◌∙◌, arith, inl, inr, lit<}
+use Rattle.std.proofs.Common.{◌≡◌, ◌⊎◌, ℕ, suc, zero, ◌+◌, ◌-◌, ◌*◌, ◌/◌, ◌%◌, ◌^◌, ◌<◌, ◌≤◌, min, ℤ, pos, ◌≤ℤ◌, FitsSigned, w32, to_z, of_z, int_lt, int_cmp}
+use Rattle.std.proofs.Common.{is_lt, Less, Greater, Equal, Bool, true, false, cond, map, length, get_or, set, replicate, List, [], ◌∷◌, refl, ap, sym, subst}
+use Rattle.std.proofs.Common.{◌∙◌, arith, inl, inr, lit<}
 use Rattle.std.specs.Int.{int_max}
 use Rattle.std.specs.Ordering.{ord_max}
 use Rattle.std.proofs.lemmas.Int.{ints, clamps, to_z-of_z}

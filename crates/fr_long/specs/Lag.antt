@@ -1,5 +1,6 @@
 -- The lag of a block (GSM 06.10, section 4.2.11).
-use Rattle.std.specs.Prelude.{◌≡◌, ℕ, ◌+◌, ◌-◌, ◌<◌, ◌≤◌, ℤ, pos, ◌+ℤ◌, ◌*ℤ◌, ◌<ℤ◌, ◌≤ℤ◌, ◌⊎◌, Bool, ◌&&◌, if◌then◌else◌, int_lt, int_le, List, map, fold, FitsSigned}
+use Rattle.std.specs.Prelude.{◌≡◌, ℕ, ◌+◌, ◌-◌, ◌<◌, ◌≤◌, ℤ, pos, ◌+ℤ◌, ◌*ℤ◌, ◌<ℤ◌, ◌≤ℤ◌, ◌⊎◌, Bool, ◌&&◌, if◌then◌else◌, int_lt, int_le, List, map, fold}
+use Rattle.std.specs.Prelude.{FitsSigned}
 use Rattle.std.specs.Int.{w16}
 use Rattle.std.specs.List.{range_with_len, find, list_all}
 use Rattle.std.specs.Option.{unwrap_or}

@@ -1,5 +1,6 @@
 -- The recursion that finds the reflection coefficients one by one.
-use Rattle.std.proofs.Common.{◌≡◌, ℕ, suc, ℤ, ◌+◌, ◌-◌, ◌<◌, ◌≤◌, pos, true, false, get_or, set, length, List, [], ◌∷◌, ◌++◌, take, drop, replicate, int_lt, refl, sym, ap, ◌∙◌, arith}
+use Rattle.std.proofs.Common.{◌≡◌, ℕ, suc, ℤ, ◌+◌, ◌-◌, ◌<◌, ◌≤◌, pos, true, false, get_or, set, length, List, [], ◌∷◌, ◌++◌, take, drop, replicate, int_lt}
+use Rattle.std.proofs.Common.{refl, sym, ap, ◌∙◌, arith}
 use Rattle.std.proofs.lemmas.List.{get_or-drop, length-drop, take_more_set, take_all, append_assoc, append-nil, take-append-drop}
 use Rattle.trau_num.specs.Num.{abs_of, entry}
 use Rattle.fr_lpc.specs.Reflection.{coefficient_of, p_after, k_after, coefficients_from}

@@ -1,5 +1,6 @@
 -- The peak of a frame, and what shifting down by its scaling leaves.
-use Rattle.std.proofs.Common.{◌≡◌, ℕ, zero, suc, ℤ, ◌+◌, ◌-◌, ◌*◌, ◌^◌, ◌<◌, ◌≤◌, pos, ◌+ℤ◌, ◌*ℤ◌, ◌≤ℤ◌, unsigned_abs, set, length, List, [], ◌∷◌, ◌++◌, take, drop, map, fold, refl, sym, ap, subst, ◌∙◌, arith}
+use Rattle.std.proofs.Common.{◌≡◌, ℕ, zero, suc, ℤ, ◌+◌, ◌-◌, ◌*◌, ◌^◌, ◌<◌, ◌≤◌, pos, ◌+ℤ◌, ◌*ℤ◌, ◌≤ℤ◌, unsigned_abs, set, length, List, [], ◌∷◌, ◌++◌, take}
+use Rattle.std.proofs.Common.{drop, map, fold, refl, sym, ap, subst, ◌∙◌, arith}
 use Rattle.std.specs.Int.{int_max}
 use Rattle.std.proofs.lemmas.Int.{ints, fold-int_max_bounds, unsigned_abs-mul}
 use Rattle.std.proofs.lemmas.List.{map_more, take_all, drop_all, append-nil, get_or-map, get_or_default, length-map, length-append, length-take-le, length-drop}

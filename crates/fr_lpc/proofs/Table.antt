@@ -20,7 +20,8 @@ by_place P a b c d e f g h (suc (suc (suc (suc (suc (suc (suc (suc n)))))))) l =
 -- MIC isn't above MAC
 pub least-most : (i : ℕ) → i < 8 → entry least_ratios i ≤ℤ entry most i
 least-most =
-    by_place (λ i. entry least_ratios i ≤ℤ entry most i) (record { le = tt }) (record { le = tt }) (record { le = tt }) (record { le = tt }) (record { le = tt })
+    by_place (λ i. entry least_ratios i ≤ℤ entry most i) (record { le = tt }) (record { le = tt }) (record { le = tt }) (record { le = tt })
+    (record { le = tt })
     (record { le = tt }) (record { le = tt }) (record { le = tt })
 
 -- the values from MIC to MAC are as many as a code of the place's width can tell apart

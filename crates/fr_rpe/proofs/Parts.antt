@@ -41,7 +41,8 @@ unfolding abs_of
 magnitude_below pulse xmax l = omega (arith, ints)
 
 -- room for the maximum is room for each pulse
-pub room_for : (scale : Scale) (pulse xmax : ℤ) → abs_of pulse ≤ℤ xmax → IsBelowScale scale (unsigned_abs xmax) → IsBelowScale scale (unsigned_abs (abs_of pulse))
+pub room_for : (scale : Scale) (pulse xmax : ℤ) → abs_of pulse ≤ℤ xmax → IsBelowScale scale (unsigned_abs xmax) →
+    IsBelowScale scale (unsigned_abs (abs_of pulse))
 room_for scale pulse xmax l h =
     let g : unsigned_abs (abs_of pulse) * 2 ^ scale_shift scale ≤ unsigned_abs xmax * 2 ^ scale_shift scale =
     mul-le-mul_right (2 ^ scale_shift scale) (magnitude_below pulse xmax l) in

@@ -1,5 +1,6 @@
 -- One sample through the sections in lanes.
-use Rattle.std.proofs.Common.{◌≡◌, ℕ, ◌+◌, ◌-◌, ◌%◌, ◌^◌, ◌<◌, ◌≤◌, suc, ℤ, pos, FitsSigned, w16, to_z, of_z, map, reverse, take, drop, List, [], ◌∷◌, ◌++◌, length, get_or, set, refl, ap, sym, ◌∙◌, arith, lit<, drop-cons, append_assoc, append-nil, add-one, Bool, not, cond, eqb}
+use Rattle.std.proofs.Common.{◌≡◌, ℕ, ◌+◌, ◌-◌, ◌%◌, ◌^◌, ◌<◌, ◌≤◌, suc, ℤ, pos, FitsSigned, w16, to_z, of_z, map, reverse, take, drop, List, [], ◌∷◌, ◌++◌}
+use Rattle.std.proofs.Common.{length, get_or, set, refl, ap, sym, ◌∙◌, arith, lit<, drop-cons, append_assoc, append-nil, add-one, Bool, not, cond, eqb}
 use Rattle.std.specs.Simd.Lanes.{zip2, Each1}
 use Rattle.trau_num.specs.Num.{sub_of, add_of, mult_r_of}
 use Rattle.trau_lanes.specs.Lanes.{EightWords, EightFactors}

@@ -1,5 +1,6 @@
 -- Sample by sample through all sections, or section by section through all samples, is one.
-use Rattle.std.proofs.Common.{◌≡◌, ℕ, ℤ, ◌+◌, ◌<◌, ◌≤◌, zero, suc, pos, get_or, set, length, take, drop, List, [], ◌∷◌, ◌++◌, refl, sym, ap, ◌∙◌, arith, drop-cons, append_assoc, add-one}
+use Rattle.std.proofs.Common.{◌≡◌, ℕ, ℤ, ◌+◌, ◌<◌, ◌≤◌, zero, suc, pos, get_or, set, length, take, drop, List, [], ◌∷◌, ◌++◌, refl, sym, ap, ◌∙◌, arith}
+use Rattle.std.proofs.Common.{drop-cons, append_assoc, add-one}
 use Rattle.std.proofs.lemmas.List.{length-set, drop-set-lt, drop_all, take_all, append-nil}
 use Rattle.std.proofs.lemmas.Grind.{take-set_at}
 use Rattle.trau_num.specs.Num.{add_of, mult_r_of}

@@ -1,5 +1,6 @@
 -- A loop that passes a list of samples through the sections.
-use Rattle.std.proofs.Common.{◌≡◌, ℕ, ℤ, ◌+◌, ◌<◌, ◌≤◌, pos, get_or, set, length, take, drop, List, [], ◌∷◌, ◌++◌, refl, sym, ap, ◌∙◌, arith, drop-cons, append_assoc, add-one}
+use Rattle.std.proofs.Common.{◌≡◌, ℕ, ℤ, ◌+◌, ◌<◌, ◌≤◌, pos, get_or, set, length, take, drop, List, [], ◌∷◌, ◌++◌, refl, sym, ap, ◌∙◌, arith, drop-cons}
+use Rattle.std.proofs.Common.{append_assoc, add-one}
 use Rattle.std.proofs.lemmas.List.{length-set, drop_all, take_all, append-nil}
 use Rattle.std.proofs.lemmas.Grind.{take-set_at}
 use Rattle.trau_num.specs.Num.{add_of, mult_r_of}
@@ -19,7 +20,8 @@ pub stepped_plain : (before : ℤ) (xs : List ℤ) → stepped_through (λ sampl
 stepped_plain before [] = refl
 stepped_plain before (x ∷ xs) = ap (λ l. x ∷ l) (stepped_plain x xs)
 
-pub stepped_deemphasis : (before : ℤ) (xs : List ℤ) → stepped_through (λ sample last. add_of sample (mult_r_of (pos 28180) last)) before xs ≡ deemphasised before xs
+pub stepped_deemphasis : (before : ℤ) (xs : List ℤ) →
+    stepped_through (λ sample last. add_of sample (mult_r_of (pos 28180) last)) before xs ≡ deemphasised before xs
 stepped_deemphasis before [] = refl
 stepped_deemphasis before (x ∷ xs) = ap (λ l. add_of x (mult_r_of (pos 28180) before) ∷ l) (stepped_deemphasis (add_of x (mult_r_of (pos 28180) before)) xs)
 
@@ -27,7 +29,8 @@ stepped_deemphasis before (x ∷ xs) = ap (λ l. add_of x (mult_r_of (pos 28180)
 pub record Run (f : ℤ → ℤ → ℤ) (rs : ℕ → List ℤ) (start d : List ℤ) (before : ℤ) (vs : List ℤ) (last : ℤ) (s : List ℤ) (k : ℕ) : Type 0 where
   pub count : length s ≡ length d
   pub samples : take k s ++ stepped_through f last (filtered_samples rs k vs (drop k d)).0 ≡ stepped_through f before (filtered_samples rs 0 start d).0
-  pub newest : last_of last (stepped_through f last (filtered_samples rs k vs (drop k d)).0) ≡ last_of before (stepped_through f before (filtered_samples rs 0 start d).0)
+  pub newest : last_of last (stepped_through f last (filtered_samples rs k vs (drop k d)).0)
+      ≡ last_of before (stepped_through f before (filtered_samples rs 0 start d).0)
   pub state : (filtered_samples rs k vs (drop k d)).1 ≡ (filtered_samples rs 0 start d).1
 
 -- no sample made yet, one more, and all

@@ -1,5 +1,6 @@
 -- The mode of the search by the yields so far, and what it gives next: the definition of all yields, met by the machine.
-use Rattle.std.proofs.Common.{◌≡◌, ℕ, zero, suc, ◌+◌, ◌<◌, ◌≤◌, Bool, true, false, List, [], ◌∷◌, ◌++◌, append_assoc, length, reverse, refl, sym, ap, ◌∙◌, subst, arith, inl, inr}
+use Rattle.std.proofs.Common.{◌≡◌, ℕ, zero, suc, ◌+◌, ◌<◌, ◌≤◌, Bool, true, false, List, [], ◌∷◌, ◌++◌, append_assoc, length, reverse, refl, sym, ap, ◌∙◌}
+use Rattle.std.proofs.Common.{subst, arith, inl, inr}
 use Rattle.std.proofs.lemmas.Bool.{cases_eq, eq-eqb, ne_eqb}
 use Rattle.std.proofs.lemmas.List.{append-nil, reverse-append}
 use Rattle.trau_frame.specs.Match.{bit_in, is_match, frame_at}
@@ -103,7 +104,8 @@ miss-kind : (line : ℕ → ℕ) (p : ℕ) → is_match line p ≡ false → Mis
 miss-kind line p m = rw m refl
 
 -- what the search gives follows the yields before it
-gives-follows : (bits : List ℕ) (past : List Yield) (mode : Mode) (y : Yield) (after : Mode) → Tied past mode → Gives bits mode y after → IsNextYield bits past y
+gives-follows : (bits : List ℕ) (past : List Yield) (mode : Mode) (y : Yield) (after : Mode) → Tied past mode → Gives bits mode y after →
+    IsNextYield bits past y
 gives-follows bits past (Hunting low) (Frame p f) after t g = record {
   hunting = λ h. subst (λ n. IsFirstMatch (bit_in bits) n p) (sym t.1) (g.0, g.1, g.2);
   locked = λ h. absurd (both_ways (hunts past) t.0 h);

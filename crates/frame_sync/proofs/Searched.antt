@@ -1,5 +1,6 @@
 -- What one period of the search gives.
-use Rattle.std.proofs.Common.{◌≡◌, ℕ, ◌+◌, ◌-◌, ◌<◌, ◌≤◌, max, Bool, true, false, List, get_or, Option, Some, None, IfSome, refl, sym, ap, ◌∙◌, subst, arith, inl, inr}
+use Rattle.std.proofs.Common.{◌≡◌, ℕ, ◌+◌, ◌-◌, ◌<◌, ◌≤◌, max, Bool, true, false, List, get_or, Option, Some, None, IfSome, refl, sym, ap, ◌∙◌, subst, arith}
+use Rattle.std.proofs.Common.{inl, inr}
 use Rattle.std.specs.Option.{MatchOption}
 use Rattle.std.proofs.lemmas.Bool.{cases_eq, eq-eqb, ne_eqb}
 use Rattle.trau_frame.specs.Frame.{Synced}
@@ -42,7 +43,8 @@ near-after_miss base next misses l h m = elim (cases_eq misses 2) [
   | inr less ↦ rw (ne_eqb misses 2 less) (omega arith, omega arith, omega arith)
 ]
 
-near-due : (line : ℕ → ℕ) (base next misses : ℕ) (b : Bool) → next ≤ base → base < next + 320 → misses ≤ 2 → IsNear (base + 320) (yield_due line next misses b).1
+near-due : (line : ℕ → ℕ) (base next misses : ℕ) (b : Bool) → next ≤ base → base < next + 320 → misses ≤ 2 →
+    IsNear (base + 320) (yield_due line next misses b).1
 near-due line base next misses true l h m = (omega arith, omega arith, omega arith)
 near-due line base next misses false l h m = near-after_miss base next misses l h m
 
@@ -86,7 +88,8 @@ carries-hunted : (line : ℕ → ℕ) (base low : ℕ) (o : Option ℕ) → ((i 
 carries-hunted line base low None bits h = tt
 carries-hunted line base low (Some p) bits h = carries line p bits h.matches
 
-carries-due : (line : ℕ → ℕ) (next misses : ℕ) (b : Bool) → ((i : ℕ) → line i < 2) → is_match line next ≡ b → IfSome (yield_due line next misses b).0 CarriesFrame
+carries-due : (line : ℕ → ℕ) (next misses : ℕ) (b : Bool) → ((i : ℕ) → line i < 2) → is_match line next ≡ b →
+    IfSome (yield_due line next misses b).0 CarriesFrame
 carries-due line next misses true bits e = carries line next bits e
 carries-due line next misses false bits e = tt
 
@@ -115,7 +118,8 @@ hunted-agrees f g base low (Some p) a h =
     let below = h.below in
     ap (λ bits. (Some (Frame p bits), Locked (p + 320) 0)) (frame-agrees f g base p a (omega arith) (omega arith))
 
-due-agrees : (f g : ℕ → ℕ) (base next misses : ℕ) (b : Bool) → Agrees f g base → next ≤ base → base < next + 320 → yield_due f next misses b ≡ yield_due g next misses b
+due-agrees : (f g : ℕ → ℕ) (base next misses : ℕ) (b : Bool) → Agrees f g base → next ≤ base → base < next + 320 →
+    yield_due f next misses b ≡ yield_due g next misses b
 due-agrees f g base next misses true a l h =
     ap (λ bits. (Some (Frame next bits), Locked (next + 320) 0)) (frame-agrees f g base next a (omega arith) l)
 due-agrees f g base next misses false a l h = refl

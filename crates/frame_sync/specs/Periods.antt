@@ -1,6 +1,7 @@
 -- The yield of each period, by what the search looks for next. A period has 40 octets; a history has the newest period
 -- first.
-use Rattle.std.specs.Prelude.{ℕ, zero, suc, ◌+◌, ◌-◌, ◌*◌, ◌≡◌, ◌≤◌, ◌<◌, Bool, true, false, ◌&&◌, if◌then◌else◌, ◌==◌, nat_le, nat_lt, max, List, [], ◌∷◌, ◌++◌, length, All, reverse, slice_index_or, Option, Some, None, option_to_list}
+use Rattle.std.specs.Prelude.{ℕ, zero, suc, ◌+◌, ◌-◌, ◌*◌, ◌≡◌, ◌≤◌, ◌<◌, Bool, true, false, ◌&&◌, if◌then◌else◌, ◌==◌, nat_le, nat_lt, max, List, [], ◌∷◌}
+use Rattle.std.specs.Prelude.{◌++◌, length, All, reverse, slice_index_or, Option, Some, None, option_to_list}
 use Rattle.std.specs.List.{flat_map}
 use Rattle.trau_bits.specs.Bits.{AreBits, bits_of}
 use Rattle.trau_frame.specs.Frame.{Synced}

@@ -1,5 +1,6 @@
 -- A caller and its generators, period by period.
-use Rattle.std.proofs.Common.{◌≡◌, ◌≢◌, ℕ, ◌+◌, ◌%◌, ◌<◌, ◌≤◌, Bool, true, false, inl, inr, Result, Ok, Err, List, [], ◌∷◌, ◌++◌, length, map, take, drop, get_or, set, refl, sym, ap, ◌∙◌, subst, ⊎_elim, get_or-set_same, get_or-set_other, arith}
+use Rattle.std.proofs.Common.{◌≡◌, ◌≢◌, ℕ, ◌+◌, ◌%◌, ◌<◌, ◌≤◌, Bool, true, false, inl, inr, Result, Ok, Err, List, [], ◌∷◌, ◌++◌, length, map, take, drop}
+use Rattle.std.proofs.Common.{get_or, set, refl, sym, ap, ◌∙◌, subst, ⊎_elim, get_or-set_same, get_or-set_other, arith}
 use Rattle.std.specs.Prelude.{◌==◌, nat_lt, if◌then◌else◌, OnOk}
 use Rattle.std.specs.List.{range_with_len}
 use Rattle.std.proofs.Math.ListN.{length-set}
@@ -61,10 +62,12 @@ unfolding drawn_posts
 none_drawn seed caller call = refl
 
 -- the next post of one that made the first n is that of period n
-next_is : (seed caller call n : ℕ) (up pcm : List ℕ) (v : View) → v.made ≡ drawn_posts seed caller call n → up ≡ up_octets seed call n → pcm ≡ pcm_octets seed call n →
+next_is : (seed caller call n : ℕ) (up pcm : List ℕ) (v : View) → v.made ≡ drawn_posts seed caller call n → up ≡ up_octets seed call n →
+    pcm ≡ pcm_octets seed call n →
     next_post caller up pcm v ≡ drawn_post seed caller call n
 next_is seed caller call n up pcm v made p q =
-    let m : length (of_caller caller v.made) ≡ n = ap (λ (ms : List Post). length (of_caller caller ms)) made ∙ ap length (drawn_of seed caller call n) ∙ length-drawn seed caller call n in
+    let m : length (of_caller caller v.made) ≡ n =
+    ap (λ (ms : List Post). length (of_caller caller ms)) made ∙ ap length (drawn_of seed caller call n) ∙ length-drawn seed caller call n in
     λ i. record { caller = caller; number = m i; up = p i; pcm = q i }
 
 -- ---- one call
@@ -73,13 +76,16 @@ pub few_made : (seed callers caller k n : ℕ) (v : View) → k % callers ≡ ca
 few_made seed callers caller k n v own knows =
     ap length knows.made ∙ ap (λ (m : ℕ). length (drawn_posts seed caller (k + 1) m)) (own_is callers caller k n own) ∙ length-drawn seed caller (k + 1) n
 
-pub draws_at : (seed callers caller k n : ℕ) (g : Generator) → k % callers ≡ caller → IsDrawn seed callers caller k n g → g.x ≡ draw_state seed (k + 1) (first_draw n)
+pub draws_at : (seed callers caller k n : ℕ) (g : Generator) → k % callers ≡ caller → IsDrawn seed callers caller k n g →
+    g.x ≡ draw_state seed (k + 1) (first_draw n)
 draws_at seed callers caller k n g own drawn = drawn ∙ ap (λ (m : ℕ). draw_state seed (k + 1) (first_draw m)) (own_is callers caller k n own)
 
-pub drawn_at : (seed callers caller k n : ℕ) (g : Generator) → k % callers ≡ caller → g.x ≡ draw_state seed (k + 1) (first_draw n) → IsDrawn seed callers caller k n g
+pub drawn_at : (seed callers caller k n : ℕ) (g : Generator) → k % callers ≡ caller → g.x ≡ draw_state seed (k + 1) (first_draw n) →
+    IsDrawn seed callers caller k n g
 drawn_at seed callers caller k n g own x = x ∙ ap (λ (m : ℕ). draw_state seed (k + 1) (first_draw m)) (sym (own_is callers caller k n own))
 
-knows_more : (seed callers caller k n : ℕ) (up pcm : List ℕ) (v w : View) → k % callers ≡ caller → up ≡ up_octets seed (k + 1) n → pcm ≡ pcm_octets seed (k + 1) n →
+knows_more : (seed callers caller k n : ℕ) (up pcm : List ℕ) (v w : View) → k % callers ≡ caller → up ≡ up_octets seed (k + 1) n →
+    pcm ≡ pcm_octets seed (k + 1) n →
     Knows seed callers caller k n v → GainsPost (next_post caller up pcm v) v w → Knows seed callers caller k (n + 1) w
 knows_more seed callers caller k n up pcm v w own p q knows gains =
     let call = k + 1 in
@@ -101,7 +107,8 @@ pub drawn_still : (seed callers caller k n m : ℕ) (g : Generator) → k % call
 drawn_still seed callers caller k n m g other drawn = drawn ∙ ap (λ (j : ℕ). draw_state seed (k + 1) (first_draw j)) (none_more callers caller k n m other)
 
 -- at a call that isn't one's own
-pub not_own : (seed callers k n : ℕ) (c : Caller) → k % callers ≢ c.number → ((s : Seat) → Knows seed callers c.number k n (view_of (get_or c.seats.items k s))) →
+pub not_own : (seed callers k n : ℕ) (c : Caller) → k % callers ≢ c.number →
+    ((s : Seat) → Knows seed callers c.number k n (view_of (get_or c.seats.items k s))) →
     MovesSeat (λ _ w. Knows seed callers c.number k (n + 1) w) k c c
 not_own seed callers k n c other all = record {
   number = refl;
@@ -109,7 +116,8 @@ not_own seed callers k n c other all = record {
   others = λ j s ne. refl;
 }
 
-own_posted : (seed callers k n : ℕ) (up pcm : List ℕ) (c d : Caller) → k % callers ≡ c.number → up ≡ up_octets seed (k + 1) n → pcm ≡ pcm_octets seed (k + 1) n →
+own_posted : (seed callers k n : ℕ) (up pcm : List ℕ) (c d : Caller) → k % callers ≡ c.number → up ≡ up_octets seed (k + 1) n →
+    pcm ≡ pcm_octets seed (k + 1) n →
     ((s : Seat) → Knows seed callers c.number k n (view_of (get_or c.seats.items k s))) →
     MovesSeat (λ v w. GainsPost (next_post c.number up pcm v) v w) k c d → MovesSeat (λ _ w. Knows seed callers c.number k (n + 1) w) k c d
 own_posted seed callers k n up pcm c d own p q all m = record {
@@ -122,11 +130,13 @@ pub on_ok : {A E : Type 0} (P Q : Type 0) (r : Result A E) → (P → Q) → OnO
 on_ok P Q (Ok x) f h = f h
 on_ok P Q (Err e) f h = h
 
-pub own_posted_ok : {A E : Type 0} (r : Result A E) (seed callers k n : ℕ) (up pcm : List ℕ) (c d : Caller) → k % callers ≡ c.number → up ≡ up_octets seed (k + 1) n → pcm ≡ pcm_octets seed (k + 1) n →
+pub own_posted_ok : {A E : Type 0} (r : Result A E) (seed callers k n : ℕ) (up pcm : List ℕ) (c d : Caller) → k % callers ≡ c.number →
+    up ≡ up_octets seed (k + 1) n → pcm ≡ pcm_octets seed (k + 1) n →
     ((s : Seat) → Knows seed callers c.number k n (view_of (get_or c.seats.items k s))) →
     OnOk r (MovesSeat (λ v w. GainsPost (next_post c.number up pcm v) v w) k c d) → OnOk r (MovesSeat (λ _ w. Knows seed callers c.number k (n + 1) w) k c d)
 own_posted_ok r seed callers k n up pcm c d own p q all =
-    on_ok (MovesSeat (λ v w. GainsPost (next_post c.number up pcm v) v w) k c d) (MovesSeat (λ _ w. Knows seed callers c.number k (n + 1) w) k c d) r (own_posted seed callers k n up pcm c d own p q all)
+    on_ok (MovesSeat (λ v w. GainsPost (next_post c.number up pcm v) v w) k c d) (MovesSeat (λ _ w. Knows seed callers c.number k (n + 1) w) k c d) r
+    (own_posted seed callers k n up pcm c d own p q all)
 
 pub always_ok : {A E : Type 0} (P : Type 0) (r : Result A E) → P → OnOk r P
 always_ok P (Ok x) h = h
@@ -154,7 +164,8 @@ pub own_zero : (callers caller k : ℕ) → own_of callers caller k 0 ≡ 0
 own_zero callers caller k = nothing (k % callers == caller)
 
 module _ (seed calls callers caller : ℕ) where
-  behind_as : (f g : ℕ → ℕ) (c : Caller) (gs : List Generator) → ((k : ℕ) → k < calls → f k ≡ g k) → IsBehind seed calls callers caller f c gs → IsBehind seed calls callers caller g c gs
+  behind_as : (f g : ℕ → ℕ) (c : Caller) (gs : List Generator) → ((k : ℕ) → k < calls → f k ≡ g k) → IsBehind seed calls callers caller f c gs →
+      IsBehind seed calls callers caller g c gs
   behind_as f g c gs same b = record {
     number = b.number;
     one_each = b.one_each;
@@ -162,10 +173,12 @@ module _ (seed calls callers caller : ℕ) where
     draws = λ k d h. subst (λ (n : ℕ). IsDrawn seed callers caller k n (get_or gs k d)) (same k h) (b.draws k d h);
   }
 
-  pub round_begins : (n : ℕ) (c : Caller) (gs : List Generator) → IsBehind seed calls callers caller (λ _. n) c gs → IsBehind seed calls callers caller (and_more n 0) c gs
+  pub round_begins : (n : ℕ) (c : Caller) (gs : List Generator) → IsBehind seed calls callers caller (λ _. n) c gs →
+      IsBehind seed calls callers caller (and_more n 0) c gs
   round_begins n c gs b = behind_as (λ _. n) (and_more n 0) c gs (λ k h. sym (more_behind n k 0 (omega arith))) b
 
-  pub round_ends : (n first : ℕ) (c : Caller) (gs : List Generator) → first ≡ calls → IsBehind seed calls callers caller (and_more n first) c gs → IsBehind seed calls callers caller (λ _. n + 1) c gs
+  pub round_ends : (n first : ℕ) (c : Caller) (gs : List Generator) → first ≡ calls → IsBehind seed calls callers caller (and_more n first) c gs →
+      IsBehind seed calls callers caller (λ _. n + 1) c gs
   round_ends n first c gs e b = behind_as (and_more n first) (λ _. n + 1) c gs (λ k h. more_before n k first (omega (arith, h, e))) b
 
   -- the call whose turn it is, by the number that the caller has now
@@ -175,20 +188,23 @@ module _ (seed calls callers caller : ℕ) where
       subst (λ (x : ℕ). Knows seed callers x k n (view_of (get_or c.seats.items k s))) (sym b.number)
       (subst (λ (x : ℕ). Knows seed callers caller k x (view_of (get_or c.seats.items k s))) (more_behind n k k (omega arith)) (b.knows k s there))
 
-  pub drawn_here : (n k : ℕ) (c : Caller) (gs : List Generator) (g : Generator) → k < calls → IsBehind seed calls callers caller (and_more n k) c gs → IsDrawn seed callers c.number k n (get_or gs k g)
+  pub drawn_here : (n k : ℕ) (c : Caller) (gs : List Generator) (g : Generator) → k < calls → IsBehind seed calls callers caller (and_more n k) c gs →
+      IsDrawn seed callers c.number k n (get_or gs k g)
   drawn_here n k c gs g there b =
       subst (λ (x : ℕ). IsDrawn seed callers x k n (get_or gs k g)) (sym b.number)
       (subst (λ (x : ℕ). IsDrawn seed callers caller k x (get_or gs k g)) (more_behind n k k (omega arith)) (b.draws k g there))
 
   pub one_more : (n k : ℕ) (c d : Caller) (gs : List Generator) (h : Generator) → k < calls → IsBehind seed calls callers caller (and_more n k) c gs →
-      MovesSeat (λ _ w. Knows seed callers c.number k (n + 1) w) k c d → IsDrawn seed callers c.number k (n + 1) h → IsBehind seed calls callers caller (and_more n (k + 1)) d (set gs k h)
+      MovesSeat (λ _ w. Knows seed callers c.number k (n + 1) w) k c d → IsDrawn seed callers c.number k (n + 1) h →
+      IsBehind seed calls callers caller (and_more n (k + 1)) d (set gs k h)
   one_more n k c d gs h there b m drawn =
       let last : n + 1 ≡ and_more n (k + 1) k = sym (more_before n k (k + 1) (omega arith)) in record {
         number = m.number ∙ b.number;
         one_each = length-set gs k h ∙ b.one_each;
         knows = λ j s lt. ⊎_elim
             (λ (e : j ≡ k).
-            let now : Knows seed callers caller k (n + 1) (view_of (get_or d.seats.items k s)) = subst (λ (x : ℕ). Knows seed callers x k (n + 1) (view_of (get_or d.seats.items k s))) b.number (m.this s) in
+            let now : Knows seed callers caller k (n + 1) (view_of (get_or d.seats.items k s)) =
+            subst (λ (x : ℕ). Knows seed callers x k (n + 1) (view_of (get_or d.seats.items k s))) b.number (m.this s) in
             subst (λ (i : ℕ). Knows seed callers caller i (and_more n (k + 1) i) (view_of (get_or d.seats.items i s))) (sym e)
             (subst (λ (x : ℕ). Knows seed callers caller k x (view_of (get_or d.seats.items k s))) last now))
             (λ (ne : j ≢ k).
@@ -207,7 +223,8 @@ module _ (seed calls callers caller : ℕ) where
             (cases_eq j k);
       }
 
-  pub posted_all : (n m : ℕ) (c : Caller) (gs : List Generator) → n ≡ m → IsBehind seed calls callers caller (λ _. n) c gs → HasPosted seed calls callers m caller c
+  pub posted_all : (n m : ℕ) (c : Caller) (gs : List Generator) → n ≡ m → IsBehind seed calls callers caller (λ _. n) c gs →
+      HasPosted seed calls callers m caller c
   posted_all n m c gs e b = subst (λ (x : ℕ). HasPosted seed calls callers x caller c) e (record { number = b.number; each = b.knows })
 
   pub first_behind : (c : Caller) (gs : List Generator) → HasPosted seed calls callers 0 caller c → length gs ≡ calls →
@@ -220,13 +237,15 @@ module _ (seed calls callers caller : ℕ) where
   }
 
 -- by the number that the caller has now
-pub renumbered : (seed calls callers caller : ℕ) (f : ℕ → ℕ) (c : Caller) (gs hs : List Generator) → hs ≡ gs → IsBehind seed calls callers caller f c gs → IsBehind seed calls callers c.number f c hs
+pub renumbered : (seed calls callers caller : ℕ) (f : ℕ → ℕ) (c : Caller) (gs hs : List Generator) → hs ≡ gs → IsBehind seed calls callers caller f c gs →
+    IsBehind seed calls callers c.number f c hs
 renumbered seed calls callers caller f c gs hs e b =
     subst (IsBehind seed calls callers c.number f c) (sym e)
     (subst (λ (i : ℕ). IsBehind seed calls callers i f c gs) (sym b.number) b)
 
 -- behind a round, whose generators were lent
-pub after_round : (seed calls callers caller : ℕ) (f g : ℕ → ℕ) (c d : Caller) (before gs : List Generator) (n : ℕ) → n ≡ length before → IsBehind seed calls callers caller f c before →
+pub after_round : (seed calls callers caller : ℕ) (f g : ℕ → ℕ) (c d : Caller) (before gs : List Generator) (n : ℕ) → n ≡ length before →
+    IsBehind seed calls callers caller f c before →
     IsBehind seed calls callers c.number g d gs → IsBehind seed calls callers caller g d (take n (gs ++ drop (length gs) before))
 after_round seed calls callers caller f g c d before gs n long b after =
     let len : length gs ≡ n = after.one_each ∙ sym b.one_each ∙ sym long in

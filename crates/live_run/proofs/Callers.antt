@@ -1,5 +1,6 @@
 -- The callers of a live drill before and after their threads.
-use Rattle.std.proofs.Common.{◌≡◌, ◌≢◌, ℕ, zero, suc, ◌+◌, ◌-◌, ◌<◌, ◌≤◌, Option, Result, Ok, Err, List, [], ◌∷◌, ◌++◌, length, map, take, drop, set, get_or, All, refl, sym, ap, ◌∙◌, subst, ⊎_elim, get_or-set_same, get_or-set_other, arith}
+use Rattle.std.proofs.Common.{◌≡◌, ◌≢◌, ℕ, zero, suc, ◌+◌, ◌-◌, ◌<◌, ◌≤◌, Option, Result, Ok, Err, List, [], ◌∷◌, ◌++◌, length, map, take, drop, set, get_or}
+use Rattle.std.proofs.Common.{All, refl, sym, ap, ◌∙◌, subst, ⊎_elim, get_or-set_same, get_or-set_other, arith}
 use Rattle.std.specs.Prelude.{IfOk, IsTrue}
 use Rattle.std.proofs.Math.ListN.{length-set}
 use Rattle.std.proofs.lemmas.Bool.{cases_eq}
@@ -40,7 +41,8 @@ module _ {Q A : Type 0} (seed calls callers inbox : ℕ) (slots : List (Line Q A
         };
   }
 
-  pub all_ready : (cs : List Caller) (ps qs : List Poster) → ps ≡ map poster_of cs → qs ≡ ps → HavePosted seed calls callers 0 inbox slots cs → (k : ℕ) (p : Poster) → k < length qs →
+  pub all_ready : (cs : List Caller) (ps qs : List Poster) → ps ≡ map poster_of cs → qs ≡ ps → HavePosted seed calls callers 0 inbox slots cs →
+      (k : ℕ) (p : Poster) → k < length qs →
       IsReady seed calls callers inbox slots k (get_or qs k p)
   all_ready cs ps qs made lent have k p h =
       let is : qs ≡ map poster_of cs = lent ∙ made in
@@ -49,7 +51,8 @@ module _ {Q A : Type 0} (seed calls callers inbox : ℕ) (slots : List (Line Q A
       subst (IsReady seed calls callers inbox slots k) (sym one)
       (record { seated = have.seated k p.caller (omega (arith, there, have.count)); posted = have.each k p.caller (omega (arith, there, have.count)) })
 
-  pub all_posted : (n : ℕ) (ps qs : List Poster) (cs : List Caller) → qs ≡ ps → length ps ≡ callers → ((k : ℕ) (p : Poster) → k < length ps → HasEnded seed calls callers n inbox slots k (get_or ps k p)) →
+  pub all_posted : (n : ℕ) (ps qs : List Poster) (cs : List Caller) → qs ≡ ps → length ps ≡ callers →
+      ((k : ℕ) (p : Poster) → k < length ps → HasEnded seed calls callers n inbox slots k (get_or ps k p)) →
       All (λ p. IsTrue p.done) qs → cs ≡ map (λ p. p.caller) qs → HavePosted seed calls callers n inbox slots cs
   all_posted n ps qs cs same count ended done are =
       let caller : Poster → Caller = λ p. p.caller in
@@ -64,19 +67,23 @@ module _ {Q A : Type 0} (seed calls callers inbox : ℕ) (slots : List (Line Q A
       }
 
   -- .. as they are taken out of a list that was lent to the threads
-  pub posters_back : {V E : Type 0} (items_of : V → List Caller) (n : ℕ) (r : Result V E) (lent new before : List Poster) (len : ℕ) → len ≡ length before → lent ≡ before → length new ≡ length lent → length lent ≡ callers →
+  pub posters_back : {V E : Type 0} (items_of : V → List Caller) (n : ℕ) (r : Result V E) (lent new before : List Poster) (len : ℕ) → len ≡ length before →
+      lent ≡ before → length new ≡ length lent → length lent ≡ callers →
       ((k : ℕ) (p : Poster) → k < length lent → IsReady seed calls callers inbox slots k (get_or lent k p)) →
       ((k : ℕ) (p : Poster) → k < length lent → Ends seed calls callers n inbox slots (get_or lent k p) (get_or new k p)) →
-      IfOk r (λ cs. items_of cs ≡ map (λ p. p.caller) (take len (new ++ drop (length new) before))) → IfOk r (λ _. All (λ p. IsTrue p.done) (take len (new ++ drop (length new) before))) →
+      IfOk r (λ cs. items_of cs ≡ map (λ p. p.caller) (take len (new ++ drop (length new) before))) →
+      IfOk r (λ _. All (λ p. IsTrue p.done) (take len (new ++ drop (length new) before))) →
       IfOk r (λ cs. HavePosted seed calls callers n inbox slots (items_of cs))
   posters_back items_of n (Err e) lent new before len long same kept count ready ended are done = tt
   posters_back items_of n (Ok cs) lent new before len long same kept count ready ended are done =
       let all : length new ≡ len = kept ∙ ap length same ∙ sym long in
       let back = written_back new (drop (length new) before) len all in
-      all_posted n new (take len (new ++ drop (length new) before)) (items_of cs) back (kept ∙ count) (λ k p h. let there : k < length lent = omega (arith, h, kept) in (ended k p there).each k (ready k p there)) done are
+      all_posted n new (take len (new ++ drop (length new) before)) (items_of cs) back (kept ∙ count)
+      (λ k p h. let there : k < length lent = omega (arith, h, kept) in (ended k p there).each k (ready k p there)) done are
 
   -- the first of them works the calls to their ends
-  pub first_still : (n : ℕ) (cs : List Caller) (c d : Caller) → 1 ≤ callers → c ≡ get_or cs 0 c → HavePosted seed calls callers n inbox slots cs → IsSeated inbox slots d →
+  pub first_still : (n : ℕ) (cs : List Caller) (c d : Caller) → 1 ≤ callers → c ≡ get_or cs 0 c → HavePosted seed calls callers n inbox slots cs →
+      IsSeated inbox slots d →
       ((i : ℕ) → HasPosted seed calls callers n i c → HasPosted seed calls callers n i d) → HavePosted seed calls callers n inbox slots (set cs 0 d)
   first_still n cs c d some is have seated posted = record {
     count = length-set cs 0 d ∙ have.count;
@@ -86,7 +93,8 @@ module _ {Q A : Type 0} (seed calls callers inbox : ℕ) (slots : List (Line Q A
         (cases_eq i 0);
     each = λ i x h. ⊎_elim
         (λ (e : i ≡ 0). subst (λ (j : ℕ). HasPosted seed calls callers n j (get_or (set cs 0 d) j x)) (sym e)
-        (subst (HasPosted seed calls callers n 0) (sym (here x)) (posted 0 (subst (HasPosted seed calls callers n 0) (sym is) (have.each 0 c (omega (arith, some)))))))
+        (subst (HasPosted seed calls callers n 0) (sym (here x))
+        (posted 0 (subst (HasPosted seed calls callers n 0) (sym is) (have.each 0 c (omega (arith, some)))))))
         (λ (ne : i ≢ 0). subst (HasPosted seed calls callers n i) (sym (get_or-set_other cs 0 i d x ne)) (have.each i x h))
         (cases_eq i 0);
   }
@@ -94,13 +102,15 @@ module _ {Q A : Type 0} (seed calls callers inbox : ℕ) (slots : List (Line Q A
       here : (x : Caller) → get_or (set cs 0 d) 0 x ≡ d
       here x = let count = have.count in get_or-set_same cs 0 d x (omega (arith, count, some))
 
-  pub first_seated : (n : ℕ) (cs : List Caller) (c : Caller) → 1 ≤ callers → c ≡ get_or cs 0 c → HavePosted seed calls callers n inbox slots cs → IsSeated inbox slots c
+  pub first_seated : (n : ℕ) (cs : List Caller) (c : Caller) → 1 ≤ callers → c ≡ get_or cs 0 c → HavePosted seed calls callers n inbox slots cs →
+      IsSeated inbox slots c
   first_seated n cs c some is have = subst (IsSeated inbox slots) (sym is) (have.seated 0 c (omega (arith, some)))
 
   pub all_seated : (n : ℕ) (cs : List Caller) → HavePosted seed calls callers n inbox slots cs → AreAllSeated inbox slots cs
   all_seated n cs have = λ i c h. have.seated i c (omega (arith, h, have.count))
 
-  pub ending : (n : ℕ) (cs : List Caller) (d : Caller) (k : ℕ) → 1 ≤ callers → callers ≤ 64 → 1 ≤ n → length slots ≡ calls → HavePosted seed calls callers n inbox slots cs →
+  pub ending : (n : ℕ) (cs : List Caller) (d : Caller) (k : ℕ) → 1 ≤ callers → callers ≤ 64 → 1 ≤ n → length slots ≡ calls →
+      HavePosted seed calls callers n inbox slots cs →
       SawAll callers (n - 1) calls (get_or cs 0 d) → k < calls → Ending seed calls callers n cs d k
   ending n cs d k some few periods count have saw there = record {
     some_callers = some;
@@ -116,6 +126,7 @@ module _ {Q A : Type 0} (seed calls callers inbox : ℕ) (slots : List (Line Q A
 pub at_first : (cs : List Caller) (d : Caller) → 0 < length cs → get_or (set cs 0 d) 0 d ≡ d
 at_first cs d some = get_or-set_same cs 0 d d some
 
-pub text_is : {V E : Type 0} (bytes : V → List ℕ) (r : Result V E) (xs ys last : List ℕ) → xs ≡ ys → IfOk r (λ t. bytes t ≡ xs ++ last) → IfOk r (λ t. bytes t ≡ ys ++ last)
+pub text_is : {V E : Type 0} (bytes : V → List ℕ) (r : Result V E) (xs ys last : List ℕ) → xs ≡ ys → IfOk r (λ t. bytes t ≡ xs ++ last) →
+    IfOk r (λ t. bytes t ≡ ys ++ last)
 text_is bytes (Ok t) xs ys last e told = told ∙ ap (λ (zs : List ℕ). zs ++ last) e
 text_is bytes (Err f) xs ys last e told = tt

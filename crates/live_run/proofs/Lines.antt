@@ -1,5 +1,6 @@
 -- The lines of closed calls are those of the calls as a whole.
-use Rattle.std.proofs.Common.{◌≡◌, ℕ, zero, suc, ◌+◌, ◌*◌, ◌%◌, ◌<◌, ◌≤◌, Bool, true, false, List, [], ◌∷◌, ◌++◌, length, map, replicate, get_or, reverse, All, refl, sym, ap, ◌∙◌, subst, arith}
+use Rattle.std.proofs.Common.{◌≡◌, ℕ, zero, suc, ◌+◌, ◌*◌, ◌%◌, ◌<◌, ◌≤◌, Bool, true, false, List, [], ◌∷◌, ◌++◌, length, map, replicate, get_or, reverse, All}
+use Rattle.std.proofs.Common.{refl, sym, ap, ◌∙◌, subst, arith}
 use Rattle.std.specs.Prelude.{nat_lt, if◌then◌else◌}
 use Rattle.std.specs.List.{range_with_len, flat_map}
 use Rattle.std.proofs.lemmas.List.{length-replicate}
@@ -43,18 +44,21 @@ length-saying seed call period =
 length-up : (seed call period : ℕ) → length (up_octets seed call period) ≡ 40
 unfolding up_octets
 length-up seed call period =
-    long_if (nat_lt (draw seed call (first_draw period)) 250) (octets_of (bits_saying (frame_drawn seed call period))) (replicate 40 0) 40 (length-saying seed call period) (length-replicate {A = ℕ} 40 0)
+    long_if (nat_lt (draw seed call (first_draw period)) 250) (octets_of (bits_saying (frame_drawn seed call period))) (replicate 40 0) 40
+    (length-saying seed call period) (length-replicate {A = ℕ} 40 0)
 
 length-pcm : (seed call period : ℕ) → length (pcm_octets seed call period) ≡ 160
 unfolding pcm_octets
 length-pcm seed call period =
-    long_if (is_loud period) (draws seed call (first_loud_draw period) 160) (replicate 160 213) 160 (length-map-range_with_len (draw seed call) (first_loud_draw period) 160) (length-replicate {A = ℕ} 160 213)
+    long_if (is_loud period) (draws seed call (first_loud_draw period) 160) (replicate 160 213) 160
+    (length-map-range_with_len (draw seed call) (first_loud_draw period) 160) (length-replicate {A = ℕ} 160 213)
 
 drawn_sized : (seed caller call n : ℕ) → ArePosts (drawn_posts seed caller call n)
 unfolding drawn_posts
 drawn_sized seed caller call n = λ k d h.
     let is : get_or (map (drawn_post seed caller call) (range_with_len 0 n)) k d ≡ drawn_post seed caller call k =
-    get_or-map-range_with_len (drawn_post seed caller call) 0 n k k d (omega (arith, h, length-map-range_with_len (drawn_post seed caller call) 0 n)) (omega arith) in
+    get_or-map-range_with_len (drawn_post seed caller call) 0 n k k d (omega (arith, h, length-map-range_with_len (drawn_post seed caller call) 0 n))
+    (omega arith) in
     subst (λ (p : Post). (length p.up ≡ 40) × (length p.pcm ≡ 160)) (sym is) (length-up seed call k, length-pcm seed call k)
 
 -- the call of the drawn posts is the one of the drawn lines
@@ -72,9 +76,11 @@ drawn_call seed caller call n =
 -- the law, as the function of that name says it
 pub record WholeLaw : Type 0 where
   pub out : (call : ℕ) (es : List Entry) → ArePosts (map (λ e. e.post) es) → IsLegal call es → outs_of es ≡ out (call_of_posts call (map (λ e. e.post) es))
-  pub down : (call : ℕ) (es : List Entry) → ArePosts (map (λ e. e.post) es) → IsLegal call es → bits_of (downs_of es) ≡ down (call_of_posts call (map (λ e. e.post) es))
+  pub down : (call : ℕ) (es : List Entry) → ArePosts (map (λ e. e.post) es) → IsLegal call es →
+      bits_of (downs_of es) ≡ down (call_of_posts call (map (λ e. e.post) es))
 
-line_is : WholeLaw → (seed n caller call : ℕ) (d : Closed) → d.call ≡ call → IsLegal call d.entries.items → map (λ e. e.post) d.entries.items ≡ drawn_posts seed caller call n → closed_line d ≡ live_line seed n call
+line_is : WholeLaw → (seed n caller call : ℕ) (d : Closed) → d.call ≡ call → IsLegal call d.entries.items →
+    map (λ e. e.post) d.entries.items ≡ drawn_posts seed caller call n → closed_line d ≡ live_line seed n call
 unfolding closed_line live_line
 line_is law seed n caller call d number legal posts =
     let es = d.entries.items in
@@ -84,7 +90,8 @@ line_is law seed n caller call d number legal posts =
     let downs : octets_of (bits_of (downs_of es)) ≡ octets_of (down (live_call seed n call)) = ap octets_of (law.down call es sized legal ∙ ap down whole) in
     λ i. sum_line (number i) (outs i) (downs i)
 
-same_lines : {X : Type 0} (f : X → List ℕ) (g : ℕ → List ℕ) (a : ℕ) (xs : List X) → ((k : ℕ) (d : X) → k < length xs → f (get_or xs k d) ≡ g (a + k)) → flat_map f xs ≡ flat_map g (range_with_len a (length xs))
+same_lines : {X : Type 0} (f : X → List ℕ) (g : ℕ → List ℕ) (a : ℕ) (xs : List X) → ((k : ℕ) (d : X) → k < length xs → f (get_or xs k d) ≡ g (a + k)) →
+    flat_map f xs ≡ flat_map g (range_with_len a (length xs))
 same_lines f g a [] each = refl
 same_lines f g a (x ∷ xs) each =
     let first : f x ≡ g a = each 0 x (omega arith) ∙ (let e : a + 0 ≡ a = omega arith in ap g e) in
@@ -92,7 +99,8 @@ same_lines f g a (x ∷ xs) each =
     λ i. first i ++ rest i
 
 -- all calls are closed, each by what all callers know of it
-pub lines_are : WholeLaw → (seed calls callers n : ℕ) (cs : List Caller) (c : Caller) (ds : List Closed) → ((k : ℕ) → k < calls → Ending seed calls callers n cs c k) → AreClosed calls (reverse cs) ds →
+pub lines_are : WholeLaw → (seed calls callers n : ℕ) (cs : List Caller) (c : Caller) (ds : List Closed) →
+    ((k : ℕ) → k < calls → Ending seed calls callers n cs c k) → AreClosed calls (reverse cs) ds →
     flat_map closed_line ds ≡ flat_map (live_line seed n) (range_with_len 1 calls)
 lines_are law seed calls callers n cs c ds ending closed =
     same_lines closed_line (live_line seed n) 1 ds

@@ -1,5 +1,6 @@
 -- What a caller's functions leave of what it knows of a call.
-use Rattle.std.proofs.Common.{◌≡◌, ◌≢◌, ℕ, ◌+◌, ◌-◌, ◌<◌, List, [], ◌∷◌, ◌++◌, length, get_or, find, Result, Ok, Err, refl, sym, ap, ◌∙◌, subst, append-nil, arith}
+use Rattle.std.proofs.Common.{◌≡◌, ◌≢◌, ℕ, ◌+◌, ◌-◌, ◌<◌, List, [], ◌∷◌, ◌++◌, length, get_or, find, Result, Ok, Err, refl, sym, ap, ◌∙◌, subst, append-nil}
+use Rattle.std.proofs.Common.{arith}
 use Rattle.farm_live.specs.declared.post.Post.{Post}
 use Rattle.farm_live.specs.declared.post.Entry.{Entry}
 use Rattle.farm_live.specs.declared.slot.View.{View}
@@ -27,9 +28,14 @@ by_index P k a b t =
     }
 
 pub moves_map : (P Q : View → View → Type 0) (k : ℕ) (a b : Caller) → ((v w : View) → P v w → Q v w) → MovesSeat P k a b → MovesSeat Q k a b
-moves_map P Q k a b f m = record { number = m.number; this = λ s. f (view_of (get_or a.seats.items k s)) (view_of (get_or b.seats.items k s)) (m.this s); others = m.others }
+moves_map P Q k a b f m = record {
+  number = m.number;
+  this = λ s. f (view_of (get_or a.seats.items k s)) (view_of (get_or b.seats.items k s)) (m.this s);
+  others = m.others;
+}
 
-pub moves_then : (P Q R : View → View → Type 0) (k : ℕ) (a b c : Caller) → ((u v w : View) → P u v → Q v w → R u w) → MovesSeat P k a b → MovesSeat Q k b c → MovesSeat R k a c
+pub moves_then : (P Q R : View → View → Type 0) (k : ℕ) (a b c : Caller) → ((u v w : View) → P u v → Q v w → R u w) → MovesSeat P k a b → MovesSeat Q k b c →
+    MovesSeat R k a c
 moves_then P Q R k a b c f m n = record {
   number = n.number ∙ m.number;
   this = λ s. f (view_of (get_or a.seats.items k s)) (view_of (get_or b.seats.items k s)) (view_of (get_or c.seats.items k s)) (m.this s) (n.this s);
@@ -79,14 +85,16 @@ found_saw of number e v w a = (w.taken, e, a.0.seen, a.1)
 
 -- ---- a post after the call was worked
 
-pub gains_then : (caller : ℕ) (up pcm : List ℕ) (u v w : View) → IsSameView u v → GainsPost (next_post caller up pcm v) v w → GainsPost (next_post caller up pcm u) u w
+pub gains_then : (caller : ℕ) (up pcm : List ℕ) (u v w : View) → IsSameView u v → GainsPost (next_post caller up pcm v) v w →
+    GainsPost (next_post caller up pcm u) u w
 gains_then caller up pcm u v w s g = record {
   made = g.made ∙ ap (λ (ms : List Post). ms ++ record { caller = caller; number = length (of_caller caller ms); up = up; pcm = pcm } ∷ []) s.made;
   callers = g.callers ∙ s.callers;
 }
 
 -- the call has as few posts as before
-pub few_still : (k : ℕ) (a b : Caller) (n : ℕ) → MovesSeat IsSameView k a b → ((s : Seat) → length (view_of (get_or a.seats.items k s)).made < n) → (s : Seat) → length (view_of (get_or b.seats.items (k + 1 - 1) s)).made < n
+pub few_still : (k : ℕ) (a b : Caller) (n : ℕ) → MovesSeat IsSameView k a b → ((s : Seat) → length (view_of (get_or a.seats.items k s)).made < n) → (s : Seat) →
+    length (view_of (get_or b.seats.items (k + 1 - 1) s)).made < n
 few_still k a b n m few s =
     let e : k + 1 - 1 ≡ k = omega arith in
     subst (λ (j : ℕ). length (view_of (get_or b.seats.items j s)).made < n) (sym e)
@@ -94,30 +102,36 @@ few_still k a b n m few s =
 
 -- ---- a turn of the loop in which a caller posts
 
-pub post_accepted : (k n : ℕ) (up pcm : List ℕ) (a b c : Caller) → MovesSeat IsSameView k a b → Turns (λ v w. HasAnswered (next_post b.number up pcm v) v w (Ok n)) (k + 1) b c →
+pub post_accepted : (k n : ℕ) (up pcm : List ℕ) (a b c : Caller) → MovesSeat IsSameView k a b →
+    Turns (λ v w. HasAnswered (next_post b.number up pcm v) v w (Ok n)) (k + 1) b c →
     MovesSeat (λ v w. GainsPost (next_post a.number up pcm v) v w) k a c
 post_accepted k n up pcm a b c stays answer =
     let P : View → View → Type 0 = λ v w. HasAnswered (next_post b.number up pcm v) v w (Ok n) in
     let Q : View → View → Type 0 = λ v w. GainsPost (next_post b.number up pcm v) v w in
     let now : MovesSeat Q k b c = moves_map P Q k b c (accepted_gains (λ (v : View). next_post b.number up pcm v) n) (by_index P k b c answer) in
-    let now' : MovesSeat (λ v w. GainsPost (next_post a.number up pcm v) v w) k b c = subst (λ (m : ℕ). MovesSeat (λ v w. GainsPost (next_post m up pcm v) v w) k b c) stays.number now in
+    let now' : MovesSeat (λ v w. GainsPost (next_post a.number up pcm v) v w) k b c =
+    subst (λ (m : ℕ). MovesSeat (λ v w. GainsPost (next_post m up pcm v) v w) k b c) stays.number now in
     let R : View → View → Type 0 = λ v w. GainsPost (next_post a.number up pcm v) v w in
     moves_then IsSameView R R k a b c (gains_then a.number up pcm) stays now'
 
-pub post_refused : (k : ℕ) (up pcm : List ℕ) (f : PostFault) (a b c d : Caller) → MovesSeat IsSameView k a b → Turns (λ v w. HasAnswered (next_post b.number up pcm v) v w (Err f)) (k + 1) b c →
+pub post_refused : (k : ℕ) (up pcm : List ℕ) (f : PostFault) (a b c d : Caller) → MovesSeat IsSameView k a b →
+    Turns (λ v w. HasAnswered (next_post b.number up pcm v) v w (Err f)) (k + 1) b c →
     MovesSeat IsSameView k c d → MovesSeat IsSameView k a d
 post_refused k up pcm f a b c d stays answer after =
     let P : View → View → Type 0 = λ v w. HasAnswered (next_post b.number up pcm v) v w (Err f) in
-    stays_on k a b d stays (stays_on k b c d (moves_map P IsSameView k b c (refused_stays (λ (v : View). next_post b.number up pcm v) f) (by_index P k b c answer)) after)
+    stays_on k a b d stays (stays_on k b c d
+    (moves_map P IsSameView k b c (refused_stays (λ (v : View). next_post b.number up pcm v) f) (by_index P k b c answer)) after)
 
 -- ---- .. and of the one in which it looks for a post
 
-pub look_on : (k of number : ℕ) (l : Look) (a b c : Caller) → MovesSeat IsSameView k a b → Turns (λ v w. HasLooked of number v w l) (k + 1) b c → MovesSeat IsSameView k a c
+pub look_on : (k of number : ℕ) (l : Look) (a b c : Caller) → MovesSeat IsSameView k a b → Turns (λ v w. HasLooked of number v w l) (k + 1) b c →
+    MovesSeat IsSameView k a c
 look_on k of number l a b c stays answer =
     let P : View → View → Type 0 = λ v w. HasLooked of number v w l in
     stays_on k a b c stays (moves_map P IsSameView k b c (looked_stays of number l) (by_index P k b c answer))
 
-pub look_found : (k of number : ℕ) (e : Entry) (b c : Caller) → Turns (λ v w. HasLooked of number v w (look.Found e)) (k + 1) b c → (s : Seat) → Saw of number (view_of (get_or c.seats.items k s))
+pub look_found : (k of number : ℕ) (e : Entry) (b c : Caller) → Turns (λ v w. HasLooked of number v w (look.Found e)) (k + 1) b c → (s : Seat) →
+    Saw of number (view_of (get_or c.seats.items k s))
 look_found k of number e b c answer s =
     let P : View → View → Type 0 = λ v w. HasLooked of number v w (look.Found e) in
     found_saw of number e (view_of (get_or b.seats.items k s)) (view_of (get_or c.seats.items k s)) ((by_index P k b c answer).this s)

@@ -1,5 +1,6 @@
 -- A legal history, and the call as a whole.
-use Rattle.std.proofs.Common.{◌≡◌, ℕ, suc, ◌+◌, ◌<◌, false, None, List, [], ◌∷◌, ◌++◌, length, map, replicate, reverse, All, refl, sym, ap, ◌∙◌, subst, append_assoc, append-nil, arith}
+use Rattle.std.proofs.Common.{◌≡◌, ℕ, suc, ◌+◌, ◌<◌, false, None, List, [], ◌∷◌, ◌++◌, length, map, replicate, reverse, All, refl, sym, ap, ◌∙◌, subst}
+use Rattle.std.proofs.Common.{append_assoc, append-nil, arith}
 use Rattle.std.specs.List.{flat_map}
 use Rattle.std.proofs.lemmas.Bool.{true≢false}
 use Rattle.std.proofs.lemmas.List.Elements.{All-nil, All-cons, All-head, All-tail}
@@ -61,7 +62,8 @@ plain_after : (ts : List CallPeriod) (es : List Entry) → ArePosts (posts_of es
 plain_after ts [] sized h = h
 plain_after ts (e ∷ es) sized h =
     let first = All-head (λ p. (length p.up ≡ 40) × (length p.pcm ≡ 160)) e.post (posts_of es) sized in
-    plain_after (period_of e.post ∷ ts) es (All-tail (λ p. (length p.up ≡ 40) × (length p.pcm ≡ 160)) e.post (posts_of es) sized) (plain_more ts e.post first.0 first.1 h)
+    plain_after (period_of e.post ∷ ts) es (All-tail (λ p. (length p.up ≡ 40) × (length p.pcm ≡ 160)) e.post (posts_of es) sized)
+    (plain_more ts e.post first.0 first.1 h)
 
 no_periods : IsCallHistory []
 no_periods = record { ups = All-nil (λ (t : CallPeriod). length t.up ≡ 40); pcms = All-nil (λ (t : CallPeriod). length t.pcm ≡ 160); bridges = tt }
@@ -74,10 +76,12 @@ outs_after who ts (e ∷ es) legal =
     outs_after who (period_of e.post ∷ ts) es legal.2 ∙ append_assoc (out_line who ts) (out_of who (period_of e.post ∷ ts)) (outs_of es)
     ∙ ap (λ (xs : List ℕ). out_line who ts ++ (xs ++ outs_of es)) (sym legal.0)
 
-downs_after : (who : Who) (ts : List CallPeriod) (es : List Entry) → IsWorkedFrom who ts es → down_line who (periods_after ts es) ≡ down_line who ts ++ flat_map (λ e. bits_of e.down) es
+downs_after : (who : Who) (ts : List CallPeriod) (es : List Entry) → IsWorkedFrom who ts es →
+    down_line who (periods_after ts es) ≡ down_line who ts ++ flat_map (λ e. bits_of e.down) es
 downs_after who ts [] legal = sym (append-nil (down_line who ts))
 downs_after who ts (e ∷ es) legal =
-    downs_after who (period_of e.post ∷ ts) es legal.2 ∙ append_assoc (down_line who ts) (down_now who (period_of e.post ∷ ts)) (flat_map (λ e. bits_of e.down) es)
+    downs_after who (period_of e.post ∷ ts) es legal.2
+    ∙ append_assoc (down_line who ts) (down_now who (period_of e.post ∷ ts)) (flat_map (λ e. bits_of e.down) es)
     ∙ ap (λ (xs : List ℕ). down_line who ts ++ (xs ++ flat_map (λ e. bits_of e.down) es)) (sym legal.1)
 
 no_bits : bits_of [] ≡ []
@@ -91,8 +95,12 @@ bits_after (e ∷ es) = bits_of-append e.down (downs_of es) ∙ ap (λ (xs : Lis
 -- ---- the law
 
 module _ (call : ℕ) (es : List Entry) (sized : ArePosts (posts_of es)) (legal : IsLegal call es) where
-  pub out_whole : ((who : Who) (ts : List CallPeriod) → IsCallHistory ts → out_line who ts ≡ out (call_of_history who ts)) → outs_of es ≡ out (call_of_posts call (posts_of es))
-  out_whole same = sym (outs_after (who_at call) [] es legal) ∙ same (who_at call) (periods_after [] es) (plain_after [] es sized no_periods) ∙ ap out (call_is call es)
+  pub out_whole : ((who : Who) (ts : List CallPeriod) → IsCallHistory ts → out_line who ts ≡ out (call_of_history who ts)) →
+      outs_of es ≡ out (call_of_posts call (posts_of es))
+  out_whole same = sym (outs_after (who_at call) [] es legal) ∙ same (who_at call) (periods_after [] es) (plain_after [] es sized no_periods)
+      ∙ ap out (call_is call es)
 
-  pub down_whole : ((who : Who) (ts : List CallPeriod) → IsCallHistory ts → down_line who ts ≡ down (call_of_history who ts)) → bits_of (downs_of es) ≡ down (call_of_posts call (posts_of es))
-  down_whole same = bits_after es ∙ sym (downs_after (who_at call) [] es legal) ∙ same (who_at call) (periods_after [] es) (plain_after [] es sized no_periods) ∙ ap down (call_is call es)
+  pub down_whole : ((who : Who) (ts : List CallPeriod) → IsCallHistory ts → down_line who ts ≡ down (call_of_history who ts)) →
+      bits_of (downs_of es) ≡ down (call_of_posts call (posts_of es))
+  down_whole same = bits_after es ∙ sym (downs_after (who_at call) [] es legal) ∙ same (who_at call) (periods_after [] es) (plain_after [] es sized no_periods)
+      ∙ ap down (call_is call es)

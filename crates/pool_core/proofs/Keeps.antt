@@ -1,12 +1,14 @@
 -- What the machine keeps at each step.
-use Rattle.std.proofs.Common.{◌≡◌, refl, sym, ap, ◌∙◌, subst, ℕ, zero, suc, ◌+◌, ◌<◌, ◌≤◌, Bool, true, false, Option, Some, None, List, [], ◌∷◌, ◌++◌, length, get_or, set, arith, inl, inr}
+use Rattle.std.proofs.Common.{◌≡◌, refl, sym, ap, ◌∙◌, subst, ℕ, zero, suc, ◌+◌, ◌<◌, ◌≤◌, Bool, true, false, Option, Some, None, List, [], ◌∷◌, ◌++◌, length}
+use Rattle.std.proofs.Common.{get_or, set, arith, inl, inr}
 use Rattle.std.specs.Prelude.{nat_lt, if◌then◌else◌, not, ◌&&◌, ◌==◌, is_none, IfSome}
 use Rattle.std.proofs.lemmas.Bool.{and_parts, ltb-true, cases_eq, cases_lt}
 use Rattle.std.proofs.lemmas.List.{length-set, length-append, get_or-set_same, get_or-set_other}
 use Rattle.std.proofs.lemmas.List.Sums.{sum_by-set, sum_by-append, sum_by-cons}
 use Rattle.pool_core.specs.declared.step.PoolStep.{PoolStep}
 use Rattle.pool_core.specs.declared.step.PoolStep.TheVariants.{Pop, Steal, Run, Push, Finish}
-use Rattle.pool_core.specs.Machine.{PoolState, deque, hand, is_worker, is_empty, can_take, is_under_way, is_complete, is_legal, taken, run, pushed, completed, moved, stepped, is_job, times_in, in_hand, fills, TakesJob, IsState}
+use Rattle.pool_core.specs.Machine.{PoolState, deque, hand, is_worker, is_empty, can_take, is_under_way, is_complete, is_legal, taken, run, pushed, completed}
+use Rattle.pool_core.specs.Machine.{moved, stepped, is_job, times_in, in_hand, fills, TakesJob, IsState}
 
 -- one item more
 pub times_more : (job : ℕ) (xs : List ℕ) (x : ℕ) → times_in job (xs ++ x ∷ []) ≡ times_in job xs + is_job job x

@@ -1,11 +1,13 @@
 -- Whole lists of steps from the start.
-use Rattle.std.proofs.Common.{◌≡◌, refl, sym, ap, ◌∙◌, subst, ℕ, ◌+◌, ◌<◌, min, Bool, true, false, Option, Some, None, List, [], ◌∷◌, ◌++◌, length, get_or, set, arith, inl, inr}
+use Rattle.std.proofs.Common.{◌≡◌, refl, sym, ap, ◌∙◌, subst, ℕ, ◌+◌, ◌<◌, min, Bool, true, false, Option, Some, None, List, [], ◌∷◌, ◌++◌, length, get_or, set}
+use Rattle.std.proofs.Common.{arith, inl, inr}
 use Rattle.std.specs.Prelude.{◌&&◌, if◌then◌else◌}
 use Rattle.std.proofs.lemmas.Bool.{eq-eqb, ne_eqb, cases_eq}
 use Rattle.std.proofs.lemmas.List.{get_or-set_same, get_or-set_other}
 use Rattle.pool_core.specs.declared.step.PoolStep.{PoolStep}
 use Rattle.pool_core.specs.declared.step.PoolStep.TheVariants.{Pop, Steal, Run, Push, Finish}
-use Rattle.pool_core.specs.Machine.{PoolState, pool_start, len, place, deque, hand, is_legal, taken, run, pushed, completed, moved, stepped, holds_job, times_in_all, IsState}
+use Rattle.pool_core.specs.Machine.{PoolState, pool_start, len, place, deque, hand, is_legal, taken, run, pushed, completed, moved, stepped, holds_job}
+use Rattle.pool_core.specs.Machine.{times_in_all, IsState}
 use Rattle.pool_core.specs.Steps.{after, step_periods, runs}
 use Rattle.pool_core.proofs.Keeps.{stepped_keeps}
 use Rattle.pool_core.proofs.Start.{start_state, zero_at}

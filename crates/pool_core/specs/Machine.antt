@@ -1,5 +1,6 @@
 -- The pool machine: jobs, deques, hands and places.
-use Rattle.std.specs.Prelude.{◌≡◌, ◌<◌, ◌≤◌, IfSome, ℕ, ◌+◌, ◌%◌, min, Bool, true, false, not, ◌&&◌, if◌then◌else◌, ◌==◌, nat_lt, Option, Some, None, is_none, Result, Ok, Err, List, [], ◌∷◌, ◌++◌, length, map, filter, replicate}
+use Rattle.std.specs.Prelude.{◌≡◌, ◌<◌, ◌≤◌, IfSome, ℕ, ◌+◌, ◌%◌, min, Bool, true, false, not, ◌&&◌, if◌then◌else◌, ◌==◌, nat_lt, Option, Some, None, is_none}
+use Rattle.std.specs.Prelude.{Result, Ok, Err, List, [], ◌∷◌, ◌++◌, length, map, filter, replicate}
 use Rattle.std.specs.List.{range_with_len, sum_by}
 use Rattle.std.proofs.Common.{get_or, set}
 use Rattle.pool_core.specs.declared.step.PoolStep.{PoolStep}

@@ -1,11 +1,13 @@
 //! The pool: a state of the machine.
 
-ghost use Rattle.std.specs.Prelude.{◌≡◌, ◌↔◌, ℕ, ◌<◌, ◌≤◌, min, true, None, List, ◌∷◌, [], ◌++◌, length, replicate, IfOk, IfSome, IsNone, IsTrue, OnErr, vec_capacity};
+ghost use Rattle.std.specs.Prelude.{◌≡◌, ◌↔◌, ℕ, ◌<◌, ◌≤◌, min, true, None, List, ◌∷◌, [], ◌++◌, length, replicate, IfOk, IfSome, IsNone, IsTrue, OnErr};
+ghost use Rattle.std.specs.Prelude.{vec_capacity};
 ghost use Rattle.std.specs.List.{Contains};
 ghost use Rattle.std.proofs.Common.{get_or};
 ghost use Rattle.pool_core.specs.declared.step.PoolStep.{PoolStep as OneStep};
 ghost use Rattle.pool_core.specs.declared.pool.Waiting.{Waiting as OneWaiting};
-ghost use Rattle.pool_core.specs.Machine.{pool_start, dealt, place, deque, hand, is_worker, can_take, is_under_way, is_complete, is_legal, TakesJob, taken, run, pushed, completed, moved, stepped, answer_of, all_done};
+ghost use Rattle.pool_core.specs.Machine.{pool_start, dealt, place, deque, hand, is_worker, can_take, is_under_way, is_complete, is_legal, TakesJob, taken};
+ghost use Rattle.pool_core.specs.Machine.{run, pushed, completed, moved, stepped, answer_of, all_done};
 ghost use Rattle.pool_core.specs.Steps.{after, runs};
 ghost use Rattle.pool_core.specs.Waiting.{jobs_of, IsFront};
 

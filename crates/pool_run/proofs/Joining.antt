@@ -1,5 +1,6 @@
 -- The joins of the passes.
-use Rattle.std.proofs.Common.{◌≡◌, ◌≢◌, ℕ, ◌+◌, ◌<◌, List, [], ◌∷◌, ◌++◌, length, All, set, get_or, get_or-set_same, get_or-set_other, Option, None, Some, IfSome, sym, ap, ◌∙◌, subst, ⊎_elim, arith, add-one, length-append}
+use Rattle.std.proofs.Common.{◌≡◌, ◌≢◌, ℕ, ◌+◌, ◌<◌, List, [], ◌∷◌, ◌++◌, length, All, set, get_or, get_or-set_same, get_or-set_other, Option, None, Some}
+use Rattle.std.proofs.Common.{IfSome, sym, ap, ◌∙◌, subst, ⊎_elim, arith, add-one, length-append}
 use Rattle.std.specs.Global.{Global, Vec}
 use Rattle.std.proofs.lemmas.Bool.{cases_eq}
 use Rattle.std.specs.Option.{option_to_list}

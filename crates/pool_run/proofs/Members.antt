@@ -1,5 +1,6 @@
 -- What a worker's steps keep.
-use Rattle.std.proofs.Common.{◌≡◌, ◌≢◌, ℕ, ◌+◌, ◌<◌, List, [], ◌∷◌, ◌++◌, length, map, All, set, get_or, sym, refl, ap, ◌∙◌, subst, ⊎_elim, arith, Option, None, Some, MatchOption, Result, Ok, Err, MatchResult, get_or-set_same, get_or-set_other}
+use Rattle.std.proofs.Common.{◌≡◌, ◌≢◌, ℕ, ◌+◌, ◌<◌, List, [], ◌∷◌, ◌++◌, length, map, All, set, get_or, sym, refl, ap, ◌∙◌, subst, ⊎_elim, arith, Option, None}
+use Rattle.std.proofs.Common.{Some, MatchOption, Result, Ok, Err, MatchResult, get_or-set_same, get_or-set_other}
 use Rattle.std.specs.Global.{Global, Vec}
 use Rattle.std.specs.Result.{result_err}
 use Rattle.std.proofs.Math.ListN.{length-set}

@@ -25,7 +25,8 @@ pub(crate) fn finish_all<W: Work, G: Gate>(
     requires ended { All (IsEnded W.finish) finished.old.items }
     requires room { vec_len finished.old + all_given W.finish (λ _. 1) members.items ≤ all_obtained (λ _. 1) members.items + vec_capacity finished.old }
     ensures ended { All (IsEnded W.finish) finished.new.items }
-    ensures entries { (h : _) → weigh h (map (entry_of W.finish) finished.new.items) + all_obtained h members.items ≡ weigh h (map (entry_of W.finish) finished.old.items) + all_given W.finish h members.items }
+    ensures entries { (h : _) → weigh h (map (entry_of W.finish) finished.new.items) + all_obtained h members.items
+        ≡ weigh h (map (entry_of W.finish) finished.old.items) + all_given W.finish h members.items }
 {
     for member in members {
         let Member {
@@ -58,9 +59,11 @@ fn drain<W: Work, G: Gate>(own: &mut Owner<W>, finished: &mut Vec<Task<W>>, slic
     requires all { (worker_view own.old).parts ≡ 1024 }
     requires covered { IsCovered (worker_view own.old) }
     requires ended { All (IsEnded W.finish) finished.old.items }
-    requires room { vec_len finished.old + weigh (λ _. 1) (worker_view own.old).pushed ≤ weigh (λ _. 1) (worker_view own.old).obtained + vec_capacity finished.old }
+    requires room { vec_len finished.old + weigh (λ _. 1) (worker_view own.old).pushed
+        ≤ weigh (λ _. 1) (worker_view own.old).obtained + vec_capacity finished.old }
     ensures ended { All (IsEnded W.finish) finished.new.items }
-    ensures entries { (h : _) → weigh h (map (entry_of W.finish) finished.new.items) + weigh h (worker_view own.old).obtained ≡ weigh h (map (entry_of W.finish) finished.old.items) + weigh h (worker_view own.old).pushed }
+    ensures entries { (h : _) → weigh h (map (entry_of W.finish) finished.new.items) + weigh h (worker_view own.old).obtained
+        ≡ weigh h (map (entry_of W.finish) finished.old.items) + weigh h (worker_view own.old).pushed }
     ensures room { vec_capacity finished.new ≡ vec_capacity finished.old }
 {
     while let Some(task) = pop_left(own) {

@@ -10,7 +10,8 @@
 //! Definitions: `specs/Deque.antt`.
 
 ghost use Rattle.std.specs.Prelude.{◌≡◌, ◌+◌, ◌-◌, ◌<◌, ◌≤◌, [], ◌∷◌, ◌++◌, IfOk, MatchResult, MatchOption};
-ghost use Rattle.crossbeam_deque.specs.Handles.{view, IsPassOf, worker_deque, stealer_deque, worker_flavor, stealer_flavor, worker_view, worker_index, worker_capacity, SameWorker};
+ghost use Rattle.crossbeam_deque.specs.Handles.{view, IsPassOf, worker_deque, stealer_deque, worker_flavor, stealer_flavor, worker_view, worker_index};
+ghost use Rattle.crossbeam_deque.specs.Handles.{worker_capacity, SameWorker};
 ghost use Rattle.crossbeam_deque.specs.Steals.{MatchSteal};
 ghost use Rattle.pool_run.specs.Deque.{SameEntries, IsKept, IsCovered, knows, after_push, after_take};
 
@@ -143,7 +144,8 @@ pub fn join_pass<W: Work>(owner: &mut Owner<W>, pass: Knower<W>)
     requires pass { IsPassOf (worker_deque owner.old) pass }
     requires parts { 0 < (worker_view owner.old).parts }
     ensures same { SameWorker owner.old owner.new }
-    ensures joined { worker_view owner.new ≡ knows ((worker_view owner.old).parts + (view pass).parts) ((worker_view owner.old).pushed ++ (view pass).pushed) ((worker_view owner.old).obtained ++ (view pass).obtained) }
+    ensures joined { worker_view owner.new ≡ knows ((worker_view owner.old).parts + (view pass).parts) ((worker_view owner.old).pushed ++ (view pass).pushed)
+        ((worker_view owner.old).obtained ++ (view pass).obtained) }
 {
     owner.absorb::<Cut>(pass);
 }
@@ -152,7 +154,8 @@ pub fn join_pass<W: Work>(owner: &mut Owner<W>, pass: Knower<W>)
 pub fn push<W: Work>(owner: &mut Owner<W>, task: Task<W>) -> Result<(), Task<W>>
     requires { 0 < (worker_view owner.old).parts }
     ensures same { SameWorker owner.old owner.new }
-    ensures pushed { MatchResult result (λ _. worker_view owner.new ≡ after_push W.finish (worker_view owner.old) (task ∷ [])) (λ t. (t ≡ task) × (worker_view owner.new ≡ worker_view owner.old)) }
+    ensures pushed { MatchResult result (λ _. worker_view owner.new ≡ after_push W.finish (worker_view owner.old) (task ∷ []))
+        (λ t. (t ≡ task) × (worker_view owner.new ≡ worker_view owner.old)) }
 {
     owner.push_as::<Pushed>(task)
 }
@@ -176,7 +179,8 @@ pub fn pop<W: Work>(owner: &mut Owner<W>) -> Option<Task<W>>
     requires fifo { worker_flavor owner.old ≡ 0 }
     requires parts { 0 < (worker_view owner.old).parts }
     ensures same { SameWorker owner.old owner.new }
-    ensures popped { MatchOption result (worker_view owner.new ≡ worker_view owner.old) (λ t. worker_view owner.new ≡ after_take W.finish (worker_view owner.old) (t ∷ [])) }
+    ensures popped { MatchOption result (worker_view owner.new ≡ worker_view owner.old)
+        (λ t. worker_view owner.new ≡ after_take W.finish (worker_view owner.old) (t ∷ [])) }
 {
     owner.pop_as::<Taken>()
 }
@@ -187,7 +191,8 @@ pub fn steal<W: Work>(thief: &Thief<W>, pass: &mut Knower<W>) -> Steal<Task<W>>
     requires fifo { stealer_flavor thief.now ≡ 0 }
     requires parts { 0 < (view pass.old).parts }
     ensures same { IsPassOf (stealer_deque thief.now) pass.new }
-    ensures stolen { MatchSteal result (view pass.new ≡ view pass.old) (view pass.new ≡ view pass.old) (λ t. view pass.new ≡ after_take W.finish (view pass.old) (t ∷ [])) }
+    ensures stolen { MatchSteal result (view pass.new ≡ view pass.old) (view pass.new ≡ view pass.old)
+        (λ t. view pass.new ≡ after_take W.finish (view pass.old) (t ∷ [])) }
 {
     thief.steal_as::<Taken>(pass)
 }
@@ -197,7 +202,8 @@ pub fn pop_left<W: Work>(owner: &mut Owner<W>) -> Option<Task<W>>
     requires fifo { worker_flavor owner.old ≡ 0 }
     requires all { (worker_view owner.old).parts ≡ 1024 }
     ensures same { SameWorker owner.old owner.new }
-    ensures popped { MatchOption result (SameEntries (worker_view owner.old).pushed (worker_view owner.old).obtained) (λ t. (worker_view owner.new ≡ after_take W.finish (worker_view owner.old) (t ∷ [])) × IsCovered (worker_view owner.new)) }
+    ensures popped { MatchOption result (SameEntries (worker_view owner.old).pushed (worker_view owner.old).obtained)
+        (λ t. (worker_view owner.new ≡ after_take W.finish (worker_view owner.old) (t ∷ [])) × IsCovered (worker_view owner.new)) }
 {
     owner.pop_as::<Left>()
 }

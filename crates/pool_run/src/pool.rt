@@ -116,7 +116,8 @@ fn work_first<R: Threads + Wait + Sync, W: Work + Send, G: Gate + Sync>(
     requires some { 0 < workers }
     requires few { workers ≤ length members.old }
     requires slice { 1 ≤ slice }
-    ensures { (k : ℕ) (m : _) → k < length members.old → Moves W.finish thieves.now (slice_index_or members.old k m) None (slice_index_or members.new k m) None }
+    ensures { (k : ℕ) (m : _) → k < length members.old →
+        Moves W.finish thieves.now (slice_index_or members.old k m) None (slice_index_or members.new k m) None }
 {
     let (first, _) = members.split_at_mut(workers);
     work_all(rt, thieves, first, slice, gate);
@@ -133,7 +134,8 @@ fn work_all<R: Threads + Wait + Sync, W: Work + Send, G: Gate + Sync>(
     requires ready { (k : ℕ) (m : _) → k < length members.old → IsReady W.finish thieves.now (slice_index_or members.old k m) }
     requires some { 0 < length members.old }
     requires slice { 1 ≤ slice }
-    ensures { (k : ℕ) (m : _) → k < length members.old → Moves W.finish thieves.now (slice_index_or members.old k m) None (slice_index_or members.new k m) None }
+    ensures { (k : ℕ) (m : _) → k < length members.old →
+        Moves W.finish thieves.now (slice_index_or members.old k m) None (slice_index_or members.new k m) None }
 {
     let threads = members.len();
     thread::for_each_mut(

@@ -32,7 +32,8 @@ impl<W: Work> Model for PoolRoom<W> {
 
     ghost view = { λ r. r.most };
 
-    ghost invariant = { λ r. IsRoom W.finish r.most r.thieves.items r.members.items × (r.finished.items ≡ []) × (r.most ≤ vec_capacity r.finished) × (r.answer.items ≡ []) × (r.most ≤ vec_capacity r.answer) };
+    ghost invariant = { λ r. IsRoom W.finish r.most r.thieves.items r.members.items × (r.finished.items ≡ []) × (r.most ≤ vec_capacity r.finished) ×
+        (r.answer.items ≡ []) × (r.most ≤ vec_capacity r.answer) };
 }
 
 impl<W: Work> PoolRoom<W> {

@@ -137,7 +137,8 @@ impl Seat {
     }
 
     fn give_down<T: Trunk>(&mut self, trunk: &mut T)
-        ensures this { LineGives (T.lines trunk.old self.old.place.call Down) (T.lines trunk.new self.old.place.call Down) self.old.place.down self.new.place.down (down_given self.old) }
+        ensures this { LineGives (T.lines trunk.old self.old.place.call Down)
+            (T.lines trunk.new self.old.place.call Down) self.old.place.down self.new.place.down (down_given self.old) }
         ensures others { OthersStay (T.lines trunk.old) (T.lines trunk.new) self.old.place.call Down }
         ensures kept { self.new ≡ record self.old { place = record self.old.place { down = self.new.place.down } } }
     {
@@ -151,7 +152,8 @@ impl Seat {
     }
 
     fn give_out<T: Trunk>(&mut self, trunk: &mut T)
-        ensures this { LineGives (T.lines trunk.old self.old.place.call Out) (T.lines trunk.new self.old.place.call Out) self.old.place.out self.new.place.out (out_given self.old) }
+        ensures this { LineGives (T.lines trunk.old self.old.place.call Out) (T.lines trunk.new self.old.place.call Out) self.old.place.out self.new.place.out
+            (out_given self.old) }
         ensures others { OthersStay (T.lines trunk.old) (T.lines trunk.new) self.old.place.call Out }
         ensures kept { self.new ≡ record self.old { place = record self.old.place { out = self.new.place.out } } }
     {

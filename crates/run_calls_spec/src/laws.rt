@@ -20,7 +20,8 @@ ghost use Rattle.run_spec.specs.Run.{Run, done_in, spans_in, start_in, end_in, p
 ghost use Rattle.run_spec.specs.Lines.{out_of_call, down_of_call};
 ghost use Rattle.run_spec.specs.Facts.{carries_in, sent_by, span_line};
 ghost use Rattle.run_calls_spec.specs.Whole.{span_for, whole_call, IsBridged, item_for, yield_on, frame_on};
-ghost use Rattle.run_calls_spec.specs.Sent.{frame_count, sent_frames, frame_as_sent, frame_place, made_in, CarriesHanded, Sends, WaitsUnsent, IsFirstOfSpan, HasOtherItems, DiffersInItems};
+ghost use Rattle.run_calls_spec.specs.Sent.{frame_count, sent_frames, frame_as_sent, frame_place, made_in, CarriesHanded, Sends, WaitsUnsent, IsFirstOfSpan};
+ghost use Rattle.run_calls_spec.specs.Sent.{HasOtherItems, DiffersInItems};
 
 use call_spec::{a_call_by_its_periods, frames_of_a_call};
 use rx_handler::laws::{the_newest_is_the_last, the_table_looks_back};

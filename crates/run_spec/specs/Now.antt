@@ -1,6 +1,7 @@
 -- The same by what is known while the run goes on. `ds` are the orders that were executed so far, the oldest first, and
 -- `left` the others; at the clock t no executed order has a stamp above t, and none that is left has one below.
-use Rattle.std.specs.Prelude.{◌≡◌, ℕ, zero, suc, ◌+◌, ◌-◌, ◌<◌, ◌≤◌, Bool, ◌&&◌, ◌||◌, if◌then◌else◌, ◌==◌, nat_lt, Option, is_some, is_none, IfSome, option_map, find, Result, Ok, Err, List, ◌++◌, map, pos}
+use Rattle.std.specs.Prelude.{◌≡◌, ℕ, zero, suc, ◌+◌, ◌-◌, ◌<◌, ◌≤◌, Bool, ◌&&◌, ◌||◌, if◌then◌else◌, ◌==◌, nat_lt, Option, is_some, is_none, IfSome}
+use Rattle.std.specs.Prelude.{option_map, find, Result, Ok, Err, List, ◌++◌, map, pos}
 use Rattle.std.specs.List.{All, list_any}
 use Rattle.trau_orders.specs.declared.order.Order.{Order}
 use Rattle.trau_orders.specs.declared.order.DtxMode.TheVariants.{Uplink}

@@ -1,6 +1,7 @@
 -- A run, and the periods of its calls (this project's profile). Lists of periods have the newest first, lists of
 -- orders the oldest.
-use Rattle.std.specs.Prelude.{ℕ, ◌+◌, ◌-◌, ◌*◌, zero, suc, ℤ, pos, Bool, ◌&&◌, ◌||◌, if◌then◌else◌, ◌==◌, nat_le, nat_lt, min, true, ◌≡◌, Option, option_map, is_some, find, Result, Ok, List, [], ◌∷◌, length, take, drop, filter}
+use Rattle.std.specs.Prelude.{ℕ, ◌+◌, ◌-◌, ◌*◌, zero, suc, ℤ, pos, Bool, ◌&&◌, ◌||◌, if◌then◌else◌, ◌==◌, nat_le, nat_lt, min, true, ◌≡◌, Option, option_map}
+use Rattle.std.specs.Prelude.{is_some, find, Result, Ok, List, [], ◌∷◌, length, take, drop, filter}
 use Rattle.std.specs.List.{list_any}
 use Rattle.trau_params.specs.Bits260.{bits260}
 use Rattle.trau_alaw.specs.declared.Law.{Law}

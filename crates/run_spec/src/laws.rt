@@ -1,7 +1,8 @@
 //! Laws of a run, each the contract of a function that does nothing. They lead from what is known while a run goes on
 //! to what the whole run gives.
 
-ghost use Rattle.std.specs.Prelude.{◌≡◌, ◌≤◌, ◌<◌, ◌+◌, ◌-◌, ℕ, Bool, true, not, ◌&&◌, ◌||◌, ◌==◌, if◌then◌else◌, nat_lt, Option, Some, None, is_some, IfSome, Ok, List, [], ◌∷◌, ◌++◌, map, filter, length};
+ghost use Rattle.std.specs.Prelude.{◌≡◌, ◌≤◌, ◌<◌, ◌+◌, ◌-◌, ℕ, Bool, true, not, ◌&&◌, ◌||◌, ◌==◌, if◌then◌else◌, nat_lt, Option, Some, None, is_some, IfSome};
+ghost use Rattle.std.specs.Prelude.{Ok, List, [], ◌∷◌, ◌++◌, map, filter, length};
 ghost use Rattle.std.proofs.Common.{get_or};
 ghost use Rattle.trau_io.specs.declared.line.Line.{Line};
 ghost use Rattle.trau_io.specs.declared.ends.CallEnd.{CallEnd};
@@ -26,7 +27,8 @@ ghost use Rattle.call_leg.specs.Settings.{Settings, settings_later, without_brid
 ghost use Rattle.call_leg.specs.Down.{down_periods, frames_of};
 ghost use Rattle.call_leg.specs.Counted.{call_counts};
 ghost use Rattle.call_leg.specs.Places.{sent_now};
-ghost use Rattle.run_spec.specs.Run.{Run, given_in, whole_in, done_in, spans_in, start_in, end_in, law_in, who_in, up_in, pcm_in, ups_to, item_of, period_of, periods_to};
+ghost use Rattle.run_spec.specs.Run.{Run, given_in, whole_in, done_in, spans_in, start_in, end_in, law_in, who_in, up_in, pcm_in, ups_to, item_of, period_of};
+ghost use Rattle.run_spec.specs.Run.{periods_to};
 ghost use Rattle.call_leg.specs.Out.{out_line};
 ghost use Rattle.run_spec.specs.Lines.{down_octets, out_of_call, down_of_call};
 ghost use Rattle.run_spec.specs.Mark.{Joins};

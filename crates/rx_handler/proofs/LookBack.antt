@@ -1,5 +1,6 @@
 -- A look back over numbered periods finds what a history with the newest period first tells.
-use Rattle.std.proofs.Common.{◌≡◌, refl, ap, ◌∙◌, sym, ℕ, ◌+◌, ◌-◌, ◌≤◌, min, zero, suc, Bool, true, false, if◌then◌else◌, Option, Some, None, List, [], ◌∷◌, ◌++◌, length, arith}
+use Rattle.std.proofs.Common.{◌≡◌, refl, ap, ◌∙◌, sym, ℕ, ◌+◌, ◌-◌, ◌≤◌, min, zero, suc, Bool, true, false, if◌then◌else◌, Option, Some, None, List, [], ◌∷◌}
+use Rattle.std.proofs.Common.{◌++◌, length, arith}
 use Rattle.std.specs.Prelude.{◌==◌, slice_get, reverse}
 use Rattle.std.specs.Option.{option_map_or}
 use Rattle.std.proofs.lemmas.List.{length-reverse}
@@ -11,7 +12,8 @@ use Rattle.rx_muting.specs.Draws.{draws_from}
 use Rattle.rx_noise.specs.Mix.{mix_of}
 use Rattle.rx_handler.specs.Heard.{Heard, Good, Sid, Idle, Lost}
 use Rattle.rx_handler.specs.Origin.{GoodFrame, LostFrame, NoFrame, NoiseFrame, frame_of, draws_of}
-use Rattle.rx_handler.specs.Effective.{is_anchor, latest_anchor, missed_since, fall_at, approached, start_after, old_at, origin_after, origin_at, draws_before, effective_at, heard_in}
+use Rattle.rx_handler.specs.Effective.{is_anchor, latest_anchor, missed_since, fall_at, approached, start_after, old_at, origin_after, origin_at, draws_before}
+use Rattle.rx_handler.specs.Effective.{effective_at, heard_in}
 use Rattle.rx_handler.specs.Past.{Anchor, AtGood, anchor_of, periods_of_fall, moved_to, start_from, old_of, origin_from, origin_of, drawn, effective_of}
 use Rattle.rx_handler.proofs.Missed.{Second, begun_same}
 use Rattle.rx_handler.proofs.Anchors.{periods_before, Since, TellsAt, Tells, tells}

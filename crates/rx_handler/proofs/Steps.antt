@@ -10,7 +10,8 @@ use Rattle.rx_muting.specs.Draws.{state_after, draw_of, draws_from}
 use Rattle.rx_muting.proofs.Numbered.{draw_of-state_after, state_after-state_after}
 use Rattle.rx_handler.specs.Heard.{Heard, Good, Sid, Idle, Lost}
 use Rattle.rx_handler.specs.Origin.{Origin, NoiseFrame, frame_of, draws_of, EffectiveFields}
-use Rattle.rx_handler.specs.Past.{Anchor, NoAnchor, AtGood, AtSid, anchor_of, anchored, missed_in, periods_of_fall, moved_to, start_from, old_of, origin_from, origin_of, drawn, effective_of}
+use Rattle.rx_handler.specs.Past.{Anchor, NoAnchor, AtGood, AtSid, anchor_of, anchored, missed_in, periods_of_fall, moved_to, start_from, old_of, origin_from}
+use Rattle.rx_handler.specs.Past.{origin_of, drawn, effective_of}
 use Rattle.rx_handler.specs.Memory.{RxState, Speech, Noise, RxMemory}
 use Rattle.rx_handler.specs.Step.{missed_after, fall_after, state_after_loss, state_after_sid, next_state, origin_by, received}
 use Rattle.rx_handler.specs.Stands.{first_step, step_of, state_from, state_at, Stands}

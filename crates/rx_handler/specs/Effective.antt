@@ -1,6 +1,7 @@
 -- The effective frame of each period of a call, by looking back over what was heard in its periods, numbered from 0
 -- (this project's profile, where GSM 06.11, 06.12 and 06.31 leave it open).
-use Rattle.std.specs.Prelude.{◌≡◌, ℕ, ◌+◌, ◌-◌, zero, suc, min, Bool, true, false, if◌then◌else◌, ◌==◌, Option, Some, None, List, map, filter, length, slice_get, slice_index_or}
+use Rattle.std.specs.Prelude.{◌≡◌, ℕ, ◌+◌, ◌-◌, zero, suc, min, Bool, true, false, if◌then◌else◌, ◌==◌, Option, Some, None, List, map, filter, length}
+use Rattle.std.specs.Prelude.{slice_get, slice_index_or}
 use Rattle.std.specs.List.{range_with_len}
 use Rattle.std.specs.Option.{option_map_or}
 use Rattle.trau_params.specs.Fields.{Fields}

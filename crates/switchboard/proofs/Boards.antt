@@ -1,5 +1,6 @@
 -- The board before and after an order, and after an end.
-use Rattle.std.proofs.Common.{◌≡◌, refl, sym, ap, ◌∙◌, subst, ℕ, zero, suc, ◌+◌, ◌<◌, ◌≤◌, true, Option, Some, None, List, [], ◌∷◌, ◌++◌, length, map, drop, replicate, arith}
+use Rattle.std.proofs.Common.{◌≡◌, refl, sym, ap, ◌∙◌, subst, ℕ, zero, suc, ◌+◌, ◌<◌, ◌≤◌, true, Option, Some, None, List, [], ◌∷◌, ◌++◌, length, map, drop}
+use Rattle.std.proofs.Common.{replicate, arith}
 use Rattle.std.specs.Prelude.{Result, IfSome}
 use Rattle.std.specs.List.{filter_map}
 use Rattle.std.proofs.lemmas.List.{length-append, length-replicate, length-set, map-set}
@@ -22,7 +23,8 @@ use Rattle.switchboard.proofs.TableLost.{table_lost}
 use Rattle.switchboard.proofs.Steps.{field_kept}
 use Rattle.switchboard.proofs.MovesOpened.{IsSome_before}
 use Rattle.switchboard.proofs.Moves.{stands_more}
-use Rattle.switchboard.proofs.BoardLists.{length-dones, dones-nil, dones-more, numbered-more, left-more, next-within, last-before, gone_same, told_same, calls_same, most_same, bridges-bound, spans-bound}
+use Rattle.switchboard.proofs.BoardLists.{length-dones, dones-nil, dones-more, numbered-more, left-more, next-within, last-before, gone_same, told_same}
+use Rattle.switchboard.proofs.BoardLists.{calls_same, most_same, bridges-bound, spans-bound}
 use Rattle.switchboard.proofs.Spans.{never_past}
 
 -- ---- the three changes of a board

@@ -16,7 +16,8 @@ use Rattle.switchboard.specs.Rows.{Rows, IsSized, call_in, bridge_at_place, is_o
 use Rattle.switchboard.specs.State.{State, new_board, told_in, gone_in}
 use Rattle.switchboard.specs.Stands.{IsLatest, IsTable, Stands, IsBoard, dones, board_state}
 use Rattle.switchboard.specs.Runs.{IsUnchanged}
-use Rattle.switchboard.specs.Open.{opened_now, open_now, partner_now, ArePairs, opened_after, open_after, partner_after, open_without, partner_without, Finds, Rests, IsAsBefore}
+use Rattle.switchboard.specs.Open.{opened_now, open_now, partner_now, ArePairs, opened_after, open_after, partner_after, open_without, partner_without, Finds}
+use Rattle.switchboard.specs.Open.{Rests, IsAsBefore}
 use Rattle.switchboard.proofs.Known.{not_true, open_parts, open_agrees, bridge_agrees}
 use Rattle.switchboard.proofs.Lists.{find-none}
 use Rattle.switchboard.proofs.Steps.{field_kept}

@@ -15,10 +15,12 @@ use Rattle.switchboard.specs.declared.table.Call.{Call}
 use Rattle.switchboard.specs.Calls.{Done}
 use Rattle.switchboard.specs.Bridges.{bridges, joins, other, no_bridge}
 use Rattle.switchboard.specs.Replies.{reply_from}
-use Rattle.switchboard.specs.Rows.{Rows, call_in, bridge_at_place, is_open_in, is_live_in, bridge_in, bridge_ended_in, known_in, applied, closed_in, parted_at, parted_in}
+use Rattle.switchboard.specs.Rows.{Rows, call_in, bridge_at_place, is_open_in, is_live_in, bridge_in, bridge_ended_in, known_in, applied, closed_in, parted_at}
+use Rattle.switchboard.specs.Rows.{parted_in}
 use Rattle.switchboard.specs.State.{last_stamp}
 use Rattle.switchboard.specs.Stands.{IsTable, Stands}
-use Rattle.switchboard.specs.Open.{opened_after, open_after, partner_after, open_without, partner_without_both, partner_without, Finds, HasEnded, HasRested, Rests}
+use Rattle.switchboard.specs.Open.{opened_after, open_after, partner_after, open_without, partner_without_both, partner_without, Finds, HasEnded, HasRested}
+use Rattle.switchboard.specs.Open.{Rests}
 use Rattle.switchboard.proofs.Known.{live_parts}
 use Rattle.switchboard.proofs.Steps.{field_kept, table_later}
 use Rattle.switchboard.proofs.TableCalls.{joins_left, joins_right}

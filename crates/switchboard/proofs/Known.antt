@@ -10,7 +10,8 @@ use Rattle.switchboard.specs.declared.table.Bridge.{Bridge}
 use Rattle.switchboard.specs.Calls.{has_ended, Done, is_open, is_this, opened_at}
 use Rattle.switchboard.specs.Replies.{Known, known_of, reply_from}
 use Rattle.switchboard.specs.Bridges.{lasts, joins, bridge_of, bridge_ended, no_bridge}
-use Rattle.switchboard.specs.Rows.{Rows, IsSized, has_ended_in, call_in, bridge_at_place, is_open_in, is_live_in, bridge_in, bridge_ended_in, bridge_end_in, known_in, some_if, gone_of}
+use Rattle.switchboard.specs.Rows.{Rows, IsSized, has_ended_in, call_in, bridge_at_place, is_open_in, is_live_in, bridge_in, bridge_ended_in, bridge_end_in}
+use Rattle.switchboard.specs.Rows.{known_in, some_if, gone_of}
 use Rattle.switchboard.specs.Ends.{least}
 use Rattle.switchboard.specs.State.{last_stamp}
 use Rattle.switchboard.specs.Stands.{IsOver, IsLatest, IsSound, Stands}

@@ -1,5 +1,6 @@
 -- Laws of the board's steps.
-use Rattle.std.proofs.Common.{◌≡◌, refl, sym, ap, ◌∙◌, ℕ, zero, suc, ◌+◌, ◌<◌, ◌≤◌, ◌≢◌, Bool, false, Option, Some, None, List, [], ◌∷◌, ◌++◌, map, get_or, set, drop, replicate, arith, append_assoc, length-drop, subst, true, inl, inr}
+use Rattle.std.proofs.Common.{◌≡◌, refl, sym, ap, ◌∙◌, ℕ, zero, suc, ◌+◌, ◌<◌, ◌≤◌, ◌≢◌, Bool, false, Option, Some, None, List, [], ◌∷◌, ◌++◌, map, get_or, set}
+use Rattle.std.proofs.Common.{drop, replicate, arith, append_assoc, length-drop, subst, true, inl, inr}
 use Rattle.std.specs.Prelude.{Result, Ok, Err, not, ◌&&◌, is_some, is_none, option_map, find, if◌then◌else◌, ◌==◌, IfSome, IfOk, IsNone, OnErr, ◌↔◌}
 use Rattle.std.specs.List.{All, filter_map}
 use Rattle.std.proofs.lemmas.List.{map-append, append-nil, get_or-drop}
@@ -17,7 +18,8 @@ use Rattle.switchboard.specs.declared.table.Bridge.{Bridge}
 use Rattle.switchboard.specs.Calls.{Done, is_this, opened_at, closed_at}
 use Rattle.switchboard.specs.Bridges.{bridges, joins, other}
 use Rattle.switchboard.specs.Replies.{Known, known_of, reply_from, IsInRange}
-use Rattle.switchboard.specs.State.{State, EndBefore, told_more, new_board, gone_in, told_in, after_turn, done_by, due, reply_of, orders_of, first_order, first_stamp, last_stamp}
+use Rattle.switchboard.specs.State.{State, EndBefore, told_more, new_board, gone_in, told_in, after_turn, done_by, due, reply_of, orders_of, first_order}
+use Rattle.switchboard.specs.State.{first_stamp, last_stamp}
 use Rattle.switchboard.specs.Stands.{AreRising}
 use Rattle.switchboard.specs.Runs.{IsUnchanged}
 use Rattle.switchboard.specs.Ends.{span_to, end_now}

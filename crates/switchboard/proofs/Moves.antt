@@ -1,5 +1,6 @@
 -- An order that begins a bridge, and any order, in the table and in the list of orders.
-use Rattle.std.proofs.Common.{◌≡◌, refl, sym, ap, ◌∙◌, subst, ℕ, ◌+◌, ◌<◌, ◌≤◌, ◌≢◌, true, false, Option, Some, None, List, [], ◌∷◌, ◌++◌, length, arith, inl, inr}
+use Rattle.std.proofs.Common.{◌≡◌, refl, sym, ap, ◌∙◌, subst, ℕ, ◌+◌, ◌<◌, ◌≤◌, ◌≢◌, true, false, Option, Some, None, List, [], ◌∷◌, ◌++◌, length, arith, inl}
+use Rattle.std.proofs.Common.{inr}
 use Rattle.std.specs.Prelude.{Result, Ok, Err, option_map}
 use Rattle.std.proofs.lemmas.Bool.{eq-eqb, cases_order}
 use Rattle.trau_orders.specs.declared.order.Order.{Order}
@@ -13,7 +14,8 @@ use Rattle.switchboard.specs.declared.table.Bridge.{Bridge}
 use Rattle.switchboard.specs.Calls.{Done, is_this}
 use Rattle.switchboard.specs.Bridges.{joins, other}
 use Rattle.switchboard.specs.Replies.{reply_from}
-use Rattle.switchboard.specs.Rows.{Rows, IsSized, call_in, bridge_at_place, is_open_in, is_live_in, bridge_in, bridge_ended_in, bridge_end_in, some_if, known_in, applied, bridged_in}
+use Rattle.switchboard.specs.Rows.{Rows, IsSized, call_in, bridge_at_place, is_open_in, is_live_in, bridge_in, bridge_ended_in, bridge_end_in, some_if}
+use Rattle.switchboard.specs.Rows.{known_in, applied, bridged_in}
 use Rattle.switchboard.specs.Ends.{least}
 use Rattle.switchboard.specs.State.{last_stamp}
 use Rattle.switchboard.specs.Stands.{IsOver, IsLatest, IsSound, Stands}

@@ -1,5 +1,6 @@
 -- What changes of calls alone keep of the table.
-use Rattle.std.proofs.Common.{◌≡◌, refl, sym, ap, ◌∙◌, subst, ℕ, ◌+◌, ◌<◌, ◌≤◌, ◌≢◌, min, Bool, true, false, Option, Some, None, List, length, get_or, set, arith, inl, inr, ◌⊎◌}
+use Rattle.std.proofs.Common.{◌≡◌, refl, sym, ap, ◌∙◌, subst, ℕ, ◌+◌, ◌<◌, ◌≤◌, ◌≢◌, min, Bool, true, false, Option, Some, None, List, length, get_or, set}
+use Rattle.std.proofs.Common.{arith, inl, inr, ◌⊎◌}
 use Rattle.std.specs.Prelude.{not, ◌&&◌, ◌||◌, is_some, ◌==◌, option_map, IfSome}
 use Rattle.std.proofs.lemmas.Bool.{eqb-true, eq-eqb, or_cases, cases_eq, cases_order}
 use Rattle.std.proofs.lemmas.List.{get_or-set_same, get_or-set_other}
@@ -130,7 +131,8 @@ ended_by r now t x s late told (Some u) e v f =
     omega (arith, k.1)
 
 -- a bridge that has an end before t is over then
-pub over_by : (r : Rows) (t : ℕ) (x : Bridge) → (bridge_end_in r x ≡ None → ⊥) → ((v : ℕ) → bridge_end_in r x ≡ Some v → v < t) → (o : Option ℕ) → bridge_end_in r x ≡ o →
+pub over_by : (r : Rows) (t : ℕ) (x : Bridge) → (bridge_end_in r x ≡ None → ⊥) → ((v : ℕ) → bridge_end_in r x ≡ Some v → v < t) → (o : Option ℕ) →
+    bridge_end_in r x ≡ o →
     IsOver r t x
 over_by r t x some before None e = absurd (some e)
 over_by r t x some before (Some v) e = record { at = v; ended = e; before = before v e }

@@ -1,5 +1,6 @@
 -- What the end of a call by its lines keeps of the table.
-use Rattle.std.proofs.Common.{◌≡◌, refl, sym, ap, ◌∙◌, subst, ℕ, zero, suc, ◌<◌, ◌≤◌, ◌≢◌, min, Bool, true, false, Option, Some, None, List, [], ◌∷◌, length, map, get_or, set, arith, inl, inr}
+use Rattle.std.proofs.Common.{◌≡◌, refl, sym, ap, ◌∙◌, subst, ℕ, zero, suc, ◌<◌, ◌≤◌, ◌≢◌, min, Bool, true, false, Option, Some, None, List, [], ◌∷◌, length}
+use Rattle.std.proofs.Common.{map, get_or, set, arith, inl, inr}
 use Rattle.std.specs.Prelude.{nat_lt, if◌then◌else◌, is_some, option_map}
 use Rattle.std.specs.List.{filter_map, insert}
 use Rattle.std.proofs.lemmas.Bool.{ltb-true, ltb-false, cases_Bool, cases_eq, cases_order}

@@ -1,5 +1,6 @@
 -- The spans, once each call has ended.
-use Rattle.std.proofs.Common.{Bool, true, ◌≡◌, refl, sym, ap, ◌∙◌, subst, ℕ, suc, ◌+◌, ◌<◌, ◌≤◌, min, true, Option, Some, None, List, [], ◌∷◌, length, map, get_or, arith}
+use Rattle.std.proofs.Common.{Bool, true, ◌≡◌, refl, sym, ap, ◌∙◌, subst, ℕ, suc, ◌+◌, ◌<◌, ◌≤◌, min, true, Option, Some, None, List, [], ◌∷◌, length, map}
+use Rattle.std.proofs.Common.{get_or, arith}
 use Rattle.std.specs.Prelude.{if◌then◌else◌, nat_le, is_some, option_map, unwrap_or}
 use Rattle.std.specs.List.{filter_map}
 use Rattle.trau_io.specs.declared.ends.Cause.TheVariants.{Closed, Limit}

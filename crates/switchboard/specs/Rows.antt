@@ -1,5 +1,6 @@
 -- The table of calls and bridges, as plain data.
-use Rattle.std.specs.Prelude.{◌≡◌, ◌<◌, ℕ, Bool, not, ◌&&◌, if◌then◌else◌, nat_lt, Option, Some, None, is_some, is_none, option_map, IfSome, Result, Ok, Err, List, [], ◌∷◌, ◌++◌, length, take}
+use Rattle.std.specs.Prelude.{◌≡◌, ◌<◌, ℕ, Bool, not, ◌&&◌, if◌then◌else◌, nat_lt, Option, Some, None, is_some, is_none, option_map, IfSome, Result, Ok, Err}
+use Rattle.std.specs.Prelude.{List, [], ◌∷◌, ◌++◌, length, take}
 use Rattle.std.proofs.Common.{get_or, set}
 use Rattle.std.specs.List.{filter_map, insert}
 use Rattle.call_number.specs.declared.TheConstants.{NUMBERS}

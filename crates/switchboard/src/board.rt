@@ -7,11 +7,13 @@ ghost use Rattle.trau_orders.specs.Lists.{NamesCalls, HasLevel};
 ghost use Rattle.switchboard.specs.Calls.{is_open};
 ghost use Rattle.switchboard.specs.Bridges.{OneLasts, bridges};
 ghost use Rattle.switchboard.specs.Replies.{IsInRange};
-ghost use Rattle.switchboard.specs.State.{new_board, orders_of, first_order, first_stamp, last_stamp, due, after_turn, reply_of, EndBefore, told_in, gone_in, told_more, numbered};
+ghost use Rattle.switchboard.specs.State.{new_board, orders_of, first_order, first_stamp, last_stamp, due, after_turn, reply_of, EndBefore, told_in, gone_in};
+ghost use Rattle.switchboard.specs.State.{told_more, numbered};
 ghost use Rattle.switchboard.specs.Runs.{IsRun, TellsEnds, AllEnded, IsUnchanged};
 ghost use Rattle.switchboard.specs.Stands.{AreRising};
 ghost use Rattle.switchboard.specs.Ends.{Given, spans_now, spans_of};
-ghost use Rattle.switchboard.specs.Open.{opened_now, open_now, law_now, partner_now, opened_after, open_after, law_after, partner_after, open_without, partner_without, ArePairs, IfAccepted, Finds, Rests, IsAsBefore};
+ghost use Rattle.switchboard.specs.Open.{opened_now, open_now, law_now, partner_now, opened_after, open_after, law_after, partner_after, open_without};
+ghost use Rattle.switchboard.specs.Open.{partner_without, ArePairs, IfAccepted, Finds, Rests, IsAsBefore};
 
 use crate::table::Table;
 use crate::{Reply, Span};

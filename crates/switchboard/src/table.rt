@@ -2,7 +2,8 @@
 
 ghost use Rattle.std.specs.Prelude.{◌≡◌, ◌<◌, ◌≤◌, [], length, IfOk, IfSome, replicate, slice_set};
 ghost use Rattle.std.specs.List.{filter_map, insert};
-ghost use Rattle.switchboard.specs.Rows.{never, call_in, bridge_at_place, ended_at_place, is_open_in, has_ended_in, bridge_in, bridge_ended_in, bridge_end_in, span_in, position_in, opened_in, closed_in, bridged_in, parted_in, spans_ended_in, gone_in_rows, call_ended_in};
+ghost use Rattle.switchboard.specs.Rows.{never, call_in, bridge_at_place, ended_at_place, is_open_in, has_ended_in, bridge_in, bridge_ended_in, bridge_end_in};
+ghost use Rattle.switchboard.specs.Rows.{span_in, position_in, opened_in, closed_in, bridged_in, parted_in, spans_ended_in, gone_in_rows, call_ended_in};
 ghost use Rattle.switchboard.specs.Ends.{least, span_to};
 
 use crate::Span;

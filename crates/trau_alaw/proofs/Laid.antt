@@ -1,10 +1,12 @@
 -- Laws whose intervals stand one after the other: the octet, some of whose bits are inverted, is a sign, 1 for positive,
 -- and the number of its interval.
-use Rattle.std.proofs.Common.{◌≡◌, ℕ, ◌+◌, ◌-◌, ◌%◌, ◌<◌, ◌≤◌, zero, suc, Bool, true, nat_le, bit_xor, ℤ, pos, negsuc, ◌<ℤ◌, ◌≤ℤ◌, get_or, refl, sym, ap, ◌∙◌, subst, inl, inr, arith}
+use Rattle.std.proofs.Common.{◌≡◌, ℕ, ◌+◌, ◌-◌, ◌%◌, ◌<◌, ◌≤◌, zero, suc, Bool, true, nat_le, bit_xor, ℤ, pos, negsuc, ◌<ℤ◌, ◌≤ℤ◌, get_or, refl, sym, ap, ◌∙◌}
+use Rattle.std.proofs.Common.{subst, inl, inr, arith}
 use Rattle.std.specs.List.{list_all, range_with_len}
 use Rattle.std.proofs.lemmas.Int.{ints}
 use Rattle.std.proofs.lemmas.Nat.{xor_of_8}
-use Rattle.std.proofs.lemmas.Bool.{cases_lt, cases_order, leb-true, ltb-true, le-leb, lt-leb, lt-ltb, and_parts, and_from, not-true, not_from_false, false_from_ne_true}
+use Rattle.std.proofs.lemmas.Bool.{cases_lt, cases_order, leb-true, ltb-true, le-leb, lt-leb, lt-ltb, and_parts, and_from, not-true, not_from_false}
+use Rattle.std.proofs.lemmas.Bool.{false_from_ne_true}
 use Rattle.std.proofs.lemmas.Bool.Decides.{nat_tests}
 use Rattle.std.proofs.lemmas.List.Recursion.{and_at}
 use Rattle.std.proofs.lemmas.List.Sums.{position_or_len_is}

@@ -1,5 +1,6 @@
 -- A loop that makes a value of each element.
-use Rattle.std.proofs.Common.{◌≡◌, ℕ, ◌+◌, ◌<◌, ◌≤◌, get_or, set, length, take, drop, List, [], ◌∷◌, ◌++◌, map, refl, ◌∙◌, arith, drop-cons, append_assoc, add-one}
+use Rattle.std.proofs.Common.{◌≡◌, ℕ, ◌+◌, ◌<◌, ◌≤◌, get_or, set, length, take, drop, List, [], ◌∷◌, ◌++◌, map, refl, ◌∙◌, arith, drop-cons, append_assoc}
+use Rattle.std.proofs.Common.{add-one}
 use Rattle.std.proofs.lemmas.List.{length-set, drop_all, take_all, append-nil}
 use Rattle.std.proofs.lemmas.Grind.{take-set_at}
 

@@ -1,5 +1,6 @@
 -- Eight bits and their octet by one product, with a word that has a bit at each ninth place.
-use Rattle.std.proofs.Common.{◌≡◌, ℕ, ◌+◌, ◌-◌, ◌*◌, ◌/◌, ◌%◌, ◌<◌, ◌≤◌, Bool, true, nat_eq, List, length, slice_index, get_or, bit_and, w64, lit<, refl, ◌∙◌, subst, arith}
+use Rattle.std.proofs.Common.{◌≡◌, ℕ, ◌+◌, ◌-◌, ◌*◌, ◌/◌, ◌%◌, ◌<◌, ◌≤◌, Bool, true, nat_eq, List, length, slice_index, get_or, bit_and, w64, lit<, refl, ◌∙◌}
+use Rattle.std.proofs.Common.{subst, arith}
 use Rattle.std.specs.Int.{bit_at, from_le_bytes, to_le_bytes}
 use Rattle.std.specs.List.{list_all, range_with_len}
 use Rattle.std.proofs.lemmas.Bool.{eqb-true}
@@ -39,7 +40,8 @@ entry p n k all below =
 
 -- the eight bits of each octet
 eights : list_all (λ n. list_all (λ j. nat_eq (slice_index (to_le_bytes w64
-    (bit_and (n * 9241421688590303745 % 18446744073709551616 / 128) 72340172838076673)) j) (bit_at n (7 - j))) (range_with_len 0 8)) (range_with_len 0 256) ≡ true
+    (bit_and (n * 9241421688590303745 % 18446744073709551616 / 128) 72340172838076673)) j) (bit_at n (7 - j))) (range_with_len 0 8)) (range_with_len 0 256)
+    ≡ true
 eights = refl
 
 pub eight_of : (octet j : ℕ) → octet < 256 → j < 8 →
@@ -48,4 +50,5 @@ eight_of octet j below one =
     eqb-true _ _ (entry (λ j. nat_eq (slice_index (to_le_bytes w64
     (bit_and (octet * 9241421688590303745 % 18446744073709551616 / 128) 72340172838076673)) j) (bit_at octet (7 - j))) 8 j
     (entry (λ n. list_all (λ j. nat_eq (slice_index (to_le_bytes w64
-    (bit_and (n * 9241421688590303745 % 18446744073709551616 / 128) 72340172838076673)) j) (bit_at n (7 - j))) (range_with_len 0 8)) 256 octet eights below) one)
+    (bit_and (n * 9241421688590303745 % 18446744073709551616 / 128) 72340172838076673)) j) (bit_at n (7 - j))) (range_with_len 0 8)) 256 octet eights below)
+    one)

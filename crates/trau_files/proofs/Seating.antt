@@ -1,5 +1,6 @@
 -- Seats after a file is put into one, and after a line is given one.
-use Rattle.std.proofs.Common.{◌≡◌, ◌⊎◌, Result, IfSome, subst, ◌<◌, ℕ, zero, suc, List, [], ◌∷◌, length, Option, None, Some, All, slice_set, slice_index_or, length-set, refl, sym, ◌∙◌, ap, arith, inl, inr}
+use Rattle.std.proofs.Common.{◌≡◌, ◌⊎◌, Result, IfSome, subst, ◌<◌, ℕ, zero, suc, List, [], ◌∷◌, length, Option, None, Some, All, slice_set, slice_index_or}
+use Rattle.std.proofs.Common.{length-set, refl, sym, ◌∙◌, ap, arith, inl, inr}
 use Rattle.std.proofs.lemmas.List.{get_or_read_under}
 use Rattle.trau_io.specs.declared.line.Side.{Side}
 use Rattle.trau_io.specs.Places.{place_of}

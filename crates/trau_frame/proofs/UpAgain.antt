@@ -30,7 +30,8 @@ number_by : (ℕ → ℕ) → ℕ → ℕ → ℕ
 number_by bit first zero = 0
 number_by bit first (suc n) = 2 * number_by bit first n + bit (first + n)
 
-number_of-up_bits : (f : UpFrame) (first n : ℕ) → 1 ≤ first → first + n ≤ 22 → number_in (up_bits f) first n ≡ number_by (up_control_bit (up_words_of f)) first n
+number_of-up_bits : (f : UpFrame) (first n : ℕ) → 1 ≤ first → first + n ≤ 22 →
+    number_in (up_bits f) first n ≡ number_by (up_control_bit (up_words_of f)) first n
 unfolding number_in number_by
 number_of-up_bits f first zero l h = refl
 number_of-up_bits f first (suc n) l h =

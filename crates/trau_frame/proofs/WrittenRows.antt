@@ -1,5 +1,6 @@
 -- A frame is written row by row.
-use Rattle.std.proofs.Common.{◌≡◌, ℕ, ◌+◌, ◌-◌, ◌*◌, ◌<◌, ◌≤◌, List, map, replicate, length, get_or, set, refl, sym, ap, ◌∙◌, subst, arith, slice_range, inl, inr}
+use Rattle.std.proofs.Common.{◌≡◌, ℕ, ◌+◌, ◌-◌, ◌*◌, ◌<◌, ◌≤◌, List, map, replicate, length, get_or, set, refl, sym, ap, ◌∙◌, subst, arith, slice_range, inl}
+use Rattle.std.proofs.Common.{inr}
 use Rattle.std.specs.List.{range_with_len}
 use Rattle.std.proofs.lemmas.List.{length-set, get_or-replicate}
 use Rattle.std.proofs.lemmas.List.Edits.{fill_by_more}

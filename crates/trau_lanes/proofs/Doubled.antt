@@ -1,5 +1,6 @@
 -- A factor doubled in 16 bits, and what the doubling wraps off.
-use Rattle.std.proofs.Common.{◌≡◌, ℕ, ◌-ℤ◌, ◌+◌, ◌-◌, ◌/◌, ◌%◌, ◌^◌, ◌<◌, ◌≤◌, ℤ, pos, negsuc, neg_ℤ, ◌+ℤ◌, ◌*ℤ◌, ◌≤ℤ◌, unsigned_abs, FitsSigned, w16, to_z, of_z, ap, sym, subst, ◌∙◌, arith, lit<, inl, inr, suc}
+use Rattle.std.proofs.Common.{◌≡◌, ℕ, ◌-ℤ◌, ◌+◌, ◌-◌, ◌/◌, ◌%◌, ◌^◌, ◌<◌, ◌≤◌, ℤ, pos, negsuc, neg_ℤ, ◌+ℤ◌, ◌*ℤ◌, ◌≤ℤ◌, unsigned_abs, FitsSigned, w16, to_z}
+use Rattle.std.proofs.Common.{of_z, ap, sym, subst, ◌∙◌, arith, lit<, inl, inr, suc}
 use Rattle.std.proofs.lemmas.Int.{ints, to_z-of_z, of_z-to_z, to_z_pos, wrapping_add_is, int_wrap_fits}
 use Rattle.std.proofs.lemmas.Nat.{mod_below}
 use Rattle.std.proofs.lemmas.Bool.{cases_lt}

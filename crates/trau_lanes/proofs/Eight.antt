@@ -1,5 +1,6 @@
 -- Eight words in lanes: kept where they are passed on, and taken apart.
-use Rattle.std.proofs.Common.{◌≡◌, ◌≤◌, ℤ, FitsSigned, w16, to_z, of_z, map, List, [], ◌∷◌, length, refl, ap, ◌∙◌, sym, subst, arith, unsigned_abs, get_or, take}
+use Rattle.std.proofs.Common.{◌≡◌, ◌≤◌, ℤ, FitsSigned, w16, to_z, of_z, map, List, [], ◌∷◌, length, refl, ap, ◌∙◌, sym, subst, arith, unsigned_abs, get_or}
+use Rattle.std.proofs.Common.{take}
 use Rattle.std.specs.Int.{Width}
 use Rattle.std.proofs.lemmas.Int.{ints, to_z-of_z}
 use Rattle.std.specs.Simd.Lanes.{zip2, Each1}

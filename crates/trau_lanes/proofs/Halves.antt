@@ -1,5 +1,6 @@
 -- The high half and the low half of a product in lanes, and the highest bit of the low half.
-use Rattle.std.proofs.Common.{◌≡◌, ℕ, ◌-◌, ◌*◌, ◌/◌, ◌%◌, ◌^◌, ◌<◌, ◌≤◌, ℤ, pos, negsuc, neg_ℤ, ◌*ℤ◌, ◌≤ℤ◌, unsigned_abs, FitsSigned, w16, w32, to_z, of_z, ap, sym, ◌∙◌, arith, lit<, inl, inr, mul-le-mul, bit_and, suc}
+use Rattle.std.proofs.Common.{◌≡◌, ℕ, ◌-◌, ◌*◌, ◌/◌, ◌%◌, ◌^◌, ◌<◌, ◌≤◌, ℤ, pos, negsuc, neg_ℤ, ◌*ℤ◌, ◌≤ℤ◌, unsigned_abs, FitsSigned, w16, w32, to_z, of_z, ap}
+use Rattle.std.proofs.Common.{sym, ◌∙◌, arith, lit<, inl, inr, mul-le-mul, bit_and, suc}
 use Rattle.std.proofs.lemmas.Int.{ints, to_z-of_z, of_z-to_z, to_z_pos, wrapping_mul_is, int_wrap_fits, unsigned_abs-mul}
 use Rattle.std.proofs.lemmas.Nat.{mod_below, and_mask}
 use Rattle.std.proofs.lemmas.Bool.{cases_lt}

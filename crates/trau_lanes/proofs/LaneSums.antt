@@ -1,5 +1,6 @@
 -- Saturating sums and differences of eight words in lanes.
-use Rattle.std.proofs.Common.{◌≡◌, ℕ, ◌+◌, ◌-◌, ◌%◌, ◌^◌, ◌<◌, ℤ, ◌+ℤ◌, ◌-ℤ◌, FitsSigned, w16, w32, to_z, of_z, map, List, replicate, ap, sym, subst, ◌∙◌, arith, cond, lit<}
+use Rattle.std.proofs.Common.{◌≡◌, ℕ, ◌+◌, ◌-◌, ◌%◌, ◌^◌, ◌<◌, ℤ, ◌+ℤ◌, ◌-ℤ◌, FitsSigned, w16, w32, to_z, of_z, map, List, replicate, ap, sym, subst, ◌∙◌}
+use Rattle.std.proofs.Common.{arith, cond, lit<}
 use Rattle.std.proofs.lemmas.Int.{ints, to_z-of_z, wrapping_add_is, wrapping_sub_is, int_wrap_fits, of_z-to_z}
 use Rattle.std.proofs.lemmas.Nat.{mod_below}
 use Rattle.std.specs.Simd.Lanes.{zip2, Each1}

@@ -1,5 +1,6 @@
 -- What fits a word: products of two words of 32 bits that keep bounds, with their value and a bound of their own, and shifts.
-use Rattle.std.proofs.Common.{mul-le-mul, ◌≡◌, ◌*◌, ◌≤◌, ◌<◌, ◌^◌, ◌*ℤ◌, ℕ, ℤ, unsigned_abs, ◌+ℤ◌, ◌-ℤ◌, ◌≤ℤ◌, pos, negsuc, neg_ℤ, ◌∙◌, FitsSigned, w16, w32, arith}
+use Rattle.std.proofs.Common.{mul-le-mul, ◌≡◌, ◌*◌, ◌≤◌, ◌<◌, ◌^◌, ◌*ℤ◌, ℕ, ℤ, unsigned_abs, ◌+ℤ◌, ◌-ℤ◌, ◌≤ℤ◌, pos, negsuc, neg_ℤ, ◌∙◌, FitsSigned, w16, w32}
+use Rattle.std.proofs.Common.{arith}
 use Rattle.std.proofs.lemmas.Int.{to_z-of_z, fits_signed_mul, ints, unsigned_abs-mul}
 use Rattle.std.specs.Int.{Width, int_shr}
 use Rattle.std.specs.Int.Signed.{mag, mag_shr}

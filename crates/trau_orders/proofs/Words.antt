@@ -1,5 +1,6 @@
 -- The words of a line: those of an order's line are the ones that order it.
-use Rattle.std.proofs.Common.{◌≡◌, ℕ, ◌≤◌, ◌<◌, ◌^◌, Option, Some, None, IfSome, List, [], ◌∷◌, length, Bool, true, false, eqb, refl, sym, ◌∙◌, ap, subst, arith, slice_index}
+use Rattle.std.proofs.Common.{◌≡◌, ℕ, ◌≤◌, ◌<◌, ◌^◌, Option, Some, None, IfSome, List, [], ◌∷◌, length, Bool, true, false, eqb, refl, sym, ◌∙◌, ap, subst}
+use Rattle.std.proofs.Common.{arith, slice_index}
 use Rattle.std.specs.Prelude.{ℤ, pos, ◌≤ℤ◌, codes, decimal, not, unsigned_abs}
 use Rattle.std.specs.List.{AllByRecursion, join_with_byte, list_all}
 use Rattle.std.proofs.lemmas.Bool.{ne_eqb, eqb-false}

@@ -2,7 +2,8 @@
 use Rattle.std.specs.Prelude.{ℕ, ◌+◌, ◌*◌, ◌^◌, List, map, sum, take, slice_index}
 use Rattle.std.specs.List.{range_with_len}
 use Rattle.trau_params.specs.declared.params.Params.{Params}
-use Rattle.trau_params.specs.Widths.{larc_widths, nc_width, bc_width, mc_width, xmaxc_width, xmc_width, block_size, nc_offset, bc_offset, mc_offset, xmaxc_offset, xmc_offset}
+use Rattle.trau_params.specs.Widths.{larc_widths, nc_width, bc_width, mc_width, xmaxc_width, xmc_width, block_size, nc_offset, bc_offset, mc_offset}
+use Rattle.trau_params.specs.Widths.{xmaxc_offset, xmc_offset}
 
 -- the fields: LARc 1 to 8, and of each of the four blocks lag, gain, grid, block maximum and thirteen pulses
 pub record Fields : Type 0 where

@@ -1,7 +1,8 @@
 -- Where the fields stand among the 260 bits of a frame.
 use Rattle.std.specs.Prelude.{◌≡◌, ℕ, ◌+◌, ◌*◌, ◌/◌, ◌%◌, ◌^◌, ◌<◌, List, [], sum, take, slice_index, slice_index_or}
 use Rattle.trau_params.specs.declared.params.Params.{Params}
-use Rattle.trau_params.specs.Widths.{larc_widths, nc_width, bc_width, mc_width, xmaxc_width, xmc_width, block_size, nc_offset, bc_offset, mc_offset, xmaxc_offset, xmc_offset}
+use Rattle.trau_params.specs.Widths.{larc_widths, nc_width, bc_width, mc_width, xmaxc_width, xmc_width, block_size, nc_offset, bc_offset, mc_offset}
+use Rattle.trau_params.specs.Widths.{xmaxc_offset, xmc_offset}
 
 -- a field stands at an offset: bit t of it, floor(value / 2^t) mod 2, is at offset + t
 abbrev pub StandsAt : List ℕ → ℕ → ℕ → ℕ → Type 0

@@ -21,7 +21,8 @@ use Rattle.trau_submux.specs.Channels.{channel}
 use Rattle.trau_submux.specs.Lines.{channel_lines, most_octets}
 use Rattle.trau_submux.specs.Merges.{MergeEndsAs, Merges}
 use Rattle.trau_submux.specs.Splits.{SplitEndsAs, Splits, whole_groups}
-use Rattle.trau_submux.specs.Tools.{AreCalm, CleanMerge, CleanSplit, LeavesMerge, LeavesSplit, MergeCauses, MergeRun, SlotCauses, SplitCauses, SplitRun, TellsText, merge_end, merge_text, split_end, split_text}
+use Rattle.trau_submux.specs.Tools.{AreCalm, CleanMerge, CleanSplit, LeavesMerge, LeavesSplit, MergeCauses, MergeRun, SlotCauses, SplitCauses, SplitRun}
+use Rattle.trau_submux.specs.Tools.{TellsText, merge_end, merge_text, split_end, split_text}
 
 -- the most octets that are taken of a line are those that were given
 all_of_it : (given rest octets : List ℕ) → length given ≤ most_octets → octets ≡ given ++ rest → (rest ≡ []) ⊎ (length given ≡ most_octets) →

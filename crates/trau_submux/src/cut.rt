@@ -39,7 +39,8 @@ fn write_channels<T: Trunk>(
     requires low { 1 ≤ call }
     requires high { call ≤ 4093 }
     requires within { count ≤ 40 }
-    ensures four { WritesFour (channel_lines (T.lines trunk.old) call Down) (channel_lines (T.lines trunk.new) call Down) call (λ j. take count (slice_index_or subs.now j [])) result }
+    ensures four { WritesFour (channel_lines (T.lines trunk.old) call Down) (channel_lines (T.lines trunk.new) call Down) call
+        (λ j. take count (slice_index_or subs.now j [])) result }
     ensures others { AllButFour (T.lines trunk.old) (T.lines trunk.new) call Down }
 {
     for j in 0..4 {
@@ -65,7 +66,8 @@ fn write_block<T: Trunk>(
     requires low { 1 ≤ call }
     requires high { call ≤ 4093 }
     requires within { count ≤ 160 }
-    ensures four { WritesFour (channel_lines (T.lines trunk.old) call Down) (channel_lines (T.lines trunk.new) call Down) call (λ j. channel j (whole_groups (take count slot.now))) result }
+    ensures four { WritesFour (channel_lines (T.lines trunk.old) call Down) (channel_lines (T.lines trunk.new) call Down) call
+        (λ j. channel j (whole_groups (take count slot.now))) result }
     ensures others { AllButFour (T.lines trunk.old) (T.lines trunk.new) call Down }
 {
     let mut subs = [[0; 40]; 4];
@@ -77,7 +79,8 @@ fn write_block<T: Trunk>(
 fn split_block<T: Trunk>(call: u32, trunk: &mut T) -> BlockEnd
     requires low { 1 ≤ call }
     requires high { call ≤ 4093 }
-    ensures block { SplitsBlock (T.lines trunk.old call Pcm) (T.lines trunk.new call Pcm) (channel_lines (T.lines trunk.old) call Down) (channel_lines (T.lines trunk.new) call Down) call result }
+    ensures block { SplitsBlock (T.lines trunk.old call Pcm) (T.lines trunk.new call Pcm) (channel_lines (T.lines trunk.old) call Down)
+        (channel_lines (T.lines trunk.new) call Down) call result }
     ensures others { AllButFive (T.lines trunk.old) (T.lines trunk.new) call Pcm Down }
 {
     let line = Line {
@@ -103,7 +106,8 @@ fn split_block<T: Trunk>(call: u32, trunk: &mut T) -> BlockEnd
 pub(crate) fn split_slot<T: Trunk>(call: u32, trunk: &mut T) -> SplitEnd
     requires low { 1 ≤ call }
     requires high { call ≤ 4093 }
-    ensures splits { Splits (T.lines trunk.old call Pcm) (T.lines trunk.new call Pcm) (channel_lines (T.lines trunk.old) call Down) (channel_lines (T.lines trunk.new) call Down) call result }
+    ensures splits { Splits (T.lines trunk.old call Pcm) (T.lines trunk.new call Pcm) (channel_lines (T.lines trunk.old) call Down)
+        (channel_lines (T.lines trunk.new) call Down) call result }
     ensures others { AllButFive (T.lines trunk.old) (T.lines trunk.new) call Pcm Down }
 {
     let mut octets = 0;

@@ -82,7 +82,8 @@ fn fewest(counts: &[u32; 4]) -> u32
 fn merge_block<T: Trunk>(call: u32, trunk: &mut T) -> BlockEnd
     requires low { 1 ≤ call }
     requires high { call ≤ 4093 }
-    ensures block { BlockEndsAs (channel_lines (T.lines trunk.old) call Up) (channel_lines (T.lines trunk.new) call Up) (T.lines trunk.old call Out) (T.lines trunk.new call Out) call result }
+    ensures block { BlockEndsAs (channel_lines (T.lines trunk.old) call Up) (channel_lines (T.lines trunk.new) call Up) (T.lines trunk.old call Out)
+        (T.lines trunk.new call Out) call result }
     ensures others { AllButFive (T.lines trunk.old) (T.lines trunk.new) call Out Up }
 {
     let mut subs = [[0; 40]; 4];
@@ -109,7 +110,8 @@ fn merge_block<T: Trunk>(call: u32, trunk: &mut T) -> BlockEnd
 pub(crate) fn merge_slot<T: Trunk>(call: u32, trunk: &mut T) -> MergeEnd
     requires low { 1 ≤ call }
     requires high { call ≤ 4093 }
-    ensures merges { Merges (channel_lines (T.lines trunk.old) call Up) (channel_lines (T.lines trunk.new) call Up) (T.lines trunk.old call Out) (T.lines trunk.new call Out) call result }
+    ensures merges { Merges (channel_lines (T.lines trunk.old) call Up) (channel_lines (T.lines trunk.new) call Up) (T.lines trunk.old call Out)
+        (T.lines trunk.new call Out) call result }
     ensures others { AllButFive (T.lines trunk.old) (T.lines trunk.new) call Out Up }
 {
     let mut octets = 0;

@@ -13,8 +13,10 @@ use std::simd::prelude::*;
 
 // The first two pairs of both octets in each lane, and their last two.
 fn exchange_halves(x: u8x16, y: u8x16) -> (u8x16, u8x16)
-    ensures first { (k : ℕ) → k < 16 → slice_index result.0 k ≡ four_pairs (pair_at 0 (slice_index x k)) (pair_at 1 (slice_index x k)) (pair_at 0 (slice_index y k)) (pair_at 1 (slice_index y k)) }
-    ensures last { (k : ℕ) → k < 16 → slice_index result.1 k ≡ four_pairs (pair_at 2 (slice_index x k)) (pair_at 3 (slice_index x k)) (pair_at 2 (slice_index y k)) (pair_at 3 (slice_index y k)) }
+    ensures first { (k : ℕ) → k < 16 → slice_index result.0 k
+        ≡ four_pairs (pair_at 0 (slice_index x k)) (pair_at 1 (slice_index x k)) (pair_at 0 (slice_index y k)) (pair_at 1 (slice_index y k)) }
+    ensures last { (k : ℕ) → k < 16 → slice_index result.1 k
+        ≡ four_pairs (pair_at 2 (slice_index x k)) (pair_at 3 (slice_index x k)) (pair_at 2 (slice_index y k)) (pair_at 3 (slice_index y k)) }
 {
     let four = u8x16::splat(4);
     let low = u8x16::splat(0x0F);
@@ -25,8 +27,10 @@ fn exchange_halves(x: u8x16, y: u8x16) -> (u8x16, u8x16)
 
 // The pairs 0 and 2 of both octets in each lane, and their pairs 1 and 3, in turn.
 fn exchange_pairs(x: u8x16, y: u8x16) -> (u8x16, u8x16)
-    ensures even { (k : ℕ) → k < 16 → slice_index result.0 k ≡ four_pairs (pair_at 0 (slice_index x k)) (pair_at 0 (slice_index y k)) (pair_at 2 (slice_index x k)) (pair_at 2 (slice_index y k)) }
-    ensures odd { (k : ℕ) → k < 16 → slice_index result.1 k ≡ four_pairs (pair_at 1 (slice_index x k)) (pair_at 1 (slice_index y k)) (pair_at 3 (slice_index x k)) (pair_at 3 (slice_index y k)) }
+    ensures even { (k : ℕ) → k < 16 → slice_index result.0 k
+        ≡ four_pairs (pair_at 0 (slice_index x k)) (pair_at 0 (slice_index y k)) (pair_at 2 (slice_index x k)) (pair_at 2 (slice_index y k)) }
+    ensures odd { (k : ℕ) → k < 16 → slice_index result.1 k
+        ≡ four_pairs (pair_at 1 (slice_index x k)) (pair_at 1 (slice_index y k)) (pair_at 3 (slice_index x k)) (pair_at 3 (slice_index y k)) }
 {
     let two = u8x16::splat(2);
     let odd_pairs = u8x16::splat(0x33);

@@ -1,5 +1,6 @@
 -- The counters of the memory give what the look back over the stretch counts.
-use Rattle.std.proofs.Common.{◌≡◌, ◌+◌, ◌<◌, ◌≤◌, min, true, false, nat_le, Option, Some, None, List, [], ◌∷◌, ◌++◌, map, take, length, replicate, refl, sym, ap, ◌∙◌, suc, arith, inl, inr, subst}
+use Rattle.std.proofs.Common.{◌≡◌, ◌+◌, ◌<◌, ◌≤◌, min, true, false, nat_le, Option, Some, None, List, [], ◌∷◌, ◌++◌, map, take, length, replicate, refl, sym}
+use Rattle.std.proofs.Common.{ap, ◌∙◌, suc, arith, inl, inr, subst}
 use Rattle.std.specs.Prelude.{option_map, is_none, IfSome, ◌==◌}
 use Rattle.std.proofs.lemmas.Bool.{cases_Bool, cond-true, cond-false, lt-leb, le-leb, eq-eqb, ne_eqb}
 use Rattle.std.proofs.lemmas.Grind.{common_steps}
@@ -124,7 +125,8 @@ hangs-now f (g ∷ past) m n l s = elim (cases_Bool (is_active g)) [
       ap (λ e. nat_le 24 (elapsed_later e)) s.elapsed ∙ hangs_by (latest_place (g ∷ past)) ∙ sym (ap (λ z. is_none (sid_used z)) before)
   | inr p ↦
       let longer = one_longer g past p in
-      cond-false (pause_of (g ∷ past) + 1 == 1) (nat_le 24 (elapsed_later m.elapsed)) m.hangs (ne_eqb (pause_of (g ∷ past) + 1) 1 (omega arith)) ∙ s.hangs (omega arith)
+      cond-false (pause_of (g ∷ past) + 1 == 1) (nat_le 24 (elapsed_later m.elapsed)) m.hangs (ne_eqb (pause_of (g ∷ past) + 1) 1 (omega arith))
+      ∙ s.hangs (omega arith)
 ]
 
 -- an inactive frame after fewer than four

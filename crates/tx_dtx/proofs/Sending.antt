@@ -1,15 +1,18 @@
 -- What is sent by the memory is what the stretch says.
-use Rattle.std.proofs.Common.{◌≡◌, ◌+◌, ◌<◌, ◌≤◌, min, Bool, true, false, if◌then◌else◌, nat_le, Option, Some, None, List, [], ◌∷◌, ◌++◌, take, refl, sym, ap, ◌∙◌, arith, inl, inr, subst}
+use Rattle.std.proofs.Common.{◌≡◌, ◌+◌, ◌<◌, ◌≤◌, min, Bool, true, false, if◌then◌else◌, nat_le, Option, Some, None, List, [], ◌∷◌, ◌++◌, take, refl, sym, ap}
+use Rattle.std.proofs.Common.{◌∙◌, arith, inl, inr, subst}
 use Rattle.std.specs.Prelude.{option_map, is_none, IfSome, ◌==◌}
 use Rattle.std.proofs.lemmas.Bool.{cases_Bool, cases_lt, cond-true, cond-false, le-leb, eq-eqb, ne_eqb}
 use Rattle.trau_params.specs.Fields.{Fields}
 use Rattle.tx_dtx.specs.Stretch.{Coded, is_active, Sent}
 use Rattle.tx_dtx.specs.SilenceDescriptor.{sid_of}
-use Rattle.tx_dtx.specs.Sent.{SidPlace, one_later, pause_of, is_sid_place, newest_four, latest_place, before_pause, still_used, itself, silence, sent_early, sent_of, all_sent}
+use Rattle.tx_dtx.specs.Sent.{SidPlace, one_later, pause_of, is_sid_place, newest_four, latest_place, before_pause, still_used, itself, silence, sent_early}
+use Rattle.tx_dtx.specs.Sent.{sent_of, all_sent}
 use Rattle.tx_dtx.specs.Memory.{TxMemory, home_memory}
 use Rattle.tx_dtx.specs.Step.{after_active, remembered, described, early, paused, sent_after, next_sent, sent_in_turn}
 use Rattle.tx_dtx.specs.Stands.{Stands}
-use Rattle.tx_dtx.proofs.Counters.{no_place, recent-more, newest-four, pause-length, Counts, not_place, active-counts, one_longer, sid-counts, hangs-now, early-counts}
+use Rattle.tx_dtx.proofs.Counters.{no_place, recent-more, newest-four, pause-length, Counts, not_place, active-counts, one_longer, sid-counts, hangs-now}
+use Rattle.tx_dtx.proofs.Counters.{early-counts}
 
 -- ---- what is sent
 

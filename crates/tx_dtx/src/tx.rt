@@ -37,7 +37,13 @@ impl Model for Tx {
 
     ghost Value = { TxMemory };
 
-    ghost view = { λ t. record { run = t.run; elapsed = t.elapsed; hangs = t.hangs; sid = fields_of t.sid; recent = measures_of t.last ∷ measures_of t.second_last ∷ measures_of t.third_last ∷ [] } };
+    ghost view = { λ t. record {
+      run = t.run;
+      elapsed = t.elapsed;
+      hangs = t.hangs;
+      sid = fields_of t.sid;
+      recent = measures_of t.last ∷ measures_of t.second_last ∷ measures_of t.third_last ∷ [];
+    } };
 
     ghost invariant = { λ t. (t.run ≤ 5) × (t.elapsed ≤ 24) };
 }

@@ -82,7 +82,8 @@ impl<F: Drop> Seats<F> {
     /// The seat of the line's file, where it is open for this and stands at this octet; else it is closed.
     pub fn find(&mut self, line: Line, access: Access, at: u64) -> Option<u8>
         ensures stands { IfSome result (λ seat. IsOpenAt (in_seat self.new seat) line.call line.side access at) }
-        ensures open { IsSome result → OpenAfter self.old self.new line.call line.side (Some (record { call = line.call; side = line.side; access = access; at = at })) }
+        ensures open { IsSome result → OpenAfter self.old self.new line.call line.side
+            (Some (record { call = line.call; side = line.side; access = access; at = at })) }
         ensures closed { result ≡ None → IsFileOf self.new line.call line.side None }
         ensures others { OnlyCloses self.old self.new }
         ensures number { length self.new ≡ length self.old }

@@ -24,7 +24,15 @@ pub struct MemLine {
 impl Model for MemLine {
     ghost Value = { MemoryLine };
 
-    ghost view = { λ l. record { to_come = drop l.read l.contents.items; written = l.written.items; room = l.room; cuts = l.cuts.items; fails = l.fails.items; calls = l.calls; faults = l.faults } };
+    ghost view = { λ l. record {
+      to_come = drop l.read l.contents.items;
+      written = l.written.items;
+      room = l.room;
+      cuts = l.cuts.items;
+      fails = l.fails.items;
+      calls = l.calls;
+      faults = l.faults;
+    } };
 
     ghost invariant = { λ l. (l.read ≤ vec_len l.contents) × (vec_len l.written + l.room ≤ vec_capacity l.written) };
 }

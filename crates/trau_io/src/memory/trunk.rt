@@ -1,6 +1,7 @@
 //! All lines of a farm, in memory.
 
-ghost use Rattle.std.specs.Prelude.{◌≡◌, ◌≢◌, ◌<◌, ◌≤◌, ℕ, List, [], Some, vec_len, length, All, slice_get, slice_index_or, slice_set, IfSome, IfOk, OnOk, OnErr};
+ghost use Rattle.std.specs.Prelude.{◌≡◌, ◌≢◌, ◌<◌, ◌≤◌, ℕ, List, [], Some, vec_len, length, All, slice_get, slice_index_or, slice_set, IfSome, IfOk, OnOk};
+ghost use Rattle.std.specs.Prelude.{OnErr};
 ghost use Rattle.trau_io.specs.Lines.{Reads, Writes, OthersStay};
 ghost use Rattle.trau_io.specs.Places.{place_of};
 ghost use Rattle.trau_io.specs.declared.places.TheConstants.{PLACES};
@@ -82,7 +83,8 @@ impl Trunk for MemTrunk {
         ensures this { Reads (states_of self.old line.call line.side) (states_of self.new line.call line.side) result buf.new }
         ensures others { OthersStay (states_of self.old) (states_of self.new) line.call line.side }
         ensures answer { IfSome (slice_get self.old (place_of line.call line.side)) (λ l. result ≡ read_answer l (length buf.old)) }
-        ensures after { IfSome (slice_get self.old (place_of line.call line.side)) (λ l. self.new ≡ slice_set self.old (place_of line.call line.side) (after_read l result)) }
+        ensures after { IfSome (slice_get self.old (place_of line.call line.side))
+            (λ l. self.new ≡ slice_set self.old (place_of line.call line.side) (after_read l result)) }
     {
         self.lines[place(line)].read(buf)
     }
@@ -92,7 +94,8 @@ impl Trunk for MemTrunk {
         ensures this { Writes (states_of self.old line.call line.side) (states_of self.new line.call line.side) result bytes.now }
         ensures others { OthersStay (states_of self.old) (states_of self.new) line.call line.side }
         ensures answer { IfSome (slice_get self.old (place_of line.call line.side)) (λ l. result ≡ write_answer l (length bytes.now)) }
-        ensures after { IfSome (slice_get self.old (place_of line.call line.side)) (λ l. self.new ≡ slice_set self.old (place_of line.call line.side) (after_write l bytes.now result)) }
+        ensures after { IfSome (slice_get self.old (place_of line.call line.side))
+            (λ l. self.new ≡ slice_set self.old (place_of line.call line.side) (after_write l bytes.now result)) }
     {
         self.lines[place(line)].write(bytes)
     }

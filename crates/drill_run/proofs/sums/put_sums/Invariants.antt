@@ -8,4 +8,5 @@ use Rattle.drill_run.proofs.sums.put_sums.Given as goal
 
 abbrev pub invariant-loop-line : goal.invariant-loop-line
 invariant-loop-line l = string_bytes l.text ≡ string_bytes l.initial.text ++ flat_map (λ line.
-    sum_line line.end.call (unwrap_or (known_lines l.trunk line.end.call Out).written []) (unwrap_or (known_lines l.trunk line.end.call Down).written [])) (take l.line-index l.calls)
+    sum_line line.end.call (unwrap_or (known_lines l.trunk line.end.call Out).written []) (unwrap_or (known_lines l.trunk line.end.call Down).written []))
+    (take l.line-index l.calls)

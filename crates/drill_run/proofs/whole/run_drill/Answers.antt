@@ -10,23 +10,28 @@ use Rattle.drill_run.proofs.whole.run_drill.Goals as goal
 
 pub orders_of-requires-clause-good : goal.orders_of-requires-clause-good
 orders_of-requires-clause-good g c = λ n bad.
-    c.one_answer.ensures.good (text_lines c.in_ok-lines.text.items) _ n c.in_ok-lines.ensures.orders (subst (λ (t : List ℕ). IsFirstBad (text_lines t) n) c.deref.ensures.value bad)
+    c.one_answer.ensures.good (text_lines c.in_ok-lines.text.items) _ n c.in_ok-lines.ensures.orders
+    (subst (λ (t : List ℕ). IsFirstBad (text_lines t) n) c.deref.ensures.value bad)
 
 pub new-trunk-requires : goal.new-trunk-requires
 new-trunk-requires g c = ample_drilled c.args.seed c.args.calls c.args.pace.now.periods c.in_ok-lines.lines c.requires.calls c.in_ok-lines.ensures.lines
 
 pub put_sums-requires : goal.put_sums-requires
 put_sums-requires g c =
-    let drilling = drilling_of c.args.seed c.args.calls c.args.pace.now.periods c.new-trunk.result c.run.new.trunk c.in_ok-lines.lines c.in_ok-orders.orders c.args.pace.now c.in_ok-report.report
-    c.in_ok-lines.text.items c.deref.result.now c.one_answer.ensures.orders c.requires.calls c.new-trunk.ensures c.in_ok-lines.ensures.lines c.in_ok-lines.ensures.orders
+    let drilling = drilling_of c.args.seed c.args.calls c.args.pace.now.periods c.new-trunk.result c.run.new.trunk c.in_ok-lines.lines c.in_ok-orders.orders
+    c.args.pace.now c.in_ok-report.report
+    c.in_ok-lines.text.items c.deref.result.now c.one_answer.ensures.orders c.requires.calls c.new-trunk.ensures c.in_ok-lines.ensures.lines
+    c.in_ok-lines.ensures.orders
     c.in_ok-lines.ensures.within c.deref.ensures.value c.in_ok-orders.ensures c.has_rooms.ensures c.in_ok-report.ensures.runs refl in
     let listed = c.deref-2.ensures.value ∙ ap (λ (report : ReportView). report.calls) c.report.view_is in
     subst (λ (lines : List CallLine). All (λ (line : CallLine). IsCallNumber line.end.call) lines) (sym listed) (calls_numbered _ _ _ _ _ _ _ _ drilling)
 
 pub returns : goal.returns
 returns g c =
-    let drilling = drilling_of c.args.seed c.args.calls c.args.pace.now.periods c.new-trunk.result c.run.new.trunk c.in_ok-lines.lines c.in_ok-orders.orders c.args.pace.now c.in_ok-report.report
-    c.in_ok-lines.text.items c.deref.result.now c.one_answer.ensures.orders c.requires.calls c.new-trunk.ensures c.in_ok-lines.ensures.lines c.in_ok-lines.ensures.orders
+    let drilling = drilling_of c.args.seed c.args.calls c.args.pace.now.periods c.new-trunk.result c.run.new.trunk c.in_ok-lines.lines c.in_ok-orders.orders
+    c.args.pace.now c.in_ok-report.report
+    c.in_ok-lines.text.items c.deref.result.now c.one_answer.ensures.orders c.requires.calls c.new-trunk.ensures c.in_ok-lines.ensures.lines
+    c.in_ok-lines.ensures.orders
     c.in_ok-lines.ensures.within c.deref.ensures.value c.in_ok-orders.ensures c.has_rooms.ensures c.in_ok-report.ensures.runs refl in
     let listed = c.deref-2.ensures.value ∙ ap (λ (report : ReportView). report.calls) c.report.view_is in
     is_drilled _ _ _ _ _ _ _ _ drilling _ (string_bytes c.in_ok-text.text) c.deref-2.result.now listed c.in_ok-text.ensures c.in_ok-put_sums.ensures

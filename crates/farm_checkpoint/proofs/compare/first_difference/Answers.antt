@@ -9,7 +9,8 @@ returns-in-Some-Some-clause-some c =
     let found' = c.in-Some-Some.ensures'.lookup in
     let common = c.count_common-common.ensures in
     subst (IsLeastDifference c.args.one.now c.args.other.now) (sym c.min.ensures)
-    (both_go_on c.args.one.now c.args.other.now c.count_common-common.result c.in-Some-Some.entry.now c.in-Some-Some.others.now c.requires.one_rises c.requires.other_rises
+    (both_go_on c.args.one.now c.args.other.now c.count_common-common.result c.in-Some-Some.entry.now c.in-Some-Some.others.now c.requires.one_rises
+    c.requires.other_rises
     common.same (common.differ found.3.0 found'.3.0) found.3.0 found.1 found'.3.0 found'.1)
 
 pub returns-in-Some-None-clause-some : goal.returns-in-Some-None-clause-some

@@ -8,4 +8,5 @@ returns-in_err-digits-clause-none c = λ none n rest is.
 
 pub returns-in_err-number-clause-none : goal.returns-in_err-number-clause-none
 returns-in_err-number-clause-none c = λ none n rest is.
-    no_number _ _ _ n _ _ _ _ _ rest c.requires (omega (arith, c.ranges.high.fits)) c.in_ok-rest.ensures.some c.in_ok-digits.ensures.some (c.in_err-number.ensures.none refl) is
+    no_number _ _ _ n _ _ _ _ _ rest c.requires (omega (arith, c.ranges.high.fits)) c.in_ok-rest.ensures.some c.in_ok-digits.ensures.some
+    (c.in_err-number.ensures.none refl) is

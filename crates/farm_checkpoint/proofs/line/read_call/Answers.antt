@@ -14,13 +14,15 @@ returns-in_err-from-clause-none c = λ none call rest is_open sums above line.
 pub returns-in_err-out-clause-none : goal.returns-in_err-out-clause-none
 returns-in_err-out-clause-none c = λ none call rest is_open sums above line.
     let one = after_call call _ c.in_ok-call.call c.args.text.now c.in_ok-call.rest.now rest is_open.number.1 line c.in_ok-call.ensures.some in
-    let two = after_from call _ c.in_ok-from.from c.in_ok-call.rest.now c.in_ok-from.rest.now rest (omega (arith, c.ranges.period.fits)) (omega (arith, is_open.opened)) one c.in_ok-from.ensures.some in
+    let two = after_from call _ c.in_ok-from.from c.in_ok-call.rest.now c.in_ok-from.rest.now rest (omega (arith, c.ranges.period.fits))
+    (omega (arith, is_open.opened)) one c.in_ok-from.ensures.some in
     c.in_err-out.ensures.none refl call.out _ (out_field call c.in_ok-from.rest.now rest sums.0 two)
 
 pub returns-in_err-down-clause-none : goal.returns-in_err-down-clause-none
 returns-in_err-down-clause-none c = λ none call rest is_open sums above line.
     let one = after_call call _ c.in_ok-call.call c.args.text.now c.in_ok-call.rest.now rest is_open.number.1 line c.in_ok-call.ensures.some in
-    let two = after_from call _ c.in_ok-from.from c.in_ok-call.rest.now c.in_ok-from.rest.now rest (omega (arith, c.ranges.period.fits)) (omega (arith, is_open.opened)) one c.in_ok-from.ensures.some in
+    let two = after_from call _ c.in_ok-from.from c.in_ok-call.rest.now c.in_ok-from.rest.now rest (omega (arith, c.ranges.period.fits))
+    (omega (arith, is_open.opened)) one c.in_ok-from.ensures.some in
     let three = after_out call c.in_ok-out.out c.in_ok-from.rest.now c.in_ok-out.rest.now rest sums.0 two c.in_ok-out.ensures.some in
     c.in_err-down.ensures.none refl call.down rest (down_field call c.in_ok-out.rest.now rest sums.1 three)
 

@@ -23,7 +23,8 @@ returns-in_err-calls-clause-bad c = λ n is.
 pub returns-clause-ok : goal.returns-clause-ok
 returns-clause-ok c =
     let first = c.in-Some.ensures.some in
-    read_whole c.args.text.now c.in-Some.rest.now c.in_ok-calls.orders.now c.in-Some.period c.in_ok-calls.calls.items _ first.0 first.1 first.2 c.in_ok-calls.ensures.ok refl
+    read_whole c.args.text.now c.in-Some.rest.now c.in_ok-calls.orders.now c.in-Some.period c.in_ok-calls.calls.items _ first.0 first.1 first.2
+    c.in_ok-calls.ensures.ok refl
 
 pub returns-in_default-clause-known : goal.returns-in_default-clause-known
 returns-in_default-clause-known c = λ mark octets read. (tt, λ n is. not_good_and_bad c.args.text.now mark octets n read (returns-in_default-clause-bad c n is))

@@ -219,7 +219,8 @@ work_phase-ran-requires-clause-order g c κs lives =
     let at = goal.at.work_phase-ran-requires-clause-order g c in
     let m = at.After-meet_all in
     subst (λ (xs : List (Box CallMemory)). IsRising (map (λ (j : CallMemory). j.io.call) (memories_in xs))) (sym (met_back g m))
-    (second_order g at.After-take_all c.work_phase-told.result.items c.work_phase-told.ensures c.meet_all.new.jobs (many g m) (met g m (beside g at.After-deref)))
+    (second_order g at.After-take_all c.work_phase-told.result.items c.work_phase-told.ensures c.meet_all.new.jobs (many g m)
+    (met g m (beside g at.After-deref)))
 
 pub seat_all-requires-clause-room : goal.seat_all-requires-clause-room
 seat_all-requires-clause-room g c =

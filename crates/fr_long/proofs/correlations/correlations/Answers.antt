@@ -1,4 +1,5 @@
-use Rattle.std.proofs.Common.{◌≡◌, ◌<◌, ◌≤◌, ℤ, map, length, rules, ◌+◌, ℕ, pos, arith, ap, sym, subst, ◌∙◌, ◌*ℤ◌, get_or, set, refl, FitsSigned, w32, to_z, of_z, below_more}
+use Rattle.std.proofs.Common.{◌≡◌, ◌<◌, ◌≤◌, ℤ, map, length, rules, ◌+◌, ℕ, pos, arith, ap, sym, subst, ◌∙◌, ◌*ℤ◌, get_or, set, refl, FitsSigned, w32, to_z}
+use Rattle.std.proofs.Common.{of_z, below_more}
 use Rattle.std.proofs.Math.ListN.{length-set}
 use Rattle.std.proofs.lemmas.Int.{ints}
 use Rattle.std.proofs.lemmas.Simd.{Each1-get_or}

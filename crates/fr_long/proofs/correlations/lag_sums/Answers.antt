@@ -9,7 +9,8 @@ use Rattle.trau_num.specs.Num.{l_mult_of, entry}
 use Rattle.fr_long.specs.Synthesis.{sample_before}
 use Rattle.fr_long.specs.Lag.{correlation_of}
 use Rattle.trau_lanes.proofs.LaneDots.{Within, row, length_pairs, pairs_within, product_at, row_length, lanes_passed, eight_more, doubled_sum}
-use Rattle.fr_long.proofs.Lanes.{scaled_all, passed_scaled_within, passed_words_within, row_passed, row_within, next_within, next_passed, doubled_term, words_more}
+use Rattle.fr_long.proofs.Lanes.{scaled_all, passed_scaled_within, passed_words_within, row_passed, row_within, next_within, next_passed, doubled_term}
+use Rattle.fr_long.proofs.Lanes.{words_more}
 use Rattle.fr_long.proofs.correlations.lag_sums.Goals as goal
 
 pub eight-requires-clause-words : goal.eight-requires-clause-words

@@ -1,4 +1,5 @@
-use Rattle.std.proofs.Common.{◌≡◌, ◌≤ℤ◌, get_or, pos, rules, arith, sym, ap, ◌∙◌, FitsSigned, w16, to_z, ℤ, int_cmp, Bool, true, false, cond, is_lt, int_lt, Less, Greater, Equal, refl, below_more}
+use Rattle.std.proofs.Common.{◌≡◌, ◌≤ℤ◌, get_or, pos, rules, arith, sym, ap, ◌∙◌, FitsSigned, w16, to_z, ℤ, int_cmp, Bool, true, false, cond, is_lt, int_lt}
+use Rattle.std.proofs.Common.{Less, Greater, Equal, refl, below_more}
 use Rattle.std.specs.Int.{int_max}
 use Rattle.std.specs.Ordering.{ord_max}
 use Rattle.std.proofs.lemmas.Int.{to_z-of_z, ints, clamps}

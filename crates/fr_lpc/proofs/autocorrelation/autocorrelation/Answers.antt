@@ -1,4 +1,5 @@
-use Rattle.std.proofs.Common.{◌≡◌, ℕ, ◌+◌, ◌-◌, ◌*◌, ◌<◌, ◌≤◌, ℤ, List, pos, ◌+ℤ◌, ◌*ℤ◌, unsigned_abs, length, get_or, fold, map, ap, sym, subst, ◌∙◌, arith, lit≤, lit<, FitsSigned, w32, to_z, of_z}
+use Rattle.std.proofs.Common.{◌≡◌, ℕ, ◌+◌, ◌-◌, ◌*◌, ◌<◌, ◌≤◌, ℤ, List, pos, ◌+ℤ◌, ◌*ℤ◌, unsigned_abs, length, get_or, fold, map, ap, sym, subst, ◌∙◌, arith}
+use Rattle.std.proofs.Common.{lit≤, lit<, FitsSigned, w32, to_z, of_z}
 use Rattle.std.specs.List.{range_with_len}
 use Rattle.std.specs.Simd.Lanes.{Each1, chunk, zip2}
 use Rattle.std.proofs.lemmas.Int.{ints}

@@ -1,4 +1,5 @@
-use Rattle.std.proofs.Common.{◌≡◌, ◌+◌, ◌<◌, ◌≤◌, ap, sym, subst, arith, ◌∙◌, reverse, length, get_or, pos, refl, FitsSigned, w16, to_z, of_z, rules, ℕ, ℤ, List}
+use Rattle.std.proofs.Common.{◌≡◌, ◌+◌, ◌<◌, ◌≤◌, ap, sym, subst, arith, ◌∙◌, reverse, length, get_or, pos, refl, FitsSigned, w16, to_z, of_z, rules, ℕ, ℤ}
+use Rattle.std.proofs.Common.{List}
 use Rattle.std.proofs.lemmas.Int.{to_z-of_z}
 use Rattle.std.proofs.lemmas.List.{reverse-reverse, length-map}
 use Rattle.trau_lanes.specs.Lanes.{EightFactors}

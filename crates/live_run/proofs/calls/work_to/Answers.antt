@@ -9,10 +9,12 @@ pub loop-preserved-in-Continue-1 : goal.loop-preserved-in-Continue-1
 loop-preserved-in-Continue-1 g c = record {
   farm = c.work.ensures.farm;
   stays = stays_on c.args.k c.args.caller.now c.read.new.caller c.work.new.caller
-      (look_on c.args.k c.args.of c.args.number look.NotYet c.args.caller.now c.loop.caller c.read.new.caller c.loop.invariant.stays c.in-NotYet.ensures.answer) c.work.ensures.stays;
+      (look_on c.args.k c.args.of c.args.number look.NotYet c.args.caller.now c.loop.caller c.read.new.caller c.loop.invariant.stays c.in-NotYet.ensures.answer)
+      c.work.ensures.stays;
 }
 
 pub returns-in_err-work-in-NotYet-clause-stays : goal.returns-in_err-work-in-NotYet-clause-stays
 returns-in_err-work-in-NotYet-clause-stays g c =
     stays_on c.args.k c.args.caller.now c.read.new.caller c.work.new.caller
-    (look_on c.args.k c.args.of c.args.number look.NotYet c.args.caller.now c.loop.caller c.read.new.caller c.loop.invariant.stays c.in-NotYet.ensures.answer) c.work.ensures.stays
+    (look_on c.args.k c.args.of c.args.number look.NotYet c.args.caller.now c.loop.caller c.read.new.caller c.loop.invariant.stays c.in-NotYet.ensures.answer)
+    c.work.ensures.stays

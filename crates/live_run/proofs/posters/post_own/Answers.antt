@@ -7,11 +7,13 @@ use Rattle.live_run.proofs.posters.post_own.Goals as goal
 
 pub returns-then-k-drill-clause-posted : goal.returns-then-k-drill-clause-posted
 returns-then-k-drill-clause-posted g c =
-    not_own c.args.drill.now.seed c.args.drill.now.callers c.args.k c.args.period c.args.caller.now (λ e. c.if-k-drill.true (e ∙ sym c.number.ensures)) c.requires.knows
+    not_own c.args.drill.now.seed c.args.drill.now.callers c.args.k c.args.period c.args.caller.now
+    (λ e. c.if-k-drill.true (e ∙ sym c.number.ensures)) c.requires.knows
 
 pub returns-then-k-drill-clause-drawn : goal.returns-then-k-drill-clause-drawn
 returns-then-k-drill-clause-drawn g c =
-    drawn_still c.args.drill.now.seed c.args.drill.now.callers c.args.caller.now.number c.args.k c.args.period (c.args.period + 1) c.args.draws.now (λ e. c.if-k-drill.true (e ∙ sym c.number.ensures)) c.requires.drawn
+    drawn_still c.args.drill.now.seed c.args.drill.now.callers c.args.caller.now.number c.args.k c.args.period (c.args.period + 1) c.args.draws.now
+    (λ e. c.if-k-drill.true (e ∙ sym c.number.ensures)) c.requires.drawn
 
 pub post_period-requires-clause-posts : goal.post_period-requires-clause-posts
 post_period-requires-clause-posts g c = λ s.
@@ -19,7 +21,8 @@ post_period-requires-clause-posts g c = λ s.
     omega (
       arith,
       c.requires.period,
-      few_made c.args.drill.now.seed c.args.drill.now.callers c.args.caller.now.number c.args.k c.args.period (view_of (slice_index_or c.args.caller.now.seats.items c.args.k s)) own (c.requires.knows s),
+      few_made c.args.drill.now.seed c.args.drill.now.callers c.args.caller.now.number c.args.k c.args.period
+          (view_of (slice_index_or c.args.caller.now.seats.items c.args.k s)) own (c.requires.knows s),
     )
 
 pub returns-clause-posted : goal.returns-clause-posted
@@ -31,7 +34,8 @@ returns-clause-posted g c =
     let own = c.if-k-drill.false ∙ c.number.ensures in
     let first = draws_at seed c.args.drill.now.callers caller.number k n c.args.draws.now own c.requires.drawn in
     own_posted_ok c.post_period.result seed c.args.drill.now.callers k n c.uplink-up.result c.pcm-pcm.result caller c.post_period.new.caller own
-    (c.uplink-up.ensures.octets seed (k + 1) first) (c.pcm-pcm.ensures.octets seed (k + 1) (c.uplink-up.ensures.now seed (k + 1) first)) c.requires.knows c.post_period.ensures.posted
+    (c.uplink-up.ensures.octets seed (k + 1) first)
+    (c.pcm-pcm.ensures.octets seed (k + 1) (c.uplink-up.ensures.now seed (k + 1) first)) c.requires.knows c.post_period.ensures.posted
 
 pub returns-clause-drawn : goal.returns-clause-drawn
 returns-clause-drawn g c =
@@ -43,4 +47,5 @@ returns-clause-drawn g c =
     let own = c.if-k-drill.false ∙ c.number.ensures in
     let first = draws_at seed callers caller.number k n c.args.draws.now own c.requires.drawn in
     always_ok (IsDrawn seed callers caller.number k (n + 1) c.pcm-pcm.new.generator) c.post_period.result
-    (drawn_at seed callers caller.number k (n + 1) c.pcm-pcm.new.generator own (c.pcm-pcm.ensures.now seed (k + 1) (c.uplink-up.ensures.now seed (k + 1) first)))
+    (drawn_at seed callers caller.number k (n + 1) c.pcm-pcm.new.generator own
+    (c.pcm-pcm.ensures.now seed (k + 1) (c.uplink-up.ensures.now seed (k + 1) first)))

@@ -5,13 +5,15 @@ use Rattle.live_run.proofs.posters.post_periods.Goals as goal
 pub loop-period-init : goal.loop-period-init
 loop-period-init g c = let d = c.args.drill.now in record {
   farm = c.requires.farm;
-  behind = first_behind d.seed d.calls d.callers c.args.caller.now.number c.args.caller.now c.in_ok-draws.draws.items c.requires.posted c.in_ok-draws.ensures.count c.in_ok-draws.ensures.each;
+  behind = first_behind d.seed d.calls d.callers c.args.caller.now.number c.args.caller.now c.in_ok-draws.draws.items c.requires.posted
+      c.in_ok-draws.ensures.count c.in_ok-draws.ensures.each;
 }
 
 pub post_round-requires-clause-behind : goal.post_round-requires-clause-behind
 post_round-requires-clause-behind g c =
     let d = c.args.drill.now in
-    renumbered d.seed d.calls d.callers c.args.caller.now.number (λ _. c.loop-period.period) c.loop-period.caller c.loop-period.draws.items c.as_mut_slice-each.result.now c.as_mut_slice-each.ensures.value c.loop-period.invariant.behind
+    renumbered d.seed d.calls d.callers c.args.caller.now.number (λ _. c.loop-period.period) c.loop-period.caller c.loop-period.draws.items
+    c.as_mut_slice-each.result.now c.as_mut_slice-each.ensures.value c.loop-period.invariant.behind
 
 pub loop-period-preserved : goal.loop-period-preserved
 loop-period-preserved g c =
@@ -20,7 +22,8 @@ loop-period-preserved g c =
     let before = c.loop-period.draws.items in
     let long : c.loop-period.draws.len ≡ length before = omega (arith, c.loop-period.draws.ok.0) in record {
       farm = c.post_round.ensures.farm;
-      behind = after_round d.seed d.calls d.callers c.args.caller.now.number (λ _. n) (λ _. n + 1) c.loop-period.caller c.post_round.new.caller before c.post_round.new.draws c.loop-period.draws.len long
+      behind = after_round d.seed d.calls d.callers c.args.caller.now.number (λ _. n)
+          (λ _. n + 1) c.loop-period.caller c.post_round.new.caller before c.post_round.new.draws c.loop-period.draws.len long
           c.loop-period.invariant.behind c.in_ok-post_round.ensures.behind;
     }
 
@@ -28,4 +31,5 @@ pub returns-clause-posted : goal.returns-clause-posted
 returns-clause-posted g c =
     let d = c.args.drill.now in
     let all : c.loop-period.period ≡ d.periods = omega (arith, c.loop-period-test.false, c.loop-period.auto.period-end) in
-    posted_all d.seed d.calls d.callers c.args.caller.now.number c.loop-period.period d.periods c.loop-period.caller c.loop-period.draws.items all c.loop-period.invariant.behind
+    posted_all d.seed d.calls d.callers c.args.caller.now.number c.loop-period.period d.periods c.loop-period.caller c.loop-period.draws.items all
+    c.loop-period.invariant.behind

@@ -11,17 +11,20 @@ loop-k-init g c = let d = c.args.drill.now in record {
 pub post_own-requires-clause-knows : goal.post_own-requires-clause-knows
 post_own-requires-clause-knows g c =
     let d = c.args.drill.now in
-    knows_here d.seed d.calls d.callers c.args.caller.now.number c.args.period c.loop-k.k c.loop-k.caller c.loop-k.draws c.loop-k-test.true c.loop-k.invariant.behind
+    knows_here d.seed d.calls d.callers c.args.caller.now.number c.args.period c.loop-k.k c.loop-k.caller c.loop-k.draws c.loop-k-test.true
+    c.loop-k.invariant.behind
 
 pub post_own-requires-clause-drawn : goal.post_own-requires-clause-drawn
 post_own-requires-clause-drawn g c =
     let d = c.args.drill.now in
-    drawn_here d.seed d.calls d.callers c.args.caller.now.number c.args.period c.loop-k.k c.loop-k.caller c.loop-k.draws _ c.loop-k-test.true c.loop-k.invariant.behind
+    drawn_here d.seed d.calls d.callers c.args.caller.now.number c.args.period c.loop-k.k c.loop-k.caller c.loop-k.draws _ c.loop-k-test.true
+    c.loop-k.invariant.behind
 
 pub loop-k-preserved : goal.loop-k-preserved
 loop-k-preserved g c = let d = c.args.drill.now in record {
   farm = c.post_own.ensures.farm;
-  behind = one_more d.seed d.calls d.callers c.args.caller.now.number c.args.period c.loop-k.k c.loop-k.caller c.post_own.new.caller c.loop-k.draws c.post_own.new.draws c.loop-k-test.true
+  behind = one_more d.seed d.calls d.callers c.args.caller.now.number c.args.period c.loop-k.k c.loop-k.caller c.post_own.new.caller c.loop-k.draws
+      c.post_own.new.draws c.loop-k-test.true
       c.loop-k.invariant.behind c.in_ok-post_own.ensures.posted c.in_ok-post_own.ensures.drawn;
 }
 

@@ -10,6 +10,8 @@ returns-in_err-work_to-clause-posted g c = λ n i h.
 pub loop-k-preserved : goal.loop-k-preserved
 loop-k-preserved g c = let d = c.args.drill.now in record {
   farm = c.work_to.ensures.farm;
-  posted = λ n i h. posted_still d.seed d.calls d.callers n i c.loop-k.k c.loop-k.caller c.work_to.new.caller c.work_to.ensures.stays (c.loop-k.invariant.posted n i h);
-  saw = saw_more d.callers (d.periods - 1) c.loop-k.k c.loop-k.caller c.work_to.new.caller c.work_to.ensures.stays c.loop-k.invariant.saw c.in_ok-work_to.ensures.found;
+  posted = λ n i h. posted_still d.seed d.calls d.callers n i c.loop-k.k c.loop-k.caller c.work_to.new.caller c.work_to.ensures.stays
+      (c.loop-k.invariant.posted n i h);
+  saw = saw_more d.callers (d.periods - 1) c.loop-k.k c.loop-k.caller c.work_to.new.caller c.work_to.ensures.stays c.loop-k.invariant.saw
+      c.in_ok-work_to.ensures.found;
 }

@@ -8,4 +8,5 @@ use Rattle.live_run.proofs.sums.sum_down.Goals as goal
 pub returns : goal.returns
 returns c =
     let octets = c.args.down.now in
-    c.sum.ensures ∙ ap sum_of (sym (octets_of-bits_of octets (λ k d below. omega (arith, get_or_default octets k d 0 below, c.fits-down k)) (bits_of-below octets)))
+    c.sum.ensures ∙ ap sum_of (sym (octets_of-bits_of octets (λ k d below. omega (arith, get_or_default octets k d 0 below, c.fits-down k))
+    (bits_of-below octets)))

@@ -11,4 +11,5 @@ pub returns-clause-down : goal.returns-clause-down
 returns-clause-down c =
     let es = c.args.entries.now in
     c.loop-entry.invariant.down
-    ∙ ap sum_of (ap (λ (xs : List Entry). flat_map (λ e. octets_of (bits_of e.down)) xs) (take_all c.loop-entry.entry-index es (omega (arith, c.loop-entry-test.false))) ∙ downs_are es)
+    ∙ ap sum_of (ap (λ (xs : List Entry). flat_map (λ e. octets_of (bits_of e.down)) xs)
+    (take_all c.loop-entry.entry-index es (omega (arith, c.loop-entry-test.false))) ∙ downs_are es)

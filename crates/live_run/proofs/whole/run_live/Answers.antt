@@ -27,7 +27,8 @@ close-closed-requires-clause-farm g c =
     let callers = c.in_ok-callers.callers.items in
     let first = c.work_rest.new.caller in
     all_seated d.seed d.calls d.callers live.inbox live.slots.items d.periods (set callers 0 first)
-    (first_still d.seed d.calls d.callers live.inbox live.slots.items d.periods callers c.index_mut.result.now first c.requires.some_callers c.index_mut.ensures.value c.in_ok-callers.ensures
+    (first_still d.seed d.calls d.callers live.inbox live.slots.items d.periods callers c.index_mut.result.now first c.requires.some_callers
+    c.index_mut.ensures.value c.in_ok-callers.ensures
     c.work_rest.ensures.farm (c.work_rest.ensures.posted d.periods))
 
 pub returns : goal.returns
@@ -40,13 +41,17 @@ returns g c =
     let all = set callers 0 first in
     let closed = c.close-closed.result.items in
     let count : length slots ≡ d.calls = c.in_ok-live.ensures.calls.0 in
-    let have = first_still d.seed d.calls d.callers live.inbox slots d.periods callers c.index_mut.result.now first c.requires.some_callers c.index_mut.ensures.value c.in_ok-callers.ensures
+    let have = first_still d.seed d.calls d.callers live.inbox slots d.periods callers c.index_mut.result.now first c.requires.some_callers
+    c.index_mut.ensures.value c.in_ok-callers.ensures
     c.work_rest.ensures.farm (c.work_rest.ensures.posted d.periods) in
     let some : 0 < length callers = omega (arith, c.in_ok-callers.ensures.count, c.requires.some_callers) in
-    let saw : SawAll d.callers (d.periods - 1) d.calls (get_or all 0 first) = subst (SawAll d.callers (d.periods - 1) d.calls) (sym (at_first callers first some)) c.in_ok-work_rest.ensures.saw in
+    let saw : SawAll d.callers (d.periods - 1) d.calls (get_or all 0 first) =
+    subst (SawAll d.callers (d.periods - 1) d.calls) (sym (at_first callers first some)) c.in_ok-work_rest.ensures.saw in
     let lines = lines_are (record { out = c.legal_histories_are_whole_calls.ensures.out; down = c.legal_histories_are_whole_calls.ensures.down })
     d.seed d.calls d.callers d.periods all first closed
-    (λ k h. ending d.seed d.calls d.callers live.inbox slots d.periods all first k c.requires.some_callers c.requires.callers c.requires.some_periods count have saw h)
+    (λ k h. ending d.seed d.calls d.callers live.inbox slots d.periods all first k c.requires.some_callers c.requires.callers c.requires.some_periods count have
+    saw h)
     (subst (λ (n : ℕ). AreClosed n (reverse all) closed) count c.close-closed.ensures) in
-    text_is string_bytes c.text_of.result (flat_map closed_line c.as_slice.result.now) (flat_map (live_line d.seed d.periods) (range_with_len 1 d.calls)) (last_line d.periods d.calls)
+    text_is string_bytes c.text_of.result (flat_map closed_line c.as_slice.result.now) (flat_map (live_line d.seed d.periods) (range_with_len 1 d.calls))
+    (last_line d.periods d.calls)
     (ap (λ (xs : List Closed). flat_map closed_line xs) c.as_slice.ensures.value ∙ lines) c.text_of.ensures

@@ -22,7 +22,8 @@ loop-c-preserved c =
     let inside : c.loop-c.c < length c.loop-c.control = omega (arith, all.count) in
     record {
       count = length-set c.loop-c.control c.loop-c.c bit ∙ all.count;
-      each = each_next (λ (k b : ℕ). b ≡ up_control_bit (up_words_of c.args.f.now) (k + 1)) c.loop-c.control c.loop-c.c bit inside c.up_control_bit.ensures.value
+      each = each_next (λ (k b : ℕ). b ≡ up_control_bit (up_words_of c.args.f.now) (k + 1)) c.loop-c.control c.loop-c.c bit inside
+          c.up_control_bit.ensures.value
           all.each;
       bits = each_next (λ (k b : ℕ). b < 2) c.loop-c.control c.loop-c.c bit inside c.up_control_bit.ensures.bit all.bits;
     }

@@ -17,7 +17,8 @@ returns-clause-step c =
 pub returns-clause-history : goal.returns-clause-history
 returns-clause-history c = λ who ts now up h e b.
     let item = item_of (option_copied c.args.item) in
-    subst (Between who (period_with now up c.args.pcm.now (handed_bits item) ∷ ts) (settings_later now)) (ap (λ (w : List ℕ × DownMemory). w.1) (returns-clause-step c))
+    subst (Between who (period_with now up c.args.pcm.now (handed_bits item) ∷ ts) (settings_later now))
+    (ap (λ (w : List ℕ × DownMemory). w.1) (returns-clause-step c))
     (down_turn-stands who ts now up c.args.pcm.now c.args.note.now item c.args.self.now c.told-pcm h e (is_some-item c.args.item ∙ b)).0
 
 pub returns-clause-down : goal.returns-clause-down

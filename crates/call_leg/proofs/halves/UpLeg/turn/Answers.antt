@@ -17,7 +17,8 @@ returns-clause-step c =
 
 pub returns-clause-history : goal.returns-clause-history
 returns-clause-history c = λ pcm handed who ts now h b.
-    subst (UpStands who (period_with now c.args.up.now pcm handed ∷ ts) (settings_later now)) (ap (λ (r : Note × List ℕ × UpMemory). r.2) (returns-clause-step c))
+    subst (UpStands who (period_with now c.args.up.now pcm handed ∷ ts) (settings_later now))
+    (ap (λ (r : Note × List ℕ × UpMemory). r.2) (returns-clause-step c))
     (turn-stands who ts now c.args.up.now pcm handed c.args.self.now c.told-up b h)
 
 pub returns-clause-note : goal.returns-clause-note

@@ -10,7 +10,8 @@ returns-then-is_of_post c =
     let es = c.self.inside.history.items in
     let seen : es ≡ c.args.self.now.history = ap (λ (b : BookState). b.history) c.self.view_is in
     let so_far = subst (λ (l : List Entry). find p (drop c.loop-k.k l) ≡ find p l) (sym seen) c.loop-k.invariant in
-    found_here p es c.loop-k.k c.index-entry.result.now (omega (arith, c.loop-k-test.true, c.len-k-end.ensures, c.self.inside.history.ok.0)) c.index-entry.ensures
+    found_here p es c.loop-k.k c.index-entry.result.now
+    (omega (arith, c.loop-k-test.true, c.len-k-end.ensures, c.self.inside.history.ok.0)) c.index-entry.ensures
     (sym c.if-is_of_post.ensures) so_far ∙ ap (find p) seen
 
 pub loop-k-preserved : goal.loop-k-preserved
@@ -22,5 +23,6 @@ loop-k-preserved c =
     let one : suc c.loop-k.k ≡ c.loop-k.k + 1 = omega arith in
     subst (λ (l : List Entry). find p (drop (c.loop-k.k + 1) l) ≡ find p l) seen
     (subst (λ (n : ℕ). find p (drop n es) ≡ find p es) one
-    (not_here p es c.loop-k.k c.index-entry.result.now (omega (arith, c.loop-k-test.true, c.len-k-end.ensures, c.self.inside.history.ok.0)) c.index-entry.ensures
+    (not_here p es c.loop-k.k c.index-entry.result.now
+    (omega (arith, c.loop-k-test.true, c.len-k-end.ensures, c.self.inside.history.ok.0)) c.index-entry.ensures
     (sym c.if-is_of_post.ensures) so_far))

@@ -39,7 +39,8 @@ work_jobs-jobs-requires-clause-groups g c κs lives =
 
 pub work_jobs-jobs-requires-clause-live : goal.work_jobs-jobs-requires-clause-live
 work_jobs-jobs-requires-clause-live g c κs lives =
-    subst (λ (ns : List ℕ). ListsOpenCalls ns (groups_from c.self.inside.jobs.items)) (sym (c.deref.ensures.value ∙ c.self.invariant.2)) c.self.invariant.0.alive
+    subst (λ (ns : List ℕ). ListsOpenCalls ns (groups_from c.self.inside.jobs.items))
+    (sym (c.deref.ensures.value ∙ c.self.invariant.2)) c.self.invariant.0.alive
 
 pub work_jobs-jobs-requires-clause-fresh : goal.work_jobs-jobs-requires-clause-fresh
 work_jobs-jobs-requires-clause-fresh g c κs lives = fresh_for c.self.inside.room.phases.periods _ c.self.invariant.0.fresh

@@ -41,7 +41,8 @@ whole c =
     let settled =
     subst (λ (m : WorkedMemory). Settled (goes_on_call r.seats)
     (groups_from m.jobs) m.live c.settle_all.new.live.items m.tallies c.settle_all.new.tallies) c.self.view_is second in
-    passed r c.settle_all.new.groups.items c.settle_all.new.live.items c.settle_all.new.tallies (subst IsWorkedRound c.self.view_is c.self.invariant.0) left settled
+    passed r c.settle_all.new.groups.items c.settle_all.new.live.items c.settle_all.new.tallies
+    (subst IsWorkedRound c.self.view_is c.self.invariant.0) left settled
 
 -- the tallies, as they are given on
 tallies_back : (c : goal.After-drop-self-inside) →
