@@ -8,3 +8,6 @@
 
 /// Call numbers are below this: a table of calls has one entry a number, and one for 0, which no call has.
 pub const NUMBERS: usize = 4097;
+
+/// The highest number of a call.
+pub const LAST_CALL: u32 = NUMBERS as u32 - 1;

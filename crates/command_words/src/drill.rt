@@ -5,9 +5,8 @@ ghost use Rattle.clap.specs.Words.{app_of, first_value, found_of};
 ghost use Rattle.command_words.specs.declared.asked.Settings.{Settings as TheSettings};
 ghost use Rattle.command_words.specs.Drill.{drill_app, GivesDrill, AreDrillOptions};
 
-use crate::options::{bare_command, settings_of, value, with_options};
+use crate::options::{bare_command, matches_in, settings_of, value, with_options};
 use crate::{Settings, WordsFault};
-use clap::error::ErrorKind;
 use clap::{ArgMatches, Command};
 use std::alloc::{AllocError, Global};
 
@@ -51,9 +50,6 @@ pub(crate) fn read_drill(alloc: Global, options: &[String]) -> Result<Drilled, W
         AreDrillOptions (map (λ w. string_bytes w) options.now) seed calls s → ⊥ }
 {
     let command = drill_command(alloc)?;
-    match command.try_get_matches_from(options) {
-        Ok(matches) => drilled_of(&matches).ok_or(WordsFault::Usage),
-        Err(error) if error.kind() == ErrorKind::OutOfMemory => Err(WordsFault::Memory),
-        Err(_) => Err(WordsFault::Usage),
-    }
+    let matches = matches_in(command, options)?;
+    drilled_of(&matches).ok_or(WordsFault::Usage)
 }

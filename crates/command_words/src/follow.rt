@@ -3,7 +3,7 @@
 ghost use Rattle.std.specs.Prelude.{◌≡◌, ◌≤◌, ◌%◌, ℕ, IfSome, IsNone, map, string_bytes};
 ghost use Rattle.command_words.specs.Follow.{IsWanted, NamesFollow};
 
-use crate::tools::HIGHEST_CALL;
+use call_number::LAST_CALL;
 use decimal_number::number_of_text;
 
 // The last wanted place that is below 320 and a multiple of 4.
@@ -41,7 +41,7 @@ pub(crate) fn read_follow(words: &[String]) -> Option<Followed>
         return None;
     }
     Some(Followed {
-        call: number_of_text(number.as_str(), 1, HIGHEST_CALL)?,
+        call: number_of_text(number.as_str(), 1, LAST_CALL)?,
         want: wanted(place.as_str())?,
     })
 }

@@ -6,8 +6,7 @@ ghost use Rattle.command_words.specs.declared.live.LiveSettings.{LiveSettings as
 ghost use Rattle.command_words.specs.Live.{live_app, GivesLive, AreLiveOptions};
 
 use crate::WordsFault;
-use crate::options::{bare_command, value, with_options};
-use clap::error::ErrorKind;
+use crate::options::{bare_command, matches_in, value, with_options};
 use clap::{ArgMatches, Command};
 use std::alloc::{AllocError, Global};
 
@@ -55,9 +54,6 @@ pub(crate) fn read_live(alloc: Global, options: &[String]) -> Result<LiveSetting
     ensures usage { IsErrOf result WordsFault.Usage → (s : TheSettings) → AreLiveOptions (map (λ w. string_bytes w) options.now) s → ⊥ }
 {
     let command = live_command(alloc)?;
-    match command.try_get_matches_from(options) {
-        Ok(matches) => live_of(&matches).ok_or(WordsFault::Usage),
-        Err(error) if error.kind() == ErrorKind::OutOfMemory => Err(WordsFault::Memory),
-        Err(_) => Err(WordsFault::Usage),
-    }
+    let matches = matches_in(command, options)?;
+    live_of(&matches).ok_or(WordsFault::Usage)
 }

@@ -1,11 +1,12 @@
 //! Commands with options, and how a run is to work by these.
 
-ghost use Rattle.std.specs.Prelude.{◌≡◌, ℕ, false, IfOk, IfSome, IsNone, fold};
-ghost use Rattle.clap.specs.Words.{app_of, rule_of, first_value, found_of};
+ghost use Rattle.std.specs.Prelude.{◌≡◌, ℕ, [], true, false, IfOk, IfSome, IsErrOf, IsNone, fold, map, string_bytes};
+ghost use Rattle.clap.specs.Words.{app_of, rule_of, first_value, found_of, fault_of, is_simple_and_free, HasMatchesOf};
 ghost use Rattle.command_words.specs.declared.asked.Settings.{Settings as TheSettings};
 ghost use Rattle.command_words.specs.Options.{bare_app, with_option, option_rule, IsValueOf, GivesSettings};
 
-use crate::Settings;
+use crate::{Settings, WordsFault};
+use clap::error::ErrorKind;
 use clap::{Arg, ArgAction, ArgMatches, Command};
 use decimal_number::number_of_text;
 use std::alloc::{AllocError, Global};
@@ -40,6 +41,24 @@ pub(crate) fn with_options<'a>(
         command = command.arg(option(alloc, name))?;
     }
     Ok(command)
+}
+
+/// What a command finds in its words, which must be options of its own, each at most once and with a value.
+pub(crate) fn matches_in<'a>(
+    command: Command<'a>,
+    words: &'a [String],
+) -> Result<ArgMatches<'a>, WordsFault>
+    ensures matches { IfOk result (HasMatchesOf (app_of command.entry) (map (λ w. string_bytes w) words.now)) }
+    ensures taken { IfOk result (λ _. is_simple_and_free (app_of command.entry) ≡ true →
+        fault_of (app_of command.entry) (map (λ w. string_bytes w) words.now) ≡ []) }
+    ensures usage { IsErrOf result WordsFault.Usage → is_simple_and_free (app_of command.entry) ≡ true →
+        fault_of (app_of command.entry) (map (λ w. string_bytes w) words.now) ≡ [] → ⊥ }
+{
+    match command.try_get_matches_from(words) {
+        Ok(matches) => Ok(matches),
+        Err(error) if error.kind() == ErrorKind::OutOfMemory => Err(WordsFault::Memory),
+        Err(_) => Err(WordsFault::Usage),
+    }
 }
 
 /// The value of an option, or its default where it isn't given.

@@ -6,9 +6,8 @@ ghost use Rattle.command_words.specs.declared.asked.Settings.{Settings as TheSet
 ghost use Rattle.command_words.specs.Options.{GivesSettings};
 ghost use Rattle.command_words.specs.Run.{run_app, periods_option, AreOptions, GivePeriods};
 
-use crate::options::{bare_command, settings_of, with_options};
+use crate::options::{bare_command, matches_in, settings_of, with_options};
 use crate::{Settings, WordsFault};
-use clap::error::ErrorKind;
 use clap::{ArgMatches, Command};
 use std::alloc::{AllocError, Global};
 
@@ -47,11 +46,8 @@ fn read_options(alloc: Global, options: &[String]) -> Result<RunOptions, WordsFa
     ensures usage { IsErrOf result WordsFault.Usage → (s : TheSettings) → AreOptions (map (λ w. string_bytes w) options.now) s → ⊥ }
 {
     let command = run_command(alloc)?;
-    match command.try_get_matches_from(options) {
-        Ok(matches) => options_of(&matches).ok_or(WordsFault::Usage),
-        Err(error) if error.kind() == ErrorKind::OutOfMemory => Err(WordsFault::Memory),
-        Err(_) => Err(WordsFault::Usage),
-    }
+    let matches = matches_in(command, options)?;
+    options_of(&matches).ok_or(WordsFault::Usage)
 }
 
 /// The settings that the words after `run` or `resume` give.

@@ -5,11 +5,8 @@ ghost use Rattle.command_words.specs.declared.asked.Asked.{Asked as OneAsked};
 ghost use Rattle.command_words.specs.Asking.{AsksTool, IsToolOn};
 
 use crate::Asked;
-use call_number::NUMBERS;
+use call_number::LAST_CALL;
 use decimal_number::number_of_text;
-
-/// The highest number of a call.
-pub(crate) const HIGHEST_CALL: u32 = NUMBERS as u32 - 1;
 
 // The work of the tool of this name on a call.
 fn tool_named(name: &str, call: u32) -> Option<Asked>
@@ -33,6 +30,6 @@ pub(crate) fn read_tool(words: &[String]) -> Option<Asked>
     let [name, number] = words else {
         return None;
     };
-    let call = number_of_text(number.as_str(), 1, HIGHEST_CALL)?;
+    let call = number_of_text(number.as_str(), 1, LAST_CALL)?;
     tool_named(name.as_str(), call)
 }

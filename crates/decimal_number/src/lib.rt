@@ -2,10 +2,15 @@
 //!
 //! At the bottom: takes a text or octets and a range, and gives the number that they spell, if they
 //! spell one. Its users, `command_words`, `trau_orders` and `farm_checkpoint`, know no other numerals.
+//! The latter two also part their lines here, at an octet.
 //!
 //! The spelling, digits with no sign, no space and no zero in front, is this project's profile.
-//! Definitions: `specs/Number.antt`. Lemmas for users: `proofs/Numbers.antt`.
+//! Definitions: `specs/Number.antt`, `specs/Splits.antt`. Lemmas for users: `proofs/Numbers.antt`.
 #![tactic(auto)]
+
+mod split;
+
+pub use split::split_at_octet;
 
 ghost use Rattle.std.specs.Prelude.{◌↔◌, ℕ, IsTrue, IsNone, IfSome};
 ghost use Rattle.decimal_number.specs.Number.{IsPlain, IsNumber, SpellsOneNumber};

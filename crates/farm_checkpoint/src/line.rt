@@ -3,24 +3,12 @@
 ghost use Rattle.std.specs.Prelude.{◌≡◌, ◌++◌, ◌∷◌, ◌<◌, ◌≤◌, ℕ, List, decimal, IsNone, IfSome};
 ghost use Rattle.farm_checkpoint.specs.Marks.{IsOpenAtMark, HasSums};
 ghost use Rattle.farm_checkpoint.specs.Text.{save_line, call_text};
-ghost use Rattle.decimal_number.specs.Splits.{Lacks, SplitsAt};
 ghost use Rattle.farm_checkpoint.specs.Fields.{IsField};
 ghost use Rattle.farm_checkpoint.specs.declared.mark.MarkCall.{MarkCall as OneCall};
 
 use crate::MarkCall;
-use call_number::NUMBERS;
-use decimal_number::number_of_octets;
-
-const LAST_CALL: u32 = NUMBERS as u32 - 1;
-
-// What stands before the first such octet, and what stands behind it.
-fn split_at_octet(octets: &[u8], octet: u8) -> Option<(&[u8], &[u8])>
-    ensures some { IfSome result (λ parts. SplitsAt octet octets.now parts.0.now parts.1.now) }
-    ensures none { IsNone result → Lacks octet octets.now }
-{
-    let place = octets.iter().position(|other| *other == octet)?;
-    Some((&octets[..place], &octets[place + 1..]))
-}
+use call_number::LAST_CALL;
+use decimal_number::{number_of_octets, split_at_octet};
 
 /// What stands behind these words.
 pub(crate) fn behind<'a>(text: &'a [u8], words: &[u8]) -> Option<&'a [u8]>

@@ -13,7 +13,7 @@ use Rattle.frame_sync.specs.declared.yields.Yield.{Yield}
 use Rattle.trau_frame.specs.Match.{bit_in}
 use Rattle.frame_sync.specs.Periods.{searched, line_bits, mode_after, yield_of, ArePeriods, EndsIn, CarriesFrame}
 use Rattle.frame_sync.specs.Memory.{SyncMemory, IsNear}
-use Rattle.frame_sync.specs.Step.{bit_of_two, yield_at, ends_in_two, next_period}
+use Rattle.frame_sync.specs.Step.{bit_of_two, yield_of_ending, ends_in_two, next_period}
 use Rattle.frame_sync.specs.Stands.{last_bits, memory_after, Stands}
 use Rattle.frame_sync.proofs.Searched.{Agrees, near-searched, ends-searched, carries-searched, searched-agrees}
 
@@ -25,7 +25,7 @@ pub record Went (periods n : ℕ) (window : List ℕ) (mode : Mode) (r : Option 
   pub gives : r ≡ searched (bit_of_two (320 * n) window) (320 * n) mode
 
 pub went-found : (periods n : ℕ) (window : List ℕ) (mode : Mode) (found : Ending × Mode) (y : Option Yield) → n ≡ periods →
-    y ≡ yield_at (bit_of_two (320 * n) window) found.0 →
+    y ≡ yield_of_ending (bit_of_two (320 * n) window) found.0 →
     ends_in_two (320 * n) window found ≡ searched (bit_of_two (320 * n) window) (320 * n) mode → Went periods n window mode (y, found.1)
 went-found periods n window mode found y number at gives = record { number = number; gives = ap (λ z. (z, found.1)) at ∙ gives }
 

@@ -15,20 +15,20 @@ abbrev pub bit_of_two : ℕ → List ℕ → ℕ → ℕ
 bit_of_two base bits p = slice_index bits (p + 320 - base)
 
 -- the yield of what ends in a period of the line
-abbrev pub yield_at : (ℕ → ℕ) → Ending → Option Yield
-yield_at line Nothing = None
-yield_at line (Framed p) = Some (Frame p (frame_at line p))
-yield_at line (Missed p) = Some (Miss p)
+abbrev pub yield_of_ending : (ℕ → ℕ) → Ending → Option Yield
+yield_of_ending line Nothing = None
+yield_of_ending line (Framed p) = Some (Frame p (frame_at line p))
+yield_of_ending line (Missed p) = Some (Miss p)
 
 -- the same of two neighbouring periods, with the mode behind it
 abbrev pub ends_in_two : ℕ → List ℕ → Ending × Mode → Option Yield × Mode
-ends_in_two base bits found = (yield_at (bit_of_two base bits) found.0, found.1)
+ends_in_two base bits found = (yield_of_ending (bit_of_two base bits) found.0, found.1)
 
 -- a frame lies within two periods, the second of which begins at place `base`
-abbrev pub IsWithin : ℕ → Ending → Type 0
-IsWithin base Nothing = Unit {0}
-IsWithin base (Framed p) = (base ≤ p + 320) × (p ≤ base)
-IsWithin base (Missed p) = Unit {0}
+abbrev pub LiesWithin : ℕ → Ending → Type 0
+LiesWithin base Nothing = Unit {0}
+LiesWithin base (Framed p) = (base ≤ p + 320) × (p ≤ base)
+LiesWithin base (Missed p) = Unit {0}
 
 -- one period: its yield or none, and the memory after it
 unfoldable pub next_period : SyncMemory → List ℕ → Option Yield × SyncMemory

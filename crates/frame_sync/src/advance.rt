@@ -6,7 +6,7 @@ ghost use Rattle.frame_sync.specs.declared.yields.Mode.TheVariants.{Hunting, Loc
 ghost use Rattle.frame_sync.specs.declared.yields.Ending.TheVariants.{Framed};
 ghost use Rattle.trau_frame.specs.Match.{bit_in, frame_at};
 ghost use Rattle.frame_sync.specs.Periods.{after_miss, searched};
-ghost use Rattle.frame_sync.specs.Step.{bit_of_two, yield_at, ends_in_two, IsWithin};
+ghost use Rattle.frame_sync.specs.Step.{bit_of_two, yield_of_ending, ends_in_two, LiesWithin};
 ghost use Rattle.frame_sync.specs.Memory.{IsNear};
 
 use crate::hunt::find_match;
@@ -57,7 +57,7 @@ fn hunt(low: u64, base: u64, window: &[u8; 640]) -> (Ending, Mode)
     requires small { base < 2 ^ 60 }
     requires bits { AreBits window.now }
     ensures value { ends_in_two base window.now result ≡ searched (bit_of_two base window.now) base (Hunting low) }
-    ensures within { IsWithin base result.0 }
+    ensures within { LiesWithin base result.0 }
 {
     let first = low.max(base.saturating_sub(319));
     match find_match(window, (first + 320 - base) as usize) {
@@ -74,7 +74,7 @@ fn take_due(next: u64, misses: u8, base: u64, window: &[u8; 640]) -> (Ending, Mo
     requires small { base < 2 ^ 60 }
     requires bits { AreBits window.now }
     ensures value { ends_in_two base window.now result ≡ searched (bit_of_two base window.now) base (Locked next misses) }
-    ensures within { IsWithin base result.0 }
+    ensures within { LiesWithin base result.0 }
 {
     if sync_matches(frame_from(window, (next + 320 - base) as usize)) {
         framed(next)
@@ -90,7 +90,7 @@ pub(crate) fn advance(mode: Mode, base: u64, window: &[u8; 640]) -> (Ending, Mod
     requires small { base < 2 ^ 60 }
     requires bits { AreBits window.now }
     ensures value { ends_in_two base window.now result ≡ searched (bit_of_two base window.now) base mode }
-    ensures within { IsWithin base result.0 }
+    ensures within { LiesWithin base result.0 }
 {
     match mode {
         Mode::Hunting { low } => hunt(low, base, window),
@@ -99,11 +99,11 @@ pub(crate) fn advance(mode: Mode, base: u64, window: &[u8; 640]) -> (Ending, Mod
 }
 
 /// The yield of what ends in the period that begins at place `base`.
-pub(crate) fn yield_at(ending: Ending, base: u64, window: &[u8; 640]) -> Option<Yield>
-    requires within { IsWithin base ending }
+pub(crate) fn yield_of_ending(ending: Ending, base: u64, window: &[u8; 640]) -> Option<Yield>
+    requires within { LiesWithin base ending }
     requires small { base < 2 ^ 60 }
     requires bits { AreBits window.now }
-    ensures { result ≡ yield_at (bit_of_two base window.now) ending }
+    ensures { result ≡ yield_of_ending (bit_of_two base window.now) ending }
 {
     match ending {
         Ending::Nothing => None,

@@ -2,7 +2,7 @@
 
 ghost use Rattle.std.specs.Prelude.{◌≡◌};
 
-use crate::advance::{advance, yield_at};
+use crate::advance::{advance, yield_of_ending};
 use crate::window::two_periods;
 use crate::yields::{Mode, Yield};
 use std::marker::Model;
@@ -76,6 +76,6 @@ impl FrameSync {
         self.periods += 1;
         self.last.copy_from_slice(&window[320..]);
         self.mode = mode;
-        yield_at(ending, base, &window)
+        yield_of_ending(ending, base, &window)
     }
 }

@@ -13,7 +13,6 @@ mod laws;
 mod line;
 mod list;
 mod order;
-mod split;
 mod text;
 
 pub use fault::OrderFault;

@@ -8,15 +8,12 @@ ghost use Rattle.trau_orders.specs.declared.order.DtxMode.{DtxMode as Mode};
 ghost use Rattle.trau_orders.specs.declared.order.What.{What as OneWhat};
 ghost use Rattle.trau_orders.specs.declared.order.Order.{Order as OneOrder};
 
-use crate::split::split_at_octet;
 use crate::{DtxMode, Order, What};
-use call_number::NUMBERS;
-use decimal_number::number_of_octets;
+use call_number::LAST_CALL;
+use decimal_number::{number_of_octets, split_at_octet};
 use trau_alaw::Law;
 
 const LAST_STAMP: u32 = 4_294_967_294;
-
-const LAST_CALL: u32 = NUMBERS as u32 - 1;
 
 const HIGHEST_LEVEL: u32 = 32_767;
 

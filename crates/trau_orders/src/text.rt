@@ -6,8 +6,8 @@ ghost use Rattle.trau_orders.specs.Text.{text_lines, AreLines, IsFirstBad, IsNoE
 ghost use Rattle.trau_orders.specs.declared.order.Order.{Order as OneOrder};
 
 use crate::line::order_of;
-use crate::split::split_at_octet;
 use crate::{Order, OrderFault};
+use decimal_number::split_at_octet;
 use std::alloc::Global;
 
 // The first line of a text, without its LF, and the text behind it.

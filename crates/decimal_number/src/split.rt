@@ -3,8 +3,8 @@
 ghost use Rattle.std.specs.Prelude.{IsNone, IfSome};
 ghost use Rattle.decimal_number.specs.Splits.{Lacks, SplitsAt};
 
-/// What stands before the first such octet, and what stands behind it.
-pub(crate) fn split_at_octet(octets: &[u8], octet: u8) -> Option<(&[u8], &[u8])>
+/// What stands before the first such octet, and what stands behind it; none if there is no such octet.
+pub fn split_at_octet(octets: &[u8], octet: u8) -> Option<(&[u8], &[u8])>
     ensures some { IfSome result (λ parts. SplitsAt octet octets.now parts.0.now parts.1.now) }
     ensures none { IsNone result → Lacks octet octets.now }
 {
