@@ -9,15 +9,7 @@ ghost use Rattle.call_pair.specs.Phases.{one_done};
 
 use std::alloc::Global;
 use std::marker::Model;
-
-/// Buffers of octets, each with room for as many periods: 40 octets a period of `up` and `down`, 160 of `pcm` and `out`.
-#[derive(Drop)]
-pub struct Buffers {
-    pub up: Vec<u8>,
-    pub pcm: Vec<u8>,
-    pub out: Vec<u8>,
-    pub down: Vec<u8>,
-}
+use trau_io::Buffers;
 
 /// The octets of a call in a round: what its Up and Pcm lines gave for so many periods, and its Out and Down lines get.
 /// The octets of period k of the round are at place k, from 40 k or 160 k on.

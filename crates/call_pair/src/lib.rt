@@ -24,5 +24,5 @@ mod turn;
 
 pub use call_job::{CallJob, Phase};
 pub use half::Half;
-pub use io::{Buffers, LegIo};
+pub use io::LegIo;
 pub use job::Job;

@@ -22,7 +22,7 @@ use crate::entry::{Entry, NO_ENTRY};
 use crate::live::place_in;
 use crate::phases::{PhasesRoom, empty_lists, take_list, work_phases};
 use call_leg::UpNote;
-use call_pair::{Buffers, Half, Job, LegIo};
+use call_pair::{Half, Job, LegIo};
 use pool_run::Gate;
 use round_lines::{Place, Seat};
 use std::alloc::{AllocError, Global};
@@ -215,7 +215,7 @@ fn hand_in(
     let mut notes = notes;
     for seat in seats {
         let (place, buffers) = seat.into_parts();
-        let io = LegIo::new(place.call(), for_job(buffers), place.whole());
+        let io = LegIo::new(place.call(), buffers, place.whole());
         let list = take_list(&mut notes);
         let _ = swap_in(jobs, job_place(entries, apart.len()), io, list);
         apart.push_reserved(place);
@@ -246,7 +246,7 @@ fn hand_out(
             none,
             Vec::new(alloc),
         );
-        worked.push_reserved(Seat::from_parts(place, for_seat(io.into_buffers())));
+        worked.push_reserved(Seat::from_parts(place, io.into_buffers()));
     }
 }
 
@@ -319,24 +319,4 @@ pub(crate) fn work_jobs<R: Threads + Wait + Sync, G: Gate + Sync>(
     let mut jobs = work_phases(rt, numbers, jobs, phases, slice, gate);
     hand_out(alloc, apart, entries, &mut jobs, &mut worked);
     (jobs, worked)
-}
-
-fn for_job(buffers: round_lines::Buffers) -> Buffers
-    ensures up { result.up.items ≡ buffers.up.items }
-    ensures pcm { result.pcm.items ≡ buffers.pcm.items }
-    ensures out { result.out.items ≡ buffers.out.items }
-    ensures down { result.down.items ≡ buffers.down.items }
-{
-    let round_lines::Buffers { up, pcm, out, down } = buffers;
-    Buffers { up, pcm, out, down }
-}
-
-fn for_seat(buffers: Buffers) -> round_lines::Buffers
-    ensures up { result.up.items ≡ buffers.up.items }
-    ensures pcm { result.pcm.items ≡ buffers.pcm.items }
-    ensures out { result.out.items ≡ buffers.out.items }
-    ensures down { result.down.items ≡ buffers.down.items }
-{
-    let Buffers { up, pcm, out, down } = buffers;
-    round_lines::Buffers { up, pcm, out, down }
 }

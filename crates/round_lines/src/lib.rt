@@ -21,5 +21,5 @@ mod transfer;
 
 pub use place::Place;
 pub use round::{drain_seats, fill_seats, list_ends, list_failed};
-pub use seat::{Buffers, Seat};
+pub use seat::Seat;
 pub use transfer::{Outlet, Taken};

@@ -11,16 +11,7 @@ use crate::place::Place;
 use crate::transfer::{give_block, take_block};
 use std::alloc::{AllocError, Global};
 use std::marker::Model;
-use trau_io::{Side, Trunk};
-
-/// The octets of a call's four lines in a round: 40 a period of `up` and `down`, 160 of `pcm` and `out`.
-#[derive(Drop)]
-pub struct Buffers {
-    pub up: Vec<u8>,
-    pub pcm: Vec<u8>,
-    pub out: Vec<u8>,
-    pub down: Vec<u8>,
-}
+use trau_io::{Buffers, Side, Trunk};
 
 /// A call's place in a round with its buffers. The call's work takes it apart and puts it together again.
 #[derive(Drop)]

@@ -4,7 +4,7 @@
 //! traits of this crate and know nothing else of the outside. `MemTrunk` and `MemDesk` hold everything
 //! in memory and tell all of it, with failures and room set by their maker, the lines of a `MemTrunk` also
 //! with cuts; files and the standard streams stand in `trau_files`. Beside the traits stand the plain values that tell a call's
-//! end and its counts.
+//! end and its counts, and the buffers of its lines.
 //!
 //! The meanings of lines and desks, and all limits, are this project's profile.
 //! Definitions: `specs/Lines.antt` and `specs/Desks.antt` (what one operation does), `specs/Transfer.antt`
@@ -12,6 +12,7 @@
 //! `specs/Texts.antt` (how texts name a line).
 #![tactic(auto)]
 
+mod buffers;
 mod desk;
 mod ends;
 mod line;
@@ -20,6 +21,7 @@ mod places;
 mod transfer;
 mod trunk;
 
+pub use buffers::Buffers;
 pub use desk::Desk;
 pub use ends::{CallEnd, Cause, Counts, NO_COUNTS};
 pub use line::{Failed, Line, Side};

@@ -41,8 +41,8 @@ swap_in-requires-clause-job c =
     let made = c.new-io.ensures
     ∙ octets_made c.in-Some.seat c.into_parts-place.result.0 c.call.result c.whole.result _ _ _ _ c.call.ensures.value c.whole.ensures.value
     c.into_parts-place.ensures.place
-    (c.for_job.ensures.up ∙ c.into_parts-place.ensures.up) (c.for_job.ensures.pcm ∙ c.into_parts-place.ensures.pcm)
-    (c.for_job.ensures.out ∙ c.into_parts-place.ensures.out) (c.for_job.ensures.down ∙ c.into_parts-place.ensures.down) in
+    c.into_parts-place.ensures.up c.into_parts-place.ensures.pcm
+    c.into_parts-place.ensures.out c.into_parts-place.ensures.down in
     turn_job c.args.jobs.now c.loop-seat.jobs c.args.entries.now c.args.seats.items
     (length c.loop-seat.yielded) c.len.result c.job_place.result c.in-Some.seat c.new-io.result
     c.requires.jobs c.loop-seat.invariant.handed.same turn.0 item index c.job_place.ensures made
@@ -57,8 +57,8 @@ swap_in-requires-clause-time c =
     let made = c.new-io.ensures
     ∙ octets_made c.in-Some.seat c.into_parts-place.result.0 c.call.result c.whole.result _ _ _ _ c.call.ensures.value c.whole.ensures.value
     c.into_parts-place.ensures.place
-    (c.for_job.ensures.up ∙ c.into_parts-place.ensures.up) (c.for_job.ensures.pcm ∙ c.into_parts-place.ensures.pcm)
-    (c.for_job.ensures.out ∙ c.into_parts-place.ensures.out) (c.for_job.ensures.down ∙ c.into_parts-place.ensures.down) in
+    c.into_parts-place.ensures.up c.into_parts-place.ensures.pcm
+    c.into_parts-place.ensures.out c.into_parts-place.ensures.down in
     turn_time c.args.jobs.now c.loop-seat.jobs c.args.entries.now c.args.seats.items
     (length c.loop-seat.yielded) c.len.result c.job_place.result c.in-Some.seat c.new-io.result
     c.requires.time c.loop-seat.invariant.handed.same turn.0 item index c.job_place.ensures made
@@ -119,8 +119,8 @@ loop-seat-preserved c =
     let made = c.new-io.ensures
     ∙ octets_made c.in-Some.seat c.into_parts-place.result.0 c.call.result c.whole.result _ _ _ _ c.call.ensures.value c.whole.ensures.value
     c.into_parts-place.ensures.place
-    (c.for_job.ensures.up ∙ c.into_parts-place.ensures.up) (c.for_job.ensures.pcm ∙ c.into_parts-place.ensures.pcm)
-    (c.for_job.ensures.out ∙ c.into_parts-place.ensures.out) (c.for_job.ensures.down ∙ c.into_parts-place.ensures.down) in
+    c.into_parts-place.ensures.up c.into_parts-place.ensures.pcm
+    c.into_parts-place.ensures.out c.into_parts-place.ensures.down in
     record {
       apart = c.push_reserved.ensures.items ∙ ap (λ (ps : List PlaceMemory). ps ++ c.into_parts-place.result.0 ∷ []) c.loop-seat.invariant.apart
           ∙ ap (λ (p : PlaceMemory). map (λ (s : SeatMemory). s.place) c.loop-seat.yielded ++ p ∷ []) c.into_parts-place.ensures.place

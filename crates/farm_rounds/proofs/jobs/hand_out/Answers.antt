@@ -74,10 +74,10 @@ from_parts-requires c =
     fits_from c.in-Some.place.periods c.swap_in-io.result.given c.swap_in-io.result.up c.swap_in-io.result.pcm c.swap_in-io.result.out c.swap_in-io.result.down
     c.into_buffers.ensures.room long in
     record {
-      up = ap length (c.for_seat.ensures.up ∙ c.into_buffers.ensures.up) ∙ fits.up;
-      pcm = ap length (c.for_seat.ensures.pcm ∙ c.into_buffers.ensures.pcm) ∙ fits.pcm;
-      down = ap length (c.for_seat.ensures.down ∙ c.into_buffers.ensures.down) ∙ fits.down;
-      out = ap length (c.for_seat.ensures.out ∙ c.into_buffers.ensures.out) ∙ fits.out;
+      up = ap length c.into_buffers.ensures.up ∙ fits.up;
+      pcm = ap length c.into_buffers.ensures.pcm ∙ fits.pcm;
+      down = ap length c.into_buffers.ensures.down ∙ fits.down;
+      out = ap length c.into_buffers.ensures.out ∙ fits.out;
     }
 
 pub push_reserved-requires : goal.push_reserved-requires
@@ -108,8 +108,8 @@ loop-place-preserved c =
     (half_of_seat c.loop-place.jobs c.args.entries.now c.args.apart.items n).io = c.from_parts.ensures
     ∙ seat_made c.in-Some.place (place_numbered c.args.apart.items n) c.swap_in-io.result _ _ _ _ _ item
     (c.swap_in-io.ensures.io ∙ ap (λ (h : HalfMemory). h.io) half)
-    (c.for_seat.ensures.up ∙ c.into_buffers.ensures.up) (c.for_seat.ensures.pcm ∙ c.into_buffers.ensures.pcm)
-    (c.for_seat.ensures.down ∙ c.into_buffers.ensures.down) (c.for_seat.ensures.out ∙ c.into_buffers.ensures.out) in
+    c.into_buffers.ensures.up c.into_buffers.ensures.pcm
+    c.into_buffers.ensures.down c.into_buffers.ensures.out in
     record {
       capacity = c.push_reserved.ensures.capacity ∙ c.loop-place.invariant.capacity;
       taken =
