@@ -7,7 +7,7 @@
 //! The text is this project's profile.
 //! Definitions: `specs/Marks.antt` (what a mark is), `specs/Text.antt` (its text, and the first line that isn't in the
 //! grammar), `specs/Differences.antt` (the least call number by which two lists differ). What the private functions
-//! give stands in `specs/Reading.antt` and `specs/Splits.antt`.
+//! give stands in `specs/Reading.antt` and `specs/Fields.antt`.
 #![tactic(auto)]
 
 mod compare;
