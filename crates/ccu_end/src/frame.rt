@@ -2,21 +2,12 @@
 
 ghost use Rattle.std.specs.Prelude.{◌≡◌, ◌+◌, ◌≤◌, ◌<◌, IfSome, true};
 ghost use Rattle.trau_bits.specs.Bits.{AreBits};
-ghost use Rattle.trau_frame.specs.Frame.{Synced, number_in};
+ghost use Rattle.trau_frame.specs.Frame.{Synced};
 ghost use Rattle.trau_frame.specs.DownFrame.{HasBits};
 ghost use Rattle.trau_frame.specs.Match.{bit_in, is_match, frame_at};
 ghost use Rattle.ccu_end.specs.Read.{down_frame_in, Alike};
 
-use trau_frame::{DownFrame, read_up};
-
-// The number in C1 to C5.
-#[tactic(auto, unfolding(trau_frame::specs::Frame::number_in, trau_frame::specs::Role::place_of_role))]
-fn pattern(bits: &[u8; 320]) -> u8
-    requires { AreBits bits.now }
-    ensures { result ≡ number_in bits.now 1 5 }
-{
-    16 * bits[17] + 8 * bits[18] + 4 * bits[19] + 2 * bits[20] + bits[21]
-}
+use trau_frame::{DownFrame, pattern, read_up};
 
 // The first 316 bits of the frame at place `o` of the window, and zeros for its time bits, which say nothing.
 fn frame_from(window: &[u8; 640], o: usize) -> [u8; 320]

@@ -1,34 +1,10 @@
 //! The first match in two periods of bits.
 
-ghost use Rattle.std.specs.Prelude.{◌≡◌, ℕ, ◌+◌, ◌*◌, ◌≤◌, ◌<◌, ◌↔◌, IsTrue, IfSome, IfNone, slice_index, true};
+ghost use Rattle.std.specs.Prelude.{◌≡◌, ◌≤◌, ◌↔◌, IsTrue, IfSome, IfNone, true};
 ghost use Rattle.trau_frame.specs.Match.{bit_in, is_match};
 ghost use Rattle.ccu_end.specs.Window.{NoMatch};
 
-// Whether the sixteen sync zeros of the frame at place `o` are there.
-fn zeros_match(window: &[u8; 640], o: usize) -> bool
-    requires { o ≤ 324 }
-    ensures { IsTrue result ↔ ((i : ℕ) → i < 16 → slice_index window.now (o + i) ≡ 0) }
-{
-    for i in 0..16 {
-        if window[o + i] != 0 {
-            return false;
-        }
-    }
-    true
-}
-
-// Whether its nineteen sync ones are there.
-fn ones_match(window: &[u8; 640], o: usize) -> bool
-    requires { o ≤ 324 }
-    ensures { IsTrue result ↔ ((row : ℕ) → 1 ≤ row → row < 20 → slice_index window.now (o + 16 * row) ≡ 1) }
-{
-    for row in 1..20 {
-        if window[o + 16 * row] != 1 {
-            return false;
-        }
-    }
-    true
-}
+use trau_frame::{ones_match, zeros_match};
 
 // Whether the 35 sync bits of a frame stand at place `o`.
 fn matches_at(window: &[u8; 640], o: usize) -> bool

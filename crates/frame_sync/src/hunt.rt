@@ -1,21 +1,10 @@
 //! The first match in two periods of bits.
 
-ghost use Rattle.std.specs.Prelude.{◌≡◌, ℕ, ◌+◌, ◌*◌, ◌≤◌, ◌<◌, ◌↔◌, ◌==◌, if◌then◌else◌, IsTrue, IfSome, IfNone, slice_index, true};
+ghost use Rattle.std.specs.Prelude.{◌≡◌, ◌+◌, ◌≤◌, ◌<◌, ◌==◌, if◌then◌else◌, IfSome, IfNone, true};
 ghost use Rattle.trau_frame.specs.Match.{bit_in, is_match};
 ghost use Rattle.frame_sync.specs.Yields.{NoMatch};
 
-// Whether the nineteen sync ones of the frame at place `o` are there.
-fn ones_match(window: &[u8; 640], o: usize) -> bool
-    requires { o ≤ 320 }
-    ensures { IsTrue result ↔ ((row : ℕ) → 1 ≤ row → row < 20 → slice_index window.now (o + 16 * row) ≡ 1) }
-{
-    for row in 1..20 {
-        if window[o + 16 * row] != 1 {
-            return false;
-        }
-    }
-    true
-}
+use trau_frame::ones_match;
 
 // The number of zeros in a row after one bit more.
 fn zeros_after(zeros: usize, bit: u8) -> usize

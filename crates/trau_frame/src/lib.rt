@@ -1,10 +1,10 @@
 //! The TRAU frame of 320 bits, as GSM 08.60 lays it out for full rate speech.
 //!
 //! Between the octets of a 16 kbit/s line (`trau_bits`) and the codec's 260 bits: tells whether 320 bits carry
-//! the sync pattern, reads an uplink frame from them, and writes a frame of either direction. The places of the sync,
-//! control, data and time bits are those of GSM 08.60. The patterns of C1 to C5, the meanings of the other
-//! control bits and the classes of speech frames are this project's profile, in the manner of GSM 08.60 and
-//! GSM 06.31.
+//! the sync pattern, or the bits from any place on its zeros or its ones, reads an uplink frame, and writes a frame of
+//! either direction. The places of the sync, control, data and time bits are those of GSM 08.60. The patterns of C1 to
+//! C5, the meanings of the other control bits and the classes of speech frames are this project's profile, in the manner
+//! of GSM 08.60 and GSM 06.31.
 //!
 //! A frame is twenty rows of sixteen bits, and all work goes by rows: the sync zeros, C1 to C15, seventeen rows
 //! of fifteen data bits, and a last row with the rest. Each row but the first begins with a sync one.
@@ -22,6 +22,6 @@ mod sync;
 mod writing;
 
 pub use frames::{Class, DownFrame, Kind, UpFrame};
-pub use reading::read_up;
-pub use sync::sync_matches;
+pub use reading::{pattern, read_up};
+pub use sync::{ones_match, sync_matches, zeros_match};
 pub use writing::{write_down, write_up};

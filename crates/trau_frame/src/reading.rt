@@ -36,6 +36,14 @@ fn number(bits: &[u8; 320], first: usize, n: usize) -> u8
     value
 }
 
+/// The number in C1 to C5 of a frame of either direction: by it a frame tells what it carries.
+pub fn pattern(bits: &[u8; 320]) -> u8
+    requires { AreBits bits.now }
+    ensures { result ≡ number_in bits.now 1 5 }
+{
+    number(bits, 1, 5)
+}
+
 fn kind(pattern: u8) -> Kind
     ensures { result ≡ kind_by pattern }
 {
@@ -72,7 +80,7 @@ pub fn read_up(bits: &[u8; 320]) -> UpFrame
     ensures class { result.class ≡ class_of bits.now }
     ensures data_bits { result.d ≡ data_of bits.now }
 {
-    let kind = kind(number(bits, 1, 5));
+    let kind = kind(pattern(bits));
     UpFrame {
         kind,
         class: class(kind, control(bits, 12), number(bits, 13, 2)),

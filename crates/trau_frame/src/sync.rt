@@ -1,27 +1,31 @@
-//! The sync pattern of a frame.
+//! The sync pattern of a frame (GSM 08.60): sixteen zeros in its octets 0 and 1, which are its first row, and a one in front of
+//! each of the nineteen further rows of 16 bits.
 
-ghost use Rattle.std.specs.Prelude.{◌≡◌, ℕ, ◌*◌, ◌<◌, ◌≤◌, ◌↔◌, IsTrue, slice_index};
+ghost use Rattle.std.specs.Prelude.{◌≡◌, ℕ, ◌+◌, ◌*◌, ◌<◌, ◌≤◌, ◌↔◌, IsTrue, slice_index};
 ghost use Rattle.trau_bits.specs.Bits.{AreBits};
 ghost use Rattle.trau_frame.specs.Frame.{Synced};
 
-// Whether the first row is sixteen zeros.
-fn zeros_match(bits: &[u8; 320]) -> bool
-    ensures { IsTrue result ↔ ((i : ℕ) → i < 16 → slice_index bits.now i ≡ 0) }
+/// Whether the sixteen sync zeros of the frame at place `o` are there: its octets 0 and 1 (GSM 08.60).
+pub fn zeros_match<const N: usize>(bits: &[u8; N], o: usize) -> bool
+    requires { o + 15 < N }
+    ensures { IsTrue result ↔ ((i : ℕ) → i < 16 → slice_index bits.now (o + i) ≡ 0) }
 {
     for i in 0..16 {
-        if bits[i] != 0 {
+        if bits[o + i] != 0 {
             return false;
         }
     }
     true
 }
 
-// Whether each further row begins with a one.
-fn ones_match(bits: &[u8; 320]) -> bool
-    ensures { IsTrue result ↔ ((row : ℕ) → 1 ≤ row → row < 20 → slice_index bits.now (16 * row) ≡ 1) }
+/// Whether the nineteen sync ones of the frame at place `o` are there: one in front of each further row of 16 bits
+/// (GSM 08.60).
+pub fn ones_match<const N: usize>(bits: &[u8; N], o: usize) -> bool
+    requires { o + 304 < N }
+    ensures { IsTrue result ↔ ((row : ℕ) → 1 ≤ row → row < 20 → slice_index bits.now (o + 16 * row) ≡ 1) }
 {
     for row in 1..20 {
-        if bits[16 * row] != 1 {
+        if bits[o + 16 * row] != 1 {
             return false;
         }
     }
@@ -33,5 +37,5 @@ pub fn sync_matches(bits: &[u8; 320]) -> bool
     requires { AreBits bits.now }
     ensures { IsTrue result ↔ Synced bits.now }
 {
-    zeros_match(bits) && ones_match(bits)
+    zeros_match(bits, 0) && ones_match(bits, 0)
 }

@@ -1,5 +1,5 @@
-use Rattle.std.proofs.Common.{◌≡◌, ℕ, ◌*◌, ◌<◌, ◌≤◌, get_or}
+use Rattle.std.proofs.Common.{◌≡◌, ℕ, ◌+◌, ◌*◌, ◌<◌, ◌≤◌, get_or}
 use Rattle.trau_frame.proofs.sync.ones_match.Given as goal
 
 abbrev pub invariant-loop-row : goal.invariant-loop-row
-invariant-loop-row l = (k : ℕ) → 1 ≤ k → k < l.row → get_or l.bits (16 * k) 0 ≡ 1
+invariant-loop-row g l = (k : ℕ) → 1 ≤ k → k < l.row → get_or l.bits (l.o + 16 * k) 0 ≡ 1
