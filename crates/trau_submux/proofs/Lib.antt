@@ -6,6 +6,7 @@ pub mod Groups
 pub mod Merged
 mod Pieces
 pub mod Merging
+pub mod Last
 pub mod Parts
 pub mod Reading
 pub mod Splitting

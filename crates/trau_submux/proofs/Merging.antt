@@ -224,29 +224,3 @@ module _ (u0 u1 u2 : ℕ → LineState) (o0 o1 o2 : LineState) (call n octets : 
   pub on_failed : n < 4294967295 → (line : Line) → BlockEndsAs u1 u2 o1 o2 call (block.Failed line) → Merges u0 u2 o0 o2 call (LineFailed line)
   on_failed few line (inl read) = failed_to_read read.0 read.3 few line read.1 read.2 read.4
   on_failed few line (inr write) = failed_to_write write.0 few line write.1 write.2 write.3
-
--- so many blocks were taken that no more are
-pub at_last : (u0 u1 : ℕ → LineState) (o0 o1 : LineState) (call n octets : ℕ) (left : List ℕ) → MergeSoFar u0 u1 o0 o1 n octets → n ≡ 4294967295 →
-    ((j : ℕ) → j < 4 → get_or left j 0 ≡ 0) → Merges u0 u1 o0 o1 call (Done octets left)
-at_last u0 u1 o0 o1 call n octets left so_far last none = record {
-  given = so_far.given;
-  gives = so_far.gives;
-  ends = record {
-    used = 40 * n;
-    read = record {
-      fewest = record { least = λ j below. omega (arith, so_far.whole j below); one = 0; below = omega arith; is = sym (so_far.whole 0 (omega arith)) };
-      few = omega (arith, last);
-      last = inl (omega (arith, last), so_far.whole);
-    };
-    octets_are = omega (arith, so_far.octets_are);
-    left_are = λ j below. omega (arith, none j below, so_far.whole j below);
-    sent = so_far.sent;
-    merged = record {
-      are_octets = so_far.merged.are_octets;
-      carries = λ j below. so_far.merged.carries j below
-          ∙ ap bits_of (sym (take_all (40 * n) (so_far.given j) (omega (arith, so_far.whole j below))));
-    };
-    gained = so_far.gained;
-    calm = so_far.calm;
-  };
-}

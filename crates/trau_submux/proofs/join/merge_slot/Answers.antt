@@ -2,7 +2,8 @@ use Rattle.std.proofs.Common.{◌≡◌, ◌-◌, ◌∷◌, [], ◌∙◌, get_
 use Rattle.trau_io.specs.declared.line.Side.TheVariants.{Up, Out}
 use Rattle.trau_submux.specs.Lines.{channel_lines}
 use Rattle.trau_submux.proofs.Channels.{for_four}
-use Rattle.trau_submux.proofs.Merging.{at_last, ended, on_failed, on_whole}
+use Rattle.trau_submux.proofs.Last.{at_last}
+use Rattle.trau_submux.proofs.Merging.{ended, on_failed, on_whole}
 use Rattle.trau_submux.proofs.Pieces.{at_start}
 use Rattle.trau_submux.proofs.join.merge_slot.Goals as goal
 
