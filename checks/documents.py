@@ -22,10 +22,12 @@ import shutil
 import subprocess
 import sys
 
+if {"-h", "--help"} & set(sys.argv[1:]):
+    sys.exit(print(__doc__.strip()))
+if len(sys.argv) < 3 or sys.argv[3:] not in ([], ["--write"]):
+    sys.exit("usage: documents.sh [--write]")
 TOP, WORK = (pathlib.Path(word) for word in sys.argv[1:3])
 WRITE = sys.argv[3:] == ["--write"]
-if sys.argv[3:] not in ([], ["--write"]):
-    sys.exit("usage: documents.sh [--write]")
 # Made by the examples themselves, and by no clone.
 MADE = shutil.ignore_patterns("*.down", "*.out", "7.pcm", "__pycache__")
 INDENT = "    "

@@ -15,7 +15,7 @@ from typing import Iterable, List, Sequence, Tuple
 import trau_frames
 
 NAME = "trau"
-PURPOSE = "the box between GSM base stations and the exchange, on recorded lines"
+PURPOSE = "the GSM transcoder and rate adaptor unit, on recorded lines"
 
 
 @dataclass(frozen=True)
