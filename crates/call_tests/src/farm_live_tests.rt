@@ -1,9 +1,9 @@
-//! Tests of a live farm: one caller posts to a call, works it and reads what came of its posts.
+//! Tests of a live farm: one caller posts to a call, works it, reads what came of its posts, and ends the farm.
 
 ghost use Rattle.std.specs.Prelude.{◌≡◌, ◌≤◌, ◌<◌, ◌+◌, length, slice_index_or, IfOk};
 ghost use Rattle.farm_live.specs.Live.{view_of, IsSeated};
 
-use farm_live::{Caller, Live, Look, PostFault, Turn};
+use farm_live::{Caller, Closed, Live, Look, PostFault, Turn};
 use std::alloc::{AllocError, Global};
 use std::sync::Wait;
 use std::test::Fail;
@@ -153,6 +153,35 @@ fn empties<R: Wait>(rt: &R, alloc: Global, live: &Live, caller: &mut Caller) -> 
         && b == quiet
 }
 
+// Ends the farm.
+fn close<R: Wait>(
+    rt: &R,
+    alloc: Global,
+    live: Live,
+    caller: Caller,
+) -> Result<Vec<Closed>, AllocError>
+    requires seated { IsSeated live.inbox live.slots.items caller }
+{
+    let mut callers = Vec::with_capacity(alloc, 1)?;
+    callers.push_reserved(caller);
+    Ok(live.close(rt, callers))
+}
+
+// Whether one call was closed, whose first post was worked, and the other two are left, in order.
+fn leaves_two(closed: &[Closed]) -> bool {
+    if closed.len() != 1 {
+        return false;
+    }
+    let one = &closed[0];
+    let (worked, left) = (one.entries.as_slice(), one.left.as_slice());
+    one.call == 1
+        && worked.len() == 1
+        && worked[0].post.number == 0
+        && left.len() == 2
+        && left[0].number == 1
+        && left[1].number == 2
+}
+
 #[test]
 fn posts_are_worked_in_order(rt: HostRuntime) -> Result<(), Fail> {
     let alloc = rt.alloc();
@@ -160,5 +189,15 @@ fn posts_are_worked_in_order(rt: HostRuntime) -> Result<(), Fail> {
     assert!(rt; fills(&rt, alloc, &live, &mut caller));
     assert!(rt; reads_the_first(&rt, &live, &mut caller));
     assert!(rt; empties(&rt, alloc, &live, &mut caller));
+    Ok(())
+}
+
+#[test]
+fn posts_that_wait_are_left(rt: HostRuntime) -> Result<(), Fail> {
+    let alloc = rt.alloc();
+    let (live, mut caller) = farm(&rt, alloc)?;
+    assert!(rt; fills(&rt, alloc, &live, &mut caller));
+    let closed = close(&rt, alloc, live, caller)?;
+    assert!(rt; leaves_two(closed.as_slice()));
     Ok(())
 }

@@ -9,9 +9,9 @@ ghost use Rattle.live_run.specs.Posts.{Knows, IsDrawn, MovesSeat, IsBehind, HasP
 ghost use Rattle.live_run.specs.Posters.{IsReady, HasEnded, Ends, HavePosted, poster_of};
 
 use crate::calls::post_period;
-use crate::size::LiveDrill;
+use crate::yard::Yard;
 use farm_drill::{Generator, pcm, uplink};
-use farm_live::{Caller, Live};
+use farm_live::Caller;
 use pool_run::Gate;
 use std::alloc::{AllocError, Global};
 use std::sync::Wait;
@@ -28,57 +28,52 @@ struct Poster {
 
 // Posts a period to the call with this index, if it is one of the caller's own.
 fn post_own<R: Wait, G: Gate>(
-    rt: &R,
-    alloc: Global,
-    live: &Live,
-    drill: &LiveDrill,
+    yard: &Yard<R, G>,
     period: u32,
     k: u32,
     caller: &mut Caller,
     draws: &mut Generator,
-    gate: &G,
 ) -> Result<(), AllocError>
-    requires size { IsLiveDrill drill.now }
+    requires size { IsLiveDrill yard.now.drill }
     requires period { period < 1000 }
-    requires call { k < length live.now.slots.items }
+    requires call { k < length yard.now.live.now.slots.items }
     requires few { k < 256 }
-    requires farm { IsSeated live.now.inbox live.now.slots.items caller.old }
-    requires knows { (s : _) → Knows drill.now.seed drill.now.callers caller.old.number k period (view_of (slice_index_or caller.old.seats.items k s)) }
-    requires drawn { IsDrawn drill.now.seed drill.now.callers caller.old.number k period draws.old }
-    ensures farm { IsSeated live.now.inbox live.now.slots.items caller.new }
-    ensures posted { OnOk result (MovesSeat (λ _ w. Knows drill.now.seed drill.now.callers caller.old.number k (period + 1) w) k caller.old caller.new) }
-    ensures drawn { OnOk result (IsDrawn drill.now.seed drill.now.callers caller.old.number k (period + 1) draws.new) }
+    requires farm { IsSeated yard.now.live.now.inbox yard.now.live.now.slots.items caller.old }
+    requires knows { (s : _) →
+        Knows yard.now.drill.seed yard.now.drill.callers caller.old.number k period (view_of (slice_index_or caller.old.seats.items k s)) }
+    requires drawn { IsDrawn yard.now.drill.seed yard.now.drill.callers caller.old.number k period draws.old }
+    ensures farm { IsSeated yard.now.live.now.inbox yard.now.live.now.slots.items caller.new }
+    ensures posted { OnOk result (
+        MovesSeat (λ _ w. Knows yard.now.drill.seed yard.now.drill.callers caller.old.number k (period + 1) w) k caller.old caller.new) }
+    ensures drawn { OnOk result (IsDrawn yard.now.drill.seed yard.now.drill.callers caller.old.number k (period + 1) draws.new) }
 {
-    if k % drill.callers != caller.number() {
+    if k % yard.drill.callers != caller.number() {
         return Ok(());
     }
     let up = uplink(draws, period);
     let pcm = pcm(draws, period);
-    post_period(rt, alloc, live, caller, k, &up, &pcm, gate)
+    post_period(yard, caller, k, &up, &pcm)
 }
 
 // Posts a period to each of the caller's calls.
 fn post_round<R: Wait, G: Gate>(
-    rt: &R,
-    alloc: Global,
-    live: &Live,
-    drill: &LiveDrill,
+    yard: &Yard<R, G>,
     period: u32,
     caller: &mut Caller,
     draws: &mut [Generator],
-    gate: &G,
 ) -> Result<(), AllocError>
-    requires size { IsLiveDrill drill.now }
+    requires size { IsLiveDrill yard.now.drill }
     requires period { period < 1000 }
-    requires calls { length live.now.slots.items ≡ drill.now.calls }
-    requires farm { IsSeated live.now.inbox live.now.slots.items caller.old }
-    requires behind { IsBehind drill.now.seed drill.now.calls drill.now.callers caller.old.number (λ _. period) caller.old draws.old }
-    ensures farm { IsSeated live.now.inbox live.now.slots.items caller.new }
-    ensures behind { OnOk result (IsBehind drill.now.seed drill.now.calls drill.now.callers caller.old.number (λ _. period + 1) caller.new draws.new) }
+    requires calls { length yard.now.live.now.slots.items ≡ yard.now.drill.calls }
+    requires farm { IsSeated yard.now.live.now.inbox yard.now.live.now.slots.items caller.old }
+    requires behind { IsBehind yard.now.drill.seed yard.now.drill.calls yard.now.drill.callers caller.old.number (λ _. period) caller.old draws.old }
+    ensures farm { IsSeated yard.now.live.now.inbox yard.now.live.now.slots.items caller.new }
+    ensures behind { OnOk result (
+        IsBehind yard.now.drill.seed yard.now.drill.calls yard.now.drill.callers caller.old.number (λ _. period + 1) caller.new draws.new) }
 {
-    for k in 0..drill.calls {
+    for k in 0..yard.drill.calls {
         let own = &mut draws[k as usize];
-        post_own(rt, alloc, live, drill, period, k, caller, own, gate)?;
+        post_own(yard, period, k, caller, own)?;
     }
     Ok(())
 }
@@ -98,88 +93,61 @@ fn first_draws(alloc: Global, seed: u32, calls: u32) -> Result<Vec<Generator>, A
 }
 
 // Posts all periods of the caller's calls, a period of each call at a time.
-fn post_periods<R: Wait, G: Gate>(
-    rt: &R,
-    alloc: Global,
-    live: &Live,
-    drill: &LiveDrill,
-    caller: &mut Caller,
-    gate: &G,
-) -> Result<(), AllocError>
-    requires size { IsLiveDrill drill.now }
-    requires calls { length live.now.slots.items ≡ drill.now.calls }
-    requires farm { IsSeated live.now.inbox live.now.slots.items caller.old }
-    requires posted { HasPosted drill.now.seed drill.now.calls drill.now.callers 0 caller.old.number caller.old }
-    ensures farm { IsSeated live.now.inbox live.now.slots.items caller.new }
-    ensures posted { OnOk result (HasPosted drill.now.seed drill.now.calls drill.now.callers drill.now.periods caller.old.number caller.new) }
+fn post_periods<R: Wait, G: Gate>(yard: &Yard<R, G>, caller: &mut Caller) -> Result<(), AllocError>
+    requires size { IsLiveDrill yard.now.drill }
+    requires calls { length yard.now.live.now.slots.items ≡ yard.now.drill.calls }
+    requires farm { IsSeated yard.now.live.now.inbox yard.now.live.now.slots.items caller.old }
+    requires posted { HasPosted yard.now.drill.seed yard.now.drill.calls yard.now.drill.callers 0 caller.old.number caller.old }
+    ensures farm { IsSeated yard.now.live.now.inbox yard.now.live.now.slots.items caller.new }
+    ensures posted { OnOk result (
+        HasPosted yard.now.drill.seed yard.now.drill.calls yard.now.drill.callers yard.now.drill.periods caller.old.number caller.new) }
 {
-    let mut draws = first_draws(alloc, drill.seed, drill.calls)?;
-    for period in 0..drill.periods {
+    let mut draws = first_draws(yard.alloc, yard.drill.seed, yard.drill.calls)?;
+    for period in 0..yard.drill.periods {
         let each = draws.as_mut_slice();
-        post_round(rt, alloc, live, drill, period, caller, each, gate)?;
+        post_round(yard, period, caller, each)?;
     }
     Ok(())
 }
 
 // Posts all periods of a poster's calls, and says whether it could.
-fn post_all<R: Wait, G: Gate>(
-    rt: &R,
-    alloc: Global,
-    live: &Live,
-    drill: &LiveDrill,
-    poster: &mut Poster,
-    gate: &G,
-)
-    requires size { IsLiveDrill drill.now }
-    requires calls { length live.now.slots.items ≡ drill.now.calls }
-    requires ready { (i : ℕ) × IsReady drill.now.seed drill.now.calls drill.now.callers live.now.inbox live.now.slots.items i poster.old }
-    ensures { (i : ℕ) → IsReady drill.now.seed drill.now.calls drill.now.callers live.now.inbox live.now.slots.items i poster.old →
-        HasEnded drill.now.seed drill.now.calls drill.now.callers drill.now.periods live.now.inbox live.now.slots.items i poster.new }
+fn post_all<R: Wait, G: Gate>(yard: &Yard<R, G>, poster: &mut Poster)
+    requires size { IsLiveDrill yard.now.drill }
+    requires calls { length yard.now.live.now.slots.items ≡ yard.now.drill.calls }
+    requires ready { (i : ℕ) × IsReady yard.now.drill yard.now.live.now.inbox yard.now.live.now.slots.items i poster.old }
+    ensures { (i : ℕ) → IsReady yard.now.drill yard.now.live.now.inbox yard.now.live.now.slots.items i poster.old →
+        HasEnded yard.now.drill yard.now.live.now.inbox yard.now.live.now.slots.items i poster.new }
 {
-    let posted = post_periods(rt, alloc, live, drill, &mut poster.caller, gate);
+    let posted = post_periods(yard, &mut poster.caller);
     poster.done = posted.is_ok();
 }
 
 // What a thread does.
-fn run_poster<R: Wait, G: Gate>(
-    rt: &R,
-    alloc: Global,
-    live: &Live,
-    drill: &LiveDrill,
-    poster: &mut Poster,
-    gate: &G,
-)
-    requires size { IsLiveDrill drill.now }
-    requires calls { length live.now.slots.items ≡ drill.now.calls }
-    requires ready { (i : ℕ) × IsReady drill.now.seed drill.now.calls drill.now.callers live.now.inbox live.now.slots.items i poster.old }
-    ensures { Ends drill.now.seed drill.now.calls drill.now.callers drill.now.periods live.now.inbox live.now.slots.items poster.old poster.new }
+fn run_poster<R: Wait, G: Gate>(yard: &Yard<R, G>, poster: &mut Poster)
+    requires size { IsLiveDrill yard.now.drill }
+    requires calls { length yard.now.live.now.slots.items ≡ yard.now.drill.calls }
+    requires ready { (i : ℕ) × IsReady yard.now.drill yard.now.live.now.inbox yard.now.live.now.slots.items i poster.old }
+    ensures { Ends yard.now.drill yard.now.live.now.inbox yard.now.live.now.slots.items poster.old poster.new }
 {
-    post_all(rt, alloc, live, drill, poster, gate);
+    post_all(yard, poster);
 }
 
 // Each on a thread of its own, until all have ended.
-fn run_posters<R: Threads + Wait + Sync, G: Gate + Sync>(
-    rt: &R,
-    alloc: Global,
-    live: &Live,
-    drill: &LiveDrill,
-    posters: &mut [Poster],
-    gate: &G,
-)
-    requires size { IsLiveDrill drill.now }
-    requires calls { length live.now.slots.items ≡ drill.now.calls }
+fn run_posters<R: Threads + Wait + Sync, G: Gate + Sync>(yard: &Yard<R, G>, posters: &mut [Poster])
+    requires size { IsLiveDrill yard.now.drill }
+    requires calls { length yard.now.live.now.slots.items ≡ yard.now.drill.calls }
     requires some { 0 < length posters.old }
     requires ready { (k : ℕ) (p : _) → k < length posters.old →
-        IsReady drill.now.seed drill.now.calls drill.now.callers live.now.inbox live.now.slots.items k (slice_index_or posters.old k p) }
+        IsReady yard.now.drill yard.now.live.now.inbox yard.now.live.now.slots.items k (slice_index_or posters.old k p) }
     ensures { (k : ℕ) (p : _) → k < length posters.old →
-        Ends drill.now.seed drill.now.calls drill.now.callers drill.now.periods live.now.inbox live.now.slots.items (slice_index_or posters.old k p) (slice_index_or posters.new k p) }
+        Ends yard.now.drill yard.now.live.now.inbox yard.now.live.now.slots.items (slice_index_or posters.old k p) (slice_index_or posters.new k p) }
 {
     let threads = posters.len();
     thread::for_each_mut(
-        rt,
+        yard.rt,
         posters,
         threads,
-        &|_, poster| run_poster(rt, alloc, live, drill, poster, gate),
+        &|_, poster| run_poster(yard, poster),
     );
 }
 
@@ -213,19 +181,15 @@ fn callers_of(alloc: Global, posters: Vec<Poster>) -> Result<Vec<Caller>, AllocE
 /// Has the callers of a new farm post all periods of their calls, each on a thread of its own, and answers them. An error
 /// says that there was no memory.
 pub(crate) fn post_by_all<R: Threads + Wait + Sync, G: Gate + Sync>(
-    rt: &R,
-    alloc: Global,
-    live: &Live,
-    drill: &LiveDrill,
+    yard: &Yard<R, G>,
     callers: Vec<Caller>,
-    gate: &G,
 ) -> Result<Vec<Caller>, AllocError>
-    requires size { IsLiveDrill drill.now }
-    requires calls { length live.now.slots.items ≡ drill.now.calls }
-    requires callers { HavePosted drill.now.seed drill.now.calls drill.now.callers 0 live.now.inbox live.now.slots.items callers.items }
-    ensures { IfOk result (λ cs. HavePosted drill.now.seed drill.now.calls drill.now.callers drill.now.periods live.now.inbox live.now.slots.items cs.items) }
+    requires size { IsLiveDrill yard.now.drill }
+    requires calls { length yard.now.live.now.slots.items ≡ yard.now.drill.calls }
+    requires callers { HavePosted yard.now.drill 0 yard.now.live.now.inbox yard.now.live.now.slots.items callers.items }
+    ensures { IfOk result (λ cs. HavePosted yard.now.drill yard.now.drill.periods yard.now.live.now.inbox yard.now.live.now.slots.items cs.items) }
 {
-    let mut posters = posters_of(alloc, callers)?;
-    run_posters(rt, alloc, live, drill, posters.as_mut_slice(), gate);
-    callers_of(alloc, posters)
+    let mut posters = posters_of(yard.alloc, callers)?;
+    run_posters(yard, posters.as_mut_slice());
+    callers_of(yard.alloc, posters)
 }

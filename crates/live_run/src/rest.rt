@@ -6,31 +6,28 @@ ghost use Rattle.live_run.specs.Size.{IsLiveDrill};
 ghost use Rattle.live_run.specs.Posts.{HasPosted, SawAll};
 
 use crate::calls::work_to;
-use crate::size::LiveDrill;
-use farm_live::{Caller, Live};
-use std::alloc::{AllocError, Global};
+use crate::yard::Yard;
+use farm_live::Caller;
+use std::alloc::AllocError;
 use std::sync::Wait;
 
 /// Works each call, as this caller, until the last post of the call's own caller stands in its history. An error says that
 /// there was no memory for that.
-pub(crate) fn work_rest<R: Wait>(
-    rt: &R,
-    alloc: Global,
-    live: &Live,
-    drill: &LiveDrill,
+pub(crate) fn work_rest<R: Wait, G>(
+    yard: &Yard<R, G>,
     caller: &mut Caller,
 ) -> Result<(), AllocError>
-    requires size { IsLiveDrill drill.now }
-    requires calls { length live.now.slots.items ≡ drill.now.calls }
-    requires farm { IsSeated live.now.inbox live.now.slots.items caller.old }
-    ensures farm { IsSeated live.now.inbox live.now.slots.items caller.new }
-    ensures posted { (n i : ℕ) → HasPosted drill.now.seed drill.now.calls drill.now.callers n i caller.old →
-        HasPosted drill.now.seed drill.now.calls drill.now.callers n i caller.new }
-    ensures saw { OnOk result (SawAll drill.now.callers (drill.now.periods - 1) drill.now.calls caller.new) }
+    requires size { IsLiveDrill yard.now.drill }
+    requires calls { length yard.now.live.now.slots.items ≡ yard.now.drill.calls }
+    requires farm { IsSeated yard.now.live.now.inbox yard.now.live.now.slots.items caller.old }
+    ensures farm { IsSeated yard.now.live.now.inbox yard.now.live.now.slots.items caller.new }
+    ensures posted { (n i : ℕ) → HasPosted yard.now.drill.seed yard.now.drill.calls yard.now.drill.callers n i caller.old →
+        HasPosted yard.now.drill.seed yard.now.drill.calls yard.now.drill.callers n i caller.new }
+    ensures saw { OnOk result (SawAll yard.now.drill.callers (yard.now.drill.periods - 1) yard.now.drill.calls caller.new) }
 {
-    for k in 0..drill.calls {
-        let of = k % drill.callers;
-        work_to(rt, alloc, live, caller, k, of, drill.periods - 1)?;
+    for k in 0..yard.drill.calls {
+        let of = k % yard.drill.callers;
+        work_to(yard, caller, k, of, yard.drill.periods - 1)?;
     }
     Ok(())
 }

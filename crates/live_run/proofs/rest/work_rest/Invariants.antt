@@ -5,7 +5,8 @@ use Rattle.live_run.proofs.rest.work_rest.Given as goal
 
 abbrev pub invariant-loop-k : goal.invariant-loop-k
 invariant-loop-k g l = record {
-  farm : IsSeated l.live.inbox l.live.slots.items l.caller;
-  posted : (n i : ℕ) → HasPosted l.drill.seed l.drill.calls l.drill.callers n i l.fn.caller → HasPosted l.drill.seed l.drill.calls l.drill.callers n i l.caller;
-  saw : SawAll l.drill.callers (l.drill.periods - 1) l.k l.caller;
+  farm : IsSeated l.yard.live.now.inbox l.yard.live.now.slots.items l.caller;
+  posted : (n i : ℕ) → HasPosted l.yard.drill.seed l.yard.drill.calls l.yard.drill.callers n i l.fn.caller →
+      HasPosted l.yard.drill.seed l.yard.drill.calls l.yard.drill.callers n i l.caller;
+  saw : SawAll l.yard.drill.callers (l.yard.drill.periods - 1) l.k l.caller;
 }

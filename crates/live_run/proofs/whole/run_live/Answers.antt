@@ -17,7 +17,7 @@ post_by_all-requires-clause-callers g c κs within =
     let live = c.in_ok-live.live in
     let callers = c.in_ok-live.callers.items in
     let made = c.in_ok-live.ensures in
-    new_posted d.seed d.calls d.callers live.inbox live.slots.items callers c.requires.some_calls made.calls.0
+    new_posted d live.inbox live.slots.items callers c.requires.some_calls made.calls.0
     (subst (λ (n : ℕ). AreCallers n d.callers live.slots.items callers) (sym made.calls.1) made.callers)
 
 pub close-closed-requires-clause-farm : goal.close-closed-requires-clause-farm
@@ -26,8 +26,8 @@ close-closed-requires-clause-farm g c =
     let live = c.in_ok-live.live in
     let callers = c.in_ok-callers.callers.items in
     let first = c.work_rest.new.caller in
-    all_seated d.seed d.calls d.callers live.inbox live.slots.items d.periods (set callers 0 first)
-    (first_still d.seed d.calls d.callers live.inbox live.slots.items d.periods callers c.index_mut.result.now first c.requires.some_callers
+    all_seated d live.inbox live.slots.items d.periods (set callers 0 first)
+    (first_still d live.inbox live.slots.items d.periods callers c.index_mut.result.now first c.requires.some_callers
     c.index_mut.ensures.value c.in_ok-callers.ensures
     c.work_rest.ensures.farm (c.work_rest.ensures.posted d.periods))
 
@@ -41,7 +41,7 @@ returns g c =
     let all = set callers 0 first in
     let closed = c.close-closed.result.items in
     let count : length slots ≡ d.calls = c.in_ok-live.ensures.calls.0 in
-    let have = first_still d.seed d.calls d.callers live.inbox slots d.periods callers c.index_mut.result.now first c.requires.some_callers
+    let have = first_still d live.inbox slots d.periods callers c.index_mut.result.now first c.requires.some_callers
     c.index_mut.ensures.value c.in_ok-callers.ensures
     c.work_rest.ensures.farm (c.work_rest.ensures.posted d.periods) in
     let some : 0 < length callers = omega (arith, c.in_ok-callers.ensures.count, c.requires.some_callers) in
@@ -49,7 +49,7 @@ returns g c =
     subst (SawAll d.callers (d.periods - 1) d.calls) (sym (at_first callers first some)) c.in_ok-work_rest.ensures.saw in
     let lines = lines_are (record { out = c.legal_histories_are_whole_calls.ensures.out; down = c.legal_histories_are_whole_calls.ensures.down })
     d.seed d.calls d.callers d.periods all first closed
-    (λ k h. ending d.seed d.calls d.callers live.inbox slots d.periods all first k c.requires.some_callers c.requires.callers c.requires.some_periods count have
+    (λ k h. ending d live.inbox slots d.periods all first k c.requires.some_callers c.requires.callers c.requires.some_periods count have
     saw h)
     (subst (λ (n : ℕ). AreClosed n (reverse all) closed) count c.close-closed.ensures) in
     text_is string_bytes c.text_of.result (flat_map closed_line c.as_slice.result.now) (flat_map (live_line d.seed d.periods) (range_with_len 1 d.calls))
