@@ -1,23 +1,21 @@
 -- The callers of a live drill before and after their threads.
-use Rattle.std.proofs.Common.{◌≡◌, ◌≢◌, ℕ, zero, suc, ◌+◌, ◌-◌, ◌<◌, ◌≤◌, Option, Result, Ok, Err, List, [], ◌∷◌, ◌++◌, length, map, take, drop, set, get_or}
-use Rattle.std.proofs.Common.{All, refl, sym, ap, ◌∙◌, subst, ⊎_elim, get_or-set_same, get_or-set_other, arith}
+use Rattle.std.proofs.Common.{◌≡◌, ◌≢◌, ℕ, ◌+◌, ◌-◌, ◌<◌, ◌≤◌, Result, Ok, Err, List, [], ◌∷◌, ◌++◌, length, map, take, drop, set, get_or}
+use Rattle.std.proofs.Common.{All, sym, ap, ◌∙◌, subst, ⊎_elim, get_or-set_same, get_or-set_other, arith}
 use Rattle.std.specs.Prelude.{IfOk, IsTrue}
 use Rattle.std.proofs.Math.ListN.{length-set}
 use Rattle.std.proofs.lemmas.Bool.{cases_eq}
 use Rattle.std.proofs.lemmas.List.{get_or-map, length-map}
-use Rattle.farm_live.specs.declared.post.Post.{Post}
 use Rattle.farm_live.specs.declared.slot.View.{View}
-use Rattle.farm_live.specs.declared.live.Seat.{Seat}
 use Rattle.farm_live.specs.declared.live.Caller.{Caller}
-use Rattle.farm_live.specs.Turns.{new_view}
-use Rattle.farm_live.specs.Live.{view_of, book_at, IsSeated, AreCallers, numbers_of}
+use Rattle.farm_live.specs.Live.{IsSeated, AreCallers}
 use Rattle.farm_live.specs.Closing.{AreAllSeated}
 use Rattle.farm_live.proofs.NewFarm.{Line, written_back}
 use Rattle.live_run.specs.declared.size.LiveDrill.{LiveDrill}
 use Rattle.live_run.specs.declared.posters.Poster.{Poster}
-use Rattle.live_run.specs.Posts.{drawn_posts, own_of, Knows, HasPosted, SawAll}
+use Rattle.live_run.specs.Posts.{drawn_posts, HasPosted, SawAll}
 use Rattle.live_run.specs.Posters.{IsReady, HasEnded, Ends, HavePosted, poster_of}
-use Rattle.live_run.proofs.Behind.{own_zero, none_drawn}
+use Rattle.live_run.proofs.Drawn.{none_drawn}
+use Rattle.live_run.proofs.Behind.{own_zero}
 use Rattle.live_run.proofs.Ended.{Ending}
 
 some_item : {X : Type 0} (xs : List X) → 0 < length xs → X

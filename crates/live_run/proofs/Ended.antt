@@ -14,7 +14,7 @@ use Rattle.farm_live.specs.Slot.{is_at, times, all_callers, BeginsWith, AllSeen}
 use Rattle.farm_live.specs.Live.{view_of, numbers_of}
 use Rattle.farm_live.specs.Closing.{view_at, views_at, IsClosedBy}
 use Rattle.live_run.specs.Posts.{drawn_posts, Knows, HasPosted, SawAll}
-use Rattle.live_run.proofs.Behind.{own_is, own_none, drawn_of, none_drawn}
+use Rattle.live_run.proofs.Drawn.{own_is, own_none, drawn_of, none_drawn}
 use Rattle.live_run.proofs.Known.{flat_flat, one_in, one_view, seen_in, weight_in, whose}
 use Rattle.live_run.proofs.Worked.{all_worked, record_is}
 

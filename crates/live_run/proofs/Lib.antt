@@ -1,5 +1,6 @@
 -- Lemmas on live drills.
 mod Moving
+mod Drawn
 mod Behind
 mod Resting
 mod Octets

@@ -1,5 +1,5 @@
 -- The lines of closed calls are those of the calls as a whole.
-use Rattle.std.proofs.Common.{◌≡◌, ℕ, zero, suc, ◌+◌, ◌*◌, ◌%◌, ◌<◌, ◌≤◌, Bool, true, false, List, [], ◌∷◌, ◌++◌, length, map, replicate, get_or, reverse, All}
+use Rattle.std.proofs.Common.{◌≡◌, ℕ, suc, ◌+◌, ◌%◌, ◌<◌, Bool, true, false, List, [], ◌∷◌, ◌++◌, length, map, replicate, get_or, reverse}
 use Rattle.std.proofs.Common.{refl, sym, ap, ◌∙◌, subst, arith}
 use Rattle.std.specs.Prelude.{nat_lt, if◌then◌else◌}
 use Rattle.std.specs.List.{range_with_len, flat_map}
@@ -10,7 +10,6 @@ use Rattle.trau_bits.specs.Bits.{bits_of, octets_of}
 use Rattle.trau_bits.proofs.Octets.{length-octets_of}
 use Rattle.trau_frame.specs.UpBits.{bits_saying, up_control}
 use Rattle.trau_frame.proofs.Again.{length-frame_bits}
-use Rattle.call_spec.specs.Call.{Call}
 use Rattle.call_spec.specs.Out.{out}
 use Rattle.call_spec.specs.Down.{down}
 use Rattle.farm_report.specs.Sums.{sum_line}
@@ -26,7 +25,6 @@ use Rattle.farm_live.specs.Closing.{views_at, IsClosedBy, AreClosed}
 use Rattle.live_run.specs.Posts.{drawn_post, drawn_posts}
 use Rattle.live_run.specs.Whole.{setting, call_of_posts, ArePosts, live_call}
 use Rattle.live_run.specs.Text.{outs_of, downs_of, live_line, closed_line}
-use Rattle.live_run.proofs.Behind.{length-drawn}
 use Rattle.live_run.proofs.Ended.{Ending, posts_are}
 
 -- ---- the octets of drawn periods

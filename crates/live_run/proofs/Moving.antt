@@ -1,5 +1,5 @@
 -- What a caller's functions leave of what it knows of a call.
-use Rattle.std.proofs.Common.{◌≡◌, ◌≢◌, ℕ, ◌+◌, ◌-◌, ◌<◌, List, [], ◌∷◌, ◌++◌, length, get_or, find, Result, Ok, Err, refl, sym, ap, ◌∙◌, subst, append-nil}
+use Rattle.std.proofs.Common.{◌≡◌, ℕ, ◌+◌, ◌-◌, ◌<◌, List, [], ◌∷◌, ◌++◌, length, get_or, Result, Ok, Err, refl, sym, ap, ◌∙◌, subst, append-nil}
 use Rattle.std.proofs.Common.{arith}
 use Rattle.farm_live.specs.declared.post.Post.{Post}
 use Rattle.farm_live.specs.declared.post.Entry.{Entry}
@@ -13,7 +13,7 @@ use Rattle.farm_live.specs.declared.turns.Turn.TheVariants as turn
 use Rattle.farm_live.specs.declared.turns.Look.{Look}
 use Rattle.farm_live.specs.declared.turns.Look.TheVariants as look
 use Rattle.farm_live.specs.Book.{BookState, of_caller}
-use Rattle.farm_live.specs.Turns.{Turned, Looked, HasTurned, HasLooked}
+use Rattle.farm_live.specs.Turns.{Turned, HasTurned, HasLooked}
 use Rattle.farm_live.specs.Live.{view_of, Turns, HasAnswered, next_post}
 use Rattle.live_run.specs.Posts.{IsSameView, GainsPost, Saw, MovesSeat}
 

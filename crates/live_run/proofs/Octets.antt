@@ -1,5 +1,5 @@
 -- The octets of bits that come octet by octet.
-use Rattle.std.proofs.Common.{◌≡◌, ℕ, ◌+◌, ◌-◌, List, [], ◌∷◌, ◌++◌, length, refl, sym, ap, ◌∙◌}
+use Rattle.std.proofs.Common.{◌≡◌, ℕ, List, [], ◌∷◌, ◌++◌, length, refl, sym, ap, ◌∙◌}
 use Rattle.std.specs.List.{flat_map}
 use Rattle.trau_bits.specs.Bits.{bits_of, octets_of}
 use Rattle.trau_bits.proofs.BitList.{length-bits_of}

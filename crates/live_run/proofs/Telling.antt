@@ -1,5 +1,5 @@
 -- The text of a closed call.
-use Rattle.std.proofs.Common.{◌≡◌, ℕ, Result, List, ◌++◌, ap, ◌∙◌, subst, sym}
+use Rattle.std.proofs.Common.{◌≡◌, ℕ, Result, List, ◌++◌, ap, ◌∙◌}
 use Rattle.std.specs.Prelude.{OnOk}
 use Rattle.trau_bits.specs.Bits.{bits_of, octets_of}
 use Rattle.farm_report.specs.Sums.{sum_of, sums_told}

@@ -1,6 +1,6 @@
 -- A legal history, and the call as a whole.
-use Rattle.std.proofs.Common.{◌≡◌, ℕ, suc, ◌+◌, ◌<◌, false, None, List, [], ◌∷◌, ◌++◌, length, map, replicate, reverse, All, refl, sym, ap, ◌∙◌, subst}
-use Rattle.std.proofs.Common.{append_assoc, append-nil, arith}
+use Rattle.std.proofs.Common.{◌≡◌, ℕ, List, [], ◌∷◌, ◌++◌, length, map, replicate, reverse, refl, sym, ap, ◌∙◌}
+use Rattle.std.proofs.Common.{append_assoc, append-nil}
 use Rattle.std.specs.List.{flat_map}
 use Rattle.std.proofs.lemmas.Bool.{true≢false}
 use Rattle.std.proofs.lemmas.List.Elements.{All-nil, All-cons, All-head, All-tail}
@@ -9,10 +9,9 @@ use Rattle.call_leg.specs.Who.{Who}
 use Rattle.call_leg.specs.Periods.{CallPeriod, pcm_of}
 use Rattle.call_leg.specs.Out.{out_of, out_line}
 use Rattle.call_leg.specs.Down.{down_line, down_now}
-use Rattle.call_spec.specs.Call.{Call, Setting, Span}
 use Rattle.call_spec.specs.Out.{out}
 use Rattle.call_spec.specs.Down.{down}
-use Rattle.call_spec.specs.History.{IsCallHistory, call_of_history, up_in_history, settings_of, setting_of, spans_in_history}
+use Rattle.call_spec.specs.History.{IsCallHistory, call_of_history, up_in_history, settings_of, spans_in_history}
 use Rattle.trau_bits.proofs.Joined.{bits_of-append}
 use Rattle.farm_live.specs.declared.post.Post.{Post}
 use Rattle.farm_live.specs.declared.post.Entry.{Entry}

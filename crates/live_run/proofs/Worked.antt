@@ -12,7 +12,7 @@ use Rattle.farm_live.specs.Book.{BookState, record_of, of_caller, NumberedFrom, 
 use Rattle.farm_live.specs.Slot.{times, all_callers, BeginsWith, own_posts}
 use Rattle.farm_live.specs.Turns.{Closes}
 use Rattle.live_run.specs.Posts.{drawn_posts}
-use Rattle.live_run.proofs.Behind.{drawn_of, drawn_of_none, length-drawn}
+use Rattle.live_run.proofs.Drawn.{drawn_of, drawn_of_none, length-drawn}
 
 -- ---- the posts of one caller alone
 

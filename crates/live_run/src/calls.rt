@@ -5,7 +5,7 @@ ghost use Rattle.farm_live.specs.declared.live.PostFault.{PostFault as OneFault}
 ghost use Rattle.farm_live.specs.Live.{view_of, IsSeated, HasAnswered, next_post};
 ghost use Rattle.live_run.specs.Posts.{IsSameView, GainsPost, Saw, MovesSeat};
 
-use crate::yard::Yard;
+use crate::shared::Shared;
 use farm_live::{Caller, Look, PostFault, Turn};
 use pool_run::Gate;
 use std::alloc::AllocError;
@@ -21,32 +21,32 @@ fn let_others(turn: Result<Turn, AllocError>) -> Result<(), AllocError> {
 }
 
 // Works the call with this index once.
-fn work<R: Wait, G>(yard: &Yard<R, G>, caller: &mut Caller, k: u32) -> Result<(), AllocError>
-    requires call { k < length yard.now.live.now.slots.items }
+fn work<R: Wait, G>(shared: &Shared<R, G>, caller: &mut Caller, k: u32) -> Result<(), AllocError>
+    requires call { k < length shared.now.live.now.slots.items }
     requires few { k < 256 }
-    requires farm { IsSeated yard.now.live.now.inbox yard.now.live.now.slots.items caller.old }
-    ensures farm { IsSeated yard.now.live.now.inbox yard.now.live.now.slots.items caller.new }
+    requires farm { IsSeated shared.now.live.now.inbox shared.now.live.now.slots.items caller.old }
+    ensures farm { IsSeated shared.now.live.now.inbox shared.now.live.now.slots.items caller.new }
     ensures stays { MovesSeat IsSameView k caller.old caller.new }
 {
-    let turn = yard.live.work(yard.rt, yard.alloc, caller, k + 1);
+    let turn = shared.live.work(shared.rt, shared.alloc, caller, k + 1);
     let_others(turn)
 }
 
 // Makes way for a post that wasn't accepted: works the call, or yields the thread where it was busy.
 fn make_way<R: Wait, G>(
-    yard: &Yard<R, G>,
+    shared: &Shared<R, G>,
     caller: &mut Caller,
     k: u32,
     fault: PostFault,
 ) -> Result<(), AllocError>
-    requires call { k < length yard.now.live.now.slots.items }
+    requires call { k < length shared.now.live.now.slots.items }
     requires few { k < 256 }
-    requires farm { IsSeated yard.now.live.now.inbox yard.now.live.now.slots.items caller.old }
-    ensures farm { IsSeated yard.now.live.now.inbox yard.now.live.now.slots.items caller.new }
+    requires farm { IsSeated shared.now.live.now.inbox shared.now.live.now.slots.items caller.old }
+    ensures farm { IsSeated shared.now.live.now.inbox shared.now.live.now.slots.items caller.new }
     ensures stays { MovesSeat IsSameView k caller.old caller.new }
 {
     match fault {
-        PostFault::Full { post: _ } => work(yard, caller, k),
+        PostFault::Full { post: _ } => work(shared, caller, k),
         PostFault::Busy => {
             thread::yield_now();
             Ok(())
@@ -57,27 +57,27 @@ fn make_way<R: Wait, G>(
 /// Posts a period to the call with this index, between the calls of the gate. Where its inbox is full the caller works the
 /// call and tries again. An error says that there was no memory for that.
 pub(crate) fn post_period<R: Wait, G: Gate>(
-    yard: &Yard<R, G>,
+    shared: &Shared<R, G>,
     caller: &mut Caller,
     k: u32,
     up: &[u8; 40],
     pcm: &[u8; 160],
 ) -> Result<(), AllocError>
-    requires call { k < length yard.now.live.now.slots.items }
+    requires call { k < length shared.now.live.now.slots.items }
     requires few { k < 256 }
-    requires farm { IsSeated yard.now.live.now.inbox yard.now.live.now.slots.items caller.old }
+    requires farm { IsSeated shared.now.live.now.inbox shared.now.live.now.slots.items caller.old }
     requires posts { (s : _) → length (view_of (slice_index_or caller.old.seats.items k s)).made < 16777216 }
-    ensures farm { IsSeated yard.now.live.now.inbox yard.now.live.now.slots.items caller.new }
+    ensures farm { IsSeated shared.now.live.now.inbox shared.now.live.now.slots.items caller.new }
     ensures posted { OnOk result (MovesSeat (λ v w. GainsPost (next_post caller.old.number up.now pcm.now v) v w) k caller.old caller.new) }
 {
-    yard.gate.before(k + 1);
-    for _ in yard.rt.forever() {
-        match yard.live.post(yard.rt, caller, k + 1, up, pcm) {
+    shared.gate.before(k + 1);
+    for _ in shared.rt.forever() {
+        match shared.live.post(shared.rt, caller, k + 1, up, pcm) {
             Ok(_) => {
-                yard.gate.after(k + 1);
+                shared.gate.after(k + 1);
                 return Ok(());
             }
-            Err(fault) => make_way(yard, caller, k, fault)?,
+            Err(fault) => make_way(shared, caller, k, fault)?,
         }
     }
     unreachable!()
@@ -86,23 +86,23 @@ pub(crate) fn post_period<R: Wait, G: Gate>(
 /// Works the call with this index until a caller's post with this number stands in its history. An error says that there
 /// was no memory for that.
 pub(crate) fn work_to<R: Wait, G>(
-    yard: &Yard<R, G>,
+    shared: &Shared<R, G>,
     caller: &mut Caller,
     k: u32,
     of: u32,
     number: u32,
 ) -> Result<(), AllocError>
-    requires call { k < length yard.now.live.now.slots.items }
+    requires call { k < length shared.now.live.now.slots.items }
     requires few { k < 256 }
-    requires farm { IsSeated yard.now.live.now.inbox yard.now.live.now.slots.items caller.old }
-    ensures farm { IsSeated yard.now.live.now.inbox yard.now.live.now.slots.items caller.new }
+    requires farm { IsSeated shared.now.live.now.inbox shared.now.live.now.slots.items caller.old }
+    ensures farm { IsSeated shared.now.live.now.inbox shared.now.live.now.slots.items caller.new }
     ensures stays { MovesSeat IsSameView k caller.old caller.new }
     ensures found { OnOk result ((s : _) → Saw of number (view_of (slice_index_or caller.new.seats.items k s))) }
 {
-    for _ in yard.rt.forever() {
-        match yard.live.read(yard.rt, caller, k + 1, of, number) {
+    for _ in shared.rt.forever() {
+        match shared.live.read(shared.rt, caller, k + 1, of, number) {
             Look::Found(_) => return Ok(()),
-            Look::NotYet => work(yard, caller, k)?,
+            Look::NotYet => work(shared, caller, k)?,
             Look::Busy => thread::yield_now(),
         }
     }

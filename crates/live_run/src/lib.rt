@@ -4,7 +4,7 @@
 //! posts, has the periods drawn (`farm_drill`) and posted, read and worked (`farm_live`), ends the farm, and writes the sums
 //! of the octets of each call.
 //!
-//! `size` has what a live drill is made of, `yard` what its callers share, `calls` what a caller does with one call, `posters`
+//! `size` has what a live drill is made of, `shared` what its callers share, `calls` what a caller does with one call, `posters`
 //! the callers on their threads, `rest` what is left for the calling thread, `sums` the text, `whole` the live drill, `laws`
 //! the law that ties a legal history of a call to the call as a whole (`call_spec`).
 //!
@@ -18,10 +18,10 @@ mod calls;
 mod laws;
 mod posters;
 mod rest;
+mod shared;
 mod size;
 mod sums;
 mod whole;
-mod yard;
 
 pub use laws::legal_histories_are_whole_calls;
 pub use size::LiveDrill;

@@ -9,7 +9,7 @@ ghost use Rattle.live_run.specs.Posts.{Knows, IsDrawn, MovesSeat, IsBehind, HasP
 ghost use Rattle.live_run.specs.Posters.{IsReady, HasEnded, Ends, HavePosted, poster_of};
 
 use crate::calls::post_period;
-use crate::yard::Yard;
+use crate::shared::Shared;
 use farm_drill::{Generator, pcm, uplink};
 use farm_live::Caller;
 use pool_run::Gate;
@@ -28,52 +28,52 @@ struct Poster {
 
 // Posts a period to the call with this index, if it is one of the caller's own.
 fn post_own<R: Wait, G: Gate>(
-    yard: &Yard<R, G>,
+    shared: &Shared<R, G>,
     period: u32,
     k: u32,
     caller: &mut Caller,
     draws: &mut Generator,
 ) -> Result<(), AllocError>
-    requires size { IsLiveDrill yard.now.drill }
+    requires size { IsLiveDrill shared.now.drill }
     requires period { period < 1000 }
-    requires call { k < length yard.now.live.now.slots.items }
+    requires call { k < length shared.now.live.now.slots.items }
     requires few { k < 256 }
-    requires farm { IsSeated yard.now.live.now.inbox yard.now.live.now.slots.items caller.old }
+    requires farm { IsSeated shared.now.live.now.inbox shared.now.live.now.slots.items caller.old }
     requires knows { (s : _) →
-        Knows yard.now.drill.seed yard.now.drill.callers caller.old.number k period (view_of (slice_index_or caller.old.seats.items k s)) }
-    requires drawn { IsDrawn yard.now.drill.seed yard.now.drill.callers caller.old.number k period draws.old }
-    ensures farm { IsSeated yard.now.live.now.inbox yard.now.live.now.slots.items caller.new }
+        Knows shared.now.drill.seed shared.now.drill.callers caller.old.number k period (view_of (slice_index_or caller.old.seats.items k s)) }
+    requires drawn { IsDrawn shared.now.drill.seed shared.now.drill.callers caller.old.number k period draws.old }
+    ensures farm { IsSeated shared.now.live.now.inbox shared.now.live.now.slots.items caller.new }
     ensures posted { OnOk result (
-        MovesSeat (λ _ w. Knows yard.now.drill.seed yard.now.drill.callers caller.old.number k (period + 1) w) k caller.old caller.new) }
-    ensures drawn { OnOk result (IsDrawn yard.now.drill.seed yard.now.drill.callers caller.old.number k (period + 1) draws.new) }
+        MovesSeat (λ _ w. Knows shared.now.drill.seed shared.now.drill.callers caller.old.number k (period + 1) w) k caller.old caller.new) }
+    ensures drawn { OnOk result (IsDrawn shared.now.drill.seed shared.now.drill.callers caller.old.number k (period + 1) draws.new) }
 {
-    if k % yard.drill.callers != caller.number() {
+    if k % shared.drill.callers != caller.number() {
         return Ok(());
     }
     let up = uplink(draws, period);
     let pcm = pcm(draws, period);
-    post_period(yard, caller, k, &up, &pcm)
+    post_period(shared, caller, k, &up, &pcm)
 }
 
 // Posts a period to each of the caller's calls.
 fn post_round<R: Wait, G: Gate>(
-    yard: &Yard<R, G>,
+    shared: &Shared<R, G>,
     period: u32,
     caller: &mut Caller,
     draws: &mut [Generator],
 ) -> Result<(), AllocError>
-    requires size { IsLiveDrill yard.now.drill }
+    requires size { IsLiveDrill shared.now.drill }
     requires period { period < 1000 }
-    requires calls { length yard.now.live.now.slots.items ≡ yard.now.drill.calls }
-    requires farm { IsSeated yard.now.live.now.inbox yard.now.live.now.slots.items caller.old }
-    requires behind { IsBehind yard.now.drill.seed yard.now.drill.calls yard.now.drill.callers caller.old.number (λ _. period) caller.old draws.old }
-    ensures farm { IsSeated yard.now.live.now.inbox yard.now.live.now.slots.items caller.new }
+    requires calls { length shared.now.live.now.slots.items ≡ shared.now.drill.calls }
+    requires farm { IsSeated shared.now.live.now.inbox shared.now.live.now.slots.items caller.old }
+    requires behind { IsBehind shared.now.drill.seed shared.now.drill.calls shared.now.drill.callers caller.old.number (λ _. period) caller.old draws.old }
+    ensures farm { IsSeated shared.now.live.now.inbox shared.now.live.now.slots.items caller.new }
     ensures behind { OnOk result (
-        IsBehind yard.now.drill.seed yard.now.drill.calls yard.now.drill.callers caller.old.number (λ _. period + 1) caller.new draws.new) }
+        IsBehind shared.now.drill.seed shared.now.drill.calls shared.now.drill.callers caller.old.number (λ _. period + 1) caller.new draws.new) }
 {
-    for k in 0..yard.drill.calls {
+    for k in 0..shared.drill.calls {
         let own = &mut draws[k as usize];
-        post_own(yard, period, k, caller, own)?;
+        post_own(shared, period, k, caller, own)?;
     }
     Ok(())
 }
@@ -93,61 +93,67 @@ fn first_draws(alloc: Global, seed: u32, calls: u32) -> Result<Vec<Generator>, A
 }
 
 // Posts all periods of the caller's calls, a period of each call at a time.
-fn post_periods<R: Wait, G: Gate>(yard: &Yard<R, G>, caller: &mut Caller) -> Result<(), AllocError>
-    requires size { IsLiveDrill yard.now.drill }
-    requires calls { length yard.now.live.now.slots.items ≡ yard.now.drill.calls }
-    requires farm { IsSeated yard.now.live.now.inbox yard.now.live.now.slots.items caller.old }
-    requires posted { HasPosted yard.now.drill.seed yard.now.drill.calls yard.now.drill.callers 0 caller.old.number caller.old }
-    ensures farm { IsSeated yard.now.live.now.inbox yard.now.live.now.slots.items caller.new }
+fn post_periods<R: Wait, G: Gate>(
+    shared: &Shared<R, G>,
+    caller: &mut Caller,
+) -> Result<(), AllocError>
+    requires size { IsLiveDrill shared.now.drill }
+    requires calls { length shared.now.live.now.slots.items ≡ shared.now.drill.calls }
+    requires farm { IsSeated shared.now.live.now.inbox shared.now.live.now.slots.items caller.old }
+    requires posted { HasPosted shared.now.drill.seed shared.now.drill.calls shared.now.drill.callers 0 caller.old.number caller.old }
+    ensures farm { IsSeated shared.now.live.now.inbox shared.now.live.now.slots.items caller.new }
     ensures posted { OnOk result (
-        HasPosted yard.now.drill.seed yard.now.drill.calls yard.now.drill.callers yard.now.drill.periods caller.old.number caller.new) }
+        HasPosted shared.now.drill.seed shared.now.drill.calls shared.now.drill.callers shared.now.drill.periods caller.old.number caller.new) }
 {
-    let mut draws = first_draws(yard.alloc, yard.drill.seed, yard.drill.calls)?;
-    for period in 0..yard.drill.periods {
+    let mut draws = first_draws(shared.alloc, shared.drill.seed, shared.drill.calls)?;
+    for period in 0..shared.drill.periods {
         let each = draws.as_mut_slice();
-        post_round(yard, period, caller, each)?;
+        post_round(shared, period, caller, each)?;
     }
     Ok(())
 }
 
 // Posts all periods of a poster's calls, and says whether it could.
-fn post_all<R: Wait, G: Gate>(yard: &Yard<R, G>, poster: &mut Poster)
-    requires size { IsLiveDrill yard.now.drill }
-    requires calls { length yard.now.live.now.slots.items ≡ yard.now.drill.calls }
-    requires ready { (i : ℕ) × IsReady yard.now.drill yard.now.live.now.inbox yard.now.live.now.slots.items i poster.old }
-    ensures { (i : ℕ) → IsReady yard.now.drill yard.now.live.now.inbox yard.now.live.now.slots.items i poster.old →
-        HasEnded yard.now.drill yard.now.live.now.inbox yard.now.live.now.slots.items i poster.new }
+fn post_all<R: Wait, G: Gate>(shared: &Shared<R, G>, poster: &mut Poster)
+    requires size { IsLiveDrill shared.now.drill }
+    requires calls { length shared.now.live.now.slots.items ≡ shared.now.drill.calls }
+    requires ready { (i : ℕ) × IsReady shared.now.drill shared.now.live.now.inbox shared.now.live.now.slots.items i poster.old }
+    ensures { (i : ℕ) → IsReady shared.now.drill shared.now.live.now.inbox shared.now.live.now.slots.items i poster.old →
+        HasEnded shared.now.drill shared.now.live.now.inbox shared.now.live.now.slots.items i poster.new }
 {
-    let posted = post_periods(yard, &mut poster.caller);
+    let posted = post_periods(shared, &mut poster.caller);
     poster.done = posted.is_ok();
 }
 
 // What a thread does.
-fn run_poster<R: Wait, G: Gate>(yard: &Yard<R, G>, poster: &mut Poster)
-    requires size { IsLiveDrill yard.now.drill }
-    requires calls { length yard.now.live.now.slots.items ≡ yard.now.drill.calls }
-    requires ready { (i : ℕ) × IsReady yard.now.drill yard.now.live.now.inbox yard.now.live.now.slots.items i poster.old }
-    ensures { Ends yard.now.drill yard.now.live.now.inbox yard.now.live.now.slots.items poster.old poster.new }
+fn run_poster<R: Wait, G: Gate>(shared: &Shared<R, G>, poster: &mut Poster)
+    requires size { IsLiveDrill shared.now.drill }
+    requires calls { length shared.now.live.now.slots.items ≡ shared.now.drill.calls }
+    requires ready { (i : ℕ) × IsReady shared.now.drill shared.now.live.now.inbox shared.now.live.now.slots.items i poster.old }
+    ensures { Ends shared.now.drill shared.now.live.now.inbox shared.now.live.now.slots.items poster.old poster.new }
 {
-    post_all(yard, poster);
+    post_all(shared, poster);
 }
 
 // Each on a thread of its own, until all have ended.
-fn run_posters<R: Threads + Wait + Sync, G: Gate + Sync>(yard: &Yard<R, G>, posters: &mut [Poster])
-    requires size { IsLiveDrill yard.now.drill }
-    requires calls { length yard.now.live.now.slots.items ≡ yard.now.drill.calls }
+fn run_posters<R: Threads + Wait + Sync, G: Gate + Sync>(
+    shared: &Shared<R, G>,
+    posters: &mut [Poster],
+)
+    requires size { IsLiveDrill shared.now.drill }
+    requires calls { length shared.now.live.now.slots.items ≡ shared.now.drill.calls }
     requires some { 0 < length posters.old }
     requires ready { (k : ℕ) (p : _) → k < length posters.old →
-        IsReady yard.now.drill yard.now.live.now.inbox yard.now.live.now.slots.items k (slice_index_or posters.old k p) }
+        IsReady shared.now.drill shared.now.live.now.inbox shared.now.live.now.slots.items k (slice_index_or posters.old k p) }
     ensures { (k : ℕ) (p : _) → k < length posters.old →
-        Ends yard.now.drill yard.now.live.now.inbox yard.now.live.now.slots.items (slice_index_or posters.old k p) (slice_index_or posters.new k p) }
+        Ends shared.now.drill shared.now.live.now.inbox shared.now.live.now.slots.items (slice_index_or posters.old k p) (slice_index_or posters.new k p) }
 {
     let threads = posters.len();
     thread::for_each_mut(
-        yard.rt,
+        shared.rt,
         posters,
         threads,
-        &|_, poster| run_poster(yard, poster),
+        &|_, poster| run_poster(shared, poster),
     );
 }
 
@@ -181,15 +187,15 @@ fn callers_of(alloc: Global, posters: Vec<Poster>) -> Result<Vec<Caller>, AllocE
 /// Has the callers of a new farm post all periods of their calls, each on a thread of its own, and answers them. An error
 /// says that there was no memory.
 pub(crate) fn post_by_all<R: Threads + Wait + Sync, G: Gate + Sync>(
-    yard: &Yard<R, G>,
+    shared: &Shared<R, G>,
     callers: Vec<Caller>,
 ) -> Result<Vec<Caller>, AllocError>
-    requires size { IsLiveDrill yard.now.drill }
-    requires calls { length yard.now.live.now.slots.items ≡ yard.now.drill.calls }
-    requires callers { HavePosted yard.now.drill 0 yard.now.live.now.inbox yard.now.live.now.slots.items callers.items }
-    ensures { IfOk result (λ cs. HavePosted yard.now.drill yard.now.drill.periods yard.now.live.now.inbox yard.now.live.now.slots.items cs.items) }
+    requires size { IsLiveDrill shared.now.drill }
+    requires calls { length shared.now.live.now.slots.items ≡ shared.now.drill.calls }
+    requires callers { HavePosted shared.now.drill 0 shared.now.live.now.inbox shared.now.live.now.slots.items callers.items }
+    ensures { IfOk result (λ cs. HavePosted shared.now.drill shared.now.drill.periods shared.now.live.now.inbox shared.now.live.now.slots.items cs.items) }
 {
-    let mut posters = posters_of(yard.alloc, callers)?;
-    run_posters(yard, posters.as_mut_slice());
-    callers_of(yard.alloc, posters)
+    let mut posters = posters_of(shared.alloc, callers)?;
+    run_posters(shared, posters.as_mut_slice());
+    callers_of(shared.alloc, posters)
 }

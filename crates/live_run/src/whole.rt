@@ -7,9 +7,9 @@ ghost use Rattle.live_run.specs.Text.{live_text};
 use crate::laws::legal_histories_are_whole_calls;
 use crate::posters::post_by_all;
 use crate::rest::work_rest;
+use crate::shared::Shared;
 use crate::size::LiveDrill;
 use crate::sums::text_of;
-use crate::yard::Yard;
 use farm_live::Live;
 use pool_run::Gate;
 use std::alloc::{AllocError, Global};
@@ -38,15 +38,15 @@ pub fn run_live<R: Threads + Wait + Sync, G: Gate + Sync>(
     // A law: the octets of a legal history are those of the call as a whole.
     legal_histories_are_whole_calls();
     let (live, callers) = Live::new(rt, alloc, drill.calls, drill.inbox, drill.callers)?;
-    let yard = Yard {
+    let shared = Shared {
         rt,
         alloc,
         live: &live,
         drill: *drill,
         gate,
     };
-    let mut callers = post_by_all(&yard, callers)?;
-    work_rest(&yard, &mut callers[0])?;
+    let mut callers = post_by_all(&shared, callers)?;
+    work_rest(&shared, &mut callers[0])?;
     let closed = live.close(rt, callers);
     text_of(alloc, closed.as_slice(), drill.periods, drill.calls)
 }

@@ -5,6 +5,6 @@ use Rattle.live_run.proofs.calls.post_period.Given as goal
 -- nothing was posted yet
 abbrev pub invariant-loop : goal.invariant-loop
 invariant-loop g l = record {
-  farm : IsSeated l.yard.live.now.inbox l.yard.live.now.slots.items l.caller;
+  farm : IsSeated l.shared.live.now.inbox l.shared.live.now.slots.items l.caller;
   stays : MovesSeat IsSameView l.k l.fn.caller l.caller;
 }

@@ -3,7 +3,7 @@ use Rattle.live_run.proofs.Behind.{first_behind, renumbered, after_round, posted
 use Rattle.live_run.proofs.posters.post_periods.Goals as goal
 
 pub loop-period-init : goal.loop-period-init
-loop-period-init g c = let d = c.args.yard.now.drill in record {
+loop-period-init g c = let d = c.args.shared.now.drill in record {
   farm = c.requires.farm;
   behind = first_behind d.seed d.calls d.callers c.args.caller.now.number c.args.caller.now c.in_ok-draws.draws.items c.requires.posted
       c.in_ok-draws.ensures.count c.in_ok-draws.ensures.each;
@@ -11,13 +11,13 @@ loop-period-init g c = let d = c.args.yard.now.drill in record {
 
 pub post_round-requires-clause-behind : goal.post_round-requires-clause-behind
 post_round-requires-clause-behind g c =
-    let d = c.args.yard.now.drill in
+    let d = c.args.shared.now.drill in
     renumbered d.seed d.calls d.callers c.args.caller.now.number (λ _. c.loop-period.period) c.loop-period.caller c.loop-period.draws.items
     c.as_mut_slice-each.result.now c.as_mut_slice-each.ensures.value c.loop-period.invariant.behind
 
 pub loop-period-preserved : goal.loop-period-preserved
 loop-period-preserved g c =
-    let d = c.args.yard.now.drill in
+    let d = c.args.shared.now.drill in
     let n = c.loop-period.period in
     let before = c.loop-period.draws.items in
     let long : c.loop-period.draws.len ≡ length before = omega (arith, c.loop-period.draws.ok.0) in record {
@@ -29,7 +29,7 @@ loop-period-preserved g c =
 
 pub returns-clause-posted : goal.returns-clause-posted
 returns-clause-posted g c =
-    let d = c.args.yard.now.drill in
+    let d = c.args.shared.now.drill in
     let all : c.loop-period.period ≡ d.periods = omega (arith, c.loop-period-test.false, c.loop-period.auto.period-end) in
     posted_all d.seed d.calls d.callers c.args.caller.now.number c.loop-period.period d.periods c.loop-period.caller c.loop-period.draws.items all
     c.loop-period.invariant.behind

@@ -4,6 +4,6 @@ use Rattle.live_run.proofs.posters.post_periods.Given as goal
 
 abbrev pub invariant-loop-period : goal.invariant-loop-period
 invariant-loop-period g l = record {
-  farm : IsSeated l.yard.live.now.inbox l.yard.live.now.slots.items l.caller;
-  behind : IsBehind l.yard.drill.seed l.yard.drill.calls l.yard.drill.callers l.fn.caller.number (λ _. l.period) l.caller l.draws.items;
+  farm : IsSeated l.shared.live.now.inbox l.shared.live.now.slots.items l.caller;
+  behind : IsBehind l.shared.drill.seed l.shared.drill.calls l.shared.drill.callers l.fn.caller.number (λ _. l.period) l.caller l.draws.items;
 }

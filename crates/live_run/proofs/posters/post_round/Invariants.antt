@@ -4,6 +4,6 @@ use Rattle.live_run.proofs.posters.post_round.Given as goal
 
 abbrev pub invariant-loop-k : goal.invariant-loop-k
 invariant-loop-k g l = record {
-  farm : IsSeated l.yard.live.now.inbox l.yard.live.now.slots.items l.caller;
-  behind : IsBehind l.yard.drill.seed l.yard.drill.calls l.yard.drill.callers l.fn.caller.number (and_more l.period l.k) l.caller l.draws;
+  farm : IsSeated l.shared.live.now.inbox l.shared.live.now.slots.items l.caller;
+  behind : IsBehind l.shared.drill.seed l.shared.drill.calls l.shared.drill.callers l.fn.caller.number (and_more l.period l.k) l.caller l.draws;
 }

@@ -5,8 +5,8 @@ use Rattle.live_run.proofs.rest.work_rest.Given as goal
 
 abbrev pub invariant-loop-k : goal.invariant-loop-k
 invariant-loop-k g l = record {
-  farm : IsSeated l.yard.live.now.inbox l.yard.live.now.slots.items l.caller;
-  posted : (n i : ℕ) → HasPosted l.yard.drill.seed l.yard.drill.calls l.yard.drill.callers n i l.fn.caller →
-      HasPosted l.yard.drill.seed l.yard.drill.calls l.yard.drill.callers n i l.caller;
-  saw : SawAll l.yard.drill.callers (l.yard.drill.periods - 1) l.k l.caller;
+  farm : IsSeated l.shared.live.now.inbox l.shared.live.now.slots.items l.caller;
+  posted : (n i : ℕ) → HasPosted l.shared.drill.seed l.shared.drill.calls l.shared.drill.callers n i l.fn.caller →
+      HasPosted l.shared.drill.seed l.shared.drill.calls l.shared.drill.callers n i l.caller;
+  saw : SawAll l.shared.drill.callers (l.shared.drill.periods - 1) l.k l.caller;
 }

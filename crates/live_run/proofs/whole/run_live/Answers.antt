@@ -1,11 +1,9 @@
 use Rattle.std.proofs.Common.{◌≡◌, ◌<◌, ◌-◌, ℕ, List, set, get_or, length, reverse, string_bytes, sym, ap, ◌∙◌, subst, arith}
 use Rattle.std.specs.List.{range_with_len, flat_map}
-use Rattle.farm_live.specs.declared.live.Caller.{Caller}
 use Rattle.farm_live.specs.declared.live.Closed.{Closed}
 use Rattle.farm_live.specs.Live.{AreCallers}
 use Rattle.farm_live.specs.Closing.{AreClosed}
 use Rattle.live_run.specs.Posts.{SawAll}
-use Rattle.live_run.specs.Posters.{HavePosted}
 use Rattle.live_run.specs.Text.{closed_line, live_line, last_line}
 use Rattle.live_run.proofs.Callers.{new_posted, first_still, all_seated, at_first, ending, text_is}
 use Rattle.live_run.proofs.Lines.{lines_are}
