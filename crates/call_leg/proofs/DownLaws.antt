@@ -24,7 +24,6 @@ use Rattle.time_align.specs.Shift.{IsShift}
 use Rattle.time_align.specs.Memory as align
 use Rattle.time_align.specs.Step.{after_thaw, adopted}
 use Rattle.down_framer.specs.Made.{grown}
-use Rattle.down_framer.specs.Memory as framer
 use Rattle.down_framer.specs.Step.{after_put}
 use Rattle.down_framer.proofs.Calls.{put-holds, frame-holds, take-holds}
 use Rattle.down_framer.proofs.Timing.{IsShift-shift_due}

@@ -10,7 +10,6 @@ use Rattle.rx_handler.specs.Origin.{EffectiveFields}
 use Rattle.rx_handler.specs.Step.{received}
 use Rattle.rx_handler.specs.Memory.{RxMemory}
 use Rattle.fr_decoder.specs.Memory.{DecoderMemory}
-use Rattle.down_framer.specs.Memory as framer
 use Rattle.down_framer.specs.Step.{after_put}
 use Rattle.std.proofs.lemmas.Bool.{cond_both}
 use Rattle.trau_alaw.specs.declared.Law.{Law}

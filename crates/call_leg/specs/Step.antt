@@ -9,10 +9,8 @@ use Rattle.trau_orders.specs.declared.order.DtxMode.{DtxMode}
 use Rattle.trau_frame.specs.declared.frames.DownFrame.{DownFrame}
 use Rattle.trau_frame.specs.declared.frames.DownFrame.TheVariants as frame
 use Rattle.trau_frame.specs.DownFrame as frames
-use Rattle.frame_sync.specs.Memory as search
 use Rattle.frame_sync.specs.Step.{next_period}
 use Rattle.rx_handler.specs.Origin.{EffectiveFields, Quiet, Speech, Made}
-use Rattle.rx_handler.specs.Memory as rx
 use Rattle.rx_handler.specs.Step.{received}
 use Rattle.fr_decoder.specs.Memory as decoder
 use Rattle.fr_decoder.specs.Step.{decoded_frame}

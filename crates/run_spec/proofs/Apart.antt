@@ -11,7 +11,7 @@ use Rattle.switchboard.specs.declared.act.Act.TheVariants as act
 use Rattle.switchboard.specs.declared.act.Refusal.{Refusal}
 use Rattle.switchboard.specs.declared.table.Bridge.{Bridge}
 use Rattle.switchboard.specs.Calls.{Done, is_this, opened_at, closed_at, is_open, gone_at}
-use Rattle.switchboard.specs.Bridges.{bridge_by, bridges, joins, other, lasts, bridge_of, bridge_ended}
+use Rattle.switchboard.specs.Bridges.{bridge_by, bridges, joins, lasts, bridge_of, bridge_ended}
 use Rattle.switchboard.specs.Replies.{known_of, reply_to}
 use Rattle.switchboard.proofs.Appending.{or_else, after, bridges-more}
 use Rattle.switchboard.proofs.Lists.{not_both}

@@ -5,7 +5,6 @@ use Rattle.std.specs.List.{AllByRecursion, list_any}
 use Rattle.std.proofs.lemmas.Bool.{and_parts, ne_eqb}
 use Rattle.std.proofs.lemmas.List.{append_assoc}
 use Rattle.std.proofs.lemmas.List.Folds.{list_any-append}
-use Rattle.trau_orders.specs.declared.order.Order.{Order}
 use Rattle.trau_orders.specs.declared.order.DtxMode.{DtxMode}
 use Rattle.switchboard.specs.declared.act.Act.{Act}
 use Rattle.switchboard.specs.declared.act.Act.TheVariants as act
@@ -19,7 +18,7 @@ use Rattle.switchboard.proofs.Steps.{after_kept}
 use Rattle.run_spec.specs.Run.{level_by, mode_by, level_after, dtx_mode_after}
 use Rattle.run_spec.proofs.Lists.{each_weaker, find_same, find_map, find_none, find_front, any_map}
 use Rattle.run_spec.proofs.Executing.{AreReplies, opened-append, closed-append}
-use Rattle.run_spec.proofs.Showing.{ShownBy, shown, done}
+use Rattle.run_spec.proofs.Showing.{ShownBy, shown}
 use Rattle.run_spec.proofs.Standing.{IsSoundBridge, Standing, lasts_parts, lasts_from}
 use Rattle.run_spec.proofs.OpenCalls.{open_facts, gone_kept, opened_kept}
 use Rattle.run_spec.proofs.NewOrder.{after_none}

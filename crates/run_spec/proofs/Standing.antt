@@ -1,12 +1,11 @@
 -- How the calls and bridges of a run stand after some orders: a call's bridges don't overlap.
 use Rattle.std.proofs.Common.{◌≡◌, refl, ap, ℕ, ◌+◌, ◌<◌, ◌≤◌, Bool, true, false, Option, Some, None, List, [], ◌∷◌, inl, inr, arith}
-use Rattle.std.specs.Prelude.{not, ◌&&◌, ◌||◌, is_none, nat_lt}
+use Rattle.std.specs.Prelude.{◌&&◌, ◌||◌, is_none, nat_lt}
 use Rattle.std.specs.List.{AllByRecursion}
 use Rattle.std.proofs.lemmas.Bool.{and_parts, or_cases, false_from_ne_true}
 use Rattle.switchboard.specs.declared.table.Bridge.{Bridge}
 use Rattle.switchboard.specs.Calls.{Done, opened_at, closed_at, is_open, gone_at}
-use Rattle.switchboard.specs.Bridges.{bridges, joins, other, lasts}
-use Rattle.switchboard.proofs.Appending.{after}
+use Rattle.switchboard.specs.Bridges.{bridges, joins, lasts}
 use Rattle.switchboard.proofs.Lists.{not_both}
 use Rattle.run_spec.proofs.Lists.{each_weaker, each_both, find_none, AtMostOne}
 use Rattle.run_spec.proofs.OpenCalls.{open_facts, gone_later}

@@ -1,6 +1,6 @@
 -- The lists of a board: its orders with their replies, the ends that were told, and the room for bridges and spans.
 use Rattle.std.proofs.Common.{◌≡◌, refl, sym, ap, ◌∙◌, ℕ, zero, suc, ◌+◌, ◌<◌, ◌≤◌, Option, Some, None, List, [], ◌∷◌, ◌++◌, length, map, get_or, set, drop}
-use Rattle.std.proofs.Common.{replicate, arith}
+use Rattle.std.proofs.Common.{arith}
 use Rattle.std.specs.Prelude.{Result, Ok, Err, is_some}
 use Rattle.std.proofs.lemmas.List.{length-append, length-map, map-set, set-get_or}
 use Rattle.trau_orders.specs.declared.order.Order.{Order}

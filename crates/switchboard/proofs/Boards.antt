@@ -11,7 +11,6 @@ use Rattle.switchboard.specs.declared.act.Refusal.{Refusal}
 use Rattle.switchboard.specs.declared.act.Reply.{Reply}
 use Rattle.switchboard.specs.declared.table.Call.{Call}
 use Rattle.switchboard.specs.Calls.{Done, is_open}
-use Rattle.switchboard.specs.Bridges.{bridges}
 use Rattle.switchboard.specs.Replies.{reply_from, reply_to}
 use Rattle.switchboard.specs.Rows.{Rows, IsSized, rows, never, call_in, is_open_in, known_in, applied, gone_of, call_ended_in, span_in}
 use Rattle.switchboard.specs.State.{State, new_board, first_order, last_stamp, numbered, told_in, gone_in, told_more, after_turn, reply_of}

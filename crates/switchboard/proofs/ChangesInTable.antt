@@ -13,7 +13,7 @@ use Rattle.switchboard.specs.declared.act.Refusal.{Refusal}
 use Rattle.switchboard.specs.declared.table.Bridge.{Bridge}
 use Rattle.switchboard.specs.declared.table.Call.{Call}
 use Rattle.switchboard.specs.Calls.{Done}
-use Rattle.switchboard.specs.Bridges.{bridges, joins, other, no_bridge}
+use Rattle.switchboard.specs.Bridges.{joins, other, no_bridge}
 use Rattle.switchboard.specs.Replies.{reply_from}
 use Rattle.switchboard.specs.Rows.{Rows, call_in, bridge_at_place, is_open_in, is_live_in, bridge_in, bridge_ended_in, known_in, applied, closed_in, parted_at}
 use Rattle.switchboard.specs.Rows.{parted_in}

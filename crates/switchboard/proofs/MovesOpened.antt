@@ -1,5 +1,5 @@
 -- An order that changes nothing, and one that opens a call, in the table and in the list of orders.
-use Rattle.std.proofs.Common.{◌≡◌, refl, sym, ap, ◌∙◌, subst, ℕ, ◌+◌, ◌<◌, ◌≤◌, Bool, true, false, Option, Some, None, List, [], ◌∷◌, ◌++◌, length, map, arith}
+use Rattle.std.proofs.Common.{◌≡◌, refl, sym, ap, ◌∙◌, subst, ℕ, ◌<◌, ◌≤◌, Bool, true, false, Option, Some, None, List, [], ◌∷◌, ◌++◌, length, map, arith}
 use Rattle.std.proofs.Common.{inl, inr, ◌⊎◌}
 use Rattle.std.specs.Prelude.{Result, Ok, not, if◌then◌else◌, ◌&&◌, is_some, ◌==◌, option_map, IfSome}
 use Rattle.std.proofs.lemmas.Bool.{eqb-true}

@@ -1,7 +1,7 @@
 -- An order that ends a bridge or a call, in the table and in the list of orders.
 use Rattle.std.proofs.Common.{◌≡◌, refl, sym, ap, ◌∙◌, subst, ℕ, ◌+◌, ◌<◌, ◌≤◌, ◌≢◌, Bool, true, false, Option, Some, None, List, [], ◌∷◌, ◌++◌, length, map}
 use Rattle.std.proofs.Common.{set, arith, inl, inr, ◌⊎◌}
-use Rattle.std.specs.Prelude.{Ok, if◌then◌else◌, ◌&&◌, ◌||◌, is_none, ◌==◌, IfSome}
+use Rattle.std.specs.Prelude.{Ok, if◌then◌else◌, ◌&&◌, is_none, ◌==◌, IfSome}
 use Rattle.std.proofs.lemmas.Bool.{cases_Bool, eqb-true, eq-eqb, and_parts, or_cases, cases_order, and_from, or_left, or_right}
 use Rattle.std.proofs.lemmas.List.{append-nil, get_or-set_same}
 use Rattle.trau_orders.specs.declared.order.Order.{Order}

@@ -6,7 +6,7 @@ use Rattle.trau_io.specs.declared.line.Side.{Side}
 use Rattle.trau_io.specs.declared.line.Side.TheVariants.{Pcm, Down}
 use Rattle.trau_io.specs.declared.line.Line.{Line}
 use Rattle.trau_io.specs.declared.transfer.Filled.{Filled}
-use Rattle.trau_io.specs.declared.transfer.Filled.TheVariants.{Whole, Ended, Failed}
+use Rattle.trau_io.specs.declared.transfer.Filled.TheVariants.{Whole, Ended}
 use Rattle.trau_io.specs.Lines.{LineState, OthersStay}
 use Rattle.trau_io.specs.Transfer.{Gives, ReadsBlock, given_of}
 use Rattle.trau_submux.specs.declared.cut.BlockEnd.TheVariants as block

@@ -1,11 +1,8 @@
 -- Octets of a slot that come one behind the other.
-use Rattle.std.proofs.Common.{◌≡◌, inl, inr, ℕ, ◌-◌, ◌*◌, ◌/◌, ◌%◌, ◌<◌, ◌≤◌, List, ◌++◌, length, take, drop, get_or, refl, sym, ap, ◌∙◌, arith, length-append}
-use Rattle.std.specs.Int.{bit_at}
-use Rattle.std.proofs.lemmas.Bool.{cases_lt}
-use Rattle.std.proofs.lemmas.List.{get_or_append_left, get_or-append_right, length-take-le, take-append-drop, take_at}
+use Rattle.std.proofs.Common.{◌≡◌, ℕ, ◌*◌, ◌<◌, ◌≤◌, List, ◌++◌, length, take, drop, sym, ap, ◌∙◌, arith}
+use Rattle.std.proofs.lemmas.List.{length-take-le, take-append-drop, take_at}
 use Rattle.std.proofs.lemmas.List.Elements.{All-append, All-take}
-use Rattle.std.proofs.lemmas.List.FromFn.{fill_by_all}
-use Rattle.trau_bits.specs.Bits.{bit_of, bits_of}
+use Rattle.trau_bits.specs.Bits.{bits_of}
 use Rattle.trau_bits.proofs.BitList.{length-bits_of}
 use Rattle.trau_bits.proofs.Joined.{bits_of-append}
 use Rattle.trau_submux.specs.Channels.{IsMerged, subchannel}

@@ -1,4 +1,4 @@
-use Rattle.std.proofs.Common.{ℕ, ◌<◌, refl, arith, rules}
+use Rattle.std.proofs.Common.{◌<◌, refl, arith, rules}
 use Rattle.std.proofs.lemmas.List.Elements.{All-replicate}
 use Rattle.ccu_end.specs.Heard.{last_bits}
 use Rattle.ccu_end.proofs.Periods.{stands-first}
