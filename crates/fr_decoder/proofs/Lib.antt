@@ -1,3 +1,2 @@
 -- Lemmas on frames and samples.
 pub mod Frames
-mod Runs

@@ -1,10 +1,9 @@
 -- The peak of a frame, and what shifting down by its scaling leaves.
-use Rattle.std.proofs.Common.{◌≡◌, ℕ, zero, suc, ℤ, ◌+◌, ◌-◌, ◌*◌, ◌^◌, ◌<◌, ◌≤◌, pos, ◌+ℤ◌, ◌*ℤ◌, ◌≤ℤ◌, unsigned_abs, set, length, List, [], ◌∷◌, ◌++◌, take}
-use Rattle.std.proofs.Common.{drop, map, fold, refl, sym, ap, subst, ◌∙◌, arith}
+use Rattle.std.proofs.Common.{◌≡◌, ℕ, zero, suc, ℤ, ◌+◌, ◌-◌, ◌*◌, ◌^◌, ◌<◌, ◌≤◌, pos, ◌+ℤ◌, ◌*ℤ◌, ◌≤ℤ◌, unsigned_abs, length, List, [], ◌∷◌, ◌++◌, take}
+use Rattle.std.proofs.Common.{map, fold, refl, sym, ap, subst, ◌∙◌, arith}
 use Rattle.std.specs.Int.{int_max}
 use Rattle.std.proofs.lemmas.Int.{ints, fold-int_max_bounds, unsigned_abs-mul}
-use Rattle.std.proofs.lemmas.List.{map_more, take_all, drop_all, append-nil, get_or-map, get_or_default, length-map, length-append, length-take-le, length-drop}
-use Rattle.std.proofs.lemmas.List.Edits.{map_over_more}
+use Rattle.std.proofs.lemmas.List.{map_more, get_or-map, length-map}
 use Rattle.std.proofs.lemmas.List.Elements.{All-get_or}
 use Rattle.std.proofs.lemmas.List.Sums.{fold-append}
 use Rattle.std.proofs.Math.Nat.{pow-le-pow_right, mul-le-mul_left, mul-le-mul_right}
@@ -69,22 +68,6 @@ scaled_bound x (suc (suc zero)) a b h = product x 8192 8192 h refl
 scaled_bound x (suc (suc (suc zero))) a b h = product x 4096 16384 h refl
 scaled_bound x (suc (suc (suc (suc zero)))) a b h = product x 2048 32768 h refl
 scaled_bound x (suc (suc (suc (suc (suc n))))) a b h = absurd (omega arith)
-
--- a loop over the samples: one more
-pub over_more : (f : ℤ → ℤ) (xs ys : List ℤ) (i : ℕ) (y : ℤ) → i < length xs → ys ≡ map f (take i xs) ++ drop i xs → y ≡ f (entry ys i) →
-    set ys i y ≡ map f (take (i + 1) xs) ++ drop (i + 1) xs
-over_more f xs ys i y l h e =
-    let count : length (map f (take i xs) ++ drop i xs) ≡ length xs =
-    omega (arith, length-append (map f (take i xs)) (drop i xs), length-map (take i xs) f, length-take-le i xs (omega arith), length-drop i xs) in
-    let m : i < length ys = omega (arith, ap (λ (zs : List ℤ). length zs) h, count) in
-    ap (set ys i) e ∙ map_over_more f xs ys i (entry ys i) l h (get_or_default ys i (pos 0) (entry ys i) m)
-
--- and its end
-pub over_all : (f : ℤ → ℤ) (xs ys : List ℤ) (i : ℕ) → length xs ≤ i → ys ≡ map f (take i xs) ++ drop i xs → ys ≡ map f xs
-over_all f xs ys i l h =
-    let front : take i xs ≡ xs = take_all i xs l in
-    let back : drop i xs ≡ [] = drop_all i xs l in
-    rw (front, back) at h ∙ append-nil (map f xs)
 
 -- a bound of each item of a mapped list
 pub within_map : (f : ℤ → ℤ) (xs ys : List ℤ) (bound : ℕ) → ys ≡ map f xs → ((i : ℕ) → i < length xs → unsigned_abs (f (entry xs i)) ≤ bound) →

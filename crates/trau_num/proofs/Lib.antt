@@ -3,4 +3,5 @@ pub mod Fill
 pub mod Fitting
 pub mod Greatest
 pub mod LeftShifts
+pub mod Mapped
 pub mod Weights

@@ -2,7 +2,7 @@ use Rattle.std.proofs.Common.{◌∙◌, rules, arith, FitsSigned, w16}
 use Rattle.std.proofs.lemmas.Int.{to_z-of_z}
 use Rattle.trau_num.specs.Num.{entry}
 use Rattle.fr_decoder.specs.Truncation.{truncated}
-use Rattle.fr_decoder.proofs.Runs.{over_more, over_all}
+use Rattle.trau_num.proofs.Mapped.{over_more, over_all}
 use Rattle.fr_decoder.proofs.truncation.truncate.Goals as goal
 
 pub loop-sample-preserved : goal.loop-sample-preserved

@@ -3,7 +3,8 @@ use Rattle.std.proofs.lemmas.Bool.{ne_eqb}
 use Rattle.std.proofs.lemmas.Int.{to_z-of_z}
 use Rattle.trau_num.specs.Num.{entry}
 use Rattle.fr_lpc.specs.Scaling.{scaled_sample, scaled_down}
-use Rattle.fr_lpc.proofs.Scaled.{over_more, over_all, within_map, scaled_bound}
+use Rattle.trau_num.proofs.Mapped.{over_more, over_all}
+use Rattle.fr_lpc.proofs.Scaled.{within_map, scaled_bound}
 use Rattle.fr_lpc.proofs.scaling.scale_down.Goals as goal
 
 pub loop-x-preserved : goal.loop-x-preserved

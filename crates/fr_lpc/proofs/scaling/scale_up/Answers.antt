@@ -3,7 +3,7 @@ use Rattle.std.proofs.lemmas.Bool.{ne_eqb}
 use Rattle.std.proofs.lemmas.Int.{to_z-of_z}
 use Rattle.trau_num.specs.Num.{shl_of, entry}
 use Rattle.fr_lpc.specs.Scaling.{scaled_up}
-use Rattle.fr_lpc.proofs.Scaled.{over_more, over_all}
+use Rattle.trau_num.proofs.Mapped.{over_more, over_all}
 use Rattle.fr_lpc.proofs.scaling.scale_up.Goals as goal
 
 pub loop-x-preserved : goal.loop-x-preserved
