@@ -1,5 +1,5 @@
 -- Of the bridges of a history at most one has an item for each of its frames.
-use Rattle.std.proofs.Common.{◌≡◌, refl, sym, ap, ◌∙◌, subst, inl, inr, ℕ, ◌+◌, ◌-◌, ◌*◌, ◌<◌, zero, suc, Bool, true, false, if◌then◌else◌, nat_le, Option}
+use Rattle.std.proofs.Common.{◌≡◌, refl, sym, ap, ◌∙◌, subst, inl, inr, ℕ, ◌+◌, ◌*◌, ◌<◌, zero, suc, Bool, true, false, if◌then◌else◌, nat_le, Option}
 use Rattle.std.proofs.Common.{List, [], ◌∷◌, ◌++◌, length, map, reverse, arith, append_assoc, length-append}
 use Rattle.std.proofs.lemmas.Bool.{cases_lt, leb-true, cond_both, cond-true, cond-false}
 use Rattle.std.proofs.lemmas.List.{reverse-reverse, length-map}

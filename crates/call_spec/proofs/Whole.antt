@@ -1,5 +1,5 @@
 -- The history of a call as a whole is one of its periods, and says all of it.
-use Rattle.std.proofs.Common.{◌≡◌, refl, sym, ap, ◌∙◌, inl, inr, ℕ, ◌+◌, ◌-◌, ◌*◌, ◌≤◌, zero, suc, true, false, ◌||◌, Option, Some, None, List, [], ◌∷◌, length}
+use Rattle.std.proofs.Common.{◌≡◌, refl, sym, ap, ◌∙◌, inl, inr, ℕ, ◌+◌, ◌*◌, ◌≤◌, zero, suc, true, false, ◌||◌, Option, Some, None, List, [], ◌∷◌, length}
 use Rattle.std.proofs.Common.{drop, reverse, All, arith, length-drop, length-take}
 use Rattle.std.specs.Prelude.{is_some}
 use Rattle.std.proofs.lemmas.Bool.{cases_lt, or_right, true≢false}

@@ -1,14 +1,10 @@
 -- What the search finds in each period is of all yields of the whole Up line.
-use Rattle.std.proofs.Common.{◌≡◌, refl, sym, ap, ◌∙◌, subst, inl, inr, ℕ, ◌-◌, ◌*◌, ◌/◌, ◌<◌, ◌≤◌, List, [], ◌∷◌, ◌++◌, length, filter, option_to_list}
-use Rattle.std.proofs.Common.{reverse, All, get_or, arith, length-append}
-use Rattle.std.specs.Prelude.{◌%◌}
+use Rattle.std.proofs.Common.{◌≡◌, refl, sym, ap, ◌∙◌, subst, ℕ, ◌<◌, List, [], ◌∷◌, ◌++◌, length, filter, option_to_list}
+use Rattle.std.proofs.Common.{reverse, All, arith}
 use Rattle.std.specs.List.{flat_map}
-use Rattle.std.specs.Int.{bit_at}
-use Rattle.std.proofs.lemmas.Bool.{cases_lt}
-use Rattle.std.proofs.lemmas.List.{get_or_append_left, get_or-append_right, reverse-reverse, length-reverse}
+use Rattle.std.proofs.lemmas.List.{reverse-reverse, length-reverse}
 use Rattle.std.proofs.lemmas.List.Elements.{All-nil, All-cons, All-head, All-tail}
-use Rattle.std.proofs.lemmas.List.FromFn.{fill_by_all}
-use Rattle.trau_bits.specs.Bits.{bit_of, bits_of}
+use Rattle.trau_bits.specs.Bits.{bits_of}
 use Rattle.trau_bits.proofs.Joined.{bits_of-append}
 use Rattle.frame_sync.specs.declared.yields.Yield.{Yield}
 use Rattle.frame_sync.specs.Yields.{Yields}

@@ -1,5 +1,5 @@
 -- A run before its first order.
-use Rattle.std.proofs.Common.{◌≡◌, refl, sym, ap, ◌∙◌, subst, ℕ, ◌+◌, ◌-◌, ◌*◌, ◌≤◌, false, Some, None, List, [], ◌∷◌, ◌++◌, length, map, drop, arith}
+use Rattle.std.proofs.Common.{◌≡◌, refl, sym, ap, ◌∙◌, subst, ℕ, ◌-◌, ◌*◌, ◌≤◌, false, Some, None, List, [], ◌∷◌, ◌++◌, length, map, drop, arith}
 use Rattle.std.specs.Prelude.{min, is_some, IfSome}
 use Rattle.std.specs.Io.KnownBytes.{Appends}
 use Rattle.std.proofs.KnownBytes.{Appends-nil}
@@ -12,7 +12,7 @@ use Rattle.trau_bits.specs.Bits.{octets_of}
 use Rattle.trau_bits.proofs.Octets.{length-octets_of}
 use Rattle.trau_orders.specs.declared.order.Order.{Order}
 use Rattle.trau_orders.specs.Lists.{AreOrders}
-use Rattle.switchboard.specs.Calls.{Done, opened_at, is_open}
+use Rattle.switchboard.specs.Calls.{Done, opened_at}
 use Rattle.switchboard.specs.Ends.{start_of}
 use Rattle.switchboard.specs.State.{State, EndBefore, first_stamp, last_stamp, orders_of}
 use Rattle.switchboard.specs.Open.{open_now, partner_now}

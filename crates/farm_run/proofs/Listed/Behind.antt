@@ -1,5 +1,5 @@
 -- What is known of the listed lines behind a round, and how a run goes on in it, whatever fails.
-use Rattle.std.proofs.Common.{◌≡◌, refl, sym, ap, ◌∙◌, ℕ, ◌*◌, ◌<◌, true, false, not, ◌&&◌, Option, Some, None, List, length, drop, inl, inr, ◌⊎◌, arith}
+use Rattle.std.proofs.Common.{◌≡◌, refl, sym, ap, ◌∙◌, ℕ, ◌<◌, true, false, not, ◌&&◌, Option, Some, None, List, length, drop, inl, inr, ◌⊎◌, arith}
 use Rattle.std.specs.Prelude.{is_some, slice_index}
 use Rattle.std.specs.Io.KnownBytes.{Consumes}
 use Rattle.std.proofs.lemmas.Bool.{and_parts}

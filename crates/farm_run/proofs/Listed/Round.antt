@@ -1,5 +1,5 @@
 -- Which lines are listed behind a round, whatever fails.
-use Rattle.std.proofs.Common.{◌≡◌, refl, sym, ap, ◌∙◌, subst, ℕ, ◌*◌, ◌<◌, Bool, true, false, not, ◌&&◌, List, length, map, inl, inr, ◌⊎◌, arith}
+use Rattle.std.proofs.Common.{◌≡◌, refl, sym, ap, ◌∙◌, subst, ℕ, ◌<◌, Bool, true, false, not, ◌&&◌, List, length, map, inl, inr, ◌⊎◌, arith}
 use Rattle.std.specs.Prelude.{◌||◌, is_some, slice_index}
 use Rattle.std.specs.List.{Contains}
 use Rattle.std.specs.List.Sorted.{IsStrictlyIncreasing}

@@ -1,5 +1,5 @@
 -- What an order makes of what each call has had.
-use Rattle.std.proofs.Common.{◌≡◌, refl, sym, ◌∙◌, ℕ, ◌-◌, Bool, true, false, ◌||◌, Option, Some, None, List, [], inl, inr}
+use Rattle.std.proofs.Common.{◌≡◌, refl, sym, ◌∙◌, ℕ, Bool, true, false, ◌||◌, Option, Some, None, List, [], inl, inr}
 use Rattle.std.specs.Prelude.{if◌then◌else◌, ◌==◌, option_map, Ok}
 use Rattle.std.proofs.lemmas.Bool.{eq-eqb}
 use Rattle.trau_alaw.specs.declared.Law.{Law}
@@ -12,7 +12,6 @@ use Rattle.farm_rounds.specs.Histories.{CallHistory, set_now, histories_after}
 use Rattle.call_leg.specs.Periods.{CallPeriod}
 use Rattle.call_leg.specs.Settings.{Settings, new_settings, with_level, with_mode, with_bridge, without_bridge}
 use Rattle.run_spec.specs.Now.{changed_by}
-use Rattle.run_spec.proofs.Showing.{opens}
 use Rattle.farm_run.specs.Match.{past_if}
 use Rattle.farm_run.proofs.Ordered.Matching.{cases_eq}
 

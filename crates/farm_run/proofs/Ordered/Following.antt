@@ -1,5 +1,5 @@
 -- One more order: what the definition says of the run, and the farm, go on together.
-use Rattle.std.proofs.Common.{◌≡◌, refl, sym, ap, ◌∙◌, subst, ℕ, ◌+◌, ◌-◌, ◌<◌, Bool, true, false, ◌||◌, Option, Some, List, [], ◌∷◌, ◌++◌, arith, inl, inr}
+use Rattle.std.proofs.Common.{◌≡◌, refl, sym, ap, ◌∙◌, subst, ℕ, ◌-◌, ◌<◌, Bool, true, false, ◌||◌, Option, Some, List, [], ◌∷◌, ◌++◌, arith, inl, inr}
 use Rattle.std.proofs.Common.{◌⊎◌}
 use Rattle.std.specs.Prelude.{if◌then◌else◌, ◌==◌, is_some, Result, Ok, Err}
 use Rattle.std.proofs.lemmas.Bool.{eq-eqb}
@@ -11,7 +11,7 @@ use Rattle.switchboard.specs.declared.act.Reply.{Reply}
 use Rattle.switchboard.specs.Calls.{Done, opened_at, is_open, gone_at}
 use Rattle.switchboard.specs.Runs.{IsRun, TellsEnds}
 use Rattle.switchboard.specs.Ends.{start_of}
-use Rattle.switchboard.specs.State.{State, gone_in, due, done_by}
+use Rattle.switchboard.specs.State.{State, gone_in, done_by}
 use Rattle.switchboard.specs.Open.{opened_now, open_now, partner_now, open_after, Finds, law_now, law_after}
 use Rattle.farm_rounds.specs.declared.call.Group.{Group}
 use Rattle.farm_rounds.specs.Histories.{CallHistory, CallStands, GroupsStand, histories_after, NoneWaits, NoneDrains}

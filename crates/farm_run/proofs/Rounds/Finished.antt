@@ -1,8 +1,7 @@
 -- The finished job of a round leaves a call as the run has it, and its octets are the next of its outgoing lines.
-use Rattle.std.proofs.Common.{◌≡◌, refl, sym, ap, ◌∙◌, subst, ℕ, zero, suc, ◌+◌, ◌-◌, ◌*◌, ◌≤◌, true, Some, None, List, [], ◌∷◌, ◌++◌, length, take, drop}
+use Rattle.std.proofs.Common.{◌≡◌, sym, ap, ◌∙◌, subst, ℕ, ◌+◌, ◌-◌, ◌*◌, ◌≤◌, true, Some, None, List, ◌++◌, take, drop}
 use Rattle.std.proofs.Common.{arith}
-use Rattle.std.proofs.lemmas.List.{length-append, take_at, take-take, drop-drop, drop-take}
-use Rattle.trau_bits.specs.Bits.{octets_of}
+use Rattle.std.proofs.lemmas.List.{take_at, take-take, drop-drop, drop-take}
 use Rattle.trau_orders.specs.declared.order.Order.{Order}
 use Rattle.switchboard.specs.declared.table.Bridge.{Bridge}
 use Rattle.switchboard.specs.Calls.{Done, is_open, gone_at}
@@ -10,11 +9,8 @@ use Rattle.switchboard.specs.Bridges.{other, bridge_of}
 use Rattle.switchboard.specs.Ends.{start_of}
 use Rattle.round_lines.specs.Places as places
 use Rattle.round_lines.specs.Places.{PlaceMemory}
-use Rattle.call_leg.specs.Who.{Who}
 use Rattle.call_leg.specs.Periods.{CallPeriod}
 use Rattle.call_leg.specs.Settings.{Settings}
-use Rattle.call_leg.specs.Out.{out_of}
-use Rattle.call_leg.specs.Down.{down_now}
 use Rattle.call_pair.specs.Memory.{IoMemory, HalfMemory}
 use Rattle.call_pair.specs.History.{outs_of, downs_of, io_after, HasWorked, settings_past, alone_periods}
 use Rattle.call_pair.specs.Finished.{HasWorkedAlone, HasWorkedBridged}

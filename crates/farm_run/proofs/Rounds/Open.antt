@@ -8,7 +8,6 @@ use Rattle.switchboard.specs.Calls.{Done, opened_at, closed_at, is_open, gone_at
 use Rattle.switchboard.specs.Bridges.{bridges, joins, lasts, bridge_of}
 use Rattle.switchboard.specs.Ends.{start_of}
 use Rattle.switchboard.specs.State.{first_stamp}
-use Rattle.call_leg.specs.Settings.{settings_later}
 use Rattle.run_spec.specs.Run.{Run, whole_in}
 use Rattle.run_spec.specs.Now.{NoOrderTo, has_period, bridge_now}
 use Rattle.run_spec.proofs.Lists.{each_all, found}
@@ -16,7 +15,7 @@ use Rattle.run_spec.proofs.Standing.{Standing, lasts_parts}
 use Rattle.run_spec.proofs.OpenCalls.{open_facts, gone_is, gone_later}
 use Rattle.run_spec.proofs.Settling.{start_is}
 use Rattle.run_spec.proofs.SoFar.{standing_now}
-use Rattle.run_spec.proofs.Bridging.{open_has, bridge_later, bridge_after, next_settings}
+use Rattle.run_spec.proofs.Bridging.{open_has, bridge_later, bridge_after}
 use Rattle.farm_run.specs.Going.{places_in}
 use Rattle.farm_run.proofs.Rounds.Taken.{IsRound}
 

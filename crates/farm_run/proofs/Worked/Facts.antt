@@ -1,12 +1,12 @@
 -- What a round of the farm makes of each open call's seat, and of the lines.
-use Rattle.std.proofs.Common.{◌≡◌, refl, sym, ap, ◌∙◌, subst, ℕ, ◌*◌, ◌<◌, true, false, Some, List, length, arith}
+use Rattle.std.proofs.Common.{◌≡◌, refl, sym, ap, ◌∙◌, subst, ℕ, ◌<◌, true, false, Some, List, length, arith}
 use Rattle.std.specs.Prelude.{is_some, slice_index}
 use Rattle.trau_io.specs.declared.ends.CallEnd.{CallEnd}
 use Rattle.trau_io.specs.declared.line.Side.{Side}
 use Rattle.trau_io.specs.declared.line.Side.TheVariants.{Up, Pcm, Down, Out}
 use Rattle.trau_io.specs.Lines.{LineState}
 use Rattle.round_lines.specs.Seats.{SeatMemory, Drains}
-use Rattle.round_lines.specs.Rounds.{Each, IsIncoming, IsOutgoing, seat_at, call_at}
+use Rattle.round_lines.specs.Rounds.{IsIncoming, IsOutgoing, seat_at, call_at}
 use Rattle.farm_rounds.specs.declared.call.Call.{Call}
 use Rattle.farm_rounds.specs.Calls.{call_in}
 use Rattle.farm_rounds.specs.Memory.{FarmMemory}

@@ -17,7 +17,7 @@ use Rattle.switchboard.specs.Runs.{TellsEnds}
 use Rattle.farm_rounds.specs.declared.call.Group.{Group}
 use Rattle.farm_rounds.specs.Calls.{call_in, partner_in}
 use Rattle.farm_rounds.specs.Memory.{FarmMemory}
-use Rattle.farm_rounds.specs.Histories.{CallHistory, whose, CallStands, GroupsStand}
+use Rattle.farm_rounds.specs.Histories.{CallHistory, CallStands, GroupsStand}
 use Rattle.farm_rounds.specs.Working.{goes_on_call}
 use Rattle.farm_rounds.specs.RoundHistories.{worked_histories, those_that}
 use Rattle.run_spec.specs.Run.{Run, given_in, whole_in, done_in, end_in, IsOpened, cause_in, worked_to}
