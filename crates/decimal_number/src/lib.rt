@@ -10,10 +10,10 @@
 
 mod split;
 
-pub use split::split_at_octet;
-
 ghost use Rattle.std.specs.Prelude.{◌↔◌, ℕ, IsTrue, IsNone, IfSome};
 ghost use Rattle.decimal_number.specs.Number.{IsPlain, IsNumber, SpellsOneNumber};
+
+pub use split::split_at_octet;
 
 /// The number from `low` to `high` that a whole text spells. Where `low` is above `high` there is none.
 pub fn number_of_text(text: &str, low: u32, high: u32) -> Option<u32>

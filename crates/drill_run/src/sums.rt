@@ -34,7 +34,7 @@ pub(crate) fn put_sums(
     requires { All (λ line. IsCallNumber line.end.call) calls.now }
     ensures { OnOk result (string_bytes text.new ≡ string_bytes text.old ++ flat_map (λ line.
         sum_line line.end.call (unwrap_or (known_lines trunk.now line.end.call Out).written [])
-            (unwrap_or (known_lines trunk.now line.end.call Down).written [])) calls.now) }
+        (unwrap_or (known_lines trunk.now line.end.call Down).written [])) calls.now) }
 {
     for line in calls {
         put_sum(text, trunk, line.end.call)?;

@@ -101,7 +101,7 @@ pub(crate) fn eight_groups(
     ensures long { length result ≡ 32 }
     ensures octets { (i : ℕ) → i < 32 → slice_index result i ≡
         gathered (i % 4) (slice_index first.now (at + i / 4)) (slice_index second.now (at + i / 4)) (slice_index third.now (at + i / 4))
-            (slice_index fourth.now (at + i / 4)) }
+        (slice_index fourth.now (at + i / 4)) }
 {
     let (first_third, second_fourth) = turned(
         eight_at(first, at).shuffle(

@@ -13,7 +13,7 @@ returns-then-k-shared-clause-posted g c =
 pub returns-then-k-shared-clause-drawn : goal.returns-then-k-shared-clause-drawn
 returns-then-k-shared-clause-drawn g c =
     drawn_still c.args.shared.now.drill.seed c.args.shared.now.drill.callers c.args.caller.now.number c.args.k c.args.period
-        (c.args.period + 1) c.args.draws.now
+    (c.args.period + 1) c.args.draws.now
     (λ e. c.if-k-shared.true (e ∙ sym c.number.ensures)) c.requires.drawn
 
 pub post_period-requires-clause-posts : goal.post_period-requires-clause-posts
