@@ -17,7 +17,8 @@ use trau_alaw::Law;
 #[derive(Drop)]
 pub struct Book {
     of: BookOf,
-    leg: Leg,
+    // In a box, since the book goes through its slot with each turn.
+    leg: Box<Leg>,
     history: Vec<Entry>,
     inbox: HeapCircularBuffer<Post>,
     left: Vec<Post>,
@@ -34,8 +35,8 @@ impl Model for Book {
 
     ghost view = { λ b. record { is_of = b.of; history = b.history.items; inbox = b.inbox.items } };
 
-    ghost invariant = { λ b. IsLegal b.of.call b.history.items × Stands (who_at b.of.call) (periods_after [] b.history.items) new_settings b.leg ×
-        (periods_of_leg b.leg ≡ length b.history.items) × (b.of.room ≡ b.inbox.capacity) × (b.left.items ≡ []) × (b.inbox.capacity ≤ vec_capacity b.left) };
+    ghost invariant = { λ b. IsLegal b.of.call b.history.items × Stands (who_at b.of.call) (periods_after [] b.history.items) new_settings b.leg.value ×
+        (periods_of_leg b.leg.value ≡ length b.history.items) × (b.of.room ≡ b.inbox.capacity) × (b.left.items ≡ []) × (b.inbox.capacity ≤ vec_capacity b.left) };
 }
 
 impl Book {
@@ -47,7 +48,7 @@ impl Book {
     {
         Ok(Book {
             of,
-            leg: Leg::new(alloc, of.call, Law::A)?,
+            leg: Box::new(alloc, Leg::new(alloc, of.call, Law::A)?)?,
             history: Vec::new(alloc),
             inbox: HeapCircularBuffer::with_capacity(alloc, of.room as usize)?,
             left: Vec::with_capacity(alloc, of.room as usize)?,

@@ -1,7 +1,13 @@
-use Rattle.std.proofs.Common.{refl}
+use Rattle.std.proofs.Common.{refl, arith}
 use Rattle.crossbeam_queue.specs.Passes.{view}
 use Rattle.farm_live.proofs.Turning.{may_give, held_as, did_at, may_worked, worked_some, goes_on, placed_at}
 use Rattle.farm_live.proofs.turns.work.Goals as goal
+
+pub overflow_cast-place : goal.overflow_cast-place
+overflow_cast-place g c =
+    let taken = c.in-Some.ensures.taken in
+    let few = goes_on c.in-Some.book (held_as (view c.args.me.now) (view c.take_or_miss.new.me) c.in-Some.book taken.1 taken.0).few in
+    omega (arith, few, c.len-place.ensures)
 
 pub work-worked-requires : goal.work-worked-requires
 work-worked-requires g c =

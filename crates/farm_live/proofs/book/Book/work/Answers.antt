@@ -3,6 +3,7 @@ use Rattle.call_leg.specs.Settings.{new_settings}
 use Rattle.call_leg.specs.Memory.{periods_of_leg}
 use Rattle.call_leg.specs.Stands.{Stands}
 use Rattle.farm_live.specs.declared.post.Entry.{Entry}
+use Rattle.farm_live.specs.Step.{WorksOn}
 use Rattle.farm_live.specs.Book.{who_at, IsLegal, periods_after}
 use Rattle.farm_live.proofs.Books.{leg_one_more}
 use Rattle.farm_live.proofs.book.Book.work.Goals as goal
@@ -14,9 +15,11 @@ invariant_of-self-2 c =
     let e = c.period-entry.result in
     let inv = c.self.invariant in
     let leg = c.period-entry.new.leg in
-    let more = leg_one_more call es e c.self.inside.leg leg inv.0 inv.1 c.period-entry.ensures.worked in
+    let boxed : c.deref_mut.result.now ≡ c.self.inside.leg.value = c.deref_mut.ensures.value in
+    let more = leg_one_more call es e c.self.inside.leg.value leg inv.0 inv.1
+    (subst (λ l. WorksOn l e leg) boxed c.period-entry.ensures.worked) in
     let items : c.push_reserved.new.self.items ≡ es ++ e ∷ [] = c.push_reserved.ensures.items ∙ ap (λ l. l ++ e ∷ []) c.in_ok-reserve.ensures.items in
-    let long : periods_of_leg leg ≡ length (es ++ e ∷ []) = omega (arith, c.period-entry.ensures.periods, inv.2, length-append es (e ∷ [])) in
+    let long : periods_of_leg leg ≡ length (es ++ e ∷ []) = omega (arith, c.period-entry.ensures.periods, ap periods_of_leg boxed, inv.2, length-append es (e ∷ [])) in
     let rest = inv.3 in (
       subst (λ (l : List Entry). IsLegal call l) (sym items) more.0,
       subst (λ (l : List Entry). Stands (who_at call) (periods_after [] l) new_settings leg) (sym items) more.1,
