@@ -1,6 +1,6 @@
 //! What a caller does with one call: it posts a period, works the call, and looks for a post.
 
-ghost use Rattle.std.specs.Prelude.{◌≡◌, ◌+◌, ◌-◌, ◌<◌, ℕ, length, slice_index_or, OnOk};
+ghost use Rattle.std.specs.Prelude.{◌≡◌, ◌+◌, ◌-◌, ◌<◌, ℕ, length, slice_index_or, OnOk, IsErr, ◌↔◌};
 ghost use Rattle.farm_live.specs.declared.live.PostFault.{PostFault as OneFault};
 ghost use Rattle.farm_live.specs.Live.{view_of, IsSeated, HasAnswered, next_post};
 ghost use Rattle.live_run.specs.Posts.{IsSameView, GainsPost, Saw, MovesSeat};
@@ -13,7 +13,9 @@ use std::sync::Wait;
 use std::thread;
 
 // Yields the thread where the call was busy.
-fn let_others(turn: Result<Turn, AllocError>) -> Result<(), AllocError> {
+fn let_others(turn: Result<Turn, AllocError>) -> Result<(), AllocError>
+    ensures { IsErr result ↔ IsErr turn }
+{
     if let Turn::Busy = turn? {
         thread::yield_now();
     }

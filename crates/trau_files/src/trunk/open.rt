@@ -1,6 +1,7 @@
 //! The files of lines, of which some are open.
 
-ghost use Rattle.std.specs.Prelude.{◌≡◌, ◌<◌, length, IfOk, All, None};
+ghost use Rattle.std.specs.Prelude.{◌≡◌, ◌<◌, ◌↔◌, ◌⊎◌, length, pos, IfOk, IsTrue, All, Some, None};
+ghost use Rattle.std.specs.IoError.{raw_os_error};
 ghost use Rattle.std.specs.Io.{ReadsAtMost, WritesAtMost};
 ghost use Rattle.trau_files.specs.declared.trunk.seats.Access.TheVariants.{Reading, Writing};
 ghost use Rattle.trau_files.specs.Files.{IsOpenAt, IsFileOf, OpenAfter, in_seat, file_after, opened, options_for};
@@ -106,7 +107,9 @@ impl<'a, R: Files> LineFiles<'a, R> {
 }
 
 // Whether a file wasn't opened because no descriptor is left.
-fn is_for_want(fault: &io::Error) -> bool {
+fn is_for_want(fault: &io::Error) -> bool
+    ensures { IsTrue result ↔ ((raw_os_error fault.now ≡ Some (pos 23)) ⊎ (raw_os_error fault.now ≡ Some (pos 24))) }
+{
     matches!(fault.raw_os_error(), Some(NONE_IN_SYSTEM | NONE_IN_PROCESS))
 }
 
