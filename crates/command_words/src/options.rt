@@ -43,7 +43,8 @@ pub(crate) fn with_options<'a>(
     Ok(command)
 }
 
-/// What a command finds in its words, which must be options of its own, each at most once and with a value.
+/// What a command finds in its words. `Usage` says that they aren't options of its own, each at most once and with a value;
+/// that is stated of commands without rules between their options, as those of this program are.
 pub(crate) fn matches_in<'a>(
     command: Command<'a>,
     words: &'a [String],

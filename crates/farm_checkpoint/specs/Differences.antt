@@ -1,4 +1,4 @@
--- By which calls two lists of them differ.
+-- By which calls two lists of calls differ.
 use Rattle.std.specs.Prelude.{ℕ, ◌<◌, ◌≡◌, ◌≢◌, ◌==◌, List, Option}
 use Rattle.std.specs.List.{find}
 use Rattle.std.proofs.Common.{get_or}
@@ -13,6 +13,6 @@ pub record IsLeastDifference (one other : List MarkCall) (c : ℕ) : Type 0 wher
   pub differs : entry_of one c ≢ entry_of other c
   pub least : (d : ℕ) → d < c → entry_of one d ≡ entry_of other d
 
--- the entries at a place differ
+-- both lists have an entry at this place, and these differ
 abbrev pub DifferAt : List MarkCall → List MarkCall → ℕ → Type 0
 DifferAt one other k = (d : MarkCall) → get_or one k d ≢ get_or other k d

@@ -36,7 +36,7 @@ abbrev pub IsDrawn : ℕ → ℕ → ℕ → ℕ → ℕ → Generator → Type 
 IsDrawn seed callers caller k n g = g.x ≡ draw_state seed (k + 1) (first_draw (own_of callers caller k n))
 
 -- what was posted stays
-pub record IsSameView (v w : View) : Type 0 where
+pub record KeepsPosts (v w : View) : Type 0 where
   pub made : w.made ≡ v.made
   pub callers : w.callers ≡ v.callers
 

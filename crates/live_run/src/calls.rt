@@ -3,7 +3,7 @@
 ghost use Rattle.std.specs.Prelude.{◌≡◌, ◌+◌, ◌-◌, ◌<◌, ℕ, length, slice_index_or, OnOk, IsErr, ◌↔◌};
 ghost use Rattle.farm_live.specs.declared.live.PostFault.{PostFault as OneFault};
 ghost use Rattle.farm_live.specs.Live.{view_of, IsSeated, HasAnswered, next_post};
-ghost use Rattle.live_run.specs.Posts.{IsSameView, GainsPost, Saw, MovesSeat};
+ghost use Rattle.live_run.specs.Posts.{KeepsPosts, GainsPost, Saw, MovesSeat};
 
 use crate::shared::Shared;
 use farm_live::{Caller, Look, PostFault, Turn};
@@ -28,7 +28,7 @@ fn work<R: Wait, G>(shared: &Shared<R, G>, caller: &mut Caller, k: u32) -> Resul
     requires few { k < 256 }
     requires farm { IsSeated shared.now.live.now.inbox shared.now.live.now.slots.items caller.old }
     ensures farm { IsSeated shared.now.live.now.inbox shared.now.live.now.slots.items caller.new }
-    ensures stays { MovesSeat IsSameView k caller.old caller.new }
+    ensures stays { MovesSeat KeepsPosts k caller.old caller.new }
 {
     let turn = shared.live.work(shared.rt, shared.alloc, caller, k + 1);
     let_others(turn)
@@ -45,7 +45,7 @@ fn make_way<R: Wait, G>(
     requires few { k < 256 }
     requires farm { IsSeated shared.now.live.now.inbox shared.now.live.now.slots.items caller.old }
     ensures farm { IsSeated shared.now.live.now.inbox shared.now.live.now.slots.items caller.new }
-    ensures stays { MovesSeat IsSameView k caller.old caller.new }
+    ensures stays { MovesSeat KeepsPosts k caller.old caller.new }
 {
     match fault {
         PostFault::Full { post: _ } => work(shared, caller, k),
@@ -98,7 +98,7 @@ pub(crate) fn work_to<R: Wait, G>(
     requires few { k < 256 }
     requires farm { IsSeated shared.now.live.now.inbox shared.now.live.now.slots.items caller.old }
     ensures farm { IsSeated shared.now.live.now.inbox shared.now.live.now.slots.items caller.new }
-    ensures stays { MovesSeat IsSameView k caller.old caller.new }
+    ensures stays { MovesSeat KeepsPosts k caller.old caller.new }
     ensures found { OnOk result ((s : _) → Saw of number (view_of (slice_index_or caller.new.seats.items k s))) }
 {
     for _ in shared.rt.forever() {

@@ -47,7 +47,7 @@ known_line (Some l) = state_of l
 abbrev pub states_of : List FileLine → ℕ → Side → LineState
 states_of lines call side = known_line (slice_get lines (place_of call side))
 
--- a line's file that is open: for what, and at which octet it stands
+-- a line's file that is open: for what, and at which octet it is taken to stand
 pub record OpenLine : Type 0 where
   pub call : ℕ
   pub side : Side
@@ -102,12 +102,12 @@ pub record TrunkFiles : Type 0 where
   pub lines : List FileLine
   pub files : List (Option OpenLine)
 
--- a read of a line that stood so, with this answer: it took the line's next octets, and nothing else
+-- a read of a line that stood so, with this answer: by the trunk's account it took the line's next octets, and nothing else
 pub record TrunkReads (old new : TrunkFiles) (call : ℕ) (side : Side) (l : FileLine) (result : Result ℕ Failed) : Type 0 where
   pub lines : new.lines ≡ slice_set old.lines (place_of call side) (after_read l result)
   pub files : OpenAfter old.files new.files call side (file_after call side Reading l.read result)
 
--- a write of a line that stood so, with this answer: it went behind the octets written before
+-- a write of a line that stood so, with this answer: by the trunk's account it went behind the octets written before
 pub record TrunkWrites (old new : TrunkFiles) (call : ℕ) (side : Side) (l : FileLine) (result : Result ℕ Failed) : Type 0 where
   pub lines : new.lines ≡ slice_set old.lines (place_of call side) (after_write l result)
   pub files : OpenAfter old.files new.files call side (file_after call side Writing l.written result)

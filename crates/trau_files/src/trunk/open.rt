@@ -89,7 +89,7 @@ impl<'a, R: Files> LineFiles<'a, R> {
     {
         self.seats.free_next();
         let file = match open_at(self.files, line, access, at) {
-            Err(fault) if is_for_want(&fault) => {
+            Err(fault) if lacks_descriptor(&fault) => {
                 self.seats.lessen();
                 open_at(self.files, line, access, at)?
             }
@@ -107,7 +107,7 @@ impl<'a, R: Files> LineFiles<'a, R> {
 }
 
 // Whether a file wasn't opened because no descriptor is left.
-fn is_for_want(fault: &io::Error) -> bool
+fn lacks_descriptor(fault: &io::Error) -> bool
     ensures { IsTrue result ↔ ((raw_os_error fault.now ≡ Some (pos 23)) ⊎ (raw_os_error fault.now ≡ Some (pos 24))) }
 {
     matches!(fault.raw_os_error(), Some(NONE_IN_SYSTEM | NONE_IN_PROCESS))

@@ -95,7 +95,7 @@ impl<F: Drop> Seats<F> {
         None
     }
 
-    /// Closes the file in the next seat, where there is one.
+    /// Closes the file in the next seat, where there is one. Which file it closes, no clause says.
     pub fn free_next(&mut self)
         ensures others { OnlyCloses self.old self.new }
         ensures number { length self.new ≡ length self.old }
@@ -103,7 +103,7 @@ impl<F: Drop> Seats<F> {
         self.files[self.next as usize] = None;
     }
 
-    /// Closes the file before the next seat, which is the last one from now on.
+    /// Closes the file before the next seat, which is the last one from now on. Which file it closes, no clause says.
     pub fn lessen(&mut self)
         ensures others { OnlyCloses self.old self.new }
         ensures number { length self.new ≡ length self.old }
