@@ -44,9 +44,13 @@ pub record GoesOut (r : Run) : Type 0 where
       frame_as_sent r c j ≡ Speech (bits260 (handed_fields (frame_on r (partner_in c x) t))) true
   pub unchanged : (c t : ℕ) (x : Span) (j p : ℕ) (bits : List ℕ) → Sends r c t x j → yield_on r (partner_in c x) t ≡ Some (Frame p bits) → IsGoodSpeech bits →
       frame_as_sent r c j ≡ Speech (data_of bits) true
-  -- the frame's 320 bits stand on the Down line one after another, as far as the line goes
+  -- the Down line has 320 bits for each of the call's periods; the frame's 320 bits stand on it one after another, as far as
+  -- it goes,
+  pub long : (c : ℕ) → IsOpened r c → length (down (whole_call r c)) ≡ 320 * (end_in r c - start_in r c)
   pub on_line : (c t : ℕ) (x : Span) (j k : ℕ) → Sends r c t x j → k < 320 → frame_place r c j + k < length (down (whole_call r c)) →
       slice_index (down (whole_call r c)) (frame_place r c j + k) ≡ slice_index (down_bits (frame_as_sent r c j)) k
+  -- and it goes so far that each but the frame made last stands on it whole
+  pub whole : (c t : ℕ) (x : Span) (j : ℕ) → Sends r c t x j → j + 1 < frame_count r c → frame_place r c j + 320 ≤ length (down (whole_call r c))
   -- no frame carries anything else
   pub only : (c j h : ℕ) → (frame_by_number (whole_call r c) j).carries ≡ Some h →
       (x : Span) × IsBridged r c (start_in r c + h) x × CarriesHanded r c (start_in r c + h) x j

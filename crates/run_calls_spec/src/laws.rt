@@ -1,6 +1,6 @@
 //! Laws of a run's calls, each the contract of a function that does nothing.
 
-ghost use Rattle.std.specs.Prelude.{◌≡◌, ◌≤◌, ◌<◌, ◌↔◌, ℕ, ◌+◌, ◌-◌, true, Some, None, is_some, List, length, filter, slice_index, Contains};
+ghost use Rattle.std.specs.Prelude.{◌≡◌, ◌≤◌, ◌<◌, ◌↔◌, ℕ, ◌+◌, ◌-◌, ◌*◌, true, Some, None, is_some, List, length, filter, slice_index, Contains};
 ghost use Rattle.trau_bits.specs.Bits.{octets_of};
 ghost use Rattle.trau_params.specs.Bits260.{bits260};
 ghost use Rattle.trau_frame.specs.declared.frames.DownFrame.TheVariants.{Speech};
@@ -34,10 +34,12 @@ pub fn calls_are_whole()
 {}
 
 /// What a run writes on the outgoing lines of a call is what the definition gives for the call as a whole, and nothing
-/// else of the run.
+/// else of the run. Its Down line has 320 bits for each of its periods.
 pub fn lines_are_of_whole_calls()
     ensures out { (r : Run) (c : ℕ) → AreOrders r.orders → is_some (opened_at c (done_in r)) ≡ true → out_of_call r c ≡ out (whole_call r c) }
     ensures down { (r : Run) (c : ℕ) → AreOrders r.orders → is_some (opened_at c (done_in r)) ≡ true → down_of_call r c ≡ octets_of (down (whole_call r c)) }
+    ensures long { (r : Run) (c : ℕ) → AreOrders r.orders → is_some (opened_at c (done_in r)) ≡ true →
+        length (down (whole_call r c)) ≡ 320 * (end_in r c - start_in r c) }
 {
     a_call_by_its_periods();
 }
@@ -85,6 +87,10 @@ pub fn items_go_out_in_order_and_once()
         k < 320 → frame_place r c j + k < length (down (whole_call r c)) →
         slice_index (down (whole_call r c)) (frame_place r c j + k) ≡ slice_index (down_bits (frame_as_sent r c j)) k }
 
+    // The line goes so far that each but the frame made last stands on it whole.
+    ensures whole { (r : Run) (c t : ℕ) (x : Span) (j : ℕ) → AreOrders r.orders → Sends r c t x j → j + 1 < frame_count r c →
+        frame_place r c j + 320 ≤ length (down (whole_call r c)) }
+
     // A frame carries nothing else: period h of the call is one of a bridge.
     ensures only { (r : Run) (c j h : ℕ) → AreOrders r.orders → (frame_by_number (whole_call r c) j).carries ≡ Some h →
         (x : Span) × IsBridged r c (start_in r c + h) x × CarriesHanded r c (start_in r c + h) x j }
@@ -112,6 +118,7 @@ pub fn items_go_out_in_order_and_once()
         sent_by r x c ≡ length (filter (λ f. carries_in (x.from - start_in r c) (x.to - start_in r c) f.carries) (frames_of_call (whole_call r c))) }
     ensures lost { (r : Run) (x : Span) → AreOrders r.orders → Contains (spans_in r) x → ((span_line r x).lost_a ≤ 1) × ((span_line r x).lost_b ≤ 1) }
 {
+    lines_are_of_whole_calls();
     items_are_the_partners_frames();
     frames_of_a_call();
 }
