@@ -71,7 +71,7 @@ pub record GoesOut (r : Run) : Type 0 where
   pub counted : (c : ℕ) (x : Span) → IsOpened r c →
       sent_by r x c ≡ length (filter (λ f. carries_in (x.from - start_in r c) (x.to - start_in r c) f.carries) (frames_of_call (whole_call r c)))
   pub lost : (x : Span) → Contains (spans_in r) x → ((span_line r x).lost_a ≤ 1) × ((span_line r x).lost_b ≤ 1)
-  -- no other bit of the call's lines depends on what it is handed
+  -- no other bit of the call's lines depends on what it is handed: nothing but the data bits of frames that carry it
   pub nothing_else : (c : ℕ) (other : Call) → IsOpened r c → HasOtherItems (whole_call r c) other → DiffersInItems (whole_call r c) other
 
 -- The headline: the octets written on a call's outgoing lines are the definition's octets of the call as a whole, of its own

@@ -1,14 +1,19 @@
 -- A call whose partners hand over other items in the same spans.
-use Rattle.std.proofs.Common.{◌≡◌, refl, sym, ap, ◌∙◌, subst, ℕ, zero, suc, ◌*◌, Bool, true, false, Option, Some, None, List, [], ◌∷◌, length, map, reverse}
-use Rattle.std.proofs.Common.{get_or}
+use Rattle.std.proofs.Common.{◌≡◌, refl, sym, ap, ◌∙◌, subst, ℕ, zero, suc, ◌+◌, ◌*◌, ◌<◌, Bool, true, false, Option, Some, None, List, [], ◌∷◌, length, map, reverse}
+use Rattle.std.proofs.Common.{get_or, arith}
 use Rattle.std.specs.Prelude.{if◌then◌else◌, ◌&&◌, ◌||◌, ◌-◌, ◌==◌, not, nat_le, nat_lt, is_some, unwrap_or, slice_index_or, filter}
 use Rattle.std.specs.List.{flat_map, list_any}
+use Rattle.std.proofs.lemmas.Bool.{and_parts, and_from, or_left, or_right, le-leb, lt-ltb, ltb-true}
 use Rattle.trau_frame.specs.declared.frames.DownFrame.{DownFrame}
 use Rattle.trau_frame.specs.declared.frames.DownFrame.TheVariants.{Speech, Idle}
+use Rattle.trau_frame.specs.Role.{Role, Sync, Control, Data, Time, role_of}
+use Rattle.trau_frame.specs.Frame.{bit_for}
+use Rattle.trau_frame.specs.DownFrame.{down_control, down_bits}
+use Rattle.trau_frame.proofs.Again.{get_or-frame_bits}
 use Rattle.tx_dtx.specs.Stretch.{Coded}
 use Rattle.tx_dtx.specs.Sent.{sent_of}
 use Rattle.fr_encoder.specs.Encoded.{encoding_of}
-use Rattle.down_framer.specs.ByNumber.{Bridge, NumberedFrame, when, numbered_next, numbered_frames}
+use Rattle.down_framer.specs.ByNumber.{Bridge, NumberedFrame, when, count_from, carried_item, numbered_next, numbered_frames}
 use Rattle.call_leg.specs.Uplink.{dtxd_after}
 use Rattle.call_leg.specs.Periods.{dtx_in}
 use Rattle.call_leg.specs.Down.{coded_as, speech}
@@ -19,8 +24,8 @@ use Rattle.call_spec.specs.Down.{without_items, first_frames, frame_by_number, f
 use Rattle.call_spec.specs.Whole.{IsWhole}
 use Rattle.call_spec.proofs.Stretched.{before}
 use Rattle.call_spec.proofs.Sending.{code, codes, frame_after}
-use Rattle.run_calls_spec.specs.Sent.{HasOtherItems, DiffersInItems}
-use Rattle.run_calls_spec.proofs.Sent.{frame_sent, made_first, sent_at}
+use Rattle.run_calls_spec.specs.Sent.{HasOtherItems, sent_as, SendsItem, IsNoData, DiffersInItems}
+use Rattle.run_calls_spec.proofs.Sent.{frame_sent, made_first, sent_at, carrying}
 
 -- ---- what is asked of spans leaves out their items
 
@@ -42,6 +47,53 @@ begins-bare : (begins : ℕ → Bool) (spans : List Span) →
     list_any (λ (span : Span). begins span.from) spans ≡ list_any (λ (b : Bridge). begins b.from) (map without_items spans)
 begins-bare begins [] = refl
 begins-bare begins (span ∷ spans) = ap (λ t. begins span.from || t) (begins-bare begins spans)
+
+-- where a frame carries the item of a period, the period has one
+carried-bare : (bs : List Bridge) (w : ℕ) (fs : List NumberedFrame) (h : ℕ) → carried_item bs w fs ≡ Some h → list_any (lies h) bs ≡ true
+carried-bare [] w fs h e = cc
+carried-bare (b ∷ bs) w fs h e =
+    by (nat_le b.from w && nat_lt (count_from b.from fs) (b.to - b.from)) refl e (carried-bare bs w fs h)
+  where
+    same : (m n : ℕ) → Some m ≡ Some n → n ≡ m
+    same m n q = cc
+
+    by : (t : Bool) → (nat_le b.from w && nat_lt (count_from b.from fs) (b.to - b.from)) ≡ t →
+        (if t then Some (b.from + count_from b.from fs) else carried_item bs w fs) ≡ Some h →
+        (carried_item bs w fs ≡ Some h → list_any (lies h) bs ≡ true) → (lies h b || list_any (lies h) bs) ≡ true
+    by false q e rest = or_right (lies h b) (list_any (lies h) bs) (rest e)
+    by true q e rest =
+        let n : ℕ = count_from b.from fs in
+        let k = and_parts (nat_le b.from w) (nat_lt n (b.to - b.from)) q in
+        let l : n < b.to - b.from = ltb-true n (b.to - b.from) k.1 in
+        let p : h ≡ b.from + n = same (b.from + n) h e in
+        or_left (lies h b) (list_any (lies h) bs)
+        (and_from (nat_le b.from h) (nat_lt h b.to) (le-leb b.from h (omega arith)) (lt-ltb h b.to (omega arith)))
+
+-- so what is sent in it is the speech frame of that item
+sends : (c : Call) (j h : ℕ) → (frame_by_number c j).carries ≡ Some h → sent_as c j ≡ frame_sent c j → SendsItem c j h
+sends c j h e s =
+    let has : is_some (item_at c.spans h) ≡ true =
+    item-bare c.spans h ∙ carried-bare (map without_items c.spans) (when (frame_by_number c j).start) (first_frames c j) h e in
+    let it = some (item_at c.spans h) has in
+    record { item = it.0; handed = it.1; sent = s ∙ carrying c j h e ∙ ap (λ (o : Option (List ℕ)). Speech (unwrap_or o []) true) it.1 }
+  where
+    some : (o : Option (List ℕ)) → is_some o ≡ true → (item : List ℕ) × (o ≡ Some item)
+    some None e = cc
+    some (Some item) e = (item, refl)
+
+-- the items of two speech frames are their data bits
+speech_bits : (d e : List ℕ) (i : ℕ) → i < 320 → IsNoData i → get_or (down_bits (Speech d true)) i 0 ≡ get_or (down_bits (Speech e true)) i 0
+unfolding down_bits down_control
+speech_bits d e i l other_role =
+    let control : List ℕ = down_control (Speech d true) in
+    get_or-frame_bits control d i 0 l ∙ by (role_of i) refl ∙ sym (get_or-frame_bits control e i 0 l)
+  where
+    by : (role : Role) → role_of i ≡ role →
+        bit_for (down_control (Speech d true)) d (role_of i) ≡ bit_for (down_control (Speech d true)) e (role_of i)
+    by (Sync b) q = ap (bit_for (down_control (Speech d true)) d) q ∙ sym (ap (bit_for (down_control (Speech d true)) e) q)
+    by (Control c) q = ap (bit_for (down_control (Speech d true)) d) q ∙ sym (ap (bit_for (down_control (Speech d true)) e) q)
+    by (Data n) q = absurd (other_role n q)
+    by (Time t) q = ap (bit_for (down_control (Speech d true)) d) q ∙ sym (ap (bit_for (down_control (Speech d true)) e) q)
 
 -- ---- two calls
 
@@ -119,18 +171,44 @@ module _ (call : Call) (spans : List Span) (same : map without_items spans ≡ m
       every
       ∙ same_after (frame_by_number call j) (before (coded_goes_on call) (frame_by_number call j) (first_frames call j)) e
 
-  -- **The lines are the same but in frames that carry an item.**
+  -- a made frame as it is sent
+  at_call : IsWhole call → (j : ℕ) → j < length (frames_of_call call) → sent_as call j ≡ frame_sent call j
+  at_call whole j l =
+      ap (λ (fs : List NumberedFrame). get_or (down_frames call fs) j Idle) (made_first call whole) ∙ sent_at call (length (frames_of_call call)) j l
+
+  at_other : IsWhole call → (j : ℕ) → j < length (frames_of_call call) → sent_as other j ≡ frame_sent other j
+  at_other whole j l =
+      let n = length (frames_of_call call) in
+      ap (λ (fs : List NumberedFrame). get_or (down_frames other fs) j Idle)
+      (same_made ∙ made_first call whole ∙ ap (λ (fs : List NumberedFrame). reverse fs) (sym (same_first n))) ∙ sent_at other n j l
+
+  -- one that carries an item
+  each_sends : IsWhole call → (j h : ℕ) → j < length (frames_of_call call) → (frame_by_number call j).carries ≡ Some h →
+      SendsItem call j h × SendsItem other j h
+  each_sends whole j h l e = (
+    sends call j h e (at_call whole j l),
+    sends other j h (ap (λ (f : NumberedFrame). f.carries) (same_frame j) ∙ e) (at_other whole j l),
+  )
+
+  -- one that carries none
+  each_same : IsWhole call → (j : ℕ) → j < length (frames_of_call call) → (frame_by_number call j).carries ≡ None → sent_as other j ≡ sent_as call j
+  each_same whole j l e = at_other whole j l ∙ same_sent j e ∙ sym (at_call whole j l)
+
+  -- no bit but data bits is another
+  same_bits : IsWhole call → (j i : ℕ) → j < length (frames_of_call call) → i < 320 → IsNoData i →
+      get_or (down_bits (sent_as other j)) i 0 ≡ get_or (down_bits (sent_as call j)) i 0
+  same_bits whole j i l m other_role = by (frame_by_number call j).carries refl
+    where
+      by : (o : Option ℕ) → (frame_by_number call j).carries ≡ o → get_or (down_bits (sent_as other j)) i 0 ≡ get_or (down_bits (sent_as call j)) i 0
+      by None e = ap (λ (f : DownFrame). get_or (down_bits f) i 0) (each_same whole j l e)
+      by (Some h) e =
+          let s = each_sends whole j h l e in
+          ap (λ (f : DownFrame). get_or (down_bits f) i 0) s.1.sent ∙ speech_bits s.1.item s.0.item i m other_role
+          ∙ sym (ap (λ (f : DownFrame). get_or (down_bits f) i 0) s.0.sent)
+
+  -- **The lines are the same but for the data bits of frames that carry an item.**
   pub differs : IsWhole call → DiffersInItems call other
-  differs whole = record {
-    out_line = same_out;
-    made = same_made;
-    sent = λ j l e.
-        let n = length (frames_of_call call) in
-        ap (λ (fs : List NumberedFrame). get_or (down_frames other fs) j Idle)
-        (same_made ∙ made_first call whole ∙ ap (λ (fs : List NumberedFrame). reverse fs) (sym (same_first n)))
-        ∙ sent_at other n j l ∙ same_sent j e ∙ sym (sent_at call n j l)
-        ∙ ap (λ (fs : List NumberedFrame). get_or (down_frames call fs) j Idle) (sym (made_first call whole));
-  }
+  differs whole = record { out_line = same_out; made = same_made; sent = each_same whole; handed = each_sends whole; bits = same_bits whole }
 
 -- so it is of any call that is the same but for them
 pub other_differs : (call other : Call) → IsWhole call → HasOtherItems call other → DiffersInItems call other

@@ -1,11 +1,13 @@
 -- The frames of a call's downlink, and which of them carries what its partner hands over in a period. Frames are
 -- numbered from 0.
-use Rattle.std.specs.Prelude.{◌≡◌, ◌≤◌, ◌<◌, ℕ, ◌+◌, ◌-◌, ◌*◌, None, List, length, map, slice_index_or}
+use Rattle.std.specs.Prelude.{◌≡◌, ◌≤◌, ◌<◌, ℕ, ◌+◌, ◌-◌, ◌*◌, true, Some, None, List, length, map, slice_index, slice_index_or}
 use Rattle.trau_frame.specs.declared.frames.DownFrame.{DownFrame}
-use Rattle.trau_frame.specs.declared.frames.DownFrame.TheVariants.{Idle}
+use Rattle.trau_frame.specs.declared.frames.DownFrame.TheVariants.{Speech, Idle}
+use Rattle.trau_frame.specs.Role.{Data, role_of}
+use Rattle.trau_frame.specs.DownFrame.{down_bits}
 use Rattle.switchboard.specs.declared.act.Span as board
 use Rattle.down_framer.specs.ByNumber.{when}
-use Rattle.call_spec.specs.Call.{Call, Span}
+use Rattle.call_spec.specs.Call.{Call, Span, item_at}
 use Rattle.call_spec.specs.Out.{out}
 use Rattle.call_spec.specs.Down.{without_items, frame_by_number, frames_of_call, HasItem, down_frames}
 use Rattle.run_spec.specs.Run.{Run, start_in}
@@ -58,10 +60,28 @@ pub record HasOtherItems (call other : Call) : Type 0 where
   pub spans : map without_items other.spans ≡ map without_items call.spans
   pub rest : other ≡ record call { spans = other.spans }
 
--- Its lines are the same but in frames that carry an item: so the Out line, the frames that are made, each with its start, its
--- shift and the period of which it carries the item, and what is sent in each that carries none.
+-- frame j of a call as it is sent
+abbrev pub sent_as : Call → ℕ → DownFrame
+sent_as call j = slice_index_or (down_frames call (frames_of_call call)) j Idle
+
+-- what is sent in frame j is the speech frame, with SP 1, of the item that the call is handed in its period h
+pub record SendsItem (call : Call) (j h : ℕ) : Type 0 where
+  pub item : List ℕ
+  pub handed : item_at call.spans h ≡ Some item
+  pub sent : sent_as call j ≡ Speech item true
+
+-- a place of a frame that is no data bit's
+abbrev pub IsNoData : ℕ → Type 0
+IsNoData i = (n : ℕ) → role_of i ≡ Data n → ⊥
+
+-- Its lines are the same but for the data bits of frames that carry an item. So the Out line is, and so are the frames that
+-- are made, each with its start, its shift and the period of which it carries the item, and what is sent in each that carries
+-- none. One that carries an item is the speech frame of the call's own item of that period, and no bit of it is another but
+-- data bits.
 pub record DiffersInItems (call other : Call) : Type 0 where
   pub out_line : out other ≡ out call
   pub made : frames_of_call other ≡ frames_of_call call
-  pub sent : (j : ℕ) → j < length (frames_of_call call) → (frame_by_number call j).carries ≡ None →
-      slice_index_or (down_frames other (frames_of_call other)) j Idle ≡ slice_index_or (down_frames call (frames_of_call call)) j Idle
+  pub sent : (j : ℕ) → j < length (frames_of_call call) → (frame_by_number call j).carries ≡ None → sent_as other j ≡ sent_as call j
+  pub handed : (j h : ℕ) → j < length (frames_of_call call) → (frame_by_number call j).carries ≡ Some h → SendsItem call j h × SendsItem other j h
+  pub bits : (j i : ℕ) → j < length (frames_of_call call) → i < 320 → IsNoData i →
+      slice_index (down_bits (sent_as other j)) i ≡ slice_index (down_bits (sent_as call j)) i

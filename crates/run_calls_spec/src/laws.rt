@@ -124,7 +124,7 @@ pub fn items_go_out_in_order_and_once()
 }
 
 /// Nothing else on a call's lines depends on what is handed to it: had it been handed other items in the same spans, they would
-/// be the same but in frames that carry an item.
+/// be the same but in the data bits of frames that carry an item.
 pub fn items_change_nothing_else()
     ensures { (r : Run) (c : ℕ) (other : Call) → AreOrders r.orders → is_some (opened_at c (done_in r)) ≡ true →
         HasOtherItems (whole_call r c) other → DiffersInItems (whole_call r c) other }
