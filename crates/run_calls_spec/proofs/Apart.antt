@@ -1,31 +1,36 @@
 -- A call whose partners hand over other items in the same spans.
-use Rattle.std.proofs.Common.{◌≡◌, refl, sym, ap, ◌∙◌, subst, ℕ, zero, suc, ◌+◌, ◌*◌, ◌<◌, Bool, true, false, Option, Some, None, List, [], ◌∷◌, length, map, reverse}
-use Rattle.std.proofs.Common.{get_or, arith}
+use Rattle.std.proofs.Common.{◌≡◌, refl, sym, ap, ◌∙◌, subst, ℕ, zero, suc, ◌+◌, ◌*◌, ◌<◌, ℤ, Bool, true, false, Option, Some, None, List, [], ◌∷◌, ◌++◌}
+use Rattle.std.proofs.Common.{length, map, reverse, get_or, inl, inr, arith}
 use Rattle.std.specs.Prelude.{if◌then◌else◌, ◌&&◌, ◌||◌, ◌-◌, ◌==◌, not, nat_le, nat_lt, is_some, unwrap_or, slice_index_or, filter}
 use Rattle.std.specs.List.{flat_map, list_any}
-use Rattle.std.proofs.lemmas.Bool.{and_parts, and_from, or_left, or_right, le-leb, lt-ltb, ltb-true}
+use Rattle.std.proofs.lemmas.Bool.{cases_lt, and_parts, and_from, or_left, or_right, le-leb, lt-ltb, ltb-true}
+use Rattle.std.proofs.lemmas.List.{append-nil, length-take, get_or-take, get_or_past, get_or-append-add, get_or_append_left}
 use Rattle.trau_frame.specs.declared.frames.DownFrame.{DownFrame}
 use Rattle.trau_frame.specs.declared.frames.DownFrame.TheVariants.{Speech, Idle}
 use Rattle.trau_frame.specs.Role.{Role, Sync, Control, Data, Time, role_of}
 use Rattle.trau_frame.specs.Frame.{bit_for}
 use Rattle.trau_frame.specs.DownFrame.{down_control, down_bits}
-use Rattle.trau_frame.proofs.Again.{get_or-frame_bits}
+use Rattle.trau_frame.proofs.Again.{get_or-frame_bits, length-down_bits}
 use Rattle.tx_dtx.specs.Stretch.{Coded}
 use Rattle.tx_dtx.specs.Sent.{sent_of}
 use Rattle.fr_encoder.specs.Encoded.{encoding_of}
-use Rattle.down_framer.specs.ByNumber.{Bridge, NumberedFrame, when, count_from, carried_item, numbered_next, numbered_frames}
+use Rattle.down_framer.specs.Made.{frame_on_line}
+use Rattle.down_framer.specs.ByNumber.{Bridge, NumberedFrame, when, count_from, carried_item, numbered_start, numbered_next, numbered_frames}
 use Rattle.call_leg.specs.Uplink.{dtxd_after}
 use Rattle.call_leg.specs.Periods.{dtx_in}
 use Rattle.call_leg.specs.Down.{coded_as, speech}
 use Rattle.call_spec.specs.Stretches.{stretches}
 use Rattle.call_spec.specs.Call.{Call, Span, periods, each_period, effective_frame, fields, seen_at, setting_at, dtxd_at, item_at}
 use Rattle.call_spec.specs.Out.{Decoding, decoding_at, parameters_of, plain_goes_on, stretch_octets, out}
-use Rattle.call_spec.specs.Down.{without_items, first_frames, frame_by_number, frames_of_call, is_coded, coded_goes_on, samples, uncoded, down_frames}
+use Rattle.call_spec.specs.Down.{without_items, first_frames, frame_by_number, frames_of_call, is_coded, coded_goes_on, samples, uncoded}
+use Rattle.call_spec.specs.Down.{down_frames, line, down}
 use Rattle.call_spec.specs.Whole.{IsWhole}
 use Rattle.call_spec.proofs.Stretched.{before}
 use Rattle.call_spec.proofs.Sending.{code, codes, frame_after}
-use Rattle.run_calls_spec.specs.Sent.{HasOtherItems, sent_as, SendsItem, IsNoData, DiffersInItems}
+use Rattle.run_calls_spec.specs.Sent.{HasOtherItems, sent_as, SendsItem, IsNoItemBit, DiffersInItems}
+use Rattle.run_calls_spec.proofs.Places.{unshifted}
 use Rattle.run_calls_spec.proofs.Sent.{frame_sent, made_first, sent_at, carrying}
+use Rattle.run_calls_spec.proofs.OnLine.{line_to, adds, line_more, length-line}
 
 -- ---- what is asked of spans leaves out their items
 
@@ -81,6 +86,10 @@ sends c j h e s =
     some None e = cc
     some (Some item) e = (item, refl)
 
+-- a place of a frame that is no data bit's
+abbrev IsNoData : ℕ → Type 0
+IsNoData i = (n : ℕ) → role_of i ≡ Data n → ⊥
+
 -- the items of two speech frames are their data bits
 speech_bits : (d e : List ℕ) (i : ℕ) → i < 320 → IsNoData i → get_or (down_bits (Speech d true)) i 0 ≡ get_or (down_bits (Speech e true)) i 0
 unfolding down_bits down_control
@@ -94,6 +103,26 @@ speech_bits d e i l other_role =
     by (Control c) q = ap (bit_for (down_control (Speech d true)) d) q ∙ sym (ap (bit_for (down_control (Speech d true)) e) q)
     by (Data n) q = absurd (other_role n q)
     by (Time t) q = ap (bit_for (down_control (Speech d true)) d) q ∙ sym (ap (bit_for (down_control (Speech d true)) e) q)
+
+-- what a frame that carries an item adds to the line
+adds_item : (c : Call) (m h : ℕ) → (frame_by_number c m).carries ≡ Some h → (i : ℕ) → get_or (adds c m) i 0 ≡ get_or (down_bits (frame_sent c m)) i 0
+adds_item c m h e i =
+    ap (λ (shift : ℤ). get_or (frame_on_line shift (down_bits (frame_sent c m))) i 0) (unshifted c m h e)
+    ∙ ap (λ (bits : List ℕ). get_or bits i 0) (append-nil (down_bits (frame_sent c m)))
+
+-- what two calls send in frames that carry items
+item_bits : (c d : Call) (m h : ℕ) → (frame_by_number c m).carries ≡ Some h → (frame_by_number d m).carries ≡ Some h → (i : ℕ) → (i < 320 → IsNoData i) →
+    get_or (down_bits (frame_sent c m)) i 0 ≡ get_or (down_bits (frame_sent d m)) i 0
+item_bits c d m h e g i spared = elim (cases_lt i 320) [
+  | inl l ↦
+      ap (λ (f : DownFrame). get_or (down_bits f) i 0) (carrying c m h e)
+      ∙ speech_bits (unwrap_or (item_at c.spans h) []) (unwrap_or (item_at d.spans h) []) i l (spared l)
+      ∙ sym (ap (λ (f : DownFrame). get_or (down_bits f) i 0) (carrying d m h g))
+  | inr past ↦
+      let a = length-down_bits (frame_sent c m) in
+      let b = length-down_bits (frame_sent d m) in
+      get_or_past (down_bits (frame_sent c m)) i 0 (omega arith) ∙ sym (get_or_past (down_bits (frame_sent d m)) i 0 (omega arith))
+]
 
 -- ---- two calls
 
@@ -194,21 +223,83 @@ module _ (call : Call) (spans : List Span) (same : map without_items spans ≡ m
   each_same : IsWhole call → (j : ℕ) → j < length (frames_of_call call) → (frame_by_number call j).carries ≡ None → sent_as other j ≡ sent_as call j
   each_same whole j l e = at_other whole j l ∙ same_sent j e ∙ sym (at_call whole j l)
 
-  -- no bit but data bits is another
-  same_bits : IsWhole call → (j i : ℕ) → j < length (frames_of_call call) → i < 320 → IsNoData i →
-      get_or (down_bits (sent_as other j)) i 0 ≡ get_or (down_bits (sent_as call j)) i 0
-  same_bits whole j i l m other_role = by (frame_by_number call j).carries refl
+  -- ---- the Down line
+
+  -- what frame m adds to it
+  same_adds : (m i : ℕ) → ((h : ℕ) → (frame_by_number call m).carries ≡ Some h → i < 320 → IsNoData i) →
+      get_or (adds other m) i 0 ≡ get_or (adds call m) i 0
+  same_adds m i spared = by (frame_by_number call m).carries refl
     where
-      by : (o : Option ℕ) → (frame_by_number call j).carries ≡ o → get_or (down_bits (sent_as other j)) i 0 ≡ get_or (down_bits (sent_as call j)) i 0
-      by None e = ap (λ (f : DownFrame). get_or (down_bits f) i 0) (each_same whole j l e)
+      by : (o : Option ℕ) → (frame_by_number call m).carries ≡ o → get_or (adds other m) i 0 ≡ get_or (adds call m) i 0
+      by None e =
+          ap (λ (f : NumberedFrame). get_or (frame_on_line f.shift (down_bits (frame_sent other m))) i 0) (same_frame m)
+          ∙ ap (λ (f : DownFrame). get_or (frame_on_line (frame_by_number call m).shift (down_bits f)) i 0) (same_sent m e)
       by (Some h) e =
-          let s = each_sends whole j h l e in
-          ap (λ (f : DownFrame). get_or (down_bits f) i 0) s.1.sent ∙ speech_bits s.1.item s.0.item i m other_role
-          ∙ sym (ap (λ (f : DownFrame). get_or (down_bits f) i 0) s.0.sent)
+          let o = ap (λ (f : NumberedFrame). f.carries) (same_frame m) ∙ e in
+          adds_item other m h o i ∙ item_bits other call m h o e i (spared h e) ∙ sym (adds_item call m h e i)
+
+  -- the line of the first m frames
+  same_long : (m : ℕ) → length (line_to other m) ≡ length (line_to call m)
+  same_long m =
+      length-line other m ∙ ap (λ (fs : List NumberedFrame). 320 + 2 * numbered_start fs) (same_first m) ∙ sym (length-line call m)
+
+  same_line : (m k : ℕ) → IsNoItemBit call k → get_or (line_to other m) k 0 ≡ get_or (line_to call m) k 0
+  same_line zero k spared = refl
+  same_line (suc m) k spared =
+      let long = same_long m in
+      let all = ap (λ (bits : List ℕ). get_or bits k 0) (line_more other m) in
+      let ours = ap (λ (bits : List ℕ). get_or bits k 0) (line_more call m) in
+      all ∙ elim (cases_lt k (length (line_to call m))) [
+        | inl old ↦
+            get_or_append_left (line_to other m) (adds other m) 0 k (omega arith) ∙ same_line m k spared
+            ∙ sym (get_or_append_left (line_to call m) (adds call m) 0 k old)
+        | inr new ↦
+            let i : ℕ = k - length (line_to call m) in
+            let there : length (line_to other m) + i ≡ k = omega arith in
+            let here : length (line_to call m) + i ≡ k = omega arith in
+            let place : k ≡ 320 + 2 * (frame_by_number call m).start + i = let l = length-line call m in omega arith in
+            ap (λ (n : ℕ). get_or (line_to other m ++ adds other m) n 0) (sym there) ∙ get_or-append-add (line_to other m) (adds other m) i 0
+            ∙ same_adds m i (λ h e l n q. spared m h i n e place l q)
+            ∙ sym (get_or-append-add (line_to call m) (adds call m) i 0)
+            ∙ ap (λ (n : ℕ). get_or (line_to call m ++ adds call m) n 0) here
+      ] ∙ sym ours
+
+  -- of the frames that are made
+  made_other : IsWhole call → frames_of_call other ≡ reverse (first_frames other (length (frames_of_call call)))
+  made_other whole =
+      same_made ∙ made_first call whole ∙ ap (λ (fs : List NumberedFrame). reverse fs) (sym (same_first (length (frames_of_call call))))
+
+  same_down_length : IsWhole call → length (down other) ≡ length (down call)
+  same_down_length whole =
+      let n = length (frames_of_call call) in
+      let long = same_long n in
+      let there = ap (λ (fs : List NumberedFrame). length (line other fs)) (made_other whole) in
+      let here = ap (λ (fs : List NumberedFrame). length (line call fs)) (made_first call whole) in
+      let cut = length-take (320 * periods call) (line other (frames_of_call other)) in
+      let ours = length-take (320 * periods call) (line call (frames_of_call call)) in
+      omega (arith, long, there, here, cut, ours)
+
+  same_down : IsWhole call → (k : ℕ) → k < length (down call) → IsNoItemBit call k → get_or (down other) k 0 ≡ get_or (down call) k 0
+  same_down whole k l spared =
+      let n = length (frames_of_call call) in
+      let ours = length-take (320 * periods call) (line call (frames_of_call call)) in
+      let within : k < 320 * periods call = omega arith in
+      get_or-take (320 * periods call) (line other (frames_of_call other)) k 0 within
+      ∙ ap (λ (fs : List NumberedFrame). get_or (line other fs) k 0) (made_other whole)
+      ∙ same_line n k spared
+      ∙ sym (ap (λ (fs : List NumberedFrame). get_or (line call fs) k 0) (made_first call whole))
+      ∙ sym (get_or-take (320 * periods call) (line call (frames_of_call call)) k 0 within)
 
   -- **The lines are the same but for the data bits of frames that carry an item.**
   pub differs : IsWhole call → DiffersInItems call other
-  differs whole = record { out_line = same_out; made = same_made; sent = each_same whole; handed = each_sends whole; bits = same_bits whole }
+  differs whole = record {
+    out_line = same_out;
+    down_length = same_down_length whole;
+    down_line = same_down whole;
+    made = same_made;
+    sent = each_same whole;
+    handed = each_sends whole;
+  }
 
 -- so it is of any call that is the same but for them
 pub other_differs : (call other : Call) → IsWhole call → HasOtherItems call other → DiffersInItems call other

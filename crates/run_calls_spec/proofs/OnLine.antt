@@ -32,11 +32,11 @@ use Rattle.run_calls_spec.proofs.Sent.{made_first, frame_sent, sent_more, length
 -- ---- the line, frame by frame
 
 -- the line of the first m frames, and what frame m adds
-abbrev line_to : Call → ℕ → List ℕ
+abbrev pub line_to : Call → ℕ → List ℕ
 line_to call m = line call (reverse (first_frames call m))
 
 -- what frame m adds to the line
-abbrev adds : Call → ℕ → List ℕ
+abbrev pub adds : Call → ℕ → List ℕ
 adds call m = frame_on_line (frame_by_number call m).shift (down_bits (frame_sent call m))
 
 length-first : (call : Call) (m : ℕ) → length (first_frames call m) ≡ m
@@ -44,7 +44,7 @@ length-first call zero = refl
 length-first call (suc m) = ap suc (length-first call m)
 
 -- the line goes on frame by frame
-line_more : (call : Call) (m : ℕ) → line_to call (suc m) ≡ line_to call m ++ adds call m
+pub line_more : (call : Call) (m : ℕ) → line_to call (suc m) ≡ line_to call m ++ adds call m
 line_more call m =
     let fs = reverse (first_frames call m) in
     let ds = down_frames call fs in
@@ -61,7 +61,7 @@ line_more call m =
     ∙ sym (append_assoc (replicate 320 1) (flat_map bits_on_line (zip fs ds)) (adds call m))
 
 -- **Behind 320 bits it has two for each octet before the next frame's start.**
-length-line : (call : Call) (m : ℕ) → length (line_to call m) ≡ 320 + 2 * numbered_start (first_frames call m)
+pub length-line : (call : Call) (m : ℕ) → length (line_to call m) ≡ 320 + 2 * numbered_start (first_frames call m)
 length-line call zero = ap (length {A = ℕ}) (append-nil (replicate 320 1)) ∙ length-replicate {A = ℕ} 320 1
 length-line call (suc m) =
     let rest = length-line call m in

@@ -4,12 +4,11 @@ use Rattle.std.specs.Prelude.{◌≡◌, ◌≤◌, ◌<◌, ℕ, ◌+◌, ◌-�
 use Rattle.trau_frame.specs.declared.frames.DownFrame.{DownFrame}
 use Rattle.trau_frame.specs.declared.frames.DownFrame.TheVariants.{Speech, Idle}
 use Rattle.trau_frame.specs.Role.{Data, role_of}
-use Rattle.trau_frame.specs.DownFrame.{down_bits}
 use Rattle.switchboard.specs.declared.act.Span as board
 use Rattle.down_framer.specs.ByNumber.{when}
 use Rattle.call_spec.specs.Call.{Call, Span, item_at}
 use Rattle.call_spec.specs.Out.{out}
-use Rattle.call_spec.specs.Down.{without_items, frame_by_number, frames_of_call, HasItem, down_frames}
+use Rattle.call_spec.specs.Down.{without_items, frame_by_number, frames_of_call, HasItem, down_frames, down}
 use Rattle.run_spec.specs.Run.{Run, start_in}
 use Rattle.run_calls_spec.specs.Whole.{span_for, whole_call, IsBridged}
 
@@ -70,18 +69,18 @@ pub record SendsItem (call : Call) (j h : ℕ) : Type 0 where
   pub handed : item_at call.spans h ≡ Some item
   pub sent : sent_as call j ≡ Speech item true
 
--- a place of a frame that is no data bit's
-abbrev pub IsNoData : ℕ → Type 0
-IsNoData i = (n : ℕ) → role_of i ≡ Data n → ⊥
+-- bit k of the Down line is no data bit of a frame that carries an item
+abbrev pub IsNoItemBit : Call → ℕ → Type 0
+IsNoItemBit call k = (j h i n : ℕ) → (frame_by_number call j).carries ≡ Some h → k ≡ 320 + 2 * (frame_by_number call j).start + i → i < 320 →
+    role_of i ≡ Data n → ⊥
 
--- Its lines are the same but for the data bits of frames that carry an item. So the Out line is, and so are the frames that
--- are made, each with its start, its shift and the period of which it carries the item, and what is sent in each that carries
--- none. One that carries an item is the speech frame of the call's own item of that period, and no bit of it is another but
--- data bits.
+-- Its lines are the same but for the data bits of frames that carry an item. So are the frames that are made, each with its
+-- start, its shift and the period of which it carries the item, and what is sent in each that carries none. One that carries
+-- an item is the speech frame of the call's own item of that period.
 pub record DiffersInItems (call other : Call) : Type 0 where
   pub out_line : out other ≡ out call
+  pub down_length : length (down other) ≡ length (down call)
+  pub down_line : (k : ℕ) → k < length (down call) → IsNoItemBit call k → slice_index (down other) k ≡ slice_index (down call) k
   pub made : frames_of_call other ≡ frames_of_call call
   pub sent : (j : ℕ) → j < length (frames_of_call call) → (frame_by_number call j).carries ≡ None → sent_as other j ≡ sent_as call j
   pub handed : (j h : ℕ) → j < length (frames_of_call call) → (frame_by_number call j).carries ≡ Some h → SendsItem call j h × SendsItem other j h
-  pub bits : (j i : ℕ) → j < length (frames_of_call call) → i < 320 → IsNoData i →
-      slice_index (down_bits (sent_as other j)) i ≡ slice_index (down_bits (sent_as call j)) i
