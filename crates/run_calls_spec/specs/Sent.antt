@@ -1,6 +1,6 @@
 -- The frames of a call's downlink, and which of them carries what its partner hands over in a period. Frames are
 -- numbered from 0.
-use Rattle.std.specs.Prelude.{◌≡◌, ◌≤◌, ◌<◌, ℕ, ◌+◌, ◌-◌, ◌*◌, true, Some, None, List, length, map, slice_index, slice_index_or}
+use Rattle.std.specs.Prelude.{◌≡◌, ◌≤◌, ◌<◌, ℕ, ◌+◌, ◌-◌, ◌*◌, true, Some, None, List, length, map, filter, slice_index, slice_index_or}
 use Rattle.trau_frame.specs.declared.frames.DownFrame.{DownFrame}
 use Rattle.trau_frame.specs.declared.frames.DownFrame.TheVariants.{Speech, Idle}
 use Rattle.trau_frame.specs.Role.{Data, role_of}
@@ -10,6 +10,7 @@ use Rattle.call_spec.specs.Call.{Call, Span, item_at}
 use Rattle.call_spec.specs.Out.{out}
 use Rattle.call_spec.specs.Down.{without_items, frame_by_number, frames_of_call, HasItem, down_frames, down}
 use Rattle.run_spec.specs.Run.{Run, start_in}
+use Rattle.run_spec.specs.Facts.{carries_in}
 use Rattle.run_calls_spec.specs.Whole.{span_for, whole_call, IsBridged}
 
 -- how many frames a call makes, these frames as they are sent, and frame j
@@ -51,6 +52,10 @@ pub record WaitsUnsent (r : Run) (c u t : ℕ) (x : board.Span) : Type 0 where
 pub record IsFirstOfSpan (call : Call) (span : Span) (j : ℕ) : Type 0 where
   pub begun : span.from ≤ when (frame_by_number call j).start
   pub first : (i : ℕ) → i < j → when (frame_by_number call i).start < span.from
+
+-- how many of the frames that a call makes carry what it is handed in a span
+abbrev pub frames_with : Run → ℕ → board.Span → ℕ
+frames_with r c x = length (filter (λ f. carries_in (x.from - start_in r c) (x.to - start_in r c) f.carries) (frames_of_call (whole_call r c)))
 
 -- ---- what doesn't depend on what is handed over
 

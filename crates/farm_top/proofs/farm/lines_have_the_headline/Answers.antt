@@ -32,6 +32,8 @@ returns g =
       soon = λ c t x j. going.soon r c t x j are;
       one_waits = λ c u t x. going.one_waits r c u t x are;
       counted = λ c x. going.counted r c x are;
+      told = λ x. going.told r x are;
+      sent_or_lost = λ x. going.sent_or_lost r x are;
       lost = λ x. going.lost r x are;
       nothing_else = λ c other opened. g.items_change_nothing_else.ensures r c other are opened;
     } in record {
