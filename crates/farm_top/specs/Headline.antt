@@ -1,7 +1,8 @@
 -- What a run leaves on the outgoing lines of its calls, each call told as a whole (this project's profile).
-use Rattle.std.specs.Prelude.{◌≡◌, ◌≤◌, ◌<◌, ◌↔◌, ℕ, ◌+◌, ◌-◌, ◌*◌, Bool, true, Some, None, List, [], length, map, drop, slice_index, Contains}
+use Rattle.std.specs.Prelude.{◌≡◌, ◌≤◌, ◌<◌, ◌↔◌, ℕ, ◌+◌, ◌-◌, ◌*◌, Bool, true, Some, None, List, length, map, drop, slice_index, Contains}
 use Rattle.trau_bits.specs.Bits.{octets_of}
 use Rattle.trau_params.specs.Bits260.{bits260}
+use Rattle.trau_io.specs.declared.line.Line.{Line}
 use Rattle.trau_io.specs.declared.line.Side.{Side}
 use Rattle.trau_io.specs.declared.line.Side.TheVariants.{Down, Out}
 use Rattle.trau_io.specs.Lines.{LineState}
@@ -24,8 +25,9 @@ use Rattle.farm_run.specs.Runs.{HasWritten}
 
 -- What a call is handed in the periods of a bridge: its partner's effective frames, as 260 bits, and nothing else.
 pub record HandsOver (r : Run) : Type 0 where
-  -- the bridges' spans are those that the report tells
-  pub reported : map (λ l. l.span) (report_of r []).spans ≡ spans_in r
+  -- the bridges' spans are those that the report tells, whichever lines failed; it has a line for each
+  pub reported : (failed : List Line) → map (λ l. l.span) (report_of r failed).spans ≡ spans_in r
+  pub line_for_each : (failed : List Line) → (report_of r failed).spans ≡ map (span_line r) (spans_in r)
   -- in each of its periods a bridge has both of its calls
   pub both : (c t : ℕ) (x : Span) → IsBridged r c t x →
       (start_in r c ≤ t) × (t < end_in r c) × (start_in r (partner_in c x) ≤ t) × (t < end_in r (partner_in c x))

@@ -1,3 +1,4 @@
+use Rattle.std.proofs.Common.{refl}
 use Rattle.run_spec.specs.Run.{Run, spans_in}
 use Rattle.trau_orders.specs.Lists.{AreOrders}
 use Rattle.farm_top.specs.Headline.{GoesOut, HandsOver}
@@ -11,7 +12,8 @@ returns g =
     let going = g.items_go_out_in_order_and_once.ensures in
     let hands : (r : Run) → AreOrders r.orders → HandsOver r =
     λ r are. record {
-      reported = spans_told r (spans_in r);
+      reported = λ failed. spans_told r (spans_in r);
+      line_for_each = λ failed. refl;
       both = λ c t x. items.both r c t x are;
       within = λ c t x. items.frame r c t x are;
       outside = λ c t. items.none r c t are;
