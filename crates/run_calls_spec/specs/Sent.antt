@@ -1,5 +1,5 @@
--- The frames of a call's downlink, and which of them carries what its partner hands over in a period. Frames are
--- numbered from 0.
+-- The frames of a call's downlink, and which of them carries what its partner hands over in a period; and what of the
+-- call's lines doesn't depend on that. Frames are numbered from 0.
 use Rattle.std.specs.Prelude.{◌≡◌, ◌≤◌, ◌<◌, ℕ, ◌+◌, ◌-◌, ◌*◌, true, Some, None, List, length, map, filter, slice_index, slice_index_or}
 use Rattle.trau_frame.specs.declared.frames.DownFrame.{DownFrame}
 use Rattle.trau_frame.specs.declared.frames.DownFrame.TheVariants.{Speech, Idle}
@@ -23,7 +23,7 @@ sent_frames r c = down_frames (whole_call r c) (frames_of_call (whole_call r c))
 abbrev pub frame_as_sent : Run → ℕ → ℕ → DownFrame
 frame_as_sent r c j = slice_index_or (sent_frames r c) j Idle
 
--- the bit of the Down line at which it begins: behind 320 ones, two for each octet of the Pcm line before its start
+-- the bit of the Down line at which it begins: behind 320 ones and two bits for each octet of the Pcm line before its start
 abbrev pub frame_place : Run → ℕ → ℕ → ℕ
 frame_place r c j = 320 + 2 * (frame_by_number (whole_call r c) j).start
 
