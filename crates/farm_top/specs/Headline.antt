@@ -51,7 +51,8 @@ pub record GoesOut (r : Run) : Type 0 where
   pub long : (c : ℕ) → IsOpened r c → length (down (whole_call r c)) ≡ 320 * (end_in r c - start_in r c)
   pub on_line : (c t : ℕ) (x : Span) (j k : ℕ) → Sends r c t x j → k < 320 → frame_place r c j + k < length (down (whole_call r c)) →
       slice_index (down (whole_call r c)) (frame_place r c j + k) ≡ slice_index (down_bits (frame_as_sent r c j)) k
-  -- and it goes so far that each but the frame made last stands on it whole
+  -- and it goes so far that each but the frame made last stands on it whole: every frame that is made begins on it, or at its end
+  pub begins : (c j : ℕ) → IsOpened r c → j < frame_count r c → frame_place r c j ≤ length (down (whole_call r c))
   pub whole : (c t : ℕ) (x : Span) (j : ℕ) → Sends r c t x j → j + 1 < frame_count r c → frame_place r c j + 320 ≤ length (down (whole_call r c))
   -- no frame carries anything else
   pub only : (c j h : ℕ) → (frame_by_number (whole_call r c) j).carries ≡ Some h →

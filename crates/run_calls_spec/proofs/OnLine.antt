@@ -135,17 +135,23 @@ made_within call j whole l =
 abbrev pub AreLong : Type 0
 AreLong = (r : Run) (c : ℕ) → AreOrders r.orders → is_some (opened_at c (done_in r)) ≡ true → length (down (whole_call r c)) ≡ 320 * (end_in r c - start_in r c)
 
+-- **Each frame that is made begins on the line, or at its end.**
+pub begins_on_line : AreLong → (r : Run) (c j : ℕ) → AreOrders r.orders → is_some (opened_at c (done_in r)) ≡ true → j < frame_count r c →
+    frame_place r c j ≤ length (down (whole_call r c))
+begins_on_line long r c j a o l =
+    let call = whole_call r c in
+    within (frame_by_number call j).start (end_in r c - start_in r c) (periods call) (length (down call)) (made_within call j (is_whole r c a o) l)
+    (count_periods r c) (long r c a o)
+  where
+    within : (start n k line : ℕ) → when start < k → k ≡ n → line ≡ 320 * n → 320 + 2 * start ≤ line
+    within start n k line l m o = omega arith
+
 -- **A frame behind which another is made stands on the line whole.**
 pub whole_on_line : CarriesItems → AreLong → (r : Run) (c t : ℕ) (x : board.Span) (j : ℕ) → AreOrders r.orders → Sends r c t x j →
     j + 1 < frame_count r c → frame_place r c j + 320 ≤ length (down (whole_call r c))
 whole_on_line items long r c t x j a s more =
     let call = whole_call r c in
-    let known = (bridged_lies r c t x a s.bridged).known in
-    let later = made_within call (suc j) (is_whole r c a known) (omega arith) in
+    let later = begins_on_line long r c (suc j) a (bridged_lies r c t x a s.bridged).known (omega arith) in
     let next : (frame_by_number call (suc j)).start ≡ (frame_by_number call j).start + 160 =
     ap (λ shift. (frame_by_number call j).start + octets_to_next shift) (unshifted call j (t - start_in r c) (handed_carried items r c t x j a s)) in
-    fits (frame_by_number call j).start (frame_by_number call (suc j)).start (end_in r c - start_in r c) (periods call) (length (down call)) next later
-    (count_periods r c) (long r c a known)
-  where
-    fits : (start next n k line : ℕ) → next ≡ start + 160 → when next < k → k ≡ n → line ≡ 320 * n → 320 + 2 * start + 320 ≤ line
-    fits start next n k line e l m o = omega arith
+    omega (arith, later, next)

@@ -87,7 +87,10 @@ pub fn items_go_out_in_order_and_once()
         k < 320 → frame_place r c j + k < length (down (whole_call r c)) →
         slice_index (down (whole_call r c)) (frame_place r c j + k) ≡ slice_index (down_bits (frame_as_sent r c j)) k }
 
-    // The line goes so far that each but the frame made last stands on it whole.
+    // The line goes so far that each but the frame made last stands on it whole: every frame that is made begins on it, or at its
+    // end.
+    ensures begins { (r : Run) (c j : ℕ) → AreOrders r.orders → is_some (opened_at c (done_in r)) ≡ true → j < frame_count r c →
+        frame_place r c j ≤ length (down (whole_call r c)) }
     ensures whole { (r : Run) (c t : ℕ) (x : Span) (j : ℕ) → AreOrders r.orders → Sends r c t x j → j + 1 < frame_count r c →
         frame_place r c j + 320 ≤ length (down (whole_call r c)) }
 

@@ -25,6 +25,7 @@ returns g =
       unchanged = λ c t x j p bits. going.good r c t x j p bits are;
       long = λ c. lines.long r c are;
       on_line = λ c t x j k. going.on_line r c t x j k are;
+      begins = λ c j opened. going.begins r c j are opened;
       whole = λ c t x j. going.whole r c t x j are;
       only = λ c j h. going.only r c j h are;
       first = λ c x. going.first _ _;

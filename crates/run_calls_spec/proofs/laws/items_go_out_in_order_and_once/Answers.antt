@@ -5,7 +5,7 @@ use Rattle.run_spec.specs.Run.{partner_in}
 use Rattle.run_calls_spec.specs.Whole.{frame_on}
 use Rattle.run_calls_spec.proofs.Carried.{carried_only}
 use Rattle.run_calls_spec.proofs.Going.{handed_goes, handed_soon, one_waits, sent_counted, one_lost, frames_told, all_told}
-use Rattle.run_calls_spec.proofs.OnLine.{handed_on_line, whole_on_line}
+use Rattle.run_calls_spec.proofs.OnLine.{handed_on_line, begins_on_line, whole_on_line}
 use Rattle.run_calls_spec.proofs.Places.{first_made}
 use Rattle.run_calls_spec.proofs.Sent.{each_sent, sent_handed, handed_place, handed_in_order, handed_once}
 use Rattle.run_calls_spec.proofs.laws.items_go_out_in_order_and_once.Goals as goal
@@ -27,6 +27,9 @@ returns-clause-good g = λ r c t x j p bits a s y good.
 
 pub returns-clause-on_line : goal.returns-clause-on_line
 returns-clause-on_line g = handed_on_line g.frames_of_a_call.ensures.items
+
+pub returns-clause-begins : goal.returns-clause-begins
+returns-clause-begins g = begins_on_line g.lines_are_of_whole_calls.ensures.long
 
 pub returns-clause-whole : goal.returns-clause-whole
 returns-clause-whole g = whole_on_line g.frames_of_a_call.ensures.items g.lines_are_of_whole_calls.ensures.long
