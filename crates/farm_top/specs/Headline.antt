@@ -1,7 +1,8 @@
 -- What a run leaves on the outgoing lines of its calls, each call told as a whole (this project's profile).
-use Rattle.std.specs.Prelude.{◌≡◌, ◌≤◌, ◌<◌, ◌↔◌, ℕ, ◌+◌, ◌-◌, ◌*◌, Bool, true, Some, None, List, [], length, map, filter, drop, slice_index, Contains}
+use Rattle.std.specs.Prelude.{◌≡◌, ◌≤◌, ◌<◌, ◌↔◌, ℕ, ◌+◌, ◌-◌, ◌*◌, Bool, true, Some, None, List, length, map, drop, slice_index, Contains}
 use Rattle.trau_bits.specs.Bits.{octets_of}
 use Rattle.trau_params.specs.Bits260.{bits260}
+use Rattle.trau_io.specs.declared.line.Line.{Line}
 use Rattle.trau_io.specs.declared.line.Side.{Side}
 use Rattle.trau_io.specs.declared.line.Side.TheVariants.{Down, Out}
 use Rattle.trau_io.specs.Lines.{LineState}
@@ -14,18 +15,19 @@ use Rattle.switchboard.specs.declared.act.Span.{Span}
 use Rattle.call_leg.specs.Uplink.{handed_fields}
 use Rattle.call_spec.specs.Call.{Call}
 use Rattle.call_spec.specs.Out.{out}
-use Rattle.call_spec.specs.Down.{frame_by_number, frames_of_call, down}
+use Rattle.call_spec.specs.Down.{frame_by_number, down}
 use Rattle.run_spec.specs.Run.{Run, spans_in, start_in, end_in, partner_in, IsOpened, worked_to}
-use Rattle.run_spec.specs.Facts.{carries_in, sent_by, span_line, report_of}
+use Rattle.run_spec.specs.Facts.{sent_by, span_line, report_of}
 use Rattle.run_calls_spec.specs.Whole.{span_for, whole_call, IsBridged, item_for, yield_on, frame_on}
 use Rattle.run_calls_spec.specs.Sent.{frame_count, sent_frames, frame_as_sent, frame_place, made_in, CarriesHanded, Sends, WaitsUnsent, IsFirstOfSpan}
-use Rattle.run_calls_spec.specs.Sent.{HasOtherItems, DiffersInItems}
+use Rattle.run_calls_spec.specs.Sent.{frames_with, HasOtherItems, DiffersInItems}
 use Rattle.farm_run.specs.Runs.{HasWritten}
 
 -- What a call is handed in the periods of a bridge: its partner's effective frames, as 260 bits, and nothing else.
 pub record HandsOver (r : Run) : Type 0 where
-  -- the bridges' spans are those that the report tells
-  pub reported : map (λ l. l.span) (report_of r []).spans ≡ spans_in r
+  -- the bridges' spans are those that the report tells, whichever lines failed; it has a line for each
+  pub reported : (failed : List Line) → map (λ l. l.span) (report_of r failed).spans ≡ spans_in r
+  pub line_for_each : (failed : List Line) → (report_of r failed).spans ≡ map (span_line r) (spans_in r)
   -- in each of its periods a bridge has both of its calls
   pub both : (c t : ℕ) (x : Span) → IsBridged r c t x →
       (start_in r c ≤ t) × (t < end_in r c) × (start_in r (partner_in c x) ≤ t) × (t < end_in r (partner_in c x))
@@ -44,9 +46,14 @@ pub record GoesOut (r : Run) : Type 0 where
       frame_as_sent r c j ≡ Speech (bits260 (handed_fields (frame_on r (partner_in c x) t))) true
   pub unchanged : (c t : ℕ) (x : Span) (j p : ℕ) (bits : List ℕ) → Sends r c t x j → yield_on r (partner_in c x) t ≡ Some (Frame p bits) → IsGoodSpeech bits →
       frame_as_sent r c j ≡ Speech (data_of bits) true
-  -- the frame's 320 bits stand on the Down line one after another, as far as the line goes
+  -- the Down line has 320 bits for each of the call's periods; the frame's 320 bits stand on it one after another, as far as
+  -- it goes,
+  pub long : (c : ℕ) → IsOpened r c → length (down (whole_call r c)) ≡ 320 * (end_in r c - start_in r c)
   pub on_line : (c t : ℕ) (x : Span) (j k : ℕ) → Sends r c t x j → k < 320 → frame_place r c j + k < length (down (whole_call r c)) →
       slice_index (down (whole_call r c)) (frame_place r c j + k) ≡ slice_index (down_bits (frame_as_sent r c j)) k
+  -- and it goes so far that each but the frame made last stands on it whole: every frame that is made begins on it, or at its end
+  pub begins : (c j : ℕ) → IsOpened r c → j < frame_count r c → frame_place r c j ≤ length (down (whole_call r c))
+  pub whole : (c t : ℕ) (x : Span) (j : ℕ) → Sends r c t x j → j + 1 < frame_count r c → frame_place r c j + 320 ≤ length (down (whole_call r c))
   -- no frame carries anything else
   pub only : (c j h : ℕ) → (frame_by_number (whole_call r c) j).carries ≡ Some h →
       (x : Span) × IsBridged r c (start_in r c + h) x × CarriesHanded r c (start_in r c + h) x j
@@ -62,12 +69,15 @@ pub record GoesOut (r : Run) : Type 0 where
   pub soon : (c t : ℕ) (x : Span) (j : ℕ) → IsBridged r c t x → CarriesHanded r c t x j →
       (t ≤ made_in r c j) × (made_in r c j ≤ t + 1)
   pub one_waits : (c u t : ℕ) (x : Span) → WaitsUnsent r c u t x → u ≡ t + 1
-  -- the report counts, of a bridge and in each direction, the frames made that carry what was handed over in it; one at
-  -- most is lost
-  pub counted : (c : ℕ) (x : Span) → IsOpened r c →
-      sent_by r x c ≡ length (filter (λ f. carries_in (x.from - start_in r c) (x.to - start_in r c) f.carries) (frames_of_call (whole_call r c)))
+  -- the report counts, of a bridge and in each direction, the frames made that carry what was handed over in it: of what A
+  -- handed over, those that B made, and the other way round
+  pub counted : (c : ℕ) (x : Span) → IsOpened r c → sent_by r x c ≡ frames_with r c x
+  pub told : (x : Span) → Contains (spans_in r) x → ((span_line r x).sent_a ≡ frames_with r x.b x) × ((span_line r x).sent_b ≡ frames_with r x.a x)
+  -- in each direction what was handed over in the bridge's periods is sent or lost, and one frame at most is lost
+  pub sent_or_lost : (x : Span) → Contains (spans_in r) x → (x.from ≤ x.to) ×
+      ((span_line r x).sent_a + (span_line r x).lost_a ≡ x.to - x.from) × ((span_line r x).sent_b + (span_line r x).lost_b ≡ x.to - x.from)
   pub lost : (x : Span) → Contains (spans_in r) x → ((span_line r x).lost_a ≤ 1) × ((span_line r x).lost_b ≤ 1)
-  -- no other bit of the call's lines depends on what it is handed
+  -- no other bit of the call's lines depends on what it is handed: nothing but the data bits of frames that carry it
   pub nothing_else : (c : ℕ) (other : Call) → IsOpened r c → HasOtherItems (whole_call r c) other → DiffersInItems (whole_call r c) other
 
 -- The headline: the octets written on a call's outgoing lines are the definition's octets of the call as a whole, of its own

@@ -1,26 +1,36 @@
 -- A call whose partners hand over other items in the same spans.
-use Rattle.std.proofs.Common.{◌≡◌, refl, sym, ap, ◌∙◌, subst, ℕ, zero, suc, ◌*◌, Bool, true, false, Option, Some, None, List, [], ◌∷◌, length, map, reverse}
-use Rattle.std.proofs.Common.{get_or}
+use Rattle.std.proofs.Common.{◌≡◌, refl, sym, ap, ◌∙◌, subst, ℕ, zero, suc, ◌+◌, ◌*◌, ◌<◌, ℤ, Bool, true, false, Option, Some, None, List, [], ◌∷◌, ◌++◌}
+use Rattle.std.proofs.Common.{length, map, reverse, get_or, inl, inr, arith}
 use Rattle.std.specs.Prelude.{if◌then◌else◌, ◌&&◌, ◌||◌, ◌-◌, ◌==◌, not, nat_le, nat_lt, is_some, unwrap_or, slice_index_or, filter}
 use Rattle.std.specs.List.{flat_map, list_any}
+use Rattle.std.proofs.lemmas.Bool.{cases_lt, and_parts, and_from, or_left, or_right, le-leb, lt-ltb, ltb-true}
+use Rattle.std.proofs.lemmas.List.{append-nil, length-take, get_or-take, get_or_past, get_or-append-add, get_or_append_left}
 use Rattle.trau_frame.specs.declared.frames.DownFrame.{DownFrame}
 use Rattle.trau_frame.specs.declared.frames.DownFrame.TheVariants.{Speech, Idle}
+use Rattle.trau_frame.specs.Role.{Role, Sync, Control, Data, Time, role_of}
+use Rattle.trau_frame.specs.Frame.{bit_for}
+use Rattle.trau_frame.specs.DownFrame.{down_control, down_bits}
+use Rattle.trau_frame.proofs.Again.{get_or-frame_bits, length-down_bits}
 use Rattle.tx_dtx.specs.Stretch.{Coded}
 use Rattle.tx_dtx.specs.Sent.{sent_of}
 use Rattle.fr_encoder.specs.Encoded.{encoding_of}
-use Rattle.down_framer.specs.ByNumber.{Bridge, NumberedFrame, when, numbered_next, numbered_frames}
+use Rattle.down_framer.specs.Made.{frame_on_line}
+use Rattle.down_framer.specs.ByNumber.{Bridge, NumberedFrame, when, count_from, carried_item, numbered_start, numbered_next, numbered_frames}
 use Rattle.call_leg.specs.Uplink.{dtxd_after}
 use Rattle.call_leg.specs.Periods.{dtx_in}
 use Rattle.call_leg.specs.Down.{coded_as, speech}
 use Rattle.call_spec.specs.Stretches.{stretches}
 use Rattle.call_spec.specs.Call.{Call, Span, periods, each_period, effective_frame, fields, seen_at, setting_at, dtxd_at, item_at}
 use Rattle.call_spec.specs.Out.{Decoding, decoding_at, parameters_of, plain_goes_on, stretch_octets, out}
-use Rattle.call_spec.specs.Down.{without_items, first_frames, frame_by_number, frames_of_call, is_coded, coded_goes_on, samples, uncoded, down_frames}
+use Rattle.call_spec.specs.Down.{without_items, first_frames, frame_by_number, frames_of_call, is_coded, coded_goes_on, samples, uncoded}
+use Rattle.call_spec.specs.Down.{down_frames, line, down}
 use Rattle.call_spec.specs.Whole.{IsWhole}
 use Rattle.call_spec.proofs.Stretched.{before}
 use Rattle.call_spec.proofs.Sending.{code, codes, frame_after}
-use Rattle.run_calls_spec.specs.Sent.{HasOtherItems, DiffersInItems}
-use Rattle.run_calls_spec.proofs.Sent.{frame_sent, made_first, sent_at}
+use Rattle.run_calls_spec.specs.Sent.{HasOtherItems, sent_as, SendsItem, IsNoItemBit, DiffersInItems}
+use Rattle.run_calls_spec.proofs.Places.{unshifted}
+use Rattle.run_calls_spec.proofs.Sent.{frame_sent, made_first, sent_at, carrying}
+use Rattle.run_calls_spec.proofs.OnLine.{line_to, adds, line_more, length-line}
 
 -- ---- what is asked of spans leaves out their items
 
@@ -42,6 +52,77 @@ begins-bare : (begins : ℕ → Bool) (spans : List Span) →
     list_any (λ (span : Span). begins span.from) spans ≡ list_any (λ (b : Bridge). begins b.from) (map without_items spans)
 begins-bare begins [] = refl
 begins-bare begins (span ∷ spans) = ap (λ t. begins span.from || t) (begins-bare begins spans)
+
+-- where a frame carries the item of a period, the period has one
+carried-bare : (bs : List Bridge) (w : ℕ) (fs : List NumberedFrame) (h : ℕ) → carried_item bs w fs ≡ Some h → list_any (lies h) bs ≡ true
+carried-bare [] w fs h e = cc
+carried-bare (b ∷ bs) w fs h e =
+    by (nat_le b.from w && nat_lt (count_from b.from fs) (b.to - b.from)) refl e (carried-bare bs w fs h)
+  where
+    same : (m n : ℕ) → Some m ≡ Some n → n ≡ m
+    same m n q = cc
+
+    by : (t : Bool) → (nat_le b.from w && nat_lt (count_from b.from fs) (b.to - b.from)) ≡ t →
+        (if t then Some (b.from + count_from b.from fs) else carried_item bs w fs) ≡ Some h →
+        (carried_item bs w fs ≡ Some h → list_any (lies h) bs ≡ true) → (lies h b || list_any (lies h) bs) ≡ true
+    by false q e rest = or_right (lies h b) (list_any (lies h) bs) (rest e)
+    by true q e rest =
+        let n : ℕ = count_from b.from fs in
+        let k = and_parts (nat_le b.from w) (nat_lt n (b.to - b.from)) q in
+        let l : n < b.to - b.from = ltb-true n (b.to - b.from) k.1 in
+        let p : h ≡ b.from + n = same (b.from + n) h e in
+        or_left (lies h b) (list_any (lies h) bs)
+        (and_from (nat_le b.from h) (nat_lt h b.to) (le-leb b.from h (omega arith)) (lt-ltb h b.to (omega arith)))
+
+-- so what is sent in it is the speech frame of that item
+sends : (c : Call) (j h : ℕ) → (frame_by_number c j).carries ≡ Some h → sent_as c j ≡ frame_sent c j → SendsItem c j h
+sends c j h e s =
+    let has : is_some (item_at c.spans h) ≡ true =
+    item-bare c.spans h ∙ carried-bare (map without_items c.spans) (when (frame_by_number c j).start) (first_frames c j) h e in
+    let it = some (item_at c.spans h) has in
+    record { item = it.0; handed = it.1; sent = s ∙ carrying c j h e ∙ ap (λ (o : Option (List ℕ)). Speech (unwrap_or o []) true) it.1 }
+  where
+    some : (o : Option (List ℕ)) → is_some o ≡ true → (item : List ℕ) × (o ≡ Some item)
+    some None e = cc
+    some (Some item) e = (item, refl)
+
+-- a place of a frame that is no data bit's
+abbrev IsNoData : ℕ → Type 0
+IsNoData i = (n : ℕ) → role_of i ≡ Data n → ⊥
+
+-- the items of two speech frames are their data bits
+speech_bits : (d e : List ℕ) (i : ℕ) → i < 320 → IsNoData i → get_or (down_bits (Speech d true)) i 0 ≡ get_or (down_bits (Speech e true)) i 0
+unfolding down_bits down_control
+speech_bits d e i l other_role =
+    let control : List ℕ = down_control (Speech d true) in
+    get_or-frame_bits control d i 0 l ∙ by (role_of i) refl ∙ sym (get_or-frame_bits control e i 0 l)
+  where
+    by : (role : Role) → role_of i ≡ role →
+        bit_for (down_control (Speech d true)) d (role_of i) ≡ bit_for (down_control (Speech d true)) e (role_of i)
+    by (Sync b) q = ap (bit_for (down_control (Speech d true)) d) q ∙ sym (ap (bit_for (down_control (Speech d true)) e) q)
+    by (Control c) q = ap (bit_for (down_control (Speech d true)) d) q ∙ sym (ap (bit_for (down_control (Speech d true)) e) q)
+    by (Data n) q = absurd (other_role n q)
+    by (Time t) q = ap (bit_for (down_control (Speech d true)) d) q ∙ sym (ap (bit_for (down_control (Speech d true)) e) q)
+
+-- what a frame that carries an item adds to the line
+adds_item : (c : Call) (m h : ℕ) → (frame_by_number c m).carries ≡ Some h → (i : ℕ) → get_or (adds c m) i 0 ≡ get_or (down_bits (frame_sent c m)) i 0
+adds_item c m h e i =
+    ap (λ (shift : ℤ). get_or (frame_on_line shift (down_bits (frame_sent c m))) i 0) (unshifted c m h e)
+    ∙ ap (λ (bits : List ℕ). get_or bits i 0) (append-nil (down_bits (frame_sent c m)))
+
+-- what two calls send in frames that carry items
+item_bits : (c d : Call) (m h : ℕ) → (frame_by_number c m).carries ≡ Some h → (frame_by_number d m).carries ≡ Some h → (i : ℕ) → (i < 320 → IsNoData i) →
+    get_or (down_bits (frame_sent c m)) i 0 ≡ get_or (down_bits (frame_sent d m)) i 0
+item_bits c d m h e g i spared = elim (cases_lt i 320) [
+  | inl l ↦
+      ap (λ (f : DownFrame). get_or (down_bits f) i 0) (carrying c m h e)
+      ∙ speech_bits (unwrap_or (item_at c.spans h) []) (unwrap_or (item_at d.spans h) []) i l (spared l)
+      ∙ sym (ap (λ (f : DownFrame). get_or (down_bits f) i 0) (carrying d m h g))
+  | inr past ↦
+      let a = length-down_bits (frame_sent c m) in
+      let b = length-down_bits (frame_sent d m) in
+      get_or_past (down_bits (frame_sent c m)) i 0 (omega arith) ∙ sym (get_or_past (down_bits (frame_sent d m)) i 0 (omega arith))
+]
 
 -- ---- two calls
 
@@ -119,17 +200,105 @@ module _ (call : Call) (spans : List Span) (same : map without_items spans ≡ m
       every
       ∙ same_after (frame_by_number call j) (before (coded_goes_on call) (frame_by_number call j) (first_frames call j)) e
 
-  -- **The lines are the same but in frames that carry an item.**
+  -- a made frame as it is sent
+  at_call : IsWhole call → (j : ℕ) → j < length (frames_of_call call) → sent_as call j ≡ frame_sent call j
+  at_call whole j l =
+      ap (λ (fs : List NumberedFrame). get_or (down_frames call fs) j Idle) (made_first call whole) ∙ sent_at call (length (frames_of_call call)) j l
+
+  at_other : IsWhole call → (j : ℕ) → j < length (frames_of_call call) → sent_as other j ≡ frame_sent other j
+  at_other whole j l =
+      let n = length (frames_of_call call) in
+      ap (λ (fs : List NumberedFrame). get_or (down_frames other fs) j Idle)
+      (same_made ∙ made_first call whole ∙ ap (λ (fs : List NumberedFrame). reverse fs) (sym (same_first n))) ∙ sent_at other n j l
+
+  -- one that carries an item
+  each_sends : IsWhole call → (j h : ℕ) → j < length (frames_of_call call) → (frame_by_number call j).carries ≡ Some h →
+      SendsItem call j h × SendsItem other j h
+  each_sends whole j h l e = (
+    sends call j h e (at_call whole j l),
+    sends other j h (ap (λ (f : NumberedFrame). f.carries) (same_frame j) ∙ e) (at_other whole j l),
+  )
+
+  -- one that carries none
+  each_same : IsWhole call → (j : ℕ) → j < length (frames_of_call call) → (frame_by_number call j).carries ≡ None → sent_as other j ≡ sent_as call j
+  each_same whole j l e = at_other whole j l ∙ same_sent j e ∙ sym (at_call whole j l)
+
+  -- ---- the Down line
+
+  -- what frame m adds to it
+  same_adds : (m i : ℕ) → ((h : ℕ) → (frame_by_number call m).carries ≡ Some h → i < 320 → IsNoData i) →
+      get_or (adds other m) i 0 ≡ get_or (adds call m) i 0
+  same_adds m i spared = by (frame_by_number call m).carries refl
+    where
+      by : (o : Option ℕ) → (frame_by_number call m).carries ≡ o → get_or (adds other m) i 0 ≡ get_or (adds call m) i 0
+      by None e =
+          ap (λ (f : NumberedFrame). get_or (frame_on_line f.shift (down_bits (frame_sent other m))) i 0) (same_frame m)
+          ∙ ap (λ (f : DownFrame). get_or (frame_on_line (frame_by_number call m).shift (down_bits f)) i 0) (same_sent m e)
+      by (Some h) e =
+          let o = ap (λ (f : NumberedFrame). f.carries) (same_frame m) ∙ e in
+          adds_item other m h o i ∙ item_bits other call m h o e i (spared h e) ∙ sym (adds_item call m h e i)
+
+  -- the line of the first m frames
+  same_long : (m : ℕ) → length (line_to other m) ≡ length (line_to call m)
+  same_long m =
+      length-line other m ∙ ap (λ (fs : List NumberedFrame). 320 + 2 * numbered_start fs) (same_first m) ∙ sym (length-line call m)
+
+  same_line : (m k : ℕ) → IsNoItemBit call k → get_or (line_to other m) k 0 ≡ get_or (line_to call m) k 0
+  same_line zero k spared = refl
+  same_line (suc m) k spared =
+      let long = same_long m in
+      let all = ap (λ (bits : List ℕ). get_or bits k 0) (line_more other m) in
+      let ours = ap (λ (bits : List ℕ). get_or bits k 0) (line_more call m) in
+      all ∙ elim (cases_lt k (length (line_to call m))) [
+        | inl old ↦
+            get_or_append_left (line_to other m) (adds other m) 0 k (omega arith) ∙ same_line m k spared
+            ∙ sym (get_or_append_left (line_to call m) (adds call m) 0 k old)
+        | inr new ↦
+            let i : ℕ = k - length (line_to call m) in
+            let there : length (line_to other m) + i ≡ k = omega arith in
+            let here : length (line_to call m) + i ≡ k = omega arith in
+            let place : k ≡ 320 + 2 * (frame_by_number call m).start + i = let l = length-line call m in omega arith in
+            ap (λ (n : ℕ). get_or (line_to other m ++ adds other m) n 0) (sym there) ∙ get_or-append-add (line_to other m) (adds other m) i 0
+            ∙ same_adds m i (λ h e l n q. spared m h i n e place l q)
+            ∙ sym (get_or-append-add (line_to call m) (adds call m) i 0)
+            ∙ ap (λ (n : ℕ). get_or (line_to call m ++ adds call m) n 0) here
+      ] ∙ sym ours
+
+  -- of the frames that are made
+  made_other : IsWhole call → frames_of_call other ≡ reverse (first_frames other (length (frames_of_call call)))
+  made_other whole =
+      same_made ∙ made_first call whole ∙ ap (λ (fs : List NumberedFrame). reverse fs) (sym (same_first (length (frames_of_call call))))
+
+  same_down_length : IsWhole call → length (down other) ≡ length (down call)
+  same_down_length whole =
+      let n = length (frames_of_call call) in
+      let long = same_long n in
+      let there = ap (λ (fs : List NumberedFrame). length (line other fs)) (made_other whole) in
+      let here = ap (λ (fs : List NumberedFrame). length (line call fs)) (made_first call whole) in
+      let cut = length-take (320 * periods call) (line other (frames_of_call other)) in
+      let ours = length-take (320 * periods call) (line call (frames_of_call call)) in
+      omega (arith, long, there, here, cut, ours)
+
+  same_down : IsWhole call → (k : ℕ) → k < length (down call) → IsNoItemBit call k → get_or (down other) k 0 ≡ get_or (down call) k 0
+  same_down whole k l spared =
+      let n = length (frames_of_call call) in
+      let ours = length-take (320 * periods call) (line call (frames_of_call call)) in
+      let within : k < 320 * periods call = omega arith in
+      get_or-take (320 * periods call) (line other (frames_of_call other)) k 0 within
+      ∙ ap (λ (fs : List NumberedFrame). get_or (line other fs) k 0) (made_other whole)
+      ∙ same_line n k spared
+      ∙ sym (ap (λ (fs : List NumberedFrame). get_or (line call fs) k 0) (made_first call whole))
+      ∙ sym (get_or-take (320 * periods call) (line call (frames_of_call call)) k 0 within)
+
+  -- **The lines are the same but for the data bits of frames that carry an item.**
   pub differs : IsWhole call → DiffersInItems call other
   differs whole = record {
     out_line = same_out;
+    down_length = same_down_length whole;
+    down_line = same_down whole;
     made = same_made;
-    sent = λ j l e.
-        let n = length (frames_of_call call) in
-        ap (λ (fs : List NumberedFrame). get_or (down_frames other fs) j Idle)
-        (same_made ∙ made_first call whole ∙ ap (λ (fs : List NumberedFrame). reverse fs) (sym (same_first n)))
-        ∙ sent_at other n j l ∙ same_sent j e ∙ sym (sent_at call n j l)
-        ∙ ap (λ (fs : List NumberedFrame). get_or (down_frames call fs) j Idle) (sym (made_first call whole));
+    sent = each_same whole;
+    handed = each_sends whole;
   }
 
 -- so it is of any call that is the same but for them

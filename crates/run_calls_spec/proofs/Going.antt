@@ -2,7 +2,7 @@
 -- next one.
 use Rattle.std.proofs.Common.{◌≡◌, refl, sym, ap, ◌∙◌, subst, ℕ, zero, suc, ◌+◌, ◌-◌, ◌*◌, ◌<◌, ◌≤◌, Bool, true, false, Some, List, [], ◌∷◌, ◌++◌, length, map}
 use Rattle.std.proofs.Common.{reverse, inl, inr, arith, length-append}
-use Rattle.std.specs.Prelude.{if◌then◌else◌, nat_lt, is_some, filter, Contains}
+use Rattle.std.specs.Prelude.{◌==◌, if◌then◌else◌, nat_lt, is_some, filter, Contains}
 use Rattle.std.proofs.lemmas.Bool.{cases_lt, and_from, le-leb, lt-ltb, or_left, or_right, eq-eqb}
 use Rattle.std.proofs.lemmas.List.{length-reverse}
 use Rattle.std.proofs.lemmas.List.Elements.{filter-append}
@@ -19,8 +19,9 @@ use Rattle.call_spec.proofs.Frames.{made-read}
 use Rattle.call_spec.proofs.Whole.{history-whole, call-whole}
 use Rattle.run_spec.specs.Run.{who_in, Run, done_in, spans_in, start_in, end_in, is_of, periods_in}
 use Rattle.run_spec.specs.Facts.{carries_in, sent_by, span_line}
+use Rattle.run_spec.proofs.Sent.{sent_or_lost}
 use Rattle.run_calls_spec.specs.Whole.{begins_in, span_for, whole_call, IsBridged}
-use Rattle.run_calls_spec.specs.Sent.{frame_count, CarriesHanded, Sends, WaitsUnsent, IsFirstOfSpan}
+use Rattle.run_calls_spec.specs.Sent.{frame_count, CarriesHanded, Sends, WaitsUnsent, IsFirstOfSpan, frames_with}
 use Rattle.run_calls_spec.proofs.Spans.{LiesIn}
 use Rattle.run_calls_spec.proofs.Periods.{is_whole, history_same, count_periods}
 use Rattle.run_calls_spec.proofs.Items.{span_lies, bridged_lies}
@@ -228,3 +229,22 @@ one_lost items enough r x a has = (
   few_lost items enough r x.b x a has (or_right _ _ (eq-eqb x.b x.b refl)),
   few_lost items enough r x.a x a has (or_left _ _ (eq-eqb x.a x.a refl)),
 )
+
+-- ---- what the report's line of a bridge says
+
+-- both calls of a span
+both_lie : (r : Run) (x : board.Span) → AreOrders r.orders → Contains (spans_in r) x → LiesIn r x.a x × LiesIn r x.b x
+both_lie r x a has = (
+  span_lies r x.a x a has (or_left (x.a == x.a) (x.a == x.b) (eq-eqb x.a x.a refl)),
+  span_lies r x.b x a has (or_right (x.b == x.a) (x.b == x.b) (eq-eqb x.b x.b refl)),
+)
+
+-- **It tells how many frames of the one the other made.**
+pub frames_told : (r : Run) (x : board.Span) → AreOrders r.orders → Contains (spans_in r) x →
+    ((span_line r x).sent_a ≡ frames_with r x.b x) × ((span_line r x).sent_b ≡ frames_with r x.a x)
+frames_told r x a has = let k = both_lie r x a has in (sent_counted r x.b x a k.1.known, sent_counted r x.a x a k.0.known)
+
+-- **What is handed over is sent or lost.**
+pub all_told : (r : Run) (x : board.Span) → AreOrders r.orders → Contains (spans_in r) x → (x.from ≤ x.to) ×
+    ((span_line r x).sent_a + (span_line r x).lost_a ≡ x.to - x.from) × ((span_line r x).sent_b + (span_line r x).lost_b ≡ x.to - x.from)
+all_told r x a has = let all = sent_or_lost r x in ((both_lie r x a has).0.begun, all.0, all.1)

@@ -1,25 +1,30 @@
 -- Where the bits of a frame stand on the Down line.
-use Rattle.std.proofs.Common.{◌≡◌, refl, sym, ap, ◌∙◌, ℕ, zero, suc, ◌+◌, ◌-◌, ◌*◌, ◌<◌, ◌≤◌, Some, List, [], ◌∷◌, ◌++◌, length, reverse, replicate, get_or}
-use Rattle.std.proofs.Common.{inl, inr, arith, append_assoc, length-append}
-use Rattle.std.specs.List.{flat_map, zip}
-use Rattle.std.proofs.lemmas.Bool.{cases_lt}
-use Rattle.std.proofs.lemmas.List.{append-nil, length-reverse, length-replicate, length-take, get_or-take, get_or-append-add, get_or_append_left}
+use Rattle.std.proofs.Common.{◌≡◌, refl, sym, ap, ◌∙◌, subst, ℕ, zero, suc, ◌+◌, ◌-◌, ◌*◌, ◌<◌, ◌≤◌, Some, List, [], ◌∷◌, ◌++◌, length, reverse, replicate}
+use Rattle.std.proofs.Common.{get_or, inl, inr, arith, append_assoc, length-append}
+use Rattle.std.specs.Prelude.{Bool, true, nat_lt, is_some}
+use Rattle.std.specs.List.{AllByRecursion, flat_map, zip}
+use Rattle.std.proofs.lemmas.Bool.{cases_lt, ltb-true}
+use Rattle.std.proofs.lemmas.List.{append-nil, reverse-reverse, length-reverse, length-replicate, length-take, get_or-take, get_or-append-add}
+use Rattle.std.proofs.lemmas.List.{get_or_append_left}
 use Rattle.std.proofs.lemmas.List.Concat.{flat_map-append}
 use Rattle.trau_frame.specs.DownFrame.{down_bits}
 use Rattle.trau_frame.proofs.Again.{length-down_bits}
 use Rattle.trau_orders.specs.Lists.{AreOrders}
 use Rattle.switchboard.specs.declared.act.Span as board
-use Rattle.down_framer.specs.Made.{frame_on_line}
-use Rattle.down_framer.specs.ByNumber.{numbered_start}
+use Rattle.switchboard.specs.Calls.{opened_at}
+use Rattle.down_framer.specs.Made.{octets_to_next, frame_on_line}
+use Rattle.down_framer.specs.ByNumber.{NumberedFrame, when, numbered_start}
 use Rattle.down_framer.proofs.Store.{length-frame_on_line}
 use Rattle.call_spec.specs.Call.{Call, periods}
-use Rattle.call_spec.specs.Down.{first_frames, frame_by_number, frames_of_call, down_frames, bits_on_line, line, down}
+use Rattle.call_spec.specs.Down.{first_frames, frame_by_number, made_among, frames_of_call, down_frames, bits_on_line, line, down}
+use Rattle.call_spec.specs.Whole.{IsWhole}
 use Rattle.call_spec.proofs.Stretched.{reverse-more}
 use Rattle.call_spec.proofs.Sending.{zip-more}
-use Rattle.run_spec.specs.Run.{Run, start_in}
+use Rattle.run_spec.specs.Run.{Run, done_in, start_in, end_in}
+use Rattle.run_spec.proofs.Lists.{each_passes}
 use Rattle.run_calls_spec.specs.Whole.{whole_call}
 use Rattle.run_calls_spec.specs.Sent.{frame_count, frame_as_sent, frame_place, Sends}
-use Rattle.run_calls_spec.proofs.Periods.{is_whole}
+use Rattle.run_calls_spec.proofs.Periods.{is_whole, count_periods}
 use Rattle.run_calls_spec.proofs.Items.{bridged_lies}
 use Rattle.run_calls_spec.proofs.Places.{shift_allowed, unshifted}
 use Rattle.run_calls_spec.proofs.Sent.{made_first, frame_sent, sent_more, length-sent, CarriesItems, handed_carried, frame_is}
@@ -27,11 +32,11 @@ use Rattle.run_calls_spec.proofs.Sent.{made_first, frame_sent, sent_more, length
 -- ---- the line, frame by frame
 
 -- the line of the first m frames, and what frame m adds
-abbrev line_to : Call → ℕ → List ℕ
+abbrev pub line_to : Call → ℕ → List ℕ
 line_to call m = line call (reverse (first_frames call m))
 
 -- what frame m adds to the line
-abbrev adds : Call → ℕ → List ℕ
+abbrev pub adds : Call → ℕ → List ℕ
 adds call m = frame_on_line (frame_by_number call m).shift (down_bits (frame_sent call m))
 
 length-first : (call : Call) (m : ℕ) → length (first_frames call m) ≡ m
@@ -39,7 +44,7 @@ length-first call zero = refl
 length-first call (suc m) = ap suc (length-first call m)
 
 -- the line goes on frame by frame
-line_more : (call : Call) (m : ℕ) → line_to call (suc m) ≡ line_to call m ++ adds call m
+pub line_more : (call : Call) (m : ℕ) → line_to call (suc m) ≡ line_to call m ++ adds call m
 line_more call m =
     let fs = reverse (first_frames call m) in
     let ds = down_frames call fs in
@@ -56,7 +61,7 @@ line_more call m =
     ∙ sym (append_assoc (replicate 320 1) (flat_map bits_on_line (zip fs ds)) (adds call m))
 
 -- **Behind 320 bits it has two for each octet before the next frame's start.**
-length-line : (call : Call) (m : ℕ) → length (line_to call m) ≡ 320 + 2 * numbered_start (first_frames call m)
+pub length-line : (call : Call) (m : ℕ) → length (line_to call m) ≡ 320 + 2 * numbered_start (first_frames call m)
 length-line call zero = ap (length {A = ℕ}) (append-nil (replicate 320 1)) ∙ length-replicate {A = ℕ} 320 1
 length-line call (suc m) =
     let rest = length-line call m in
@@ -104,3 +109,49 @@ handed_on_line items r c t x j k a s m n =
     ∙ ap (λ fs. get_or (line call fs) (frame_place r c j + k) 0) (made_first call whole)
     ∙ bit_on_line call j (t - start_in r c) (frame_count r c) k s.made m (handed_carried items r c t x j a s)
     ∙ ap (λ f. get_or (down_bits f) k 0) (sym (frame_is r c t x j a s))
+
+-- ---- a frame but the last
+
+-- what passes is each of the first frames
+each_first : (p : NumberedFrame → Bool) (call : Call) (m j : ℕ) → j < m → AllByRecursion (λ f. p f ≡ true) (first_frames call m) →
+    p (frame_by_number call j) ≡ true
+each_first p call zero j l h = absurd (omega arith)
+each_first p call (suc m) j l h = elim (cases_lt j m) [
+  | inl old ↦ each_first p call m j old h.1
+  | inr now ↦ let e : m ≡ j = omega arith in subst (λ i. p (frame_by_number call i) ≡ true) e h.0
+]
+
+-- a frame is made in a period of the call
+made_within : (call : Call) (j : ℕ) → IsWhole call → j < length (frames_of_call call) → when (frame_by_number call j).start < periods call
+made_within call j whole l =
+    let soon : NumberedFrame → Bool = λ f. nat_lt (when f.start) (periods call) in
+    let n = length (frames_of_call call) in
+    let same : made_among call (2 * periods call) ≡ first_frames call n =
+    sym (reverse-reverse (made_among call (2 * periods call))) ∙ ap reverse (made_first call whole) ∙ reverse-reverse (first_frames call n) in
+    ltb-true (when (frame_by_number call j).start) (periods call)
+    (each_first soon call n j l (subst (AllByRecursion (λ f. soon f ≡ true)) same (each_passes soon (first_frames call (2 * periods call)))))
+
+-- what the laws of a run's lines say of the Down line
+abbrev pub AreLong : Type 0
+AreLong = (r : Run) (c : ℕ) → AreOrders r.orders → is_some (opened_at c (done_in r)) ≡ true → length (down (whole_call r c)) ≡ 320 * (end_in r c - start_in r c)
+
+-- **Each frame that is made begins on the line, or at its end.**
+pub begins_on_line : AreLong → (r : Run) (c j : ℕ) → AreOrders r.orders → is_some (opened_at c (done_in r)) ≡ true → j < frame_count r c →
+    frame_place r c j ≤ length (down (whole_call r c))
+begins_on_line long r c j a o l =
+    let call = whole_call r c in
+    within (frame_by_number call j).start (end_in r c - start_in r c) (periods call) (length (down call)) (made_within call j (is_whole r c a o) l)
+    (count_periods r c) (long r c a o)
+  where
+    within : (start n k line : ℕ) → when start < k → k ≡ n → line ≡ 320 * n → 320 + 2 * start ≤ line
+    within start n k line l m o = omega arith
+
+-- **A frame behind which another is made stands on the line whole.**
+pub whole_on_line : CarriesItems → AreLong → (r : Run) (c t : ℕ) (x : board.Span) (j : ℕ) → AreOrders r.orders → Sends r c t x j →
+    j + 1 < frame_count r c → frame_place r c j + 320 ≤ length (down (whole_call r c))
+whole_on_line items long r c t x j a s more =
+    let call = whole_call r c in
+    let later = begins_on_line long r c (suc j) a (bridged_lies r c t x a s.bridged).known (omega arith) in
+    let next : (frame_by_number call (suc j)).start ≡ (frame_by_number call j).start + 160 =
+    ap (λ shift. (frame_by_number call j).start + octets_to_next shift) (unshifted call j (t - start_in r c) (handed_carried items r c t x j a s)) in
+    omega (arith, later, next)

@@ -82,7 +82,7 @@ sent_at call (suc m) j l =
     ]
 
 -- a frame that carries an item is a speech frame of it
-carrying : (call : Call) (j h : ℕ) → (frame_by_number call j).carries ≡ Some h → frame_sent call j ≡ Speech (unwrap_or (item_at call.spans h) []) true
+pub carrying : (call : Call) (j h : ℕ) → (frame_by_number call j).carries ≡ Some h → frame_sent call j ≡ Speech (unwrap_or (item_at call.spans h) []) true
 unfolding frame_sent
 carrying call j h e =
     cond-false (is_coded call (frame_by_number call j)) _ (uncoded call (frame_by_number call j))

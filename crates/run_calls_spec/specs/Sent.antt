@@ -1,14 +1,16 @@
--- The frames of a call's downlink, and which of them carries what its partner hands over in a period. Frames are
--- numbered from 0.
-use Rattle.std.specs.Prelude.{◌≡◌, ◌≤◌, ◌<◌, ℕ, ◌+◌, ◌-◌, ◌*◌, None, List, length, map, slice_index_or}
+-- The frames of a call's downlink, and which of them carries what its partner hands over in a period; and what of the
+-- call's lines doesn't depend on that. Frames are numbered from 0.
+use Rattle.std.specs.Prelude.{◌≡◌, ◌≤◌, ◌<◌, ℕ, ◌+◌, ◌-◌, ◌*◌, true, Some, None, List, length, map, filter, slice_index, slice_index_or}
 use Rattle.trau_frame.specs.declared.frames.DownFrame.{DownFrame}
-use Rattle.trau_frame.specs.declared.frames.DownFrame.TheVariants.{Idle}
+use Rattle.trau_frame.specs.declared.frames.DownFrame.TheVariants.{Speech, Idle}
+use Rattle.trau_frame.specs.Role.{Data, role_of}
 use Rattle.switchboard.specs.declared.act.Span as board
 use Rattle.down_framer.specs.ByNumber.{when}
-use Rattle.call_spec.specs.Call.{Call, Span}
+use Rattle.call_spec.specs.Call.{Call, Span, item_at}
 use Rattle.call_spec.specs.Out.{out}
-use Rattle.call_spec.specs.Down.{without_items, frame_by_number, frames_of_call, HasItem, down_frames}
+use Rattle.call_spec.specs.Down.{without_items, frame_by_number, frames_of_call, HasItem, down_frames, down}
 use Rattle.run_spec.specs.Run.{Run, start_in}
+use Rattle.run_spec.specs.Facts.{carries_in}
 use Rattle.run_calls_spec.specs.Whole.{span_for, whole_call, IsBridged}
 
 -- how many frames a call makes, these frames as they are sent, and frame j
@@ -21,7 +23,7 @@ sent_frames r c = down_frames (whole_call r c) (frames_of_call (whole_call r c))
 abbrev pub frame_as_sent : Run → ℕ → ℕ → DownFrame
 frame_as_sent r c j = slice_index_or (sent_frames r c) j Idle
 
--- the bit of the Down line at which it begins: behind 320 ones, two for each octet of the Pcm line before its start
+-- the bit of the Down line at which it begins: behind 320 ones and two bits for each octet of the Pcm line before its start
 abbrev pub frame_place : Run → ℕ → ℕ → ℕ
 frame_place r c j = 320 + 2 * (frame_by_number (whole_call r c) j).start
 
@@ -51,6 +53,10 @@ pub record IsFirstOfSpan (call : Call) (span : Span) (j : ℕ) : Type 0 where
   pub begun : span.from ≤ when (frame_by_number call j).start
   pub first : (i : ℕ) → i < j → when (frame_by_number call i).start < span.from
 
+-- how many of the frames that a call makes carry what it is handed in a span
+abbrev pub frames_with : Run → ℕ → board.Span → ℕ
+frames_with r c x = length (filter (λ f. carries_in (x.from - start_in r c) (x.to - start_in r c) f.carries) (frames_of_call (whole_call r c)))
+
 -- ---- what doesn't depend on what is handed over
 
 -- the same call, but for the items that are handed over in its spans
@@ -58,10 +64,28 @@ pub record HasOtherItems (call other : Call) : Type 0 where
   pub spans : map without_items other.spans ≡ map without_items call.spans
   pub rest : other ≡ record call { spans = other.spans }
 
--- Its lines are the same but in frames that carry an item: so the Out line, the frames that are made, each with its start, its
--- shift and the period of which it carries the item, and what is sent in each that carries none.
+-- frame j of a call as it is sent
+abbrev pub sent_as : Call → ℕ → DownFrame
+sent_as call j = slice_index_or (down_frames call (frames_of_call call)) j Idle
+
+-- what is sent in frame j is the speech frame, with SP 1, of the item that the call is handed in its period h
+pub record SendsItem (call : Call) (j h : ℕ) : Type 0 where
+  pub item : List ℕ
+  pub handed : item_at call.spans h ≡ Some item
+  pub sent : sent_as call j ≡ Speech item true
+
+-- bit k of the Down line is no data bit of a frame that carries an item
+abbrev pub IsNoItemBit : Call → ℕ → Type 0
+IsNoItemBit call k = (j h i n : ℕ) → (frame_by_number call j).carries ≡ Some h → k ≡ 320 + 2 * (frame_by_number call j).start + i → i < 320 →
+    role_of i ≡ Data n → ⊥
+
+-- Its lines are the same but for the data bits of frames that carry an item. So are the frames that are made, each with its
+-- start, its shift and the period of which it carries the item, and what is sent in each that carries none. One that carries
+-- an item is the speech frame of the call's own item of that period.
 pub record DiffersInItems (call other : Call) : Type 0 where
   pub out_line : out other ≡ out call
+  pub down_length : length (down other) ≡ length (down call)
+  pub down_line : (k : ℕ) → k < length (down call) → IsNoItemBit call k → slice_index (down other) k ≡ slice_index (down call) k
   pub made : frames_of_call other ≡ frames_of_call call
-  pub sent : (j : ℕ) → j < length (frames_of_call call) → (frame_by_number call j).carries ≡ None →
-      slice_index_or (down_frames other (frames_of_call other)) j Idle ≡ slice_index_or (down_frames call (frames_of_call call)) j Idle
+  pub sent : (j : ℕ) → j < length (frames_of_call call) → (frame_by_number call j).carries ≡ None → sent_as other j ≡ sent_as call j
+  pub handed : (j h : ℕ) → j < length (frames_of_call call) → (frame_by_number call j).carries ≡ Some h → SendsItem call j h × SendsItem other j h

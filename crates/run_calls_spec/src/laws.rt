@@ -1,6 +1,6 @@
 //! Laws of a run's calls, each the contract of a function that does nothing.
 
-ghost use Rattle.std.specs.Prelude.{◌≡◌, ◌≤◌, ◌<◌, ◌↔◌, ℕ, ◌+◌, ◌-◌, true, Some, None, is_some, List, length, filter, slice_index, Contains};
+ghost use Rattle.std.specs.Prelude.{◌≡◌, ◌≤◌, ◌<◌, ◌↔◌, ℕ, ◌+◌, ◌-◌, ◌*◌, true, Some, None, is_some, List, length, slice_index, Contains};
 ghost use Rattle.trau_bits.specs.Bits.{octets_of};
 ghost use Rattle.trau_params.specs.Bits260.{bits260};
 ghost use Rattle.trau_frame.specs.declared.frames.DownFrame.TheVariants.{Speech};
@@ -14,14 +14,14 @@ ghost use Rattle.frame_sync.specs.declared.yields.Yield.TheVariants.{Frame};
 ghost use Rattle.call_leg.specs.Uplink.{handed_fields};
 ghost use Rattle.call_spec.specs.Call.{Call, Span as CallSpan};
 ghost use Rattle.call_spec.specs.Out.{out};
-ghost use Rattle.call_spec.specs.Down.{frame_by_number, frames_of_call, down};
+ghost use Rattle.call_spec.specs.Down.{frame_by_number, down};
 ghost use Rattle.call_spec.specs.Whole.{IsWhole, periods_of_call};
 ghost use Rattle.run_spec.specs.Run.{Run, done_in, spans_in, start_in, end_in, partner_in, periods_in};
 ghost use Rattle.run_spec.specs.Lines.{out_of_call, down_of_call};
-ghost use Rattle.run_spec.specs.Facts.{carries_in, sent_by, span_line};
+ghost use Rattle.run_spec.specs.Facts.{sent_by, span_line};
 ghost use Rattle.run_calls_spec.specs.Whole.{span_for, whole_call, IsBridged, item_for, yield_on, frame_on};
 ghost use Rattle.run_calls_spec.specs.Sent.{frame_count, sent_frames, frame_as_sent, frame_place, made_in, CarriesHanded, Sends, WaitsUnsent, IsFirstOfSpan};
-ghost use Rattle.run_calls_spec.specs.Sent.{HasOtherItems, DiffersInItems};
+ghost use Rattle.run_calls_spec.specs.Sent.{frames_with, HasOtherItems, DiffersInItems};
 
 use call_spec::{a_call_by_its_periods, frames_of_a_call};
 use rx_handler::laws::{the_newest_is_the_last, the_table_looks_back};
@@ -34,10 +34,12 @@ pub fn calls_are_whole()
 {}
 
 /// What a run writes on the outgoing lines of a call is what the definition gives for the call as a whole, and nothing
-/// else of the run.
+/// else of the run. Its Down line has 320 bits for each of its periods.
 pub fn lines_are_of_whole_calls()
     ensures out { (r : Run) (c : ℕ) → AreOrders r.orders → is_some (opened_at c (done_in r)) ≡ true → out_of_call r c ≡ out (whole_call r c) }
     ensures down { (r : Run) (c : ℕ) → AreOrders r.orders → is_some (opened_at c (done_in r)) ≡ true → down_of_call r c ≡ octets_of (down (whole_call r c)) }
+    ensures long { (r : Run) (c : ℕ) → AreOrders r.orders → is_some (opened_at c (done_in r)) ≡ true →
+        length (down (whole_call r c)) ≡ 320 * (end_in r c - start_in r c) }
 {
     a_call_by_its_periods();
 }
@@ -85,6 +87,13 @@ pub fn items_go_out_in_order_and_once()
         k < 320 → frame_place r c j + k < length (down (whole_call r c)) →
         slice_index (down (whole_call r c)) (frame_place r c j + k) ≡ slice_index (down_bits (frame_as_sent r c j)) k }
 
+    // The line goes so far that each but the frame made last stands on it whole: every frame that is made begins on it, or at its
+    // end.
+    ensures begins { (r : Run) (c j : ℕ) → AreOrders r.orders → is_some (opened_at c (done_in r)) ≡ true → j < frame_count r c →
+        frame_place r c j ≤ length (down (whole_call r c)) }
+    ensures whole { (r : Run) (c t : ℕ) (x : Span) (j : ℕ) → AreOrders r.orders → Sends r c t x j → j + 1 < frame_count r c →
+        frame_place r c j + 320 ≤ length (down (whole_call r c)) }
+
     // A frame carries nothing else: period h of the call is one of a bridge.
     ensures only { (r : Run) (c j h : ℕ) → AreOrders r.orders → (frame_by_number (whole_call r c) j).carries ≡ Some h →
         (x : Span) × IsBridged r c (start_in r c + h) x × CarriesHanded r c (start_in r c + h) x j }
@@ -106,18 +115,24 @@ pub fn items_go_out_in_order_and_once()
         (t ≤ made_in r c j) × (made_in r c j ≤ t + 1) }
     ensures one_waits { (r : Run) (c u t : ℕ) (x : Span) → AreOrders r.orders → WaitsUnsent r c u t x → u ≡ t + 1 }
 
-    // The report counts what goes out: the frames made that carry what was handed over in the span. In each direction at
-    // most one is lost.
-    ensures counted { (r : Run) (c : ℕ) (x : Span) → AreOrders r.orders → is_some (opened_at c (done_in r)) ≡ true →
-        sent_by r x c ≡ length (filter (λ f. carries_in (x.from - start_in r c) (x.to - start_in r c) f.carries) (frames_of_call (whole_call r c))) }
+    // The report counts what goes out: the frames made that carry what was handed over in the span. Its line of a bridge tells,
+    // of what A handed over, those that B made, and the other way round.
+    ensures counted { (r : Run) (c : ℕ) (x : Span) → AreOrders r.orders → is_some (opened_at c (done_in r)) ≡ true → sent_by r x c ≡ frames_with r c x }
+    ensures told { (r : Run) (x : Span) → AreOrders r.orders → Contains (spans_in r) x →
+        ((span_line r x).sent_a ≡ frames_with r x.b x) × ((span_line r x).sent_b ≡ frames_with r x.a x) }
+
+    // In each direction what is handed over in the periods of a bridge is sent or lost, and one frame at most is lost.
+    ensures sent_or_lost { (r : Run) (x : Span) → AreOrders r.orders → Contains (spans_in r) x → (x.from ≤ x.to) ×
+        ((span_line r x).sent_a + (span_line r x).lost_a ≡ x.to - x.from) × ((span_line r x).sent_b + (span_line r x).lost_b ≡ x.to - x.from) }
     ensures lost { (r : Run) (x : Span) → AreOrders r.orders → Contains (spans_in r) x → ((span_line r x).lost_a ≤ 1) × ((span_line r x).lost_b ≤ 1) }
 {
+    lines_are_of_whole_calls();
     items_are_the_partners_frames();
     frames_of_a_call();
 }
 
 /// Nothing else on a call's lines depends on what is handed to it: had it been handed other items in the same spans, they would
-/// be the same but in frames that carry an item.
+/// be the same but in the data bits of frames that carry an item.
 pub fn items_change_nothing_else()
     ensures { (r : Run) (c : ℕ) (other : Call) → AreOrders r.orders → is_some (opened_at c (done_in r)) ≡ true →
         HasOtherItems (whole_call r c) other → DiffersInItems (whole_call r c) other }

@@ -5,8 +5,8 @@
 //! and, within the spans of its bridges alone, what its partners' uplinks say. What is written on its outgoing lines are
 //! the octets that the definition gives for it. Nothing here runs: the crate is for readers of a run's contract.
 //!
-//! `laws` has the laws. Definitions: `specs/Whole.antt` (a call of a run as a whole), `specs/Sent.antt` (the
-//! frames of its downlink).
+//! `laws` has the laws. Definitions: `specs/Whole.antt` (a call of a run as a whole), `specs/Sent.antt` (the frames of its
+//! downlink, which of them carries what its partner hands over in a period, and what of its lines doesn't depend on that).
 #![tactic(auto)]
 
 mod laws;

@@ -1,3 +1,4 @@
+use Rattle.std.proofs.Common.{refl}
 use Rattle.run_spec.specs.Run.{Run, spans_in}
 use Rattle.trau_orders.specs.Lists.{AreOrders}
 use Rattle.farm_top.specs.Headline.{GoesOut, HandsOver}
@@ -11,7 +12,8 @@ returns g =
     let going = g.items_go_out_in_order_and_once.ensures in
     let hands : (r : Run) → AreOrders r.orders → HandsOver r =
     λ r are. record {
-      reported = spans_told r (spans_in r);
+      reported = λ failed. spans_told r (spans_in r);
+      line_for_each = λ failed. refl;
       both = λ c t x. items.both r c t x are;
       within = λ c t x. items.frame r c t x are;
       outside = λ c t. items.none r c t are;
@@ -21,7 +23,10 @@ returns g =
       goes = λ c t x. going.goes r c t x are;
       sent = λ c t x j. going.sent r c t x j are;
       unchanged = λ c t x j p bits. going.good r c t x j p bits are;
+      long = λ c. lines.long r c are;
       on_line = λ c t x j k. going.on_line r c t x j k are;
+      begins = λ c j opened. going.begins r c j are opened;
+      whole = λ c t x j. going.whole r c t x j are;
       only = λ c j h. going.only r c j h are;
       first = λ c x. going.first _ _;
       place = λ c t x first j. going.place r c t x first j are;
@@ -30,6 +35,8 @@ returns g =
       soon = λ c t x j. going.soon r c t x j are;
       one_waits = λ c u t x. going.one_waits r c u t x are;
       counted = λ c x. going.counted r c x are;
+      told = λ x. going.told r x are;
+      sent_or_lost = λ x. going.sent_or_lost r x are;
       lost = λ x. going.lost r x are;
       nothing_else = λ c other opened. g.items_change_nothing_else.ensures r c other are opened;
     } in record {

@@ -4,8 +4,8 @@ use Rattle.call_leg.specs.Uplink.{handed_fields}
 use Rattle.run_spec.specs.Run.{partner_in}
 use Rattle.run_calls_spec.specs.Whole.{frame_on}
 use Rattle.run_calls_spec.proofs.Carried.{carried_only}
-use Rattle.run_calls_spec.proofs.Going.{handed_goes, handed_soon, one_waits, sent_counted, one_lost}
-use Rattle.run_calls_spec.proofs.OnLine.{handed_on_line}
+use Rattle.run_calls_spec.proofs.Going.{handed_goes, handed_soon, one_waits, sent_counted, one_lost, frames_told, all_told}
+use Rattle.run_calls_spec.proofs.OnLine.{handed_on_line, begins_on_line, whole_on_line}
 use Rattle.run_calls_spec.proofs.Places.{first_made}
 use Rattle.run_calls_spec.proofs.Sent.{each_sent, sent_handed, handed_place, handed_in_order, handed_once}
 use Rattle.run_calls_spec.proofs.laws.items_go_out_in_order_and_once.Goals as goal
@@ -27,6 +27,12 @@ returns-clause-good g = λ r c t x j p bits a s y good.
 
 pub returns-clause-on_line : goal.returns-clause-on_line
 returns-clause-on_line g = handed_on_line g.frames_of_a_call.ensures.items
+
+pub returns-clause-begins : goal.returns-clause-begins
+returns-clause-begins g = begins_on_line g.lines_are_of_whole_calls.ensures.long
+
+pub returns-clause-whole : goal.returns-clause-whole
+returns-clause-whole g = whole_on_line g.frames_of_a_call.ensures.items g.lines_are_of_whole_calls.ensures.long
 
 pub returns-clause-only : goal.returns-clause-only
 returns-clause-only g = carried_only
@@ -51,6 +57,12 @@ returns-clause-one_waits g = one_waits g.frames_of_a_call.ensures.items g.frames
 
 pub returns-clause-counted : goal.returns-clause-counted
 returns-clause-counted g = sent_counted
+
+pub returns-clause-told : goal.returns-clause-told
+returns-clause-told g = frames_told
+
+pub returns-clause-sent_or_lost : goal.returns-clause-sent_or_lost
+returns-clause-sent_or_lost g = all_told
 
 pub returns-clause-lost : goal.returns-clause-lost
 returns-clause-lost g = one_lost g.frames_of_a_call.ensures.items g.frames_of_a_call.ensures.enough
