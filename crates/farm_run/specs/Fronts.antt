@@ -1,6 +1,6 @@
 -- What a run that want of memory cut short leaves on the lines (this project's profile). `before` are the lines before it,
 -- `now` those after it.
-use Rattle.std.specs.Prelude.{◌≡◌, ℕ, Bool, List, take}
+use Rattle.std.specs.Prelude.{◌≡◌, ℕ, Bool, true, false, List, take}
 use Rattle.std.specs.Io.KnownBytes.{Appends}
 use Rattle.trau_io.specs.declared.line.Side.{Side}
 use Rattle.trau_io.specs.declared.line.Side.TheVariants.{Down, Out}
@@ -9,17 +9,19 @@ use Rattle.trau_orders.specs.declared.order.Order.{Order}
 use Rattle.trau_orders.specs.Lists.{AreOrders}
 use Rattle.run_spec.specs.Run.{Run, IsOpened}
 use Rattle.run_spec.specs.Lines.{out_of_call, down_of_call}
-use Rattle.farm_run.specs.Runs.{AreFailures, IsRunOver, AreTold, KeepsSides, ReadsOn}
+use Rattle.farm_run.specs.Runs.{AreFailures, HasWritten, IsRunOver, AreTold, KeepsSides, ReadsOn}
 
--- a line has gained a front of these octets
-abbrev pub HasFront : LineState → LineState → List ℕ → Type 0
-HasFront before now octets = (n : ℕ) × Appends before.written now.written (take n octets)
+-- An outgoing line has gained a front of these octets, maybe all, or, where it failed, a proper front of them, as in a run that
+-- was carried to its end.
+abbrev pub HasFront : Bool → LineState → LineState → List ℕ → Type 0
+HasFront false before now octets = (n : ℕ) × Appends before.written now.written (take n octets)
+HasFront true before now octets = HasWritten true before now octets
 
 -- What a run leaves on the lines where it stops before its end.
-pub record LeavesFronts (r : Run) (before now : ℕ → Side → LineState) : Type 0 where
-  -- the outgoing lines of each call that it opens have gained a front of what the run gives them
-  pub out : (c : ℕ) → IsOpened r c → HasFront (before c Out) (now c Out) (out_of_call r c)
-  pub down : (c : ℕ) → IsOpened r c → HasFront (before c Down) (now c Down) (down_of_call r c)
+pub record LeavesFronts (r : Run) (fails : ℕ → Side → Bool) (before now : ℕ → Side → LineState) : Type 0 where
+  -- the outgoing lines of each call that it opens have gained a front of what the run gives them, those that failed a proper one
+  pub out : (c : ℕ) → IsOpened r c → HasFront (fails c Out) (before c Out) (now c Out) (out_of_call r c)
+  pub down : (c : ℕ) → IsOpened r c → HasFront (fails c Down) (before c Down) (now c Down) (down_of_call r c)
   -- the lines of all other calls are as they were, their counts included
   pub others : (c : ℕ) (s : Side) → (IsOpened r c → ⊥) → now c s ≡ before c s
 
@@ -31,7 +33,7 @@ pub record IsCutShort (orders : List Order) (periods : ℕ) (before now : ℕ �
   -- incoming lines were only read, from the front, and outgoing ones only written
   pub sides : KeepsSides before now
   pub reads : ReadsOn before now
-  -- each outgoing line holds a front of what the whole run over what the lines gave gives it ..
-  pub fronts : (r : Run) → IsRunOver orders periods fails before now r → LeavesFronts r before now
+  -- each outgoing line holds a front of what the whole run over what the lines gave gives it, one that failed a proper front ..
+  pub fronts : (r : Run) → IsRunOver orders periods fails before now r → LeavesFronts r fails before now
   -- .. and there is such a run of orders that are in range, wherever the lines tell what they hold
   pub there : AreOrders orders → AreTold before → (r : Run) × IsRunOver orders periods fails before now r

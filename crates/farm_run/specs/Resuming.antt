@@ -83,10 +83,10 @@ Resumes orders pace mark before now (Differs call) = FindsDifference orders pace
 
 -- What a run leaves on the lines where it stops before its end, and the outgoing octets of the periods before `from` are held
 -- back.
-pub record LeavesFrontsFrom (r : Run) (from : ℕ) (before now : ℕ → Side → LineState) : Type 0 where
-  -- the outgoing lines of each call that it opens have gained a front of what the run gives them from there on
-  pub out : (c : ℕ) → IsOpened r c → HasFront (before c Out) (now c Out) (drop (160 * worked_to r from c) (out_of_call r c))
-  pub down : (c : ℕ) → IsOpened r c → HasFront (before c Down) (now c Down) (drop (40 * worked_to r from c) (down_of_call r c))
+pub record LeavesFrontsFrom (r : Run) (from : ℕ) (fails : ℕ → Side → Bool) (before now : ℕ → Side → LineState) : Type 0 where
+  -- the outgoing lines of each call that it opens have gained a front of what the run gives them from there on, those that failed a proper one
+  pub out : (c : ℕ) → IsOpened r c → HasFront (fails c Out) (before c Out) (now c Out) (drop (160 * worked_to r from c) (out_of_call r c))
+  pub down : (c : ℕ) → IsOpened r c → HasFront (fails c Down) (before c Down) (now c Down) (drop (40 * worked_to r from c) (down_of_call r c))
   -- the lines of all other calls are as they were, their counts included
   pub others : (c : ℕ) (s : Side) → (IsOpened r c → ⊥) → now c s ≡ before c s
 
@@ -98,8 +98,9 @@ pub record IsResumeCutShort (orders : List Order) (periods : ℕ) (mark : MarkVi
   -- incoming lines were only read, from the front, and outgoing ones only written
   pub sides : KeepsSides before now
   pub reads : ReadsOn before now
-  -- each outgoing line holds a front of what the whole run over what the lines gave gives it from the mark's period on,
-  pub fronts : (r : Run) → IsRunOver orders periods fails before now r → LeavesFrontsFrom r mark.period before now
+  -- each outgoing line holds a front of what the whole run over what the lines gave gives it from the mark's period on, one that
+  -- failed a proper front,
+  pub fronts : (r : Run) → IsRunOver orders periods fails before now r → LeavesFrontsFrom r mark.period fails before now
   -- and where the run to the mark's period hasn't the mark's calls, each is as it was, its counts included
   pub held : (r : Run) → IsRunOver orders mark.period fails before now r → marked_calls r ≢ mark.calls →
       (c : ℕ) (s : Side) → IsOutgoing s → now c s ≡ before c s

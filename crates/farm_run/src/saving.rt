@@ -51,7 +51,7 @@ pub fn save<R: Threads + Wait + Sync, T: Trunk, G: Gate + Sync>(
     requires { IsPace pace.now }
     ensures saves { IfOk result (λ saved. Saves orders pace.now (T.lines trunk.old) (T.lines trunk.new) saved) }
 
-    // Where there was no memory, each outgoing line holds a front of what the run gives.
+    // Where there was no memory, each outgoing line holds a front of what the run gives, one that failed a proper front.
     ensures cut { OnErr result (IsCutShort orders pace.now.periods (T.lines trunk.old) (T.lines trunk.new)) }
 
     // Incoming lines are only read and outgoing ones only written, also where there was no memory.

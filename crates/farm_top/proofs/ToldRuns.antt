@@ -80,10 +80,10 @@ told_by_save s before now desk' status orders read (inr cut) = inr cut
 
 -- ---- where there was no memory
 
--- what a line holds is a front of it
-pub front_whole : (fails : Bool) (first now : LineState) (octets : List ℕ) → HasWritten fails first now octets → HasFront first now octets
+-- what a line holds that a whole run wrote is a front of it, a proper one where the line failed
+pub front_whole : (fails : Bool) (first now : LineState) (octets : List ℕ) → HasWritten fails first now octets → HasFront fails first now octets
 front_whole false first now octets w = (length octets, subst (Appends first.written now.written) (sym (take_all (length octets) octets (omega arith))) w)
-front_whole true first now octets w = (w.0, w.2)
+front_whole true first now octets w = w
 
 -- no line was used
 pub cut_none : (orders : List Order) (periods : ℕ) (before now : ℕ → Side → LineState) → AllStay before now → IsCutShort orders periods before now

@@ -1,5 +1,5 @@
 -- A run that want of memory cut short.
-use Rattle.std.proofs.Common.{◌≡◌, refl, sym, subst, ℕ, ◌-◌, ◌≤◌, List, [], arith}
+use Rattle.std.proofs.Common.{◌≡◌, refl, sym, subst, ℕ, ◌-◌, ◌≤◌, Bool, false, List, [], arith}
 use Rattle.std.specs.Prelude.{min, Result, Ok, Err, OnErr}
 use Rattle.std.specs.Io.KnownBytes.{Appends}
 use Rattle.std.proofs.KnownBytes.{Appends-nil}
@@ -11,14 +11,14 @@ use Rattle.trau_orders.specs.declared.order.Order.{Order}
 use Rattle.switchboard.specs.Ends.{start_of}
 use Rattle.switchboard.specs.State.{State}
 use Rattle.farm_rounds.specs.declared.call.Group.{Group}
-use Rattle.round_lines.specs.Rounds.{IsOutgoing}
 use Rattle.farm_checkpoint.specs.Marks.{MarkView}
 use Rattle.run_spec.specs.Run.{Run, done_in, end_in, IsOpened, worked_to}
 use Rattle.run_spec.specs.Mark.{marked_calls}
 use Rattle.farm_run.specs.Runs.{TellsFailed, KeepsSides, ReadsOn, IsRunOver, is_listed}
 use Rattle.farm_run.specs.Standing.{standing}
-use Rattle.farm_run.specs.Fronts.{LeavesFronts, IsCutShort}
+use Rattle.farm_run.specs.Fronts.{HasFront, LeavesFronts, IsCutShort}
 use Rattle.farm_run.specs.Resuming.{IsResumeCutShort}
+use Rattle.farm_run.specs.Stages.{HoldsBack}
 use Rattle.farm_run.specs.Clock.{WrittenFrom, IsAtClock}
 use Rattle.farm_run.proofs.Lines.Being.{there_is}
 use Rattle.farm_run.proofs.Clocks.First.{tells_none}
@@ -36,10 +36,10 @@ pub err_more : {T E P Q : Type 0} (o : Result T E) → (P → Q) → OnErr o P �
 err_more (Ok x) h p = tt
 err_more (Err e) h p = h p
 
--- **At a clock each outgoing line holds a front of what the run gives.**
+-- **At a clock each outgoing line holds a front of what the run gives, one that failed a proper front.**
 fronts_at : (r : Run) (t : ℕ) (b : State) (groups : List Group) (failed : List Line) (first now : ℕ → Side → LineState) →
     IsAtClock r t b groups (standing b failed now) first now →
-    WrittenFrom r 0 t (is_listed failed) first now → LeavesFronts r first now
+    WrittenFrom r 0 t (is_listed failed) first now → LeavesFronts r (is_listed failed) first now
 fronts_at r t b groups failed first now at wrote = record {
   out = λ c i. out_front r c (worked_to r t c) (end_in r c - start_of (done_in r) c) (is_listed failed c Out) (first c Out) (now c Out)
       (least (end_in r c) (start_of (done_in r) c)) (all_out r t c (is_listed failed) first now wrote i);
@@ -90,26 +90,28 @@ cut_first os periods lines = record {
 -- **So is one that wrote nothing yet.**
 pub cut_before : (os : List Order) (periods : ℕ) (mark : MarkView) (failed : List Line) (first now : ℕ → Side → LineState) → TellsFailed first now failed →
     KeepsSides first now → ReadsOn first now →
-    ((c : ℕ) (s : Side) → IsOutgoing s → now c s ≡ first c s) →
+    HoldsBack (is_listed []) (is_listed failed) first now →
     ((r : Run) → IsRunOver os periods (is_listed failed) first now r → (c : ℕ) (s : Side) → (IsOpened r c → ⊥) → now c s ≡ first c s) →
     IsResumeCutShort os periods mark first now
-cut_before os periods mark failed first now tells sides reads unwritten others = record {
+cut_before os periods mark failed first now tells sides reads back others = record {
   fails = is_listed failed;
   told = tells.failures;
   sides = sides;
   reads = reads;
   fronts = λ r run. record {
-    out = λ c i. (0, none (first c Out) (now c Out) (unwritten c Out tt));
-    down = λ c i. (0, none (first c Down) (now c Down) (unwritten c Down tt));
+    out = λ c i. none (is_listed failed c Out) (first c Out) (now c Out) _ (back.listed c Out tt) (back.lines c Out tt);
+    down = λ c i. none (is_listed failed c Down) (first c Down) (now c Down) _ (back.listed c Down tt) (back.lines c Down tt);
     others = others r run;
   };
-  held = λ r run differs. unwritten;
+  held = λ r run differs. back.lines;
   there = λ are told n. there_is os n (is_listed failed) first now are
       (λ c s n i. let octets = told c s n i in let k = reads c s octets.0 i octets.1 in (octets.0, k.0, octets.1, k.1));
 }
   where
-    none : (was is : LineState) → is ≡ was → Appends was.written is.written []
-    none was is e = subst (λ (l : LineState). Appends was.written l.written []) (sym e) (Appends-nil was.written)
+    none : (fails : Bool) (was is : LineState) (octets : List ℕ) → fails ≡ false → is ≡ was → HasFront fails was is octets
+    none fails was is octets f e =
+        subst (λ (x : Bool). HasFront x was is octets) (sym f)
+        (0, subst (λ (l : LineState). Appends was.written l.written []) (sym e) (Appends-nil was.written))
 
 -- **So is one that stops at a clock behind the mark's period, where the mark is the run's.**
 pub cut_behind : (os : List Order) (periods : ℕ) (mark : MarkView) (t : ℕ) (b : State) (groups : List Group) (failed : List Line)

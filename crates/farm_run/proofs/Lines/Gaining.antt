@@ -40,52 +40,53 @@ gains first before now was stands front octets g = by (has_failed was) refl (has
               (subst (Appends first.written before.written) (sym (take-append-le w.0 front octets (omega (arith, l)))) w.2),
         )
 
--- what was written of the first octets is a front of all
-front_of : (fails : Bool) (first now : LineState) (some more : List ℕ) → HasWritten fails first now some → HasFront first now (some ++ more)
+-- what was written of the first octets is a front of all, a proper one where the line failed inside them
+front_of : (fails : Bool) (first now : LineState) (some more : List ℕ) → HasWritten fails first now some → HasFront fails first now (some ++ more)
 front_of false first now some more w = (
   length some,
   subst (Appends first.written now.written)
       (sym (take-append-le (length some) some more (omega arith) ∙ take_all (length some) some (omega arith))) w,
 )
-front_of true first now some more w = let l =
-    w.1 in (w.0, subst (Appends first.written now.written) (sym (take-append-le w.0 some more (omega (arith, l)))) w.2)
+front_of true first now some more w =
+    let l = w.1 in
+    (w.0, omega (arith, l, length-append some more), subst (Appends first.written now.written) (sym (take-append-le w.0 some more (omega (arith, l)))) w.2)
 
 -- ---- of more periods
 
--- **What was written of the first m periods is a front of what any more give.**
+-- **What was written of the first m periods is a front of what any more give, a proper one where the line failed.**
 pub out_front : (r : Run) (c m n : ℕ) (fails : Bool) (first now : LineState) → m ≤ n → HasWritten fails first now (out_line (who_in r c) (periods_to r c m)) →
-    HasFront first now (out_line (who_in r c) (periods_to r c n))
+    HasFront fails first now (out_line (who_in r c) (periods_to r c n))
 out_front r c m n fails first now l w =
     let more = out_more r c m (n - m) n (omega (arith, l)) in
-    subst (HasFront first now) (sym more.1) (front_of fails first now (out_line (who_in r c) (periods_to r c m)) more.0 w)
+    subst (HasFront fails first now) (sym more.1) (front_of fails first now (out_line (who_in r c) (periods_to r c m)) more.0 w)
 
 -- the same of the downlink
 pub down_front : (r : Run) (c m n : ℕ) (fails : Bool) (first now : LineState) → m ≤ n →
-    HasWritten fails first now (down_octets (who_in r c) (periods_to r c m)) → HasFront first now (down_octets (who_in r c) (periods_to r c n))
+    HasWritten fails first now (down_octets (who_in r c) (periods_to r c m)) → HasFront fails first now (down_octets (who_in r c) (periods_to r c n))
 down_front r c m n fails first now l w =
     let more = down_on r c m (n - m) n (omega (arith, l)) in
-    subst (HasFront first now) (sym more.1) (front_of fails first now (down_octets (who_in r c) (periods_to r c m)) more.0 w)
+    subst (HasFront fails first now) (sym more.1) (front_of fails first now (down_octets (who_in r c) (periods_to r c m)) more.0 w)
 
 -- **So it is where what the first k periods give was held back.**
 pub out_front_from : (r : Run) (c k m n : ℕ) (fails : Bool) (first now : LineState) → k ≤ m → m ≤ n →
     HasWritten fails first now (drop (160 * k) (out_line (who_in r c) (periods_to r c m))) →
-    HasFront first now (drop (160 * k) (out_line (who_in r c) (periods_to r c n)))
+    HasFront fails first now (drop (160 * k) (out_line (who_in r c) (periods_to r c n)))
 out_front_from r c k m n fails first now back l w =
     let more = out_more r c m (n - m) n (omega (arith, l)) in
     let old = out_line (who_in r c) (periods_to r c m) in
     let fits : 160 * k ≤ length old = omega (arith, length-out_line (who_in r c) (periods_to r c m), length-periods_to r c m, back) in
-    subst (HasFront first now) (sym (ap (drop (160 * k)) more.1 ∙ drop-append-le (160 * k) old more.0 fits))
+    subst (HasFront fails first now) (sym (ap (drop (160 * k)) more.1 ∙ drop-append-le (160 * k) old more.0 fits))
     (front_of fails first now (drop (160 * k) old) more.0 w)
 
 -- the same of the downlink
 pub down_front_from : (r : Run) (c k m n : ℕ) (fails : Bool) (first now : LineState) → k ≤ m → m ≤ n →
     HasWritten fails first now (drop (40 * k) (down_octets (who_in r c) (periods_to r c m))) →
-    HasFront first now (drop (40 * k) (down_octets (who_in r c) (periods_to r c n)))
+    HasFront fails first now (drop (40 * k) (down_octets (who_in r c) (periods_to r c n)))
 down_front_from r c k m n fails first now back l w =
     let more = down_on r c m (n - m) n (omega (arith, l)) in
     let old = down_octets (who_in r c) (periods_to r c m) in
     let fits : 40 * k ≤ length old = omega (arith, length-down_octets (who_in r c) (periods_to r c m), length-periods_to r c m, back) in
-    subst (HasFront first now) (sym (ap (drop (40 * k)) more.1 ∙ drop-append-le (40 * k) old more.0 fits))
+    subst (HasFront fails first now) (sym (ap (drop (40 * k)) more.1 ∙ drop-append-le (40 * k) old more.0 fits))
     (front_of fails first now (drop (40 * k) old) more.0 w)
 
 -- **At the period from which on a line is written, it has gained nothing.**

@@ -8,7 +8,6 @@ use Rattle.trau_io.specs.declared.line.Side.{Side}
 use Rattle.trau_io.specs.declared.line.Side.TheVariants.{Down, Out}
 use Rattle.trau_io.specs.Lines.{LineState}
 use Rattle.trau_orders.specs.declared.order.Order.{Order}
-use Rattle.round_lines.specs.Rounds.{IsOutgoing}
 use Rattle.farm_checkpoint.specs.declared.mark.MarkCall.{MarkCall}
 use Rattle.farm_checkpoint.specs.Marks.{MarkView}
 use Rattle.farm_checkpoint.specs.Differences.{IsLeastDifference}
@@ -57,8 +56,8 @@ module _ (os : List Order) (batch periods : ℕ) (first now : ℕ → Side → L
       (λ r run least. wrote r (standing u.board u.farm.failed now) run (omega (arith, l, least)) (stays (standing u.board u.farm.failed now)))
 
   -- **So is a resumed one that wrote nothing,**
-  pub cut_unwritten : (mark : MarkView) → ((c : ℕ) (s : Side) → IsOutgoing s → now c s ≡ first c s) → IsResumeCutShort os periods mark first now
-  cut_unwritten mark unwritten = cut_before os periods mark u.farm.failed first now g.tells g.sides g.reads unwritten
+  pub cut_unwritten : (mark : MarkView) → HoldsBack (is_listed []) (is_listed u.farm.failed) first now → IsResumeCutShort os periods mark first now
+  cut_unwritten mark back = cut_before os periods mark u.farm.failed first now g.tells g.sides g.reads back
       (λ r run. let e = run.same_periods in
       let here = at_here r (subst (λ (p : ℕ). IsRunOver os p (is_listed u.farm.failed) first now r) (sym e) run) (omega (arith, e)) in here.lines.others)
 
@@ -86,15 +85,17 @@ pub held_cut : (os : List Order) (batch periods until : ℕ) (mark : MarkView) (
     is_held o ≡ true → until ≤ periods →
     ((after : Stage) × (after.clock ≤ until) × Reaches batch s after first now) → IsResumeCutShort os periods mark first now
 held_cut os batch periods until mark o s first now f held within after =
+    let u = after.0 in
     let back = (let h = after.2 in h.back (ap is_held f.way ∙ held)) in
     let l = after.1 in
     cut_unwritten os batch periods first now after.0 (gone_more os batch first first now s after.0 (gone_first os batch o s first f) after.2)
-    (omega (arith, l, within)) mark back.lines
+    (omega (arith, l, within)) mark (subst (λ (ls : List Line). HoldsBack (is_listed ls) (is_listed u.farm.failed) first now) f.none_failed back)
 
 -- **So is one that didn't begin.**
 pub unbegun_cut : (os : List Order) (periods : ℕ) (mark : MarkView) (lines : ℕ → Side → LineState) → IsResumeCutShort os periods mark lines lines
 unbegun_cut os periods mark lines =
-    cut_before os periods mark [] lines lines (tells_none lines) (sides_none lines) (λ c s octets i e. (0, e)) (λ c s o. refl) (λ r run c s none. refl)
+    cut_before os periods mark [] lines lines (tells_none lines) (sides_none lines) (λ c s octets i e. (0, e))
+    (record { lines = λ c s o. refl; listed = λ c s o. refl }) (λ r run c s none. refl)
 
 -- ---- where the mark is compared
 
