@@ -103,6 +103,8 @@ class Started(InFolder):
         pid, terminal = pty.fork()
         if pid == 0:
             os.chdir(self.folder)
+            # As a shell at a terminal starts it, also where these tests run in the background, which ignores control-C.
+            signal.signal(signal.SIGINT, signal.SIG_DFL)
             os.execve(self.top / name, [name, *words], {**self.surroundings, "TERM": "dumb", **changes})
         said = b""
         while select.select([terminal], [], [], 20)[0]:
