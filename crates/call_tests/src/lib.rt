@@ -1,4 +1,4 @@
-//! Tests of the crates that work one call, and two that are bridged.
+//! Tests of the crates that work one call, and two that are bridged; of a live farm, and of the base station's end.
 //!
 //! They stand apart from what they test: a crate with tests is proved a second time with them; these go through public
 //! functions only.

@@ -1,4 +1,4 @@
-//! A desk of which one call fails.
+//! A desk of which one operation fails.
 
 ghost use Rattle.std.specs.Prelude.{None};
 ghost use Rattle.trau_io.specs.Desks.{DeskState};
@@ -50,7 +50,7 @@ impl FailingDesk {
         }
     }
 
-    // A desk of which no call fails.
+    // A desk of which no operation fails.
     pub(crate) fn calm(rt: &impl Abort, alloc: Global, orders: &str) -> FailingDesk {
         FailingDesk::new(rt, alloc, orders, NONE, NONE)
     }

@@ -1,5 +1,5 @@
 //! The command `run` over two calls, of which each line fails once at each of its first ten calls: 80 runs. Each is compared
-//! with a run over the octets that were given, of which no call fails.
+//! with a run over the octets that were given, of which no operation fails.
 
 use crate::lines::{NONE, line};
 use crate::two_calls::{OF_40, OF_160, Outcome, calm, carry_calm, lay};
@@ -97,7 +97,7 @@ fn is_incoming(side: Side) -> bool {
     side == Up || side == Pcm
 }
 
-// The lines of both calls, of which this one fails at call `number`.
+// The lines of both calls, of which this one fails at operation `number`.
 fn failed_at(rt: &impl Abort, alloc: Global, row: &Failing, number: u32) -> MemTrunk {
     let mut trunk = calm(rt, alloc);
     let octets = match row.side {
@@ -169,7 +169,7 @@ fn have_fronts(trunk: &MemTrunk, other: &MemTrunk, row: &Failing, before: usize)
         && trunk.faults(line(row.call, row.side)) == 1
 }
 
-// Whether a run in which a line fails at call `number` is as that over the octets that were given.
+// Whether a run in which a line fails at operation `number` is as that over the octets that were given.
 fn is_as_given<R: Abort + Threads + Wait + Sync>(
     rt: &R,
     alloc: Global,

@@ -15,7 +15,7 @@ struct Row {
     text: &'static str,
     // The periods on its incoming lines: an uplink without a frame, and an idle Pcm line.
     periods: usize,
-    // Which call of the outside fails on Up, Pcm, Down and Out, and which write of the desk.
+    // Which operation fails on Up, Pcm, Down and Out, and which write of the desk.
     fails: [u32; 4],
     desk_fails: u32,
     status: u8,

@@ -12,7 +12,7 @@ use trau_io::{MemTrunk, Side};
 // A command on slot 1, and what comes of it.
 struct Row {
     command: &'static str,
-    // Lines with their octets, and which call of the outside fails there.
+    // Lines with their octets, and which operation fails there.
     lines: &'static [(u32, Side, &'static [u8], u32)],
     desk_fails: u32,
     status: u8,

@@ -1,4 +1,4 @@
-//! The commands of one call, with its lines in memory, where one call of the outside fails.
+//! The commands of one call, with its lines in memory, where one operation fails.
 
 use crate::lines::{NONE, line, trunk_of};
 use farm_top::farm_top;
@@ -251,7 +251,7 @@ fn failed_as_due<R: Abort + Threads + Wait + Sync>(
 }
 
 #[test]
-fn each_call_of_the_outside_fails_in_turn(rt: HostRuntime) {
+fn each_operation_fails_in_turn(rt: HostRuntime) {
     for row in &ROWS {
         for turn in row.turns {
             let failed = failed_as_due(&rt, rt.alloc(), row, turn);

@@ -10,7 +10,7 @@ pub(crate) fn line(call: u32, side: Side) -> Line {
     Line { call, side }
 }
 
-// The number of a call of the outside that doesn't come.
+// The number of an operation that doesn't come.
 pub(crate) const NONE: u32 = 1000;
 
 // A line by its call and side: how many octets lie on it, in pieces of at most how many octets, and which call of the
@@ -89,7 +89,7 @@ pub(crate) fn trunk_of(rt: &impl Abort, alloc: Global, lines: &[Laid]) -> MemTru
 }
 
 // The lines of call 1, in one piece: so many octets of an uplink without a frame, and of an idle Pcm line. By side, which
-// call of the outside fails there.
+// operation fails there.
 pub(crate) fn quiet_lines(
     rt: &impl Abort,
     alloc: Global,

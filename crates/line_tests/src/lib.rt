@@ -1,5 +1,5 @@
 //! Tests of the crates that read and write, and of those that keep an account: numbers, bits, frames, lines, files,
-//! orders and words; the board, the pool machine and the report.
+//! orders, marks, drills and words; the board, the pool machine and the report.
 //!
 //! They stand apart from what they test: a crate with tests is proved a second time with them; these go through public
 //! functions only.

@@ -58,7 +58,7 @@ pub record OpenLine : Type 0 where
 abbrev pub IsOpenAt : Option OpenLine → ℕ → Side → Access → ℕ → Type 0
 IsOpenAt file call side access at = file ≡ Some (record { call = call; side = side; access = access; at = at })
 
--- the line's file after a call at this octet with this answer: it stands behind the octets that were moved, and a fault closes it
+-- the line's file after an operation at this octet with this answer: it stands behind the octets that were moved, and a fault closes it
 abbrev pub file_after : {E : Type 0} → ℕ → Side → Access → ℕ → Result ℕ E → Option OpenLine
 file_after call side access at (Ok n) = Some (record { call = call; side = side; access = access; at = raised at n })
 file_after call side access at (Err e) = None

@@ -1,8 +1,8 @@
 //! Single reads and writes that a signal doesn't turn into faults.
 //!
 //! Neither the standard library nor the system starts a read or a write again where a signal came
-//! before it moved an octet: it answers `Interrupted`. Nothing has moved then, so that the same call is
-//! made again and no octet is lost. A call that moved some octets first answers their number.
+//! before it moved an octet: it answers `Interrupted`. Nothing has moved then, so that the same
+//! operation is tried again and no octet is lost. One that moved some octets first answers their number.
 ghost use Rattle.std.specs.Prelude.{◌<◌, IfOk};
 ghost use Rattle.std.specs.Io.{ReadsAtMost, WritesAtMost};
 ghost use Rattle.std.specs.Io.KnownBytes.{ReadConsumes, WriteAppends};
@@ -10,7 +10,7 @@ ghost use Rattle.std.specs.Io.KnownBytes.{ReadConsumes, WriteAppends};
 use std::io;
 use std::io::{ErrorKind, Read, Write};
 
-// No outside interrupts a call so often, and each loop ends.
+// No outside interrupts an operation so often, and each loop ends.
 const TRIES: u32 = 1000;
 
 /// One read, made again where a signal interrupted it.

@@ -37,7 +37,7 @@ impl<'a, R: Files> Model for FileTrunk<'a, R> {
 }
 
 impl<'a, R: Files> FileTrunk<'a, R> {
-    /// All lines before their first call. No file is touched yet.
+    /// All lines before their first operation. No file is touched yet.
     pub fn new(alloc: Global, files: &'a R) -> Result<FileTrunk<'a, R>, AllocError>
         ensures number { IfOk result (λ t. length t.lines ≡ PLACES) }
         ensures each { IfOk result (λ t. All (λ l. l ≡ record { read = 0; written = 0; faults = 0 }) t.lines) }

@@ -25,7 +25,7 @@ impl Model for LineFile {
 }
 
 impl LineFile {
-    /// A file before the first call of its line.
+    /// A file before the first operation of its line.
     pub fn new() -> LineFile
         ensures { result ≡ record { read = 0; written = 0; faults = 0 } }
     {
