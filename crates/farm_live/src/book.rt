@@ -36,7 +36,8 @@ impl Model for Book {
     ghost view = { λ b. record { is_of = b.of; history = b.history.items; inbox = b.inbox.items } };
 
     ghost invariant = { λ b. IsLegal b.of.call b.history.items × Stands (who_at b.of.call) (periods_after [] b.history.items) new_settings b.leg.value ×
-        (periods_of_leg b.leg.value ≡ length b.history.items) × (b.of.room ≡ b.inbox.capacity) × (b.left.items ≡ []) × (b.inbox.capacity ≤ vec_capacity b.left) };
+        (periods_of_leg b.leg.value ≡ length b.history.items) × (b.of.room ≡ b.inbox.capacity) × (b.left.items ≡ []) ×
+        (b.inbox.capacity ≤ vec_capacity b.left) };
 }
 
 impl Book {

@@ -8,4 +8,5 @@ pub mod Sent
 pub mod Carried
 pub mod OnLine
 pub mod Going
+mod Carrying
 pub mod Apart

@@ -19,7 +19,8 @@ invariant_of-self-2 c =
     let more = leg_one_more call es e c.self.inside.leg.value leg inv.0 inv.1
     (subst (λ l. WorksOn l e leg) boxed c.period-entry.ensures.worked) in
     let items : c.push_reserved.new.self.items ≡ es ++ e ∷ [] = c.push_reserved.ensures.items ∙ ap (λ l. l ++ e ∷ []) c.in_ok-reserve.ensures.items in
-    let long : periods_of_leg leg ≡ length (es ++ e ∷ []) = omega (arith, c.period-entry.ensures.periods, ap periods_of_leg boxed, inv.2, length-append es (e ∷ [])) in
+    let long : periods_of_leg leg ≡ length (es ++ e ∷ []) =
+    omega (arith, c.period-entry.ensures.periods, ap periods_of_leg boxed, inv.2, length-append es (e ∷ [])) in
     let rest = inv.3 in (
       subst (λ (l : List Entry). IsLegal call l) (sym items) more.0,
       subst (λ (l : List Entry). Stands (who_at call) (periods_after [] l) new_settings leg) (sym items) more.1,
