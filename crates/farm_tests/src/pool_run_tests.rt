@@ -171,7 +171,7 @@ fn jobs_are_stolen_half_done(rt: HostRuntime) {
     for (one, other) in &PAIRS {
         assert!(rt;
             each_wait_is_answered(&rt, rt.alloc(), *one, *other),
-            "calls {one} and {other}"
+            "jobs {one} and {other}"
         );
     }
 }

@@ -13,7 +13,15 @@ use Rattle.run_spec.specs.Run.{Run, start_in}
 use Rattle.run_spec.specs.Facts.{carries_in}
 use Rattle.run_calls_spec.specs.Whole.{span_for, whole_call, IsBridged}
 
--- how many frames a call makes, these frames as they are sent, and frame j
+-- frame j of a call as it is sent
+abbrev pub sent_as : Call → ℕ → DownFrame
+sent_as call j = slice_index_or (down_frames call (frames_of_call call)) j Idle
+
+-- the bit of the Down line at which it begins: behind 320 ones and two bits for each octet of the Pcm line before its start
+abbrev pub begins_at : Call → ℕ → ℕ
+begins_at call j = 320 + 2 * (frame_by_number call j).start
+
+-- how many frames a call of a run makes, and these frames as they are sent; of frame j what is sent, and where it begins
 abbrev pub frame_count : Run → ℕ → ℕ
 frame_count r c = length (frames_of_call (whole_call r c))
 
@@ -21,11 +29,10 @@ abbrev pub sent_frames : Run → ℕ → List DownFrame
 sent_frames r c = down_frames (whole_call r c) (frames_of_call (whole_call r c))
 
 abbrev pub frame_as_sent : Run → ℕ → ℕ → DownFrame
-frame_as_sent r c j = slice_index_or (sent_frames r c) j Idle
+frame_as_sent r c j = sent_as (whole_call r c) j
 
--- the bit of the Down line at which it begins: behind 320 ones and two bits for each octet of the Pcm line before its start
 abbrev pub frame_place : Run → ℕ → ℕ → ℕ
-frame_place r c j = 320 + 2 * (frame_by_number (whole_call r c) j).start
+frame_place r c j = begins_at (whole_call r c) j
 
 -- the period of the run in which it is made
 abbrev pub made_in : Run → ℕ → ℕ → ℕ
@@ -64,10 +71,6 @@ pub record HasOtherItems (call other : Call) : Type 0 where
   pub spans : map without_items other.spans ≡ map without_items call.spans
   pub rest : other ≡ record call { spans = other.spans }
 
--- frame j of a call as it is sent
-abbrev pub sent_as : Call → ℕ → DownFrame
-sent_as call j = slice_index_or (down_frames call (frames_of_call call)) j Idle
-
 -- what is sent in frame j is the speech frame, with SP 1, of the item that the call is handed in its period h
 pub record SendsItem (call : Call) (j h : ℕ) : Type 0 where
   pub item : List ℕ
@@ -76,7 +79,7 @@ pub record SendsItem (call : Call) (j h : ℕ) : Type 0 where
 
 -- bit k of the Down line is no data bit of a frame that carries an item
 abbrev pub IsNoItemBit : Call → ℕ → Type 0
-IsNoItemBit call k = (j h i n : ℕ) → (frame_by_number call j).carries ≡ Some h → k ≡ 320 + 2 * (frame_by_number call j).start + i → i < 320 →
+IsNoItemBit call k = (j h i n : ℕ) → (frame_by_number call j).carries ≡ Some h → k ≡ begins_at call j + i → i < 320 →
     role_of i ≡ Data n → ⊥
 
 -- Its lines are the same but for the data bits of frames that carry an item. So are the frames that are made, each with its
