@@ -18,8 +18,8 @@ abbrev pub sent_as : Call → ℕ → DownFrame
 sent_as call j = slice_index_or (down_frames call (frames_of_call call)) j Idle
 
 -- the bit of the Down line at which it begins: behind 320 ones and two bits for each octet of the Pcm line before its start
-abbrev pub first_bit : Call → ℕ → ℕ
-first_bit call j = 320 + 2 * (frame_by_number call j).start
+abbrev pub frame_begin : Call → ℕ → ℕ
+frame_begin call j = 320 + 2 * (frame_by_number call j).start
 
 -- how many frames a call of a run makes, and these frames as they are sent; of frame j what is sent, and where it begins
 abbrev pub frame_count : Run → ℕ → ℕ
@@ -32,7 +32,7 @@ abbrev pub frame_as_sent : Run → ℕ → ℕ → DownFrame
 frame_as_sent r c j = sent_as (whole_call r c) j
 
 abbrev pub frame_place : Run → ℕ → ℕ → ℕ
-frame_place r c j = first_bit (whole_call r c) j
+frame_place r c j = frame_begin (whole_call r c) j
 
 -- the period of the run in which it is made
 abbrev pub made_in : Run → ℕ → ℕ → ℕ
@@ -79,7 +79,7 @@ pub record SendsItem (call : Call) (j h : ℕ) : Type 0 where
 
 -- bit k of the Down line is no data bit of a frame that carries an item
 abbrev pub IsNoItemBit : Call → ℕ → Type 0
-IsNoItemBit call k = (j h i n : ℕ) → (frame_by_number call j).carries ≡ Some h → k ≡ first_bit call j + i → i < 320 →
+IsNoItemBit call k = (j h i n : ℕ) → (frame_by_number call j).carries ≡ Some h → k ≡ frame_begin call j + i → i < 320 →
     role_of i ≡ Data n → ⊥
 
 -- Its lines are the same but for the data bits of frames that carry an item. So are the frames that are made, each with its
