@@ -16,6 +16,7 @@ use trau_params::Params;
 
 /// The state of the decoder of one call.
 #[derive(Drop)]
+#[repr(C)]
 pub struct Decoder {
     long_term: LtpDecoder,
     short_term: ShortState,
@@ -27,6 +28,8 @@ impl Model for Decoder {
     ghost Value = { DecoderMemory };
 
     ghost view = { λ d. record { long_term = d.long_term; short_term = d.short_term; msr = d.msr } };
+
+    ghost inverse = { λ m. record { long_term = m.long_term; short_term = m.short_term; msr = m.msr } };
 }
 
 impl Decoder {

@@ -16,6 +16,7 @@ use trau_params::{Params, Trace};
 
 /// The state of the encoder of one call.
 #[derive(Drop)]
+#[repr(C)]
 pub struct Encoder {
     preprocessing: PreState,
     short_term: ShortState,
@@ -23,12 +24,16 @@ pub struct Encoder {
 }
 
 impl Model for Encoder {
-    ghost use Rattle.fr_pre.specs.Memory.{memory_of};
+    ghost use Rattle.fr_pre.specs.Memory.{memory_of, state_of, same_state};
     ghost use Rattle.fr_encoder.specs.Memory.{EncoderMemory};
 
     ghost Value = { EncoderMemory };
 
     ghost view = { λ e. record { preprocessing = memory_of e.preprocessing; short_term = e.short_term; long_term = e.long_term } };
+
+    ghost inverse = { λ m. record { preprocessing = state_of m.preprocessing; short_term = m.short_term; long_term = m.long_term } };
+
+    ghost inverse_ok = { λ e h i. record { preprocessing = same_state e.preprocessing i; short_term = e.short_term; long_term = e.long_term } };
 }
 
 impl Encoder {

@@ -10,6 +10,7 @@ use trau_num::plus;
 
 /// The decoding side of long-term prediction: what it keeps from block to block.
 #[derive(Drop)]
+#[repr(C)]
 pub struct LtpDecoder {
     // The last used lag, 40 to 120 samples.
     lag: u8,
@@ -24,6 +25,8 @@ impl Model for LtpDecoder {
     ghost Value = { LtpMemory };
 
     ghost view = { λ decoder. record { lag = decoder.lag; residuals = decoder.drp } };
+
+    ghost inverse = { λ m. record { lag = m.lag; drp = m.residuals } };
 
     ghost invariant = { λ decoder. (40 ≤ decoder.lag) × (decoder.lag ≤ 120) };
 }

@@ -15,6 +15,7 @@ use trau_num::{add, mult_r, sub};
 
 /// The encoding side of long-term prediction: the last 120 reconstructed residuals.
 #[derive(Drop)]
+#[repr(C)]
 pub struct LtpHistory {
     // The oldest first.
     dp: [i16; 120],
@@ -27,6 +28,8 @@ impl Model for LtpHistory {
     ghost Value = { List ℤ };
 
     ghost view = { λ history. history.dp };
+
+    ghost inverse = { λ dp. record { dp = dp } };
 
     // What a read of lanes doesn't tell.
     ghost invariant = { λ history. AreSigned16 history.dp };

@@ -9,6 +9,7 @@ use crate::passes::{compensate, downscale, follow, preemphasise};
 /// last sample before preemphasis. Any samples from home keep both bounds, under which no sum of two long words is
 /// clamped.
 #[derive(Clone, Copy, Debug, PartialEq, Eq)]
+#[repr(C)]
 pub struct PreState {
     pub z1: i16,
     pub l_z2: i32,

@@ -17,6 +17,7 @@ use std::marker::Model;
 /// The state of the short-term filter in one direction of one call: the previous frame's decoded ratios and
 /// the values of the eight sections.
 #[derive(Drop)]
+#[repr(C)]
 pub struct ShortState {
     ratios: [i16; 8],
     sections: [i16; 8],
@@ -26,6 +27,8 @@ impl Model for ShortState {
     ghost Value = { ShortMemory };
 
     ghost view = { λ s. record { ratios = s.ratios; sections = s.sections } };
+
+    ghost inverse = { λ m. record { ratios = m.ratios; sections = m.sections } };
 }
 
 impl ShortState {

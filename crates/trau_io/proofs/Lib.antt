@@ -1,4 +1,4 @@
--- Lemmas on calls of the outside.
+-- Lemmas on operations of the outside.
 mod Filling
 mod Moves
 pub mod Runs
