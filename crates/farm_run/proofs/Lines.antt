@@ -2,5 +2,6 @@
 pub mod Being
 pub mod Gaining
 pub mod Sides
+pub mod Stopping
 pub mod Cutting
 pub mod Telling

@@ -1,5 +1,5 @@
 -- What holds at the clock t of a run (this project's profile). `before` are the lines before the run, `now` those at the clock.
-use Rattle.std.specs.Prelude.{◌≡◌, ◌⊎◌, ◌≤◌, ◌+◌, ◌-◌, ◌*◌, ℕ, Bool, true, false, List, drop}
+use Rattle.std.specs.Prelude.{◌≡◌, ◌≤◌, ◌+◌, ◌-◌, ◌*◌, ℕ, Bool, true, false, List, drop}
 use Rattle.std.specs.List.{AllByRecursion}
 use Rattle.trau_io.specs.declared.ends.CallEnd.{CallEnd}
 use Rattle.trau_io.specs.declared.line.Side.{Side}
@@ -9,7 +9,7 @@ use Rattle.switchboard.specs.Calls.{Done}
 use Rattle.switchboard.specs.Ends.{start_of, end_of}
 use Rattle.switchboard.specs.State.{State}
 use Rattle.call_leg.specs.Settings.{Settings}
-use Rattle.run_spec.specs.Run.{Run, given_in, done_in, end_in, periods_to, who_in, IsOpened, cause_in, worked_to}
+use Rattle.run_spec.specs.Run.{Run, given_in, done_in, periods_to, who_in, IsOpened, worked_to}
 use Rattle.run_spec.specs.Now.{settings_now}
 use Rattle.run_spec.specs.Lines.{out_line, down_octets}
 use Rattle.farm_rounds.specs.declared.call.Group.{Group}
@@ -20,13 +20,8 @@ use Rattle.farm_run.specs.Going.{places_in, ends_within, is_told, told_after}
 use Rattle.farm_run.specs.Journal.{JournalMemory, with_ends}
 use Rattle.farm_run.specs.Ending.{AreApart}
 use Rattle.farm_run.specs.Match.{FollowsRun}
-use Rattle.farm_run.specs.Runs.{HasWritten, IsCutOff, FailedIn}
+use Rattle.farm_run.specs.Runs.{HasWritten, IsReadWhole, FailedIn}
 use Rattle.farm_run.specs.Standing.{Standing, IsToCome, never_given}
-
--- Of a call's incoming lines exactly the octets of its periods are read, as long as it goes on; and also afterwards, where
--- they didn't end it.
-abbrev pub IsReadWhole : Run → ℕ → ℕ → Type 0
-IsReadWhole r t c = (t ≤ end_in r c) ⊎ IsCutOff (cause_in r c)
 
 -- What the lines of the run's calls have given at the clock; `last` is how the run stands at its end.
 pub record LinesAt (r : Run) (t : ℕ) (last : Standing) (before now : ℕ → Side → LineState) : Type 0 where

@@ -1,7 +1,7 @@
 -- What a resumed run leaves and reports, whatever fails (this project's profile). It works the same recordings from the
 -- start, holds back what was written before the mark's period, and compares the mark there. `before` are the lines before
 -- it, `now` those after it.
-use Rattle.std.specs.Prelude.{◌≡◌, ◌≢◌, ℕ, ◌*◌, max, Bool, false, List, length, drop}
+use Rattle.std.specs.Prelude.{◌≡◌, ◌≢◌, ◌≤◌, ℕ, ◌*◌, max, Bool, false, List, length, take, drop}
 use Rattle.trau_io.specs.declared.line.Line.{Line}
 use Rattle.trau_io.specs.declared.line.Side.{Side}
 use Rattle.trau_io.specs.declared.line.Side.TheVariants.{Up, Pcm, Down, Out}
@@ -19,7 +19,8 @@ use Rattle.run_spec.specs.Mark.{marked_calls}
 use Rattle.farm_run.specs.declared.pace.Pace.{Pace}
 use Rattle.farm_run.specs.declared.resuming.Resumed.{Resumed}
 use Rattle.farm_run.specs.declared.resuming.Resumed.TheVariants.{Ran, Differs}
-use Rattle.farm_run.specs.Runs.{TellsFailed, AreFailures, KeepsSides, ReadsOn, AreTold, IsRunOver, IsCutOff, IsReadTo, HasWritten, FailedShort, is_listed}
+use Rattle.farm_run.specs.Runs.{TellsFailed, AreFailures, KeepsSides, ReadsOn, AreTold, IsRunOver, IsCutOff, IsReadTo, IsReadWhole, HasWritten, OnlyOpenedFail}
+use Rattle.farm_run.specs.Runs.{FailedShort, is_listed}
 use Rattle.farm_run.specs.Fronts.{HasFront}
 
 -- What a run leaves on the lines where the outgoing octets of the periods before `from` are held back.
@@ -46,7 +47,9 @@ pub record ResumesRun (orders : List Order) (pace : Pace) (mark : MarkView) (bef
   pub reports : (r : Run) → IsRunOver orders (max mark.period pace.periods) (is_listed report.failed) before now r → report ≡ report_of r report.failed
   -- the run to the mark's period has the mark's calls
   pub same_mark : (r : Run) → IsRunOver orders mark.period (is_listed report.failed) before now r → marked_calls r ≡ mark.calls
-  -- in the run each incoming line that failed did so short of what a round takes of it
+  -- in the run each line that failed is one of a call that it opened, and each incoming one failed short of what a round takes of it
+  pub opened : (r : Run) → IsRunOver orders (max mark.period pace.periods) (is_listed report.failed) before now r →
+      OnlyOpenedFail r (is_listed report.failed)
   pub short : (r : Run) → IsRunOver orders (max mark.period pace.periods) (is_listed report.failed) before now r →
       FailedShort r pace.batch (is_listed report.failed)
   -- and there are such runs, to any number of periods, of orders that are in range, wherever the lines tell what they hold
@@ -71,7 +74,8 @@ pub record FindsDifference (orders : List Order) (pace : Pace) (mark : MarkView)
       (c : ℕ) → IsOpened r c → is_listed failed c Pcm ≡ false → IsCutOff (cause_in r c) → IsReadTo (now c Pcm) (160 * length (periods_in r c)) (r.lines c).pcm
   -- the lines of calls that it doesn't open are as they were
   pub others : (r : Run) → IsRunOver orders mark.period (is_listed failed) before now r → (c : ℕ) (s : Side) → (IsOpened r c → ⊥) → now c s ≡ before c s
-  -- in the run each incoming line that failed did so short of what a round takes of it
+  -- in the run each line that failed is one of a call that it opened, and each incoming one failed short of what a round takes of it
+  pub opened : (r : Run) → IsRunOver orders mark.period (is_listed failed) before now r → OnlyOpenedFail r (is_listed failed)
   pub short : (r : Run) → IsRunOver orders mark.period (is_listed failed) before now r → FailedShort r pace.batch (is_listed failed)
   -- and there is such a run of orders that are in range, wherever the lines tell what they hold
   pub there : AreOrders orders → AreTold before → (r : Run) × IsRunOver orders mark.period (is_listed failed) before now r
@@ -90,6 +94,18 @@ pub record LeavesFrontsFrom (r : Run) (from : ℕ) (fails : ℕ → Side → Boo
   -- the lines of all other calls are as they were, their counts included
   pub others : (c : ℕ) (s : Side) → (IsOpened r c → ⊥) → now c s ≡ before c s
 
+-- What a run leaves on the lines where it stops at its period t, and the outgoing octets of the periods before `from` are held back.
+pub record StopsFrom (r : Run) (from t : ℕ) (fails : ℕ → Side → Bool) (before now : ℕ → Side → LineState) : Type 0 where
+  -- the outgoing lines of each call that it opens have gained the octets of its periods from there on and before t, none where t comes
+  -- first, those that failed a proper front of them
+  pub out : (c : ℕ) → IsOpened r c → HasWritten (fails c Out) (before c Out) (now c Out)
+      (drop (160 * worked_to r from c) (take (160 * worked_to r t c) (out_of_call r c)))
+  pub down : (c : ℕ) → IsOpened r c → HasWritten (fails c Down) (before c Down) (now c Down)
+      (drop (40 * worked_to r from c) (take (40 * worked_to r t c) (down_of_call r c)))
+  -- of the incoming lines of a call that they didn't end before t exactly the octets of all its periods before t were read
+  pub up_read : (c : ℕ) → IsOpened r c → fails c Up ≡ false → IsReadWhole r t c → IsReadTo (now c Up) (40 * worked_to r t c) (r.lines c).up
+  pub pcm_read : (c : ℕ) → IsOpened r c → fails c Pcm ≡ false → IsReadWhole r t c → IsReadTo (now c Pcm) (160 * worked_to r t c) (r.lines c).pcm
+
 -- A resumed run of these orders that want of memory cut short. Its report isn't told, so these clauses tell which lines failed.
 pub record IsResumeCutShort (orders : List Order) (periods : ℕ) (mark : MarkView) (before now : ℕ → Side → LineState) : Type 0 where
   -- the lines that failed
@@ -101,6 +117,12 @@ pub record IsResumeCutShort (orders : List Order) (periods : ℕ) (mark : MarkVi
   -- each outgoing line holds a front of what the whole run over what the lines gave gives it from the mark's period on, one that
   -- failed a proper front,
   pub fronts : (r : Run) → IsRunOver orders periods fails before now r → LeavesFrontsFrom r mark.period fails before now
+  -- it stopped at one period, the same for all lines,
+  pub clock : ℕ
+  pub within : clock ≤ periods
+  pub stops : (r : Run) → IsRunOver orders periods fails before now r → StopsFrom r mark.period clock fails before now
+  -- each line that failed is one of a call that the run opens,
+  pub opened : (r : Run) → IsRunOver orders periods fails before now r → OnlyOpenedFail r fails
   -- and where the run to the mark's period hasn't the mark's calls, each is as it was, its counts included
   pub held : (r : Run) → IsRunOver orders mark.period fails before now r → marked_calls r ≢ mark.calls →
       (c : ℕ) (s : Side) → IsOutgoing s → now c s ≡ before c s

@@ -1,6 +1,6 @@
 -- What a run leaves on the lines of its calls, and what it reports, whatever fails (this project's profile). `before` are
 -- the lines before it, `now` those after it.
-use Rattle.std.specs.Prelude.{◌≡◌, ◌<◌, ◌≤◌, ℕ, ◌+◌, ◌-◌, ◌*◌, Bool, true, false, ◌==◌, Some, List, ◌++◌, length, map, take, drop}
+use Rattle.std.specs.Prelude.{◌≡◌, ◌⊎◌, ◌<◌, ◌≤◌, ℕ, ◌+◌, ◌-◌, ◌*◌, Bool, true, false, ◌==◌, Some, List, ◌++◌, length, map, take, drop}
 use Rattle.std.specs.List.{list_any}
 use Rattle.std.specs.List.Sorted.{IsStrictlyIncreasing}
 use Rattle.std.specs.Io.KnownBytes.{Appends}
@@ -87,6 +87,11 @@ IsCutOff Limit = Unit {0}
 IsCutOff (End side left) = ⊥
 IsCutOff (Fault side) = ⊥
 
+-- Of a call's incoming lines exactly the octets of its periods before t are read as long as it goes on, and also afterwards, where
+-- they didn't end it.
+abbrev pub IsReadWhole : Run → ℕ → ℕ → Type 0
+IsReadWhole r t c = (t ≤ end_in r c) ⊎ IsCutOff (cause_in r c)
+
 -- of a line that told these octets exactly the first n were read
 abbrev pub IsReadTo : LineState → ℕ → List ℕ → Type 0
 IsReadTo now n octets = now.to_come ≡ Some (drop n octets)
@@ -106,6 +111,10 @@ pub record Leaves (r : Run) (fails : ℕ → Side → Bool) (before now : ℕ �
   pub pcm_read : (c : ℕ) → IsOpened r c → fails c Pcm ≡ false → IsCutOff (cause_in r c) → IsReadTo (now c Pcm) (160 * length (periods_in r c)) (r.lines c).pcm
   -- the lines of all other calls are as they were, their counts included
   pub others : (c : ℕ) (s : Side) → (IsOpened r c → ⊥) → now c s ≡ before c s
+
+-- each line that failed is one of a call that the run opened
+abbrev pub OnlyOpenedFail : Run → (ℕ → Side → Bool) → Type 0
+OnlyOpenedFail r fails = (c : ℕ) (s : Side) → fails c s ≡ true → IsOpened r c
 
 -- An incoming line failed while a round was read, the periods of the run from `from` up to, without it, `until`: its call
 -- ended in this round, and the line gave fewer octets, so many a period, than all of the call's periods up to the round's end
@@ -131,7 +140,8 @@ pub record Runs (orders : List Order) (pace : Pace) (before now : ℕ → Side �
   -- lines and report are those of the run of these orders over what the lines gave;
   pub leaves : (r : Run) → IsRunOver orders pace.periods (is_listed report.failed) before now r → Leaves r (is_listed report.failed) before now
   pub reports : (r : Run) → IsRunOver orders pace.periods (is_listed report.failed) before now r → report ≡ report_of r report.failed
-  -- in this run each incoming line that failed did so short of what a round takes of it
+  -- in this run each line that failed is one of a call that it opened, and each incoming one failed short of what a round takes of it
+  pub opened : (r : Run) → IsRunOver orders pace.periods (is_listed report.failed) before now r → OnlyOpenedFail r (is_listed report.failed)
   pub short : (r : Run) → IsRunOver orders pace.periods (is_listed report.failed) before now r → FailedShort r pace.batch (is_listed report.failed)
   -- and there is such a run of orders that are in range, wherever the lines tell what they hold
   pub there : AreOrders orders → AreTold before → (r : Run) × IsRunOver orders pace.periods (is_listed report.failed) before now r

@@ -10,7 +10,7 @@ use Rattle.farm_checkpoint.specs.Marks.{MarkView, AreOpenAtMark}
 use Rattle.run_spec.specs.Run.{Run}
 use Rattle.run_spec.specs.Mark.{mark_of}
 use Rattle.farm_run.specs.declared.pace.Pace.{Pace}
-use Rattle.farm_run.specs.Runs.{TellsFailed, KeepsSides, ReadsOn, AreTold, IsRunOver, Leaves, FailedShort, is_listed}
+use Rattle.farm_run.specs.Runs.{TellsFailed, KeepsSides, ReadsOn, AreTold, IsRunOver, Leaves, OnlyOpenedFail, FailedShort, is_listed}
 
 -- what is seen of it: the lines that failed, and the mark
 pub record SavedView : Type 0 where
@@ -27,7 +27,8 @@ pub record Saves (orders : List Order) (pace : Pace) (before now : ℕ → Side 
   -- lines and mark are those of the run of these orders over what the lines gave;
   pub leaves : (r : Run) → IsRunOver orders pace.periods (is_listed saved.failed) before now r → Leaves r (is_listed saved.failed) before now
   pub marks : (r : Run) → IsRunOver orders pace.periods (is_listed saved.failed) before now r → saved.mark ≡ mark_of r
-  -- in this run each incoming line that failed did so short of what a round takes of it
+  -- in this run each line that failed is one of a call that it opened, and each incoming one failed short of what a round takes of it
+  pub opened : (r : Run) → IsRunOver orders pace.periods (is_listed saved.failed) before now r → OnlyOpenedFail r (is_listed saved.failed)
   pub short : (r : Run) → IsRunOver orders pace.periods (is_listed saved.failed) before now r → FailedShort r pace.batch (is_listed saved.failed)
   -- and there is such a run of orders that are in range, wherever the lines tell what they hold
   pub there : AreOrders orders → AreTold before → (r : Run) × IsRunOver orders pace.periods (is_listed saved.failed) before now r

@@ -18,7 +18,7 @@ use Rattle.farm_top.specs.FarmClean.{CleanFarm, CleanTelling, IsCalmRun, TellsOr
 use Rattle.farm_top.specs.FarmEnded.{EndedTelling, GainsFront, RunEnded, report_told}
 use Rattle.farm_top.specs.Headline.{Headline}
 use Rattle.farm_top.specs.Save.{CarriesSave, CleanSave, SaveEnded, SavesOrders, mark_told}
-use Rattle.farm_top.proofs.Taking.{NotTaken, Taken, done_of, front_out, not_rose, read_out, status_out, taken, whole_out}
+use Rattle.farm_top.proofs.Taking.{NotTaken, Taken, done_of, front_out, not_rose, opened_rose, read_out, status_out, taken, whole_out}
 use Rattle.farm_top.proofs.ToldRuns.{ToldOrCut, ToldRun, cut_none, cut_whole, told_by_run, told_by_save}
 
 -- ---- of orders that the desk tells, whatever is done with them that comes to this
@@ -81,6 +81,9 @@ module _ (text_of : Run → List TheLine → List ℕ) (good : GoodOrBad) (one :
         front = λ four r over. subst (λ (t : List ℕ). GainsFront desk.written desk'.written t) (run.text_is r over)
             (front_out run.failed run.text desk ran.read desk' status due ran.written four run.tells);
         all_read = read_out run.failed run.text desk ran.read desk' status due ran.written run.tells ∙ ran.all_read;
+        opened = run.opened;
+        line_failed = λ six r over. opened_rose r before now run.failed status
+            (status_out run.failed run.text desk ran.read desk' status due ran.written run.tells) run.told (run.opened r over) six;
         short = run.short;
         there = run.there (orders_known (text_lines told.text) orders told.within.1 told.spelled);
       }
@@ -105,7 +108,7 @@ module _ (text_of : Run → List TheLine → List ℕ) (good : GoodOrBad) (one :
   -- **The run was cut short.**
   pub cut_short : IsCutShort orders s.periods before now
   cut_short = elim (ran_or_cut what) [
-    | inl ran ↦ cut_whole text_of orders s before now ran.read desk' status ran.run
+    | inl ran ↦ cut_whole text_of orders s before now ran.read desk' status (orders_known (text_lines told.text) orders told.within.1 told.spelled) ran.run
     | inr (inl cut) ↦ cut.0
     | inr (inr none) ↦ cut_none orders s.periods before now none.stay
   ]

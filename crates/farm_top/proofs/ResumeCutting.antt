@@ -6,12 +6,14 @@ use Rattle.trau_io.specs.declared.line.Side.TheVariants.{Down, Out}
 use Rattle.trau_io.specs.Lines.{LineState}
 use Rattle.trau_io.specs.Desks.{DeskState}
 use Rattle.trau_orders.specs.declared.order.Order.{Order}
+use Rattle.trau_orders.specs.Lists.{AreOrders}
 use Rattle.farm_checkpoint.specs.Marks.{MarkView}
 use Rattle.farm_orders.specs.declared.marked.MarkedOrders.{MarkedOrders}
 use Rattle.run_spec.specs.Run.{worked_to}
 use Rattle.run_spec.specs.Lines.{out_of_call, down_of_call}
 use Rattle.farm_run.specs.Runs.{is_listed}
-use Rattle.farm_run.specs.Resuming.{IsResumeCutShort}
+use Rattle.farm_run.specs.Resuming.{IsResumeCutShort, StopsFrom}
+use Rattle.farm_run.proofs.Lines.Stopping.{stops_all_from}
 use Rattle.farm_run.proofs.Marked.Resumption.{unbegun_cut}
 use Rattle.command_words.specs.declared.asked.Settings.{Settings}
 use Rattle.farm_top.specs.Farm.{AllStay, TellsRun, status_of_run}
@@ -20,8 +22,9 @@ use Rattle.farm_top.proofs.ToldRuns.{front_whole}
 
 -- a run that was carried to its end has what it has where it is cut short
 pub cut_whole : (marked : MarkedOrders) (s : Settings) (before now : ℕ → Side → LineState) (desk desk' : DeskState) (status : ℕ) →
-    ResumesAndTells marked s before now desk desk' status → IsResumeCutShort marked.orders (max marked.mark.period s.periods) marked.mark before now
-cut_whole marked s before now desk desk' status ran =
+    AreOrders marked.orders → ResumesAndTells marked s before now desk desk' status →
+    IsResumeCutShort marked.orders (max marked.mark.period s.periods) marked.mark before now
+cut_whole marked s before now desk desk' status are ran =
     let report = ran.report in
     let from = marked.mark.period in
     record {
@@ -39,6 +42,12 @@ cut_whole marked s before now desk desk' status ran =
                 (l.down c i);
             others = l.others;
           };
+      clock = max from s.periods;
+      within = omega arith;
+      stops = λ r over. subst (λ (n : ℕ). StopsFrom r from n (is_listed report.failed) before now) over.same_periods
+          (stops_all_from r (subst (λ (os : List Order). AreOrders os) (sym over.same_orders) are) (is_listed report.failed) before now from
+          (ran.resumes.leaves r over));
+      opened = ran.resumes.opened;
     }
 
 -- no line was used

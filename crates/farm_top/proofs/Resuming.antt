@@ -32,7 +32,7 @@ use Rattle.farm_top.specs.Headline.{HeadlineFrom}
 use Rattle.farm_top.specs.Resume.{CarriesResume, FindsAndTells, FollowsMarked, ResumesAndTells, ResumesOrders}
 use Rattle.farm_top.specs.ResumeEnded.{JoinsMarked, ResumeDiffers, ResumeEnded, TellsMarked}
 use Rattle.farm_top.proofs.ResumeCausing.{marked_not_bad, same_mark, same_orders, taken_not_bad, taken_not_long}
-use Rattle.farm_top.proofs.Taking.{NotTaken, Taken, done_of, front_out, none_left, not_rose, read_out, status_out, whole_out}
+use Rattle.farm_top.proofs.Taking.{NotTaken, Taken, done_of, front_out, none_left, not_rose, opened_rose, read_out, status_out, whole_out}
 use Rattle.farm_top.proofs.ResumeCutting.{cut_none_from, cut_whole, due_of}
 use Rattle.farm_top.proofs.TwoParts.{both_stay, down_whole, out_whole, run_of_first}
 
@@ -151,6 +151,9 @@ module _ (good : GoodOrBad) (one : SpellsOneList) (mark_good : NotGoodAndBad) (o
         front = λ four r over. subst (λ (t : List ℕ). GainsFront desk.written desk'.written t) (ap report_text (resumes.reports r over))
             (front_out report.failed text desk ran.read desk' status due ran.written four ran.done.tells);
         all_read = read_out report.failed text desk ran.read desk' status due ran.written ran.done.tells ∙ ran.all_read;
+        opened = resumes.opened;
+        line_failed = λ six r over. opened_rose r before now report.failed status
+            (status_out report.failed text desk ran.read desk' status due ran.written ran.done.tells) resumes.failed (resumes.opened r over) six;
         short = resumes.short;
         there = resumes.there (orders_known (text_lines told.rest) orders told.within.1 told.spelled);
       }
@@ -174,7 +177,7 @@ module _ (good : GoodOrBad) (one : SpellsOneList) (mark_good : NotGoodAndBad) (o
   -- **The run was cut short.**
   pub cut_short : status ≡ 5 → IsResumeCutShort orders (max mark.period s.periods) mark before now
   cut_short five = elim what [
-    | inl ran ↦ cut_whole both s before now ran.read desk' status ran.done
+    | inl ran ↦ cut_whole both s before now ran.read desk' status (orders_known (text_lines told.rest) orders told.within.1 told.spelled) ran.done
     | inr (inl found) ↦ (let is = found.done.ends.status_is in absurd (omega (arith, five, is)))
     | inr (inr (inl cut)) ↦ cut.0
     | inr (inr (inr none)) ↦ cut_none_from orders (max mark.period s.periods) mark before now none.stay

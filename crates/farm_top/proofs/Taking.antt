@@ -11,13 +11,14 @@ use Rattle.trau_orders.specs.Text.{text_lines, GoodOrBad, IsWithin, SpellsOneLis
 use Rattle.farm_orders.specs.declared.fault.OrdersFault.{OrdersFault}
 use Rattle.farm_orders.specs.declared.fault.OrdersFault.TheVariants.{Unread, TooLong, Line, Memory}
 use Rattle.farm_orders.specs.Reading.{AnswersTold, ReadsOrders}
-use Rattle.farm_run.specs.Runs.{NoneRose, TellsFailed}
+use Rattle.run_spec.specs.Run.{Run}
+use Rattle.farm_run.specs.Runs.{NoneRose, OnlyOpenedFail, TellsFailed, is_listed}
 use Rattle.farm_run.proofs.Listed.Tests.{listed_head}
 use Rattle.farm_tools.specs.Causes.{IsCalm}
 use Rattle.farm_top.specs.Farm.{AllStay, FollowsReading, LacksMemory, ReadsAndFollows, TellsRun, status_of_run}
 use Rattle.farm_top.specs.FarmClean.{TellsOrders}
 use Rattle.farm_top.specs.FarmEnded.{GainsFront}
-use Rattle.farm_top.specs.FarmCauses.{SomeRose}
+use Rattle.farm_top.specs.FarmCauses.{SomeOpenedRose, SomeRose}
 
 -- a text within the limits isn't too long
 pub not_long : (text : List ℕ) → IsWithin text → (1048576 < length text) ⊎ (65536 < length (text_lines text)) → ⊥
@@ -27,6 +28,15 @@ not_long text within (inr long) = omega (arith, within.1, long)
 -- a run that lists some line
 pub first_rose : (before now : ℕ → Side → LineState) (line : TheLine) (lines : List TheLine) → TellsFailed before now (line ∷ lines) → SomeRose before now
 first_rose before now line lines failed = (line.call, line.side, failed.failures.rose line.call line.side (listed_head line lines))
+
+-- with status 6 a run lists some line, one of a call that it opened
+pub opened_rose : (r : Run) (before now : ℕ → Side → LineState) (lines : List TheLine) (status : ℕ) → (status ≡ 4) ⊎ (status ≡ status_of_run lines) →
+    TellsFailed before now lines → OnlyOpenedFail r (is_listed lines) → status ≡ 6 → SomeOpenedRose r before now
+opened_rose r before now lines status (inl four) failed only six = absurd (omega (arith, six, four))
+opened_rose r before now [] status (inr is) failed only six = absurd (omega (arith, six, is))
+opened_rose r before now (line ∷ lines) status (inr is) failed only six =
+    let listed = listed_head line lines in
+    (line.call, line.side, only line.call line.side listed, failed.failures.rose line.call line.side listed)
 
 -- of lines that are as they were no count rose
 pub stayed : (before now : ℕ → Side → LineState) → AllStay before now → (c : ℕ) (s : Side) → (before c s).faults < (now c s).faults → ⊥

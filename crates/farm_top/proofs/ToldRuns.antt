@@ -12,9 +12,10 @@ use Rattle.trau_orders.specs.Lists.{AreOrders}
 use Rattle.run_spec.specs.Run.{Run}
 use Rattle.run_spec.specs.Lines.{out_of_call, down_of_call}
 use Rattle.farm_report.specs.Lines.{report_text}
-use Rattle.farm_run.specs.Runs.{AreTold, FailedShort, IsRunOver, HasWritten, KeepsSides, Leaves, ReadsOn, TellsFailed, is_listed}
-use Rattle.farm_run.specs.Fronts.{HasFront, IsCutShort}
+use Rattle.farm_run.specs.Runs.{AreTold, FailedShort, IsRunOver, HasWritten, KeepsSides, Leaves, OnlyOpenedFail, ReadsOn, TellsFailed, is_listed}
+use Rattle.farm_run.specs.Fronts.{HasFront, IsCutShort, StopsAt}
 use Rattle.farm_run.proofs.Lines.Cutting.{cut_first}
+use Rattle.farm_run.proofs.Lines.Stopping.{stops_all}
 use Rattle.command_words.specs.declared.asked.Settings.{Settings}
 use Rattle.farm_top.specs.Farm.{AllStay, LacksMemory, RunsOrders, TellsRun}
 use Rattle.farm_top.specs.FarmEnded.{report_told}
@@ -32,6 +33,7 @@ pub record ToldRun (text_of : Run → List TheLine → List ℕ) (orders : List 
   pub leaves : (r : Run) → IsRunOver orders s.periods (is_listed failed) before now r → Leaves r (is_listed failed) before now
   pub headline : (r : Run) → IsRunOver orders s.periods (is_listed failed) before now r → Headline r (is_listed failed) before now
   pub text_is : (r : Run) → IsRunOver orders s.periods (is_listed failed) before now r → text ≡ text_of r failed
+  pub opened : (r : Run) → IsRunOver orders s.periods (is_listed failed) before now r → OnlyOpenedFail r (is_listed failed)
   pub short : (r : Run) → IsRunOver orders s.periods (is_listed failed) before now r → FailedShort r s.batch (is_listed failed)
   pub there : AreOrders orders → AreTold before → (r : Run) × IsRunOver orders s.periods (is_listed failed) before now r
   pub tells : TellsRun failed text read desk' status
@@ -54,6 +56,7 @@ told_by_run s before now desk' status orders read (inl ran) =
       leaves = runs.leaves;
       headline = ran.headline;
       text_is = λ r over. ap report_text (runs.reports r over);
+      opened = runs.opened;
       short = runs.short;
       there = runs.there;
       tells = ran.tells;
@@ -72,6 +75,7 @@ told_by_save s before now desk' status orders read (inl ran) =
       leaves = saves.leaves;
       headline = ran.headline;
       text_is = λ r over. ap (saved_text ran.saved.failed) (saves.marks r over);
+      opened = saves.opened;
       short = saves.short;
       there = saves.there;
       tells = ran.tells;
@@ -93,9 +97,9 @@ cut_none orders periods before now stay =
 
 -- a run that was carried to its end has what it has where it is cut short
 pub cut_whole : (text_of : Run → List TheLine → List ℕ) (orders : List Order) (s : Settings) (before now : ℕ → Side → LineState) (read desk' : DeskState)
-    (status : ℕ) →
+    (status : ℕ) → AreOrders orders →
     ToldRun text_of orders s before now read desk' status → IsCutShort orders s.periods before now
-cut_whole text_of orders s before now read desk' status ran = record {
+cut_whole text_of orders s before now read desk' status are ran = record {
   fails = is_listed ran.failed;
   told = ran.told.failures;
   sides = ran.sides;
@@ -108,4 +112,9 @@ cut_whole text_of orders s before now read desk' status ran = record {
         down = λ c i. front_whole (is_listed ran.failed c Down) (before c Down) (now c Down) (down_of_call r c) (l.down c i);
         others = l.others;
       };
+  clock = s.periods;
+  within = omega arith;
+  stops = λ r over. subst (λ (n : ℕ). StopsAt r n (is_listed ran.failed) before now) over.same_periods
+      (stops_all r (subst (λ (os : List Order). AreOrders os) (sym over.same_orders) are) (is_listed ran.failed) before now (ran.leaves r over));
+  opened = ran.opened;
 }

@@ -5,6 +5,7 @@ use Rattle.trau_io.specs.declared.line.Side.{Side}
 use Rattle.trau_io.specs.Lines.{LineState, Rose}
 use Rattle.trau_io.specs.Desks.{DeskState}
 use Rattle.trau_orders.specs.Text.{text_lines, IsFirstBad, IsWithin, IsBeyond}
+use Rattle.run_spec.specs.Run.{Run, IsOpened}
 use Rattle.farm_top.specs.Farm.{AllStay, TextOut, line_text}
 
 -- the text was read to its end, line n of it is bad in this way, and the desk, to which nothing was written while it was
@@ -36,6 +37,10 @@ pub record ReadsTooLong (desk desk' : DeskState) : Type 0 where
 -- the count of some line rose
 abbrev pub SomeRose : (ℕ → Side → LineState) → (ℕ → Side → LineState) → Type 0
 SomeRose before now = (c : ℕ) × (s : Side) × Rose (before c s).faults (now c s).faults
+
+-- that of some line whose call the run opened
+abbrev pub SomeOpenedRose : Run → (ℕ → Side → LineState) → (ℕ → Side → LineState) → Type 0
+SomeOpenedRose r before now = (c : ℕ) × (s : Side) × IsOpened r c × Rose (before c s).faults (now c s).faults
 
 -- 3 comes only where the desk's reading count rose, and always where it became greater. 7 comes exactly where the orders are
 -- too long, and 2 exactly where a line isn't in the grammar; they yield to 3. After 2, 3 and 7 no line was used. 4 comes only

@@ -9,9 +9,10 @@ use Rattle.trau_orders.specs.declared.order.Order.{Order}
 use Rattle.run_spec.specs.Run.{Run}
 use Rattle.run_spec.specs.Facts.{report_of}
 use Rattle.farm_report.specs.Lines.{report_text}
-use Rattle.farm_run.specs.Runs.{AreTold, FailedShort, IsRunOver, KeepsSides, Leaves, ReadsOn, TellsFailed, is_listed}
+use Rattle.farm_run.specs.Runs.{AreTold, FailedShort, IsRunOver, KeepsSides, Leaves, OnlyOpenedFail, ReadsOn, TellsFailed, is_listed}
 use Rattle.command_words.specs.declared.asked.Settings.{Settings}
 use Rattle.farm_top.specs.Farm.{status_of_run}
+use Rattle.farm_top.specs.FarmCauses.{SomeOpenedRose}
 use Rattle.farm_top.specs.Headline.{Headline}
 
 -- a proper front of a text was gained
@@ -36,6 +37,9 @@ pub record EndedTelling (text_of : Run → List Line → List ℕ) (orders : Lis
   pub front : status ≡ 4 → (r : Run) → IsRunOver orders s.periods (is_listed failed) before now r → GainsFront desk.written desk'.written (text_of r failed)
   -- the orders were read to their end
   pub all_read : desk'.to_come ≡ Some []
+  -- each line that failed is one of a call that the run opened, and so with status 6 the count of such a line rose
+  pub opened : (r : Run) → IsRunOver orders s.periods (is_listed failed) before now r → OnlyOpenedFail r (is_listed failed)
+  pub line_failed : status ≡ 6 → (r : Run) → IsRunOver orders s.periods (is_listed failed) before now r → SomeOpenedRose r before now
   -- an incoming line that failed gave fewer octets than the call takes of it up to some period, at most a batch behind its end
   pub short : (r : Run) → IsRunOver orders s.periods (is_listed failed) before now r → FailedShort r s.batch (is_listed failed)
   -- there is such a run wherever the lines tell what they hold

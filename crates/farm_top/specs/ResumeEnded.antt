@@ -14,10 +14,11 @@ use Rattle.farm_orders.specs.Marked.{HasMark, IsShort}
 use Rattle.run_spec.specs.Run.{Run, IsOpened}
 use Rattle.run_spec.specs.Lines.{out_of_call, down_of_call}
 use Rattle.run_spec.specs.Mark.{Joins, cut_at, marked_calls}
-use Rattle.farm_run.specs.Runs.{AreTold, FailedShort, IsRunOver, KeepsSides, Leaves, ReadsOn, TellsFailed, is_listed, none_fails}
+use Rattle.farm_run.specs.Runs.{AreTold, FailedShort, IsRunOver, KeepsSides, Leaves, OnlyOpenedFail, ReadsOn, TellsFailed, is_listed, none_fails}
 use Rattle.farm_run.specs.Resuming.{FindsDifference, LeavesFrom}
 use Rattle.command_words.specs.declared.asked.Settings.{Settings}
 use Rattle.farm_top.specs.Farm.{TextOut, pace_of, status_of_run}
+use Rattle.farm_top.specs.FarmCauses.{SomeOpenedRose}
 use Rattle.farm_top.specs.FarmEnded.{GainsFront, report_told}
 use Rattle.farm_top.specs.Headline.{HeadlineFrom}
 use Rattle.farm_top.specs.Resume.{differs_text}
@@ -58,6 +59,9 @@ pub record ResumeEnded (mark : MarkView) (orders : List Order) (s : Settings) (b
       GainsFront desk.written desk'.written (report_told r failed)
   -- the text was read to its end
   pub all_read : desk'.to_come ≡ Some []
+  -- each line that failed is one of a call that the run opened, and so with status 6 the count of such a line rose
+  pub opened : (r : Run) → IsRunOver orders (max mark.period s.periods) (is_listed failed) before now r → OnlyOpenedFail r (is_listed failed)
+  pub line_failed : status ≡ 6 → (r : Run) → IsRunOver orders (max mark.period s.periods) (is_listed failed) before now r → SomeOpenedRose r before now
   -- an incoming line that failed gave fewer octets than the call takes of it up to some period, at most a batch behind its end
   pub short : (r : Run) → IsRunOver orders (max mark.period s.periods) (is_listed failed) before now r → FailedShort r s.batch (is_listed failed)
   -- there are such runs, to any number of periods, wherever the lines tell what they hold

@@ -336,8 +336,8 @@ pub fn farm_top<R: Threads + Wait + Sync, T: Trunk, D: Desk, G: Gate + Sync>(
         (orders : List Order) → TellsOrders orders (D.desk desk.old) → (result ≡ 0) ⊎ (result ≡ 4) ⊎ (result ≡ 6) →
         RunEnded orders s (T.lines trunk.old) (T.lines trunk.new) (D.desk desk.old) (D.desk desk.new) result }
 
-    // Where there was no memory, each outgoing line holds a front of what the run gives, one that failed a proper front, and the lines
-    // of calls that it doesn't open are as they were.
+    // Where there was no memory, the run stopped at one period: each outgoing line that didn't fail holds exactly the octets of the
+    // periods before it, one that failed a proper front of these, and the lines of calls that it doesn't open are as they were.
     ensures run_cut_short { (s : Settings) → AsksForRun (spelled words.now) s →
         (orders : List Order) → TellsOrders orders (D.desk desk.old) → result ≡ 5 →
         IsCutShort orders s.periods (T.lines trunk.old) (T.lines trunk.new) }

@@ -53,7 +53,7 @@ no_octets who = by (octets_of []) (length-octets_of [] 0 refl)
     by (x ∷ xs) e = absurd (omega arith)
 
 -- the lines are those at the clock 0
-lines_at_first : (r : Run) (os : List Order) (periods : ℕ) (lines : ℕ → Side → LineState) (last : Standing) →
+pub lines_at_first : (r : Run) (os : List Order) (periods : ℕ) (lines : ℕ → Side → LineState) (last : Standing) →
     IsRunOver os periods last.listed lines last.lines r → LinesAt r 0 last lines lines
 lines_at_first r os periods lines last run = record {
   up_read = λ c i q. told_first (last.listed c Up) (lines c Up) (last.lines c Up) (r.lines c).up (run.up c i)

@@ -19,10 +19,10 @@ use Rattle.run_spec.specs.Now.{settings_now}
 use Rattle.run_spec.specs.Lines.{out_line, down_octets}
 use Rattle.run_spec.proofs.OpenCalls.{gone_later}
 use Rattle.run_spec.proofs.SoFar.{so_far_later}
-use Rattle.farm_run.specs.Runs.{HasWritten}
+use Rattle.farm_run.specs.Runs.{HasWritten, IsReadWhole}
 use Rattle.farm_run.specs.Standing.{Standing, never_given}
 use Rattle.farm_run.specs.Match.{AtClock, past_if, histories_at}
-use Rattle.farm_run.specs.Clock.{IsReadWhole, WrittenFrom, IsAtClock}
+use Rattle.farm_run.specs.Clock.{WrittenFrom, IsAtClock}
 use Rattle.farm_run.proofs.Rounds.Open.{shut_after}
 use Rattle.farm_run.proofs.Ordered.Due.{open_told}
 use Rattle.farm_run.proofs.Clocks.Reach.{worked_idle}

@@ -19,7 +19,7 @@ use Rattle.farm_run.proofs.Clocks.Reach.{worked_all}
 use Rattle.farm_run.proofs.Clocks.First.{none_worked}
 
 -- a line that didn't fail holds the rest of its octets
-rest_of : (fails : Bool) (now end : LineState) (k : ℕ) (line : List ℕ) → fails ≡ false → IsToCome now k line (never_given fails end) → IsReadTo now k line
+pub rest_of : (fails : Bool) (now end : LineState) (k : ℕ) (line : List ℕ) → fails ≡ false → IsToCome now k line (never_given fails end) → IsReadTo now k line
 rest_of false now end k line e h = h ∙ ap Some (append-nil (drop k line))
 rest_of true now end k line e h = cc
 

@@ -12,18 +12,19 @@ use Rattle.switchboard.specs.Ends.{start_of}
 use Rattle.switchboard.specs.State.{State}
 use Rattle.farm_rounds.specs.declared.call.Group.{Group}
 use Rattle.farm_checkpoint.specs.Marks.{MarkView}
-use Rattle.run_spec.specs.Run.{Run, done_in, end_in, IsOpened, worked_to}
+use Rattle.run_spec.specs.Run.{Run, done_in, end_in, worked_to}
 use Rattle.run_spec.specs.Mark.{marked_calls}
-use Rattle.farm_run.specs.Runs.{TellsFailed, KeepsSides, ReadsOn, IsRunOver, is_listed}
-use Rattle.farm_run.specs.Standing.{standing}
+use Rattle.farm_run.specs.Runs.{TellsFailed, KeepsSides, ReadsOn, IsRunOver, OnlyOpenedFail, is_listed}
+use Rattle.farm_run.specs.Standing.{Standing, standing, KnowsListed}
 use Rattle.farm_run.specs.Fronts.{HasFront, LeavesFronts, IsCutShort}
 use Rattle.farm_run.specs.Resuming.{IsResumeCutShort}
 use Rattle.farm_run.specs.Stages.{HoldsBack}
-use Rattle.farm_run.specs.Clock.{WrittenFrom, IsAtClock}
+use Rattle.farm_run.specs.Clock.{LinesAt, WrittenFrom, IsAtClock}
 use Rattle.farm_run.proofs.Lines.Being.{there_is}
-use Rattle.farm_run.proofs.Clocks.First.{tells_none}
+use Rattle.farm_run.proofs.Clocks.First.{tells_none, lines_at_first, written_first}
 use Rattle.farm_run.proofs.Clocks.Last.{all_out, all_down}
 use Rattle.farm_run.proofs.Lines.Sides.{sides_none}
+use Rattle.farm_run.proofs.Lines.Stopping.{only_opened, stops_at, stops_from, stops_before}
 use Rattle.farm_run.proofs.Lines.Gaining.{out_front, down_front, out_front_from, down_front_from}
 
 -- what holds whatever came out holds of an error
@@ -53,11 +54,11 @@ fronts_at r t b groups failed first now at wrote = record {
 
 -- **A run that ends at a clock is cut short there.**
 pub cut_at : (os : List Order) (periods t : ℕ) (b : State) (groups : List Group) (failed : List Line) (first now : ℕ → Side → LineState) →
-    TellsFailed first now failed → KeepsSides first now → ReadsOn first now →
+    t ≤ periods → KnowsListed b groups failed → TellsFailed first now failed → KeepsSides first now → ReadsOn first now →
     ((r : Run) → IsRunOver os r.periods (is_listed failed) first now r → periods ≤ r.periods → IsAtClock r t b groups (standing b failed now) first now) →
     ((r : Run) → IsRunOver os r.periods (is_listed failed) first now r → periods ≤ r.periods → WrittenFrom r 0 t (is_listed failed) first now) →
     IsCutShort os periods first now
-cut_at os periods t b groups failed first now tells sides reads goes wrote = record {
+cut_at os periods t b groups failed first now within knows tells sides reads goes wrote = record {
   fails = is_listed failed;
   told = tells.failures;
   sides = sides;
@@ -66,9 +67,25 @@ cut_at os periods t b groups failed first now tells sides reads goes wrote = rec
       let e = run.same_periods in
       let is = subst (λ (p : ℕ). IsRunOver os p (is_listed failed) first now r) (sym e) run in
       fronts_at r t b groups failed first now (goes r is (omega (arith, e))) (wrote r is (omega (arith, e)));
+  clock = t;
+  within = within;
+  stops = λ r run.
+      let e = run.same_periods in
+      let is = subst (λ (p : ℕ). IsRunOver os p (is_listed failed) first now r) (sym e) run in
+      let here = goes r is (omega (arith, e)) in
+      stops_at r t (standing b failed now) first now here.lines (wrote r is (omega (arith, e)));
+  opened = λ r run.
+      let e = run.same_periods in
+      let is = subst (λ (p : ℕ). IsRunOver os p (is_listed failed) first now r) (sym e) run in
+      let here = goes r is (omega (arith, e)) in
+      only_opened r t b groups failed here.follows.so_far knows;
   there = λ are told. there_is os periods (is_listed failed) first now are
       (λ c s n i. let octets = told c s n i in let k = reads c s octets.0 i octets.1 in (octets.0, k.0, octets.1, k.1));
 }
+
+-- no call has ended, and no line failed
+abbrev pub none_yet : (ℕ → Side → LineState) → Standing
+none_yet lines = record { over = λ c. false; listed = is_listed []; lines = lines }
 
 -- **So is one that didn't begin.**
 pub cut_first : (os : List Order) (periods : ℕ) (lines : ℕ → Side → LineState) → IsCutShort os periods lines lines
@@ -83,17 +100,23 @@ cut_first os periods lines = record {
     down = λ c i. (0, Appends-nil (lines c Down).written);
     others = λ c s none. refl;
   };
+  clock = 0;
+  within = omega arith;
+  stops = λ r run. stops_at r 0 (none_yet lines) lines lines (lines_at_first r os periods lines (none_yet lines) run) (written_first r 0 lines);
+  opened = λ r run c s l. cc;
 }
 
 -- ---- a resumed run
 
 -- **So is one that wrote nothing yet.**
-pub cut_before : (os : List Order) (periods : ℕ) (mark : MarkView) (failed : List Line) (first now : ℕ → Side → LineState) → TellsFailed first now failed →
-    KeepsSides first now → ReadsOn first now →
+pub cut_before : (os : List Order) (periods t : ℕ) (mark : MarkView) (over : ℕ → Bool) (failed : List Line) (first now : ℕ → Side → LineState) →
+    t ≤ periods → t ≤ mark.period → TellsFailed first now failed → KeepsSides first now → ReadsOn first now →
     HoldsBack (is_listed []) (is_listed failed) first now →
-    ((r : Run) → IsRunOver os periods (is_listed failed) first now r → (c : ℕ) (s : Side) → (IsOpened r c → ⊥) → now c s ≡ first c s) →
+    ((r : Run) → IsRunOver os periods (is_listed failed) first now r → OnlyOpenedFail r (is_listed failed)) →
+    ((r : Run) → IsRunOver os periods (is_listed failed) first now r →
+    LinesAt r t (record { over = over; listed = is_listed failed; lines = now }) first now) →
     IsResumeCutShort os periods mark first now
-cut_before os periods mark failed first now tells sides reads back others = record {
+cut_before os periods t mark over failed first now within early tells sides reads back opened at = record {
   fails = is_listed failed;
   told = tells.failures;
   sides = sides;
@@ -101,8 +124,12 @@ cut_before os periods mark failed first now tells sides reads back others = reco
   fronts = λ r run. record {
     out = λ c i. none (is_listed failed c Out) (first c Out) (now c Out) _ (back.listed c Out tt) (back.lines c Out tt);
     down = λ c i. none (is_listed failed c Down) (first c Down) (now c Down) _ (back.listed c Down tt) (back.lines c Down tt);
-    others = others r run;
+    others = (at r run).others;
   };
+  clock = t;
+  within = within;
+  stops = λ r run. stops_before r t (record { over = over; listed = is_listed failed; lines = now }) first now (at r run) mark.period early back;
+  opened = opened;
   held = λ r run differs. back.lines;
   there = λ are told n. there_is os n (is_listed failed) first now are
       (λ c s n i. let octets = told c s n i in let k = reads c s octets.0 i octets.1 in (octets.0, k.0, octets.1, k.1));
@@ -115,12 +142,13 @@ cut_before os periods mark failed first now tells sides reads back others = reco
 
 -- **So is one that stops at a clock behind the mark's period, where the mark is the run's.**
 pub cut_behind : (os : List Order) (periods : ℕ) (mark : MarkView) (t : ℕ) (b : State) (groups : List Group) (failed : List Line)
-    (first now : ℕ → Side → LineState) → mark.period ≤ t → TellsFailed first now failed → KeepsSides first now → ReadsOn first now →
+    (first now : ℕ → Side → LineState) → mark.period ≤ t → t ≤ periods → KnowsListed b groups failed →
+    TellsFailed first now failed → KeepsSides first now → ReadsOn first now →
     ((r : Run) → IsRunOver os mark.period (is_listed failed) first now r → marked_calls r ≡ mark.calls) →
     ((r : Run) → IsRunOver os r.periods (is_listed failed) first now r → periods ≤ r.periods → IsAtClock r t b groups (standing b failed now) first now) →
     ((r : Run) → IsRunOver os r.periods (is_listed failed) first now r → periods ≤ r.periods → WrittenFrom r mark.period t (is_listed failed) first now) →
     IsResumeCutShort os periods mark first now
-cut_behind os periods mark t b groups failed first now behind tells sides reads same goes wrote = record {
+cut_behind os periods mark t b groups failed first now behind within knows tells sides reads same goes wrote = record {
   fails = is_listed failed;
   told = tells.failures;
   sides = sides;
@@ -139,6 +167,18 @@ cut_behind os periods mark t b groups failed first now behind tells sides reads 
             (now c Down) (sooner (end_in r c) (start_of (done_in r) c)) (least (end_in r c) (start_of (done_in r) c)) (written.down c i);
         others = here.lines.others;
       };
+  clock = t;
+  within = within;
+  stops = λ r run.
+      let e = run.same_periods in
+      let is = subst (λ (p : ℕ). IsRunOver os p (is_listed failed) first now r) (sym e) run in
+      let here = goes r is (omega (arith, e)) in
+      stops_from r t (standing b failed now) first now here.lines mark.period (wrote r is (omega (arith, e)));
+  opened = λ r run.
+      let e = run.same_periods in
+      let is = subst (λ (p : ℕ). IsRunOver os p (is_listed failed) first now r) (sym e) run in
+      let here = goes r is (omega (arith, e)) in
+      only_opened r t b groups failed here.follows.so_far knows;
   held = λ r run differs. absurd (differs (same r run));
   there = λ are told n. there_is os n (is_listed failed) first now are
       (λ c s n i. let octets = told c s n i in let k = reads c s octets.0 i octets.1 in (octets.0, k.0, octets.1, k.1));

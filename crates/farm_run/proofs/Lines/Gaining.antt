@@ -89,6 +89,24 @@ down_front_from r c k m n fails first now back l w =
     subst (HasFront fails first now) (sym (ap (drop (40 * k)) more.1 ∙ drop-append-le (40 * k) old more.0 fits))
     (front_of fails first now (drop (40 * k) old) more.0 w)
 
+-- **What the first m periods give are the first octets of what any more give.**
+pub out_taken : (r : Run) (c m n : ℕ) → m ≤ n →
+    out_line (who_in r c) (periods_to r c m) ≡ take (160 * m) (out_line (who_in r c) (periods_to r c n))
+out_taken r c m n l =
+    let more = out_more r c m (n - m) n (omega (arith, l)) in
+    let old = out_line (who_in r c) (periods_to r c m) in
+    let long : length old ≡ 160 * m = omega (arith, length-out_line (who_in r c) (periods_to r c m), length-periods_to r c m) in
+    sym (ap (take (160 * m)) more.1 ∙ take-append-le (160 * m) old more.0 (omega (arith, long)) ∙ take_all (160 * m) old (omega (arith, long)))
+
+-- the same of the downlink
+pub down_taken : (r : Run) (c m n : ℕ) → m ≤ n →
+    down_octets (who_in r c) (periods_to r c m) ≡ take (40 * m) (down_octets (who_in r c) (periods_to r c n))
+down_taken r c m n l =
+    let more = down_on r c m (n - m) n (omega (arith, l)) in
+    let old = down_octets (who_in r c) (periods_to r c m) in
+    let long : length old ≡ 40 * m = omega (arith, length-down_octets (who_in r c) (periods_to r c m), length-periods_to r c m) in
+    sym (ap (take (40 * m)) more.1 ∙ take-append-le (40 * m) old more.0 (omega (arith, long)) ∙ take_all (40 * m) old (omega (arith, long)))
+
 -- **At the period from which on a line is written, it has gained nothing.**
 pub none_out : (r : Run) (c k : ℕ) → drop (160 * k) (out_line (who_in r c) (periods_to r c k)) ≡ []
 none_out r c k =

@@ -19,12 +19,13 @@ use Rattle.farm_run.specs.declared.stage.Stage.{Stage}
 use Rattle.farm_run.specs.Noted.{IsKnown, IsAtEnd}
 use Rattle.farm_run.specs.Marking.{entry_of}
 use Rattle.farm_run.specs.Outgoing.{sum_to}
-use Rattle.farm_run.specs.Runs.{TellsFailed, AreTold, IsRunOver, FailedShort, Leaves, Runs, is_listed}
+use Rattle.farm_run.specs.Runs.{TellsFailed, AreTold, IsRunOver, OnlyOpenedFail, FailedShort, Leaves, Runs, is_listed}
 use Rattle.farm_run.specs.Saving.{SavedView, Saves}
 use Rattle.farm_run.specs.Stages.{OpenedBefore, SumsAt}
 use Rattle.farm_run.specs.Standing.{Standing, standing, StandingGoesOn}
 use Rattle.farm_run.specs.Clock.{IsAtClock, WrittenFrom}
 use Rattle.farm_run.proofs.Lines.Being.{there_is}
+use Rattle.farm_run.proofs.Lines.Stopping.{only_opened}
 use Rattle.farm_run.proofs.Clocks.Last.{leaves_all}
 use Rattle.farm_run.proofs.Marked.Calls.{entries_are, entries_live}
 use Rattle.farm_run.proofs.Clocks.Meeting.{stays}
@@ -62,6 +63,13 @@ module _ (os : List Order) (batch : ℕ) (first now : ℕ → Side → LineState
   pub known_end : (r : Run) → IsRunOver os u.clock (is_listed u.farm.failed) first now r → IsKnown r r.periods u.board u.farm.tallies u.journal
   known_end r run =
       subst (λ (p : ℕ). IsKnown r p u.board u.farm.tallies u.journal) (sym run.same_periods) (g.known r last (own r run) (least r run) (stays last))
+
+  -- **Its lines that failed are those of calls that it opened.**
+  pub opened_end : (r : Run) → IsRunOver os u.clock (is_listed u.farm.failed) first now r → OnlyOpenedFail r (is_listed u.farm.failed)
+  opened_end r run =
+      let here = at_end r run in
+      let knows = (let s = g.stage in s.knows) in
+      only_opened r r.periods u.board u.farm.groups u.farm.failed here.follows.so_far knows
 
   -- **Its incoming lines that failed did so short of a round's octets.**
   pub short_end : (r : Run) → IsRunOver os u.clock (is_listed u.farm.failed) first now r → FailedShort r batch (is_listed u.farm.failed)
@@ -121,6 +129,7 @@ runs_told os pace first now u count (Ok report) g e wrote f number h = record {
       (leaves_all r u.board u.farm.groups u.farm.failed first now (at_end os pace.batch first now u g r is)
       (wrote_end os pace.batch first now u g 0 wrote r is));
   reports = λ r run. report_end os pace.batch first now u g count report number (λ r t end p. h r t end (p ∙ e)) r (over r run);
+  opened = λ r run. subst (λ (ls : List Line). OnlyOpenedFail r (is_listed ls)) (sym f) (opened_end os pace.batch first now u g r (over r run));
   short = λ r run. subst (λ (ls : List Line). FailedShort r pace.batch (is_listed ls)) (sym f) (short_end os pace.batch first now u g r (over r run));
   there = λ are told. subst (λ (ls : List Line). (r : Run) × IsRunOver os pace.periods (is_listed ls) first now r) (sym f)
       (there os pace.batch first now u g are told pace.periods);
@@ -151,6 +160,7 @@ saves_told os pace first now u saved g e wrote sums f p calls live rising openin
   marks = λ r run.
       same saved.mark.period r.periods saved.mark.calls (marked_calls r) (p ∙ sym run.same_periods)
       (calls ∙ marked_end os pace.batch first now u g live rising sums r (over r run));
+  opened = λ r run. subst (λ (ls : List Line). OnlyOpenedFail r (is_listed ls)) (sym f) (opened_end os pace.batch first now u g r (over r run));
   short = λ r run. subst (λ (ls : List Line). FailedShort r pace.batch (is_listed ls)) (sym f) (short_end os pace.batch first now u g r (over r run));
   there = λ are told. subst (λ (ls : List Line). (r : Run) × IsRunOver os pace.periods (is_listed ls) first now r) (sym f)
       (there os pace.batch first now u g are told pace.periods);

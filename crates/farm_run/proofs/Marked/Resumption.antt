@@ -26,19 +26,20 @@ use Rattle.farm_run.specs.Marking.{entry_of}
 use Rattle.farm_run.specs.Noted.{IsAtEnd}
 use Rattle.farm_run.specs.Outgoing.{is_held, is_summed, sum_to}
 use Rattle.farm_run.specs.Resuming.{LeavesFrom, ResumesRun, FindsDifference, IsResumeCutShort}
-use Rattle.farm_run.specs.Runs.{TellsFailed, IsRunOver, HasWritten, FailedShort, is_listed}
+use Rattle.farm_run.specs.Runs.{TellsFailed, IsRunOver, HasWritten, OnlyOpenedFail, FailedShort, is_listed}
 use Rattle.farm_run.specs.Stages.{IsStage, IsFirstStage, HoldsBack, Reaches, SumsAt}
-use Rattle.farm_run.specs.Standing.{Standing, standing, StandingGoesOn}
+use Rattle.farm_run.specs.Standing.{Standing, standing, is_over, StandingGoesOn}
 use Rattle.farm_run.specs.Clock.{IsAtClock, WrittenFrom}
-use Rattle.farm_run.proofs.Clocks.First.{tells_none, flags_of}
+use Rattle.farm_run.proofs.Clocks.First.{tells_none, flags_of, lines_at_first}
 use Rattle.farm_run.proofs.Clocks.Last.{up_rest, pcm_rest, leaves_from}
-use Rattle.farm_run.proofs.Lines.Cutting.{cut_at, cut_before, cut_behind}
+use Rattle.farm_run.proofs.Lines.Cutting.{cut_at, cut_before, cut_behind, none_yet}
+use Rattle.farm_run.proofs.Lines.Stopping.{only_opened}
 use Rattle.farm_run.proofs.Lines.Gaining.{none_out, none_down}
 use Rattle.farm_run.proofs.Marked.Calls.{entries_are}
 use Rattle.farm_run.proofs.Clocks.Meeting.{stays, further}
 use Rattle.farm_run.proofs.Clocks.Reaching.{GoneTo, gone_first, gone_more, wrote_first, summed_first}
 use Rattle.farm_run.proofs.Lines.Sides.{sides_none}
-use Rattle.farm_run.proofs.Lines.Telling.{there, at_end, short_end, report_end, wrote_end, marked_end, over_here}
+use Rattle.farm_run.proofs.Lines.Telling.{there, at_end, opened_end, short_end, report_end, wrote_end, marked_end, over_here}
 
 -- ---- cut short
 
@@ -52,14 +53,25 @@ module _ (os : List Order) (batch periods : ℕ) (first now : ℕ → Side → L
   pub cut_here : ((r : Run) (z : Standing) → IsRunOver os r.periods z.listed first z.lines r → u.clock ≤ r.periods →
       StandingGoesOn (standing u.board u.farm.failed now) z → WrittenFrom r 0 u.clock (is_listed u.farm.failed) first now) →
       IsCutShort os periods first now
-  cut_here wrote = cut_at os periods u.clock u.board u.farm.groups u.farm.failed first now g.tells g.sides g.reads at_here
+  cut_here wrote = cut_at os periods u.clock u.board u.farm.groups u.farm.failed first now l (let s = g.stage in s.knows) g.tells g.sides g.reads at_here
       (λ r run least. wrote r (standing u.board u.farm.failed now) run (omega (arith, l, least)) (stays (standing u.board u.farm.failed now)))
 
+  -- the run to there is at this clock
+  at_last : (r : Run) → IsRunOver os periods (is_listed u.farm.failed) first now r →
+      IsAtClock r u.clock u.board u.farm.groups (standing u.board u.farm.failed now) first now
+  at_last r run =
+      let e = run.same_periods in
+      at_here r (subst (λ (p : ℕ). IsRunOver os p (is_listed u.farm.failed) first now r) (sym e) run) (omega (arith, e))
+
   -- **So is a resumed one that wrote nothing,**
-  pub cut_unwritten : (mark : MarkView) → HoldsBack (is_listed []) (is_listed u.farm.failed) first now → IsResumeCutShort os periods mark first now
-  cut_unwritten mark back = cut_before os periods mark u.farm.failed first now g.tells g.sides g.reads back
-      (λ r run. let e = run.same_periods in
-      let here = at_here r (subst (λ (p : ℕ). IsRunOver os p (is_listed u.farm.failed) first now r) (sym e) run) (omega (arith, e)) in here.lines.others)
+  pub cut_unwritten : (mark : MarkView) → u.clock ≤ mark.period → HoldsBack (is_listed []) (is_listed u.farm.failed) first now →
+      IsResumeCutShort os periods mark first now
+  cut_unwritten mark early back =
+      cut_before os periods u.clock mark (is_over u.board) u.farm.failed first now l early g.tells g.sides g.reads back
+      (λ r run. let here = at_last r run in
+      let knows = (let s = g.stage in s.knows) in
+      only_opened r u.clock u.board u.farm.groups u.farm.failed here.follows.so_far knows)
+      (λ r run. (at_last r run).lines)
 
   -- **and one that wrote what lies behind the mark's period, where the mark is the run's.**
   pub cut_written : (mark : MarkView) → mark.period ≤ u.clock →
@@ -68,7 +80,8 @@ module _ (os : List Order) (batch periods : ℕ) (first now : ℕ → Side → L
       StandingGoesOn (standing u.board u.farm.failed now) z → WrittenFrom r mark.period u.clock (is_listed u.farm.failed) first now) →
       IsResumeCutShort os periods mark first now
   cut_written mark behind same wrote =
-      cut_behind os periods mark u.clock u.board u.farm.groups u.farm.failed first now behind g.tells g.sides g.reads same at_here
+      cut_behind os periods mark u.clock u.board u.farm.groups u.farm.failed first now behind l (let s = g.stage in s.knows) g.tells g.sides g.reads same
+      at_here
       (λ r run least. wrote r (standing u.board u.farm.failed now) run (omega (arith, l, least)) (stays (standing u.board u.farm.failed now)))
 
 -- **A run that came to a clock is cut short there.**
@@ -82,20 +95,21 @@ stretch_cut os batch periods o s first now f written after =
 -- **So is a resumed one that holds back what it has come to.**
 pub held_cut : (os : List Order) (batch periods until : ℕ) (mark : MarkView) (o : Outgoing) (s : Stage)
     (first now : ℕ → Side → LineState) → IsFirstStage os o s →
-    is_held o ≡ true → until ≤ periods →
+    is_held o ≡ true → until ≤ periods → until ≤ mark.period →
     ((after : Stage) × (after.clock ≤ until) × Reaches batch s after first now) → IsResumeCutShort os periods mark first now
-held_cut os batch periods until mark o s first now f held within after =
+held_cut os batch periods until mark o s first now f held within early after =
     let u = after.0 in
     let back = (let h = after.2 in h.back (ap is_held f.way ∙ held)) in
     let l = after.1 in
     cut_unwritten os batch periods first now after.0 (gone_more os batch first first now s after.0 (gone_first os batch o s first f) after.2)
-    (omega (arith, l, within)) mark (subst (λ (ls : List Line). HoldsBack (is_listed ls) (is_listed u.farm.failed) first now) f.none_failed back)
+    (omega (arith, l, within)) mark (omega (arith, l, early))
+    (subst (λ (ls : List Line). HoldsBack (is_listed ls) (is_listed u.farm.failed) first now) f.none_failed back)
 
 -- **So is one that didn't begin.**
 pub unbegun_cut : (os : List Order) (periods : ℕ) (mark : MarkView) (lines : ℕ → Side → LineState) → IsResumeCutShort os periods mark lines lines
 unbegun_cut os periods mark lines =
-    cut_before os periods mark [] lines lines (tells_none lines) (sides_none lines) (λ c s octets i e. (0, e))
-    (record { lines = λ c s o. refl; listed = λ c s o. refl }) (λ r run c s none. refl)
+    cut_before os periods 0 mark (λ c. false) [] lines lines (omega arith) (omega arith) (tells_none lines) (sides_none lines) (λ c s octets i e. (0, e))
+    (record { lines = λ c s o. refl; listed = λ c s o. refl }) (λ r run c s l. cc) (λ r run. lines_at_first r os periods lines (none_yet lines) run)
 
 -- ---- where the mark is compared
 
@@ -130,6 +144,7 @@ module _ (os : List Order) (pace : Pace) (mark : MarkView) (o : Outgoing) (s m :
     up_read = λ r run. up_rest r m.board m.farm.groups m.farm.failed first mid (at_end os pace.batch first mid m g r (over r run));
     pcm_read = λ r run. pcm_rest r m.board m.farm.groups m.farm.failed first mid (at_end os pace.batch first mid m g r (over r run));
     others = λ r run. let here = at_end os pace.batch first mid m g r (over r run) in here.lines.others;
+    opened = λ r run. opened_end os pace.batch first mid m g r (over r run);
     short = λ r run. short_end os pace.batch first mid m g r (over r run);
     there = λ are told. there os pace.batch first mid m g are told mark.period;
   }
@@ -223,6 +238,7 @@ module _ (os : List Order) (pace : Pace) (mark : MarkView) (o : Outgoing) (s m :
           (wrote_end os pace.batch first now u gone_on mark.period wrote_on r is));
       reports = λ r run. report_end os pace.batch first now u gone_on count report number (λ r t end p. told r t end (p ∙ eu)) r (over r run);
       same_mark = λ r run. sym (same ∙ entries ∙ at_mark r (subst (λ (ls : List Line). IsRunOver os mark.period (is_listed ls) first now r) f run));
+      opened = λ r run. subst (λ (ls : List Line). OnlyOpenedFail r (is_listed ls)) (sym f) (opened_end os pace.batch first now u gone_on r (over r run));
       short = λ r run. subst (λ (ls : List Line). FailedShort r pace.batch (is_listed ls)) (sym f) (short_end os pace.batch first now u gone_on r (over r run));
       there = λ are told periods. subst (λ (ls : List Line). (r : Run) × IsRunOver os periods (is_listed ls) first now r) (sym f)
           (there os pace.batch first now u gone_on are told periods);

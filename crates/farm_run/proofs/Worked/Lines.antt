@@ -25,10 +25,10 @@ use Rattle.run_spec.specs.Now.{IsSoFar}
 use Rattle.run_spec.proofs.SoFar.{standing_now}
 use Rattle.farm_run.specs.Going.{places_in, ends_within, told_after, is_told}
 use Rattle.farm_run.proofs.Rounds.Taken.{IsRound}
-use Rattle.farm_run.specs.Runs.{IsCutOff}
+use Rattle.farm_run.specs.Runs.{IsCutOff, IsReadWhole}
 use Rattle.farm_run.specs.Match.{AtClock, Matches, histories_at}
 use Rattle.farm_run.specs.Standing.{Standing, standing, KnowsListed, MeetsRun, IsToCome, never_given}
-use Rattle.farm_run.specs.Clock.{IsReadWhole, LinesAt, IsAtClock}
+use Rattle.farm_run.specs.Clock.{LinesAt, IsAtClock}
 use Rattle.farm_run.proofs.Rounds.Open.{open_at}
 use Rattle.farm_run.proofs.Rounds.Ends.{end_within, start_kept}
 use Rattle.farm_run.proofs.Told.Boards.{told_done, told_left, round_over}

@@ -24,7 +24,8 @@ returns-in_err-marked-clause-cut g c =
     let period : c.mark.inside.period ≡ c.args.mark.now.period = omega (arith, ap (λ (v : MarkView). v.period) c.mark.view_is) in
     on_err _ (held_cut c.args.orders c.args.pace.now.batch (max c.args.mark.now.period c.args.pace.now.periods) c.mark.inside.period c.args.mark.now
     (Held c.in_ok-new.field-0) c.in_ok-first.first
-    (g.T.Trunk.lines c.args.trunk.now) (g.T.Trunk.lines c.work_until.new.trunk) c.in_ok-first.ensures refl (omega (arith, period)) c.in_err-marked.ensures.cut)
+    (g.T.Trunk.lines c.args.trunk.now) (g.T.Trunk.lines c.work_until.new.trunk) c.in_ok-first.ensures refl (omega (arith, period)) (omega (arith, period))
+    c.in_err-marked.ensures.cut)
 
 pub returns-in_err-calls-clause-cut : goal.returns-in_err-calls-clause-cut
 returns-in_err-calls-clause-cut g c =
@@ -34,7 +35,8 @@ returns-in_err-calls-clause-cut g c =
     (c.in_ok-marked.marked, omega (arith, c.in_ok-marked.ensures.clock), c.in_ok-marked.ensures.reaches) in
     on_err _ (held_cut c.args.orders c.args.pace.now.batch (max c.args.mark.now.period c.args.pace.now.periods) c.mark.inside.period c.args.mark.now
     (Held c.in_ok-new.field-0) c.in_ok-first.first
-    (g.T.Trunk.lines c.args.trunk.now) (g.T.Trunk.lines c.work_until.new.trunk) c.in_ok-first.ensures refl (omega (arith, period)) after)
+    (g.T.Trunk.lines c.args.trunk.now) (g.T.Trunk.lines c.work_until.new.trunk) c.in_ok-first.ensures refl (omega (arith, period)) (omega (arith, period))
+    after)
 
 pub differs-requires-clause-others_rise : goal.differs-requires-clause-others_rise
 differs-requires-clause-others_rise g c =
