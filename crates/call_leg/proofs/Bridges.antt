@@ -64,7 +64,7 @@ pub hand-stands : (who : Who) (ts : List CallPeriod) (now : Settings) (up : List
 hand-stands who ts now up x x1 d d1 h ex eq la ef al co lv md ul qt br sn mn = record {
   held = record {
     law = la ∙ h.law;
-    long = h.long;
+    pcms = h.pcms;
     history = h.history;
     places = subst (λ z. Holds (pcm_of ts) (down_made who (frames_of ts)) (320 * length (down_periods ts)) (next_start (frames_of ts)) z) (sym ef) h.places;
     frozen = ap (λ z. z.frozen) al ∙ h.frozen;
@@ -154,7 +154,7 @@ pub begins : (who : Who) (ts : List CallPeriod) (now : Settings) (d d1 : DownMem
 begins who ts now d d1 n h ek ez en tx br la ef qu lv md ul sn mn = record {
   held = record {
     law = la ∙ h.law;
-    long = h.long;
+    pcms = h.pcms;
     history = h.history;
     places = subst (λ z. Holds (pcm_of ts) (down_made who (frames_of ts)) (320 * length (down_periods ts)) (next_start (frames_of ts)) z) (sym ef) h.places;
     frozen = ez;
@@ -183,7 +183,7 @@ pub ends : (who : Who) (ts : List CallPeriod) (now : Settings) (d d1 : DownMemor
 ends who ts now d d1 b h ek ez br la ef qu co lv md ul sn mn = record {
   held = record {
     law = la ∙ h.law;
-    long = h.long;
+    pcms = h.pcms;
     history = h.history;
     places = subst (λ z. Holds (pcm_of ts) (down_made who (frames_of ts)) (320 * length (down_periods ts)) (next_start (frames_of ts)) z) (sym ef) h.places;
     frozen = ez ∙ ap (λ z. z && not (length d.waiting == 0)) (h.frozen ∙ ap (λ z. z || is_some (handed_due (down_periods ts) (frames_of ts))) b)

@@ -213,7 +213,7 @@ half-stands who ts now up pcm handed d l b h =
     let i2 : Inside who t ts (frames_of (t ∷ ts)) (frame_tried (frame_tried put)) = tried-inside who t ts
     (grown (down_period t ts) (down_periods ts) (frames_of ts)) (frame_tried put) i1 in
     let made = frame_tried (frame_tried put) in (
-      leave who ts now up handed pcm d made b h i2 _ (λ pcm0 line out start p. take-holds made.framer pcm0 line out start p) refl refl refl refl refl refl refl
+      leave who ts now up handed pcm d made l b h i2 _ (λ pcm0 line out start p. take-holds made.framer pcm0 line out start p) refl refl refl refl refl refl refl
           refl refl refl,
       ap (take 320) i2.places.stored,
     )

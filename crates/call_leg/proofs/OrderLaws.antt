@@ -42,7 +42,7 @@ level-stands who ts now level m h =
       down = record {
         held = record {
           law = d.law;
-          long = d.long;
+          pcms = d.pcms;
           history = d.history;
           places = d.places;
           frozen = d.frozen;
@@ -78,7 +78,7 @@ mode-stands who ts now mode m h =
       down = record {
         held = record {
           law = d.law;
-          long = d.long;
+          pcms = d.pcms;
           history = d.history;
           places = d.places;
           frozen = d.frozen;
@@ -135,7 +135,7 @@ pub home-between : (who : Who) → Between who [] new_settings (home_down who.la
 home-between who = record {
   held = record {
     law = refl;
-    long = refl;
+    pcms = All-nil (λ t. length t.pcm ≡ 160);
     history = tt;
     places = record { held = refl; to_skip = refl; stored = refl };
     frozen = refl;

@@ -1,9 +1,10 @@
 -- The downlink side over a whole period.
 use Rattle.std.proofs.Common.{◌≡◌, refl, sym, ap, ◌∙◌, subst, ℕ, ◌+◌, ◌-◌, ◌*◌, ◌<◌, suc, Bool, true, false, not, ◌||◌, if◌then◌else◌, nat_le, Option, Some}
-use Rattle.std.proofs.Common.{None, is_some, List, [], ◌∷◌, ◌++◌, length, map, take, find, is_none, option_to_list, length-append, filter, arith}
+use Rattle.std.proofs.Common.{None, is_some, List, [], ◌∷◌, ◌++◌, length, map, take, find, is_none, option_to_list, length-append, filter, All, arith}
 use Rattle.std.specs.Prelude.{◌==◌}
 use Rattle.std.proofs.lemmas.Bool.{cond_both, ne_eqb, true≢false}
 use Rattle.std.proofs.lemmas.List.{append-nil}
+use Rattle.std.proofs.lemmas.List.Elements.{All-cons, All-head, All-tail}
 use Rattle.time_align.specs.Shift.{latest_ask}
 use Rattle.down_framer.specs.Made.{Period, MadeFrame, next_start, handed_due, counted_fields, grown, next_frame, made_frames}
 use Rattle.down_framer.specs.Bridges.{IsHistory}
@@ -103,6 +104,14 @@ pub history-more : (who : Who) (ts : List CallPeriod) (now : Settings) (up : Lis
     IsHistory (down_periods (period_with now up pcm handed ∷ ts))
 history-more who ts now up handed pcm d b h = (h.history, h.alone, λ e. h.goes_on (sym b ∙ e))
 
+-- the octets of the Pcm line so far
+pcms-long : (ts : List CallPeriod) → All (λ t. length t.pcm ≡ 160) ts → length (pcm_of ts) ≡ 160 * length (down_periods ts)
+pcms-long [] sized = refl
+pcms-long (t ∷ past) sized =
+    let before = pcms-long past (All-tail (λ t. length t.pcm ≡ 160) t past sized) in
+    let here = All-head (λ t. length t.pcm ≡ 160) t past sized in
+    length-append (pcm_of past) t.pcm ∙ omega arith
+
 -- the octets of the Pcm line come in
 pub enter : (who : Who) (ts : List CallPeriod) (now : Settings) (up : List ℕ) (handed : Option (List ℕ)) (pcm : List ℕ) (d d1 : DownMemory) →
     length pcm ≡ 160 → is_some handed ≡ now.bridged → Halfway who ts now up handed d →
@@ -113,7 +122,7 @@ pub enter : (who : Who) (ts : List CallPeriod) (now : Settings) (up : List ℕ) 
 enter who ts now up handed pcm d d1 lp b h pl la al qu co lv md ul qt br sn mn =
     let t : CallPeriod = period_with now up pcm handed in
     let a = AreMade-made_frames (down_periods ts) in
-    let long = h.long in
+    let long = pcms-long ts h.pcms in
     let q = h.waits.0 in
     let v : Waits (t ∷ ts) (frames_of ts) (q ++ option_to_list handed) = waits-enter t ts q (history-more who ts now up handed pcm d b h) h.waits.1 in
     record {
@@ -142,21 +151,20 @@ enter who ts now up handed pcm d d1 lp b h pl la al qu co lv md ul qt br sn mn =
 -- ---- and ends
 
 -- the bits of the Down line go out
-pub leave : (who : Who) (ts : List CallPeriod) (now : Settings) (up : List ℕ) (handed : Option (List ℕ)) (pcm : List ℕ) (d d2 : DownMemory) → is_some handed
-    ≡ now.bridged → Halfway who ts now up handed d →
+pub leave : (who : Who) (ts : List CallPeriod) (now : Settings) (up : List ℕ) (handed : Option (List ℕ)) (pcm : List ℕ) (d d2 : DownMemory) →
+    length pcm ≡ 160 → is_some handed ≡ now.bridged → Halfway who ts now up handed d →
     Inside who (period_with now up pcm handed) ts (frames_of (period_with now up pcm handed ∷ ts)) d2 → (d3 : DownMemory) →
     ((pcm0 line : List ℕ) (out start : ℕ) → Holds pcm0 line out start d2.framer → Holds pcm0 line (out + 320) start d3.framer) →
     d3.law ≡ d2.law → d3.align ≡ d2.align → d3.waiting ≡ d2.waiting → d3.coder ≡ d2.coder → d3.level ≡ d2.level → d3.mode ≡ d2.mode → d3.dtxd ≡ d2.dtxd →
     d3.bridged ≡ d2.bridged → d3.sent ≡ d2.sent → d3.made ≡ d2.made →
     Between who (period_with now up pcm handed ∷ ts) (settings_later now) d3
-leave who ts now up handed pcm d d2 b h i d3 pl la al qu co lv md ul br sn mn =
+leave who ts now up handed pcm d d2 lp b h i d3 pl la al qu co lv md ul br sn mn =
     let t : CallPeriod = period_with now up pcm handed in
-    let long = i.long in
     let e : 320 * length (down_periods ts) + 320 ≡ 320 * length (down_periods (t ∷ ts)) = omega arith in
     record {
       held = record {
         law = la ∙ i.law;
-        long = long ∙ omega arith;
+        pcms = All-cons (λ t. length t.pcm ≡ 160) t ts lp h.pcms;
         history = history-more who ts now up handed pcm d b h;
         places = subst (λ n. Holds (pcm_of (t ∷ ts)) (down_made who (frames_of (t ∷ ts))) n (next_start (frames_of (t ∷ ts))) d3.framer) e
             (pl (pcm_of (t ∷ ts)) (down_made who (frames_of (t ∷ ts))) (320 * length (down_periods ts)) (next_start (frames_of (t ∷ ts))) i.places);

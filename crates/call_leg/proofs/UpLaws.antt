@@ -68,7 +68,7 @@ hear-stands who ts now up s quiet d es eq h =
     record {
       held = record {
         law = h.law;
-        long = h.long;
+        pcms = h.pcms;
         history = h.history;
         places = h.places;
         frozen = asked-frozen d.align (field_of s) ∙ h.frozen;

@@ -46,7 +46,8 @@ pub record CoderStands (law : Law) (stretch : List CallFrame) (m : CoderMemory) 
 -- when that one's octets of the Up line were heard.
 pub record DownStands (who : Who) (ts : List CallPeriod) (now : Settings) (d : DownMemory) : Type 0 where
   pub law : d.law ≡ who.law
-  pub long : length (pcm_of ts) ≡ 160 * length (down_periods ts)
+  -- each period has 160 octets of the Pcm line
+  pub pcms : All (λ t. length t.pcm ≡ 160) ts
   pub history : IsHistory (down_periods ts)
   -- held are the octets of the Pcm line from the next frame's start on, or so many are to be skipped as it lies past
   -- the line; in store is what is made of the downlink and not yet out

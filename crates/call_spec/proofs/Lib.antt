@@ -17,4 +17,5 @@ pub mod FirstPeriods
 pub mod Ordered
 pub mod SpansSoFar
 pub mod Whole
+pub mod ByPeriod
 mod Rows

@@ -1,17 +1,19 @@
 //! Laws of a call's outgoing lines, each the contract of a function that does nothing.
 
-ghost use Rattle.std.specs.Prelude.{◌≡◌, ◌≤◌, ◌<◌, ℕ, ◌+◌, ◌*◌, Some, List, ◌∷◌, ◌++◌, length, filter, option_to_list};
+ghost use Rattle.std.specs.Prelude.{◌≡◌, ◌≤◌, ◌<◌, ℕ, ◌+◌, ◌*◌, Some, List, ◌∷◌, ◌++◌, length, take, drop, filter, option_to_list};
 ghost use Rattle.trau_bits.specs.Bits.{bits_of};
 ghost use Rattle.frame_sync.specs.declared.yields.Yield.{Yield};
 ghost use Rattle.frame_sync.specs.Yields.{Yields};
 ghost use Rattle.frame_sync.specs.Periods.{ends_in};
 ghost use Rattle.call_leg.specs.Who.{Who};
 ghost use Rattle.call_leg.specs.Periods.{CallPeriod};
-ghost use Rattle.call_leg.specs.Down.{down_line};
+ghost use Rattle.call_leg.specs.Down.{down_line, down_now};
 ghost use Rattle.call_spec.specs.Out.{out};
 ghost use Rattle.call_spec.specs.Call.{Call, Span, periods, yield_at};
 ghost use Rattle.call_spec.specs.Down.{frame_by_number, made_among, frames_of_call, HasItem, down};
-ghost use Rattle.call_leg.specs.Out.{out_line};
+ghost use Rattle.call_leg.specs.Out.{out_line, out_of};
+ghost use Rattle.call_leg.specs.Memory.{LegMemory};
+ghost use Rattle.call_leg.specs.Stands.{OfItsCall};
 ghost use Rattle.call_spec.specs.History.{IsCallHistory, call_of_history};
 ghost use Rattle.call_spec.specs.Whole.{IsWhole, periods_of_call};
 
@@ -36,6 +38,23 @@ pub fn lines_of_a_call()
     the_newest_is_the_last();
     the_table_looks_back();
 }
+
+/// In the lines of the call as a whole each period has its place. What a leg gives in period k, by the periods so far, is octets
+/// 160 k to 160 k + 159 of the Out line and bits 320 k to 320 k + 319 of the Down line, whatever periods come later.
+pub fn lines_by_period()
+    ensures out { (who : Who) (later past : List CallPeriod) (t : CallPeriod) → IsCallHistory (later ++ t ∷ past) →
+        out_of who (t ∷ past) ≡ take 160 (drop (160 * length past) (out (call_of_history who (later ++ t ∷ past)))) }
+    ensures down { (who : Who) (later past : List CallPeriod) (t : CallPeriod) → IsCallHistory (later ++ t ∷ past) →
+        down_now who (t ∷ past) ≡ take 320 (drop (320 * length past) (down (call_of_history who (later ++ t ∷ past)))) }
+{
+    lines_of_a_call();
+}
+
+/// Whatever periods a leg stands for, they are a history of a call. So what its functions say of their octets says the same of
+/// the lines of the call as a whole.
+pub fn a_leg_has_a_history()
+    ensures { (m : LegMemory) → OfItsCall m (λ who ts now. IsCallHistory ts) }
+{}
 
 /// What a period of a call yields is, of all yields of the bits of its whole Up line, the one that ends in the period.
 pub fn yields_of_a_call()

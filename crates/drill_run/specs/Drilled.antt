@@ -27,8 +27,8 @@ drilled_run seed calls periods = record {
 unfoldable pub text_with_sums : Run → List ℕ
 text_with_sums r = report_text (report_of r []) ++ flat_map (λ c. sum_line c (out_of_call r c) (down_of_call r c)) (calls_in r)
 
--- A drill leaves on lines of its own what its run gives them, whatever its workers did, and none of them failed; and this is
--- its text.
+-- This is the text of a drill; and there are lines that hold what the drill's do, on which its run leaves what it gives them, and
+-- none of them fails. Which lines were worked it doesn't say.
 pub record IsDrilled (seed calls periods : ℕ) (text : List ℕ) : Type 0 where
   pub before : ℕ → Side → LineState
   pub now : ℕ → Side → LineState

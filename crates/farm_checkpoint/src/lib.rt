@@ -19,7 +19,7 @@ mod read;
 mod write;
 
 pub use fault::MarkFault;
-pub use laws::one_answer;
+pub use laws::{marks_are_short, one_answer};
 pub use mark::{Mark, MarkCall};
 pub use read::read_mark;
 pub use write::write_mark;

@@ -12,7 +12,7 @@ use Rattle.call_leg.specs.Stands.{Stands}
 use Rattle.call_leg.specs.Out.{out_of}
 use Rattle.call_leg.specs.Down.{down_now}
 use Rattle.farm_live.specs.declared.post.Entry.{Entry}
-use Rattle.farm_live.specs.Book.{who_at, period_of, periods_after, IsWorkedFrom, IsLegal}
+use Rattle.farm_live.specs.Book.{who_at, HasPeriod, period_of, periods_after, IsWorkedFrom, IsLegal}
 use Rattle.farm_live.specs.Step.{WorksOn}
 
 -- the periods after one entry more
@@ -21,19 +21,19 @@ after_one_more ts [] e = refl
 after_one_more ts (x ∷ es) e = after_one_more (period_of x.post ∷ ts) es e
 
 -- the octets of one entry more are those of the call ..
-pub legal_one_more : (who : Who) (ts : List CallPeriod) (es : List Entry) (e : Entry) → IsWorkedFrom who ts es →
+pub legal_one_more : (who : Who) (ts : List CallPeriod) (es : List Entry) (e : Entry) → IsWorkedFrom who ts es → HasPeriod e.post →
     e.out ≡ out_of who (period_of e.post ∷ periods_after ts es) → bits_of e.down ≡ down_now who (period_of e.post ∷ periods_after ts es) →
     IsWorkedFrom who ts (es ++ e ∷ [])
-legal_one_more who ts [] e p out down = (out, down, tt)
-legal_one_more who ts (x ∷ es) e p out down = (p.0, p.1, legal_one_more who (period_of x.post ∷ ts) es e p.2 out down)
+legal_one_more who ts [] e p sized out down = (sized, out, down, tt)
+legal_one_more who ts (x ∷ es) e p sized out down = (p.0, p.1, p.2, legal_one_more who (period_of x.post ∷ ts) es e p.3 sized out down)
 
 -- .. where the leg worked its post after the history
-pub leg_one_more : (call : ℕ) (es : List Entry) (e : Entry) (old new : LegMemory) → IsLegal call es →
+pub leg_one_more : (call : ℕ) (es : List Entry) (e : Entry) (old new : LegMemory) → IsLegal call es → HasPeriod e.post →
     Stands (who_at call) (periods_after [] es) new_settings old → WorksOn old e new →
     IsLegal call (es ++ e ∷ []) × Stands (who_at call) (periods_after [] (es ++ e ∷ [])) new_settings new
-leg_one_more call es e old new legal stands works =
+leg_one_more call es e old new legal sized stands works =
     let w = works (who_at call) (periods_after [] es) stands in (
-      legal_one_more (who_at call) [] es e legal w.1 w.2,
+      legal_one_more (who_at call) [] es e legal sized w.1 w.2,
       subst (λ (ts : List CallPeriod). Stands (who_at call) ts new_settings new)
           (sym (after_one_more [] es e)) w.0,
     )

@@ -8,3 +8,4 @@ pub mod Turning
 pub mod Rows
 pub mod NewFarm
 pub mod Joining
+pub mod Wholes

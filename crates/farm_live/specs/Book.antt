@@ -1,5 +1,5 @@
 -- The book of a call, as its callers see it, and when its history is legal.
-use Rattle.std.specs.Prelude.{◌≡◌, ℕ, suc, Bool, ◌==◌, ◌&&◌, None, List, [], ◌∷◌, ◌++◌, map, filter}
+use Rattle.std.specs.Prelude.{◌≡◌, ℕ, suc, Bool, ◌==◌, ◌&&◌, None, List, [], ◌∷◌, ◌++◌, length, map, filter}
 use Rattle.trau_alaw.specs.declared.Law.TheVariants.{A}
 use Rattle.trau_bits.specs.Bits.{bits_of}
 use Rattle.call_leg.specs.Who.{Who}
@@ -46,6 +46,10 @@ NumberedFrom n (p ∷ ps) = (p.number ≡ n) × NumberedFrom (suc n) ps
 abbrev pub who_at : ℕ → Who
 who_at call = record { number = call; law = A }
 
+-- a post has the octets of a period: 40 of the Up line and 160 of the Pcm line
+abbrev pub HasPeriod : Post → Type 0
+HasPeriod p = (length p.up ≡ 40) × (length p.pcm ≡ 160)
+
 -- the period of an entry
 abbrev pub period_of : Post → CallPeriod
 period_of p = period_with new_settings p.up p.pcm None
@@ -55,11 +59,11 @@ abbrev pub periods_after : List CallPeriod → List Entry → List CallPeriod
 periods_after ts [] = ts
 periods_after ts (e ∷ es) = periods_after (period_of e.post ∷ ts) es
 
--- the octets of each entry are those that the call's definition gives its period after all before it
+-- each entry has the octets of a period, and those that the call's definition gives it after all periods before it
 abbrev pub IsWorkedFrom : Who → List CallPeriod → List Entry → Type 0
 IsWorkedFrom who ts [] = Unit {0}
 IsWorkedFrom who ts (e ∷ es) =
-    (e.out ≡ out_of who (period_of e.post ∷ ts)) × (bits_of e.down ≡ down_now who (period_of e.post ∷ ts))
+    HasPeriod e.post × (e.out ≡ out_of who (period_of e.post ∷ ts)) × (bits_of e.down ≡ down_now who (period_of e.post ∷ ts))
     × IsWorkedFrom who (period_of e.post ∷ ts) es
 
 -- a history of a call from its first period on, by its octets; that each caller's posts are numbered in order, those of the

@@ -1,4 +1,5 @@
 pub mod Book
+pub mod Whole
 pub mod Step
 pub mod Slot
 pub mod Turns

@@ -4,7 +4,7 @@ ghost use Rattle.std.specs.Prelude.{◌≡◌, ◌<◌, ◌↔◌, ◌+◌, IsTr
 ghost use Rattle.call_number.specs.CallNumber.{IsCallNumber};
 ghost use Rattle.call_leg.specs.Memory.{periods_of_leg};
 ghost use Rattle.farm_live.specs.Step.{WorksOn};
-ghost use Rattle.farm_live.specs.Book.{BookState, empty_book, with_post, Worked, IsLegal, is_of_post};
+ghost use Rattle.farm_live.specs.Book.{BookState, empty_book, with_post, Worked, HasPeriod, IsLegal, is_of_post};
 
 use crate::post::{BookOf, Entry, Post};
 use call_leg::Leg;
@@ -129,6 +129,7 @@ impl Book {
 fn period(leg: &mut Leg, post: Post) -> Entry
     requires few { periods_of_leg leg.old < 4294967295 }
     ensures post { result.post ≡ post }
+    ensures sized { HasPeriod result.post }
     ensures periods { periods_of_leg leg.new ≡ periods_of_leg leg.old + 1 }
     ensures worked { WorksOn leg.old result leg.new }
 {

@@ -17,15 +17,16 @@
 //! - `opening`: a new farm's slots and seats.
 //! - `closing`: what its callers know, put together.
 //! - `live`: the farm.
-//! - `laws`: the law that a single caller is never busy.
+//! - `laws`: the laws that a single caller is never busy, and that a legal history is that of the call as a whole
+//!   (`call_spec`).
 //!
 //! It stands beside the runs of recorded lines (`farm_run`): there the clock gives each call its periods, here its callers
 //! do. Calls have A-law lines, level 256, discontinuous transmission as the uplink asks, and no bridges. Posts, books and
 //! slots are this project's own. `live_run` drives it, for the command `live`.
 //!
-//! Definitions: `specs/Book.antt` (the book of a call, and when its history is legal), `specs/Step.antt` (one period of its
-//! leg), `specs/Slot.antt` (the rule of a slot), `specs/Turns.antt` (what posting, working and reading do with it),
-//! `specs/Live.antt` (a new farm and its callers), `specs/Closing.antt` (its end).
+//! Definitions: `specs/Book.antt` (the book of a call, and when its history is legal), `specs/Whole.antt` (a call as a whole
+//! by its posts), `specs/Step.antt` (one period of its leg), `specs/Slot.antt` (the rule of a slot), `specs/Turns.antt` (what
+//! posting, working and reading do with it), `specs/Live.antt` (a new farm and its callers), `specs/Closing.antt` (its end).
 #![tactic(auto)]
 
 mod book;
@@ -37,7 +38,7 @@ mod post;
 mod slot;
 mod turns;
 
-pub use laws::one_caller_is_never_busy;
+pub use laws::{legal_histories_are_whole_calls, one_caller_is_never_busy};
 pub use live::{Caller, Closed, Live, PostFault};
 pub use post::{BookOf, Entry, Post};
 pub use turns::{Look, Turn};

@@ -1,7 +1,9 @@
 -- What the reading of a mark and of the orders behind it answers (this project's profile).
-use Rattle.std.specs.Prelude.{◌≡◌, ◌<◌, ◌≤◌, ◌⊎◌, ℕ, List, ◌++◌, length, Result, Ok, Err}
+use Rattle.std.specs.Prelude.{◌≡◌, ◌<◌, ◌≤◌, ◌⊎◌, ℕ, List, ◌++◌, length, Some, Result, Ok, Err}
 use Rattle.std.specs.Io.KnownBytes.{IsAtEnd}
 use Rattle.trau_io.specs.Desks.{DeskState}
+use Rattle.trau_orders.specs.declared.order.Order.{Order}
+use Rattle.trau_orders.specs.Text.{text_lines, AreLines, IsWithin}
 use Rattle.farm_checkpoint.specs.Marks.{MarkView, IsMark}
 use Rattle.farm_checkpoint.specs.Text.{mark_text, IsFirstBad}
 use Rattle.farm_orders.specs.declared.fault.MarkedFault.{MarkedFault}
@@ -65,3 +67,14 @@ AnswersMarkedTold text (Err (marked.Orders Unread)) = Unit {0}
 AnswersMarkedTold text (Err (marked.Orders TooLong)) = AnswersMarked text (Err (marked.Orders TooLong))
 AnswersMarkedTold text (Err (marked.Orders (Line n))) = AnswersMarked text (Err (marked.Orders (Line n)))
 AnswersMarkedTold text (Err (marked.Orders Memory)) = Unit {0}
+
+-- the desk tells a text of at most 1,310,720 octets: this mark's, and behind it one within the orders' limits, whose lines
+-- are those of these orders
+pub record TellsMarked (mark : MarkView) (orders : List Order) (desk : DeskState) : Type 0 where
+  pub text : List ℕ
+  pub told : desk.to_come ≡ Some text
+  pub short : IsShort text
+  pub rest : List ℕ
+  pub has : HasMark text mark rest
+  pub within : IsWithin rest
+  pub spelled : AreLines (text_lines rest) orders

@@ -5,7 +5,7 @@
 //! matter of `trau_orders`, the grammar of a mark before them that of `farm_checkpoint`.
 //!
 //! `fault` has why orders or a mark aren't taken, `text` the whole text, `read` the orders, `marked` a mark and the orders
-//! behind it.
+//! behind it, `laws` the law that any mark leaves room for the orders.
 //!
 //! The limits and the order in which faults are looked for are this project's profile.
 //! Definitions: `specs/Given.antt` (the text that the desk gives), `specs/Reading.antt` (what the whole reading of orders
@@ -14,10 +14,12 @@
 #![tactic(auto)]
 
 mod fault;
+mod laws;
 mod marked;
 mod read;
 mod text;
 
 pub use fault::{MarkedFault, OrdersFault};
+pub use laws::marks_leave_room;
 pub use marked::{MarkedOrders, read_marked_orders};
 pub use read::read_orders;

@@ -17,7 +17,7 @@ use Rattle.farm_orders.specs.declared.fault.MarkedFault.{MarkedFault}
 use Rattle.farm_orders.specs.declared.fault.MarkedFault.TheVariants.{Mark, Orders}
 use Rattle.farm_orders.specs.declared.fault.OrdersFault.TheVariants.{Unread, TooLong, Line, Memory}
 use Rattle.farm_orders.specs.declared.marked.MarkedOrders.{MarkedOrders}
-use Rattle.farm_orders.specs.Marked.{AnswersMarkedTold, ReadsMarked, TakenBehind}
+use Rattle.farm_orders.specs.Marked.{AnswersMarkedTold, ReadsMarked, TakenBehind, TellsMarked}
 use Rattle.run_spec.specs.Run.{Run}
 use Rattle.run_spec.specs.Mark.{Joins, marked_calls}
 use Rattle.farm_report.specs.Lines.{report_text}
@@ -30,7 +30,7 @@ use Rattle.farm_top.specs.FarmClean.{IsCalmRun}
 use Rattle.farm_top.specs.FarmEnded.{GainsFront}
 use Rattle.farm_top.specs.Headline.{HeadlineFrom}
 use Rattle.farm_top.specs.Resume.{CarriesResume, FindsAndTells, FollowsMarked, ResumesAndTells, ResumesOrders}
-use Rattle.farm_top.specs.ResumeEnded.{JoinsMarked, ResumeDiffers, ResumeEnded, TellsMarked}
+use Rattle.farm_top.specs.ResumeEnded.{JoinsMarked, ResumeDiffers, ResumeEnded}
 use Rattle.farm_top.proofs.ResumeCausing.{marked_not_bad, same_mark, same_orders, taken_not_bad, taken_not_long}
 use Rattle.farm_top.proofs.Taking.{NotTaken, Taken, done_of, front_out, none_left, not_rose, opened_rose, read_out, status_out, whole_out}
 use Rattle.farm_top.proofs.ResumeCutting.{cut_none_from, cut_whole, due_of}

@@ -7,10 +7,8 @@ use Rattle.trau_io.specs.declared.line.Side.TheVariants.{Down, Out}
 use Rattle.trau_io.specs.Lines.{LineState}
 use Rattle.trau_io.specs.Desks.{DeskState}
 use Rattle.trau_orders.specs.declared.order.Order.{Order}
-use Rattle.trau_orders.specs.Text.{text_lines, AreLines, IsWithin}
 use Rattle.round_lines.specs.Rounds.{IsIncoming}
 use Rattle.farm_checkpoint.specs.Marks.{MarkView}
-use Rattle.farm_orders.specs.Marked.{HasMark, IsShort}
 use Rattle.run_spec.specs.Run.{Run, IsOpened}
 use Rattle.run_spec.specs.Lines.{out_of_call, down_of_call}
 use Rattle.run_spec.specs.Mark.{Joins, cut_at, marked_calls}
@@ -22,17 +20,6 @@ use Rattle.farm_top.specs.FarmCauses.{SomeOpenedRose}
 use Rattle.farm_top.specs.FarmEnded.{GainsFront, report_told}
 use Rattle.farm_top.specs.Headline.{HeadlineFrom}
 use Rattle.farm_top.specs.Resume.{differs_text}
-
--- the desk tells a text of at most 1,310,720 octets: this mark's, and behind it one within the orders' limits, whose lines
--- are those of these orders
-pub record TellsMarked (mark : MarkView) (orders : List Order) (desk : DeskState) : Type 0 where
-  pub text : List ℕ
-  pub told : desk.to_come ≡ Some text
-  pub short : IsShort text
-  pub rest : List ℕ
-  pub has : HasMark text mark rest
-  pub within : IsWithin rest
-  pub spelled : AreLines (text_lines rest) orders
 
 -- A run of these orders from this mark on that was carried to its end, the later one of the mark's period and the number of
 -- periods asked for, whatever failed.

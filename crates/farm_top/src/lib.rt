@@ -8,7 +8,7 @@
 //!
 //! `top` has the whole call, `farm` the command `run`, `save` and `resume` the commands of these names, `drill` the command
 //! `drill`, `live` the command `live`, `slots` the commands on time slots, `follow` the base station's end, `status` the
-//! statuses.
+//! statuses, `laws` the law that a mark of `save` is taken.
 //!
 //! The commands, their texts and the statuses are this project's profile.
 //! Definitions: `specs/Words.antt` (which words ask for what), `specs/Top.antt` (a whole command), `specs/Farm.antt` (a
@@ -25,6 +25,7 @@
 mod drill;
 mod farm;
 mod follow;
+mod laws;
 mod live;
 mod resume;
 mod save;
@@ -33,4 +34,5 @@ mod status;
 mod top;
 
 pub use command_words::{Asked, LiveSettings, Settings, WordsFault, read_words};
+pub use laws::a_saved_mark_is_taken;
 pub use top::farm_top;

@@ -10,4 +10,3 @@ mod Known
 mod Ended
 mod Lines
 mod Callers
-mod Wholes

@@ -1,21 +1,14 @@
 -- The lines of closed calls are those of the calls as a whole.
-use Rattle.std.proofs.Common.{◌≡◌, ℕ, suc, ◌+◌, ◌%◌, ◌<◌, Bool, true, false, List, [], ◌∷◌, ◌++◌, length, map, replicate, get_or, reverse}
-use Rattle.std.proofs.Common.{refl, sym, ap, ◌∙◌, subst, arith}
-use Rattle.std.specs.Prelude.{nat_lt, if◌then◌else◌}
+use Rattle.std.proofs.Common.{◌≡◌, ℕ, suc, ◌+◌, ◌%◌, ◌<◌, List, [], ◌∷◌, ◌++◌, length, map, replicate, get_or, reverse}
+use Rattle.std.proofs.Common.{refl, ap, ◌∙◌, arith}
 use Rattle.std.specs.List.{range_with_len, flat_map}
-use Rattle.std.proofs.lemmas.List.{length-replicate}
 use Rattle.std.proofs.lemmas.List.Folds.{flat_map-map}
-use Rattle.std.proofs.lemmas.List.FromFn.{get_or-map-range_with_len, length-map-range_with_len}
+use Rattle.std.proofs.lemmas.List.FromFn.{length-map-range_with_len}
 use Rattle.trau_bits.specs.Bits.{bits_of, octets_of}
-use Rattle.trau_bits.proofs.Octets.{length-octets_of}
-use Rattle.trau_frame.specs.UpBits.{bits_saying, up_control}
-use Rattle.trau_frame.proofs.Again.{length-frame_bits}
 use Rattle.call_spec.specs.Out.{out}
 use Rattle.call_spec.specs.Down.{down}
 use Rattle.farm_report.specs.Sums.{sum_line}
-use Rattle.farm_drill.specs.Draws.{draw, draws, is_loud, first_draw, first_loud_draw}
-use Rattle.farm_drill.specs.Uplink.{frame_drawn, up_octets}
-use Rattle.farm_drill.specs.Lines.{pcm_octets, up_line, pcm_line}
+use Rattle.farm_drill.specs.Lines.{up_line, pcm_line}
 use Rattle.farm_live.specs.declared.post.Post.{Post}
 use Rattle.farm_live.specs.declared.post.Entry.{Entry}
 use Rattle.farm_live.specs.declared.live.Caller.{Caller}
@@ -23,41 +16,10 @@ use Rattle.farm_live.specs.declared.live.Closed.{Closed}
 use Rattle.farm_live.specs.Book.{who_at, IsLegal}
 use Rattle.farm_live.specs.Closing.{views_at, IsClosedBy, AreClosed}
 use Rattle.live_run.specs.Posts.{drawn_post, drawn_posts}
-use Rattle.live_run.specs.Whole.{setting, call_of_posts, ArePosts, live_call}
-use Rattle.live_run.specs.Text.{outs_of, downs_of, live_line, closed_line}
+use Rattle.farm_live.specs.Whole.{setting, call_of_posts, outs_of, downs_of}
+use Rattle.live_run.specs.Whole.{live_call}
+use Rattle.live_run.specs.Text.{live_line, closed_line}
 use Rattle.live_run.proofs.Ended.{Ending, posts_are}
-
--- ---- the octets of drawn periods
-
-long_if : (b : Bool) (xs ys : List ℕ) (n : ℕ) → length xs ≡ n → length ys ≡ n → length (if b then xs else ys) ≡ n
-long_if true xs ys n p q = p
-long_if false xs ys n p q = q
-
-length-saying : (seed call period : ℕ) → length (octets_of (bits_saying (frame_drawn seed call period))) ≡ 40
-unfolding bits_saying
-length-saying seed call period =
-    let w = frame_drawn seed call period in
-    length-octets_of (bits_saying w) 40 (length-frame_bits (up_control w) w.d)
-
-length-up : (seed call period : ℕ) → length (up_octets seed call period) ≡ 40
-unfolding up_octets
-length-up seed call period =
-    long_if (nat_lt (draw seed call (first_draw period)) 250) (octets_of (bits_saying (frame_drawn seed call period))) (replicate 40 0) 40
-    (length-saying seed call period) (length-replicate {A = ℕ} 40 0)
-
-length-pcm : (seed call period : ℕ) → length (pcm_octets seed call period) ≡ 160
-unfolding pcm_octets
-length-pcm seed call period =
-    long_if (is_loud period) (draws seed call (first_loud_draw period) 160) (replicate 160 213) 160
-    (length-map-range_with_len (draw seed call) (first_loud_draw period) 160) (length-replicate {A = ℕ} 160 213)
-
-drawn_sized : (seed caller call n : ℕ) → ArePosts (drawn_posts seed caller call n)
-unfolding drawn_posts
-drawn_sized seed caller call n = λ k d h.
-    let is : get_or (map (drawn_post seed caller call) (range_with_len 0 n)) k d ≡ drawn_post seed caller call k =
-    get_or-map-range_with_len (drawn_post seed caller call) 0 n k k d (omega (arith, h, length-map-range_with_len (drawn_post seed caller call) 0 n))
-    (omega arith) in
-    subst (λ (p : Post). (length p.up ≡ 40) × (length p.pcm ≡ 160)) (sym is) (length-up seed call k, length-pcm seed call k)
 
 -- the call of the drawn posts is the one of the drawn lines
 drawn_call : (seed caller call n : ℕ) → call_of_posts call (drawn_posts seed caller call n) ≡ live_call seed n call
@@ -73,8 +35,8 @@ drawn_call seed caller call n =
 
 -- the law, as the function of that name says it
 pub record WholeLaw : Type 0 where
-  pub out : (call : ℕ) (es : List Entry) → ArePosts (map (λ e. e.post) es) → IsLegal call es → outs_of es ≡ out (call_of_posts call (map (λ e. e.post) es))
-  pub down : (call : ℕ) (es : List Entry) → ArePosts (map (λ e. e.post) es) → IsLegal call es →
+  pub out : (call : ℕ) (es : List Entry) → IsLegal call es → outs_of es ≡ out (call_of_posts call (map (λ e. e.post) es))
+  pub down : (call : ℕ) (es : List Entry) → IsLegal call es →
       bits_of (downs_of es) ≡ down (call_of_posts call (map (λ e. e.post) es))
 
 line_is : WholeLaw → (seed n caller call : ℕ) (d : Closed) → d.call ≡ call → IsLegal call d.entries.items →
@@ -82,10 +44,9 @@ line_is : WholeLaw → (seed n caller call : ℕ) (d : Closed) → d.call ≡ ca
 unfolding closed_line live_line
 line_is law seed n caller call d number legal posts =
     let es = d.entries.items in
-    let sized = subst ArePosts (sym posts) (drawn_sized seed caller call n) in
     let whole : call_of_posts call (map (λ e. e.post) es) ≡ live_call seed n call = ap (call_of_posts call) posts ∙ drawn_call seed caller call n in
-    let outs : outs_of es ≡ out (live_call seed n call) = law.out call es sized legal ∙ ap out whole in
-    let downs : octets_of (bits_of (downs_of es)) ≡ octets_of (down (live_call seed n call)) = ap octets_of (law.down call es sized legal ∙ ap down whole) in
+    let outs : outs_of es ≡ out (live_call seed n call) = law.out call es legal ∙ ap out whole in
+    let downs : octets_of (bits_of (downs_of es)) ≡ octets_of (down (live_call seed n call)) = ap octets_of (law.down call es legal ∙ ap down whole) in
     λ i. sum_line (number i) (outs i) (downs i)
 
 same_lines : {X : Type 0} (f : X → List ℕ) (g : ℕ → List ℕ) (a : ℕ) (xs : List X) → ((k : ℕ) (d : X) → k < length xs → f (get_or xs k d) ≡ g (a + k)) →

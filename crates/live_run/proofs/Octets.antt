@@ -6,7 +6,7 @@ use Rattle.trau_bits.proofs.BitList.{length-bits_of}
 use Rattle.trau_bits.proofs.Appended.{octets_of-append}
 use Rattle.trau_bits.proofs.Joined.{bits_of-append}
 use Rattle.farm_live.specs.declared.post.Entry.{Entry}
-use Rattle.live_run.specs.Text.{downs_of}
+use Rattle.farm_live.specs.Whole.{downs_of}
 
 no_octets : octets_of (bits_of []) ≡ []
 unfolding octets_of bits_of

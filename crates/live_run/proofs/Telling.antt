@@ -5,7 +5,8 @@ use Rattle.trau_bits.specs.Bits.{bits_of, octets_of}
 use Rattle.farm_report.specs.Sums.{sum_of, sums_told}
 use Rattle.farm_live.specs.declared.post.Entry.{Entry}
 use Rattle.farm_live.specs.declared.live.Closed.{Closed}
-use Rattle.live_run.specs.Text.{outs_of, downs_of, closed_line}
+use Rattle.farm_live.specs.Whole.{outs_of, downs_of}
+use Rattle.live_run.specs.Text.{closed_line}
 use Rattle.live_run.proofs.Behind.{on_ok}
 
 line_is : (d : Closed) (es : List Entry) (out down : ℕ) → es ≡ d.entries.items → out ≡ sum_of (outs_of es) → down ≡ sum_of (octets_of (bits_of (downs_of es))) →

@@ -6,16 +6,9 @@ use Rattle.call_spec.specs.Out.{out}
 use Rattle.call_spec.specs.Down.{down}
 use Rattle.farm_report.specs.Lines.{line_of}
 use Rattle.farm_report.specs.Sums.{sum_line}
-use Rattle.farm_live.specs.declared.post.Entry.{Entry}
 use Rattle.farm_live.specs.declared.live.Closed.{Closed}
+use Rattle.farm_live.specs.Whole.{outs_of, downs_of}
 use Rattle.live_run.specs.Whole.{live_call}
-
--- what a history has on the outgoing lines
-abbrev pub outs_of : List Entry → List ℕ
-outs_of es = flat_map (λ e. e.out) es
-
-abbrev pub downs_of : List Entry → List ℕ
-downs_of es = flat_map (λ e. e.down) es
 
 -- the sums of a call's outgoing lines: by the definition of a call as a whole
 unfoldable pub live_line : ℕ → ℕ → ℕ → List ℕ

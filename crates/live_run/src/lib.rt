@@ -5,17 +5,15 @@
 //! of the octets of each call.
 //!
 //! `size` has what a live drill is made of, `shared` what its callers share, `calls` what a caller does with one call, `posters`
-//! the callers on their threads, `rest` what is left for the calling thread, `sums` the text, `whole` the live drill, `laws`
-//! the law that ties a legal history of a call to the call as a whole (`call_spec`).
+//! the callers on their threads, `rest` what is left for the calling thread, `sums` the text, `whole` the live drill.
 //!
 //! All of it is this project's profile.
 //! Definitions: `specs/Size.antt` (what a live drill is made of), `specs/Posts.antt` (what callers post, and what they know
-//! of it), `specs/Posters.antt` (the callers before, behind and after their threads), `specs/Whole.antt` (a call as a whole
-//! by its posts), `specs/Text.antt` (the text).
+//! of it), `specs/Posters.antt` (the callers before, behind and after their threads), `specs/Whole.antt` (a drawn call as a
+//! whole), `specs/Text.antt` (the text).
 #![tactic(auto)]
 
 mod calls;
-mod laws;
 mod posters;
 mod rest;
 mod shared;
@@ -23,6 +21,5 @@ mod size;
 mod sums;
 mod whole;
 
-pub use laws::legal_histories_are_whole_calls;
 pub use size::LiveDrill;
 pub use whole::run_live;

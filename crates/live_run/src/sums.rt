@@ -4,7 +4,8 @@ ghost use Rattle.std.specs.Prelude.{◌≡◌, ◌++◌, OnOk, IfOk, string_byte
 ghost use Rattle.std.specs.List.{flat_map};
 ghost use Rattle.trau_bits.specs.Bits.{bits_of, octets_of};
 ghost use Rattle.farm_report.specs.Sums.{sum_of};
-ghost use Rattle.live_run.specs.Text.{outs_of, downs_of, closed_line, last_line};
+ghost use Rattle.farm_live.specs.Whole.{outs_of, downs_of};
+ghost use Rattle.live_run.specs.Text.{closed_line, last_line};
 
 use farm_live::{Closed, Entry};
 use farm_report::{put_sums, sum};

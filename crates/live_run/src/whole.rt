@@ -4,13 +4,12 @@ ghost use Rattle.std.specs.Prelude.{◌≡◌, IfOk, string_bytes};
 ghost use Rattle.live_run.specs.Size.{IsLiveDrill};
 ghost use Rattle.live_run.specs.Text.{live_text};
 
-use crate::laws::legal_histories_are_whole_calls;
 use crate::posters::post_by_all;
 use crate::rest::work_rest;
 use crate::shared::Shared;
 use crate::size::LiveDrill;
 use crate::sums::text_of;
-use farm_live::Live;
+use farm_live::{Live, legal_histories_are_whole_calls};
 use pool_run::Gate;
 use std::alloc::{AllocError, Global};
 use std::sync::Wait;

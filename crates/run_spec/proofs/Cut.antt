@@ -58,6 +58,19 @@ none_to u os = by (left_of (suc u) os) (left_ahead (suc u) (suc u) os (omega ari
     by [] h = tt
     by (o ∷ os) h = omega arith
 
+-- the orders that are executed in n periods have stamps below n
+pub done_below : (r : Run) (n : ℕ) → AllByRecursion (λ d. d.order.stamp < n) (done_of (whole_in r) n r.orders)
+done_below r n =
+    each_mapped (λ o. o.stamp < n) (λ d. d.order) (done_of (whole_in r) n r.orders)
+    (subst (AllByRecursion (λ o. o.stamp < n)) (sym same)
+    (each_weaker (λ o. nat_lt o.stamp n ≡ true) (λ o. o.stamp < n) front (λ o e. ltb-true o.stamp n e) (each_passes (λ o. nat_lt o.stamp n) r.orders)))
+  where
+    front : List Order
+    front = filter (λ o. nat_lt o.stamp n) r.orders
+
+    same : map (λ d. d.order) (done_of (whole_in r) n r.orders) ≡ front
+    same = ap (map (λ d. d.order)) (executed-added (whole_in r) [] front) ∙ added_orders (whole_in r) [] front
+
 -- **Before and after the orders of period t a run has executed those with stamps below n: t, or the period after it.**
 pub so_far_below : (r : Run) (t n : ℕ) → AreOrders r.orders → t ≤ n → n ≤ suc t → n ≤ r.periods →
     IsSoFar r t (done_of (whole_in r) n r.orders) (left_of n r.orders)
@@ -82,10 +95,7 @@ so_far_below r t n a low high within = record {
     same = ap (map (λ d. d.order)) (executed-added (whole_in r) [] front) ∙ added_orders (whole_in r) [] front
 
     below : AllByRecursion (λ d. d.order.stamp < n) ds
-    below =
-        each_mapped (λ o. o.stamp < n) (λ d. d.order) ds
-        (subst (AllByRecursion (λ o. o.stamp < n)) (sym same)
-        (each_weaker (λ o. nat_lt o.stamp n ≡ true) (λ o. o.stamp < n) front (λ o e. ltb-true o.stamp n e) (each_passes (λ o. nat_lt o.stamp n) r.orders)))
+    below = done_below r n
 
 -- a call that a run opened up to u was opened by the orders up to u
 opened_then : (r : Run) (u c s : ℕ) → AreOrders r.orders → u < r.periods → opened_at c (done_in r) ≡ Some s → s ≤ u →

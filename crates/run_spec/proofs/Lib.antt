@@ -26,3 +26,4 @@ pub mod Rounds
 pub mod LongerLines
 pub mod Cut
 pub mod Joining
+mod Marks

@@ -31,7 +31,8 @@ ghost use Rattle.run_spec.specs.Run.{Run, given_in, whole_in, done_in, spans_in,
 ghost use Rattle.run_spec.specs.Run.{periods_to};
 ghost use Rattle.call_leg.specs.Out.{out_line};
 ghost use Rattle.run_spec.specs.Lines.{down_octets, out_of_call, down_of_call};
-ghost use Rattle.run_spec.specs.Mark.{Joins};
+ghost use Rattle.farm_checkpoint.specs.Marks.{IsMark};
+ghost use Rattle.run_spec.specs.Mark.{Joins, mark_of};
 ghost use Rattle.run_spec.specs.Facts.{opened_calls, call_line, span_line, sent_by, report_of};
 ghost use Rattle.run_spec.specs.Now.{IsSoFar, NoOrderTo, has_period, bridge_now, handed_now, period_now, settings_now, settings_in, changed_by, after_periods};
 
@@ -228,4 +229,10 @@ pub fn sent_frames_are_told()
 /// A run to its end writes what it writes to an earlier period, and behind that the octets of the later periods.
 pub fn a_run_is_joined_of_two()
     ensures { (r : Run) (p : ℕ) → AreOrders r.orders → p ≤ r.periods → Joins r p }
+{}
+
+/// The mark of a run to one period or more is a mark: of calls that began before its period, in rising order of their numbers,
+/// with sums of 32 bits.
+pub fn marks_of_runs_are_marks()
+    ensures { (r : Run) → 1 ≤ r.periods → r.periods ≤ 4294967295 → IsMark (mark_of r) }
 {}

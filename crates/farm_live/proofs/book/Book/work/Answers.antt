@@ -16,7 +16,7 @@ invariant_of-self-2 c =
     let inv = c.self.invariant in
     let leg = c.period-entry.new.leg in
     let boxed : c.deref_mut.result.now ≡ c.self.inside.leg.value = c.deref_mut.ensures.value in
-    let more = leg_one_more call es e c.self.inside.leg.value leg inv.0 inv.1
+    let more = leg_one_more call es e c.self.inside.leg.value leg inv.0 c.period-entry.ensures.sized inv.1
     (subst (λ l. WorksOn l e leg) boxed c.period-entry.ensures.worked) in
     let items : c.push_reserved.new.self.items ≡ es ++ e ∷ [] = c.push_reserved.ensures.items ∙ ap (λ l. l ++ e ∷ []) c.in_ok-reserve.ensures.items in
     let long : periods_of_leg leg ≡ length (es ++ e ∷ []) =

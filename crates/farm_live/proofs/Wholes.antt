@@ -3,7 +3,7 @@ use Rattle.std.proofs.Common.{◌≡◌, ℕ, List, [], ◌∷◌, ◌++◌, len
 use Rattle.std.proofs.Common.{append_assoc, append-nil}
 use Rattle.std.specs.List.{flat_map}
 use Rattle.std.proofs.lemmas.Bool.{true≢false}
-use Rattle.std.proofs.lemmas.List.Elements.{All-nil, All-cons, All-head, All-tail}
+use Rattle.std.proofs.lemmas.List.Elements.{All-nil, All-cons}
 use Rattle.trau_bits.specs.Bits.{bits_of}
 use Rattle.call_leg.specs.Who.{Who}
 use Rattle.call_leg.specs.Periods.{CallPeriod, pcm_of}
@@ -15,9 +15,8 @@ use Rattle.call_spec.specs.History.{IsCallHistory, call_of_history, up_in_histor
 use Rattle.trau_bits.proofs.Joined.{bits_of-append}
 use Rattle.farm_live.specs.declared.post.Post.{Post}
 use Rattle.farm_live.specs.declared.post.Entry.{Entry}
-use Rattle.farm_live.specs.Book.{who_at, period_of, periods_after, IsWorkedFrom, IsLegal}
-use Rattle.live_run.specs.Text.{outs_of, downs_of}
-use Rattle.live_run.specs.Whole.{setting, call_of_posts, ArePosts}
+use Rattle.farm_live.specs.Book.{who_at, HasPeriod, period_of, periods_after, IsWorkedFrom, IsLegal}
+use Rattle.farm_live.specs.Whole.{setting, call_of_posts, outs_of, downs_of}
 
 abbrev posts_of : List Entry → List Post
 posts_of es = map (λ e. e.post) es
@@ -50,19 +49,16 @@ call_is call es =
 
 -- ---- .. are a history of a call
 
-plain_more : (ts : List CallPeriod) (p : Post) → length p.up ≡ 40 → length p.pcm ≡ 160 → IsCallHistory ts → IsCallHistory (period_of p ∷ ts)
-plain_more ts p up pcm h = record {
-  ups = All-cons (λ t. length t.up ≡ 40) (period_of p) ts up h.ups;
-  pcms = All-cons (λ t. length t.pcm ≡ 160) (period_of p) ts pcm h.pcms;
+plain_more : (ts : List CallPeriod) (p : Post) → HasPeriod p → IsCallHistory ts → IsCallHistory (period_of p ∷ ts)
+plain_more ts p sized h = record {
+  ups = All-cons (λ t. length t.up ≡ 40) (period_of p) ts sized.0 h.ups;
+  pcms = All-cons (λ t. length t.pcm ≡ 160) (period_of p) ts sized.1 h.pcms;
   bridges = (h.bridges, λ e. absurd (true≢false (sym e)), λ e. absurd (true≢false (sym e)));
 }
 
-plain_after : (ts : List CallPeriod) (es : List Entry) → ArePosts (posts_of es) → IsCallHistory ts → IsCallHistory (periods_after ts es)
-plain_after ts [] sized h = h
-plain_after ts (e ∷ es) sized h =
-    let first = All-head (λ p. (length p.up ≡ 40) × (length p.pcm ≡ 160)) e.post (posts_of es) sized in
-    plain_after (period_of e.post ∷ ts) es (All-tail (λ p. (length p.up ≡ 40) × (length p.pcm ≡ 160)) e.post (posts_of es) sized)
-    (plain_more ts e.post first.0 first.1 h)
+plain_after : (who : Who) (ts : List CallPeriod) (es : List Entry) → IsWorkedFrom who ts es → IsCallHistory ts → IsCallHistory (periods_after ts es)
+plain_after who ts [] legal h = h
+plain_after who ts (e ∷ es) legal h = plain_after who (period_of e.post ∷ ts) es legal.3 (plain_more ts e.post legal.0 h)
 
 no_periods : IsCallHistory []
 no_periods = record { ups = All-nil (λ (t : CallPeriod). length t.up ≡ 40); pcms = All-nil (λ (t : CallPeriod). length t.pcm ≡ 160); bridges = tt }
@@ -72,16 +68,16 @@ no_periods = record { ups = All-nil (λ (t : CallPeriod). length t.up ≡ 40); p
 outs_after : (who : Who) (ts : List CallPeriod) (es : List Entry) → IsWorkedFrom who ts es → out_line who (periods_after ts es) ≡ out_line who ts ++ outs_of es
 outs_after who ts [] legal = sym (append-nil (out_line who ts))
 outs_after who ts (e ∷ es) legal =
-    outs_after who (period_of e.post ∷ ts) es legal.2 ∙ append_assoc (out_line who ts) (out_of who (period_of e.post ∷ ts)) (outs_of es)
-    ∙ ap (λ (xs : List ℕ). out_line who ts ++ (xs ++ outs_of es)) (sym legal.0)
+    outs_after who (period_of e.post ∷ ts) es legal.3 ∙ append_assoc (out_line who ts) (out_of who (period_of e.post ∷ ts)) (outs_of es)
+    ∙ ap (λ (xs : List ℕ). out_line who ts ++ (xs ++ outs_of es)) (sym legal.1)
 
 downs_after : (who : Who) (ts : List CallPeriod) (es : List Entry) → IsWorkedFrom who ts es →
     down_line who (periods_after ts es) ≡ down_line who ts ++ flat_map (λ e. bits_of e.down) es
 downs_after who ts [] legal = sym (append-nil (down_line who ts))
 downs_after who ts (e ∷ es) legal =
-    downs_after who (period_of e.post ∷ ts) es legal.2
+    downs_after who (period_of e.post ∷ ts) es legal.3
     ∙ append_assoc (down_line who ts) (down_now who (period_of e.post ∷ ts)) (flat_map (λ e. bits_of e.down) es)
-    ∙ ap (λ (xs : List ℕ). down_line who ts ++ (xs ++ flat_map (λ e. bits_of e.down) es)) (sym legal.1)
+    ∙ ap (λ (xs : List ℕ). down_line who ts ++ (xs ++ flat_map (λ e. bits_of e.down) es)) (sym legal.2)
 
 no_bits : bits_of [] ≡ []
 unfolding bits_of
@@ -93,13 +89,15 @@ bits_after (e ∷ es) = bits_of-append e.down (downs_of es) ∙ ap (λ (xs : Lis
 
 -- ---- the law
 
-module _ (call : ℕ) (es : List Entry) (sized : ArePosts (posts_of es)) (legal : IsLegal call es) where
+module _ (call : ℕ) (es : List Entry) (legal : IsLegal call es) where
+  history : IsCallHistory (periods_after [] es)
+  history = plain_after (who_at call) [] es legal no_periods
+
   pub out_whole : ((who : Who) (ts : List CallPeriod) → IsCallHistory ts → out_line who ts ≡ out (call_of_history who ts)) →
       outs_of es ≡ out (call_of_posts call (posts_of es))
-  out_whole same = sym (outs_after (who_at call) [] es legal) ∙ same (who_at call) (periods_after [] es) (plain_after [] es sized no_periods)
-      ∙ ap out (call_is call es)
+  out_whole same = sym (outs_after (who_at call) [] es legal) ∙ same (who_at call) (periods_after [] es) history ∙ ap out (call_is call es)
 
   pub down_whole : ((who : Who) (ts : List CallPeriod) → IsCallHistory ts → down_line who ts ≡ down (call_of_history who ts)) →
       bits_of (downs_of es) ≡ down (call_of_posts call (posts_of es))
-  down_whole same = bits_after es ∙ sym (downs_after (who_at call) [] es legal) ∙ same (who_at call) (periods_after [] es) (plain_after [] es sized no_periods)
-      ∙ ap down (call_is call es)
+  down_whole same =
+      bits_after es ∙ sym (downs_after (who_at call) [] es legal) ∙ same (who_at call) (periods_after [] es) history ∙ ap down (call_is call es)
