@@ -4,7 +4,7 @@
 //! lines and the orders made (`farm_drill`), runs these over those (`farm_run`), and writes the report and the sums of the
 //! octets of each call's outgoing lines.
 //!
-//! `trunk` has the lines, of which none fails before it is full, `sums` the sums, `whole` the drill.
+//! `trunk` has the lines, of which none fails before it is full, `sums` the text with the sums, `whole` the drill.
 //!
 //! All of it is this project's profile.
 //! Definitions: `specs/Drilled.antt` (the drill as a run, and its text), `specs/Rooms.antt` (the lines and their rooms).

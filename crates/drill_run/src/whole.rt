@@ -5,10 +5,9 @@ ghost use Rattle.trau_orders.specs.Text.{text_lines, AreLines, IsFirstBad, IsWit
 ghost use Rattle.farm_run.specs.Pace.{IsPace};
 ghost use Rattle.drill_run.specs.Drilled.{IsDrilled};
 
-use crate::sums::put_sums;
+use crate::sums::text_of;
 use crate::trunk::DrillTrunk;
 use farm_drill::drill;
-use farm_report::write_report;
 use farm_run::{Pace, run};
 use pool_run::Gate;
 use std::alloc::{AllocError, Global};
@@ -56,7 +55,5 @@ pub fn run_drill<R: Threads + Wait + Sync, G: Gate + Sync>(
     let mut trunk = DrillTrunk::new(lines, calls, pace.periods);
     let report = run(rt, alloc, pace, orders, &mut trunk, gate)?;
     trunk.has_rooms();
-    let mut text = write_report(alloc, &report)?;
-    put_sums(&mut text, &trunk, &report.calls)?;
-    Ok(text)
+    text_of(alloc, &report, &trunk)
 }

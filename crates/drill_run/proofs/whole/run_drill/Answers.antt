@@ -1,8 +1,5 @@
-use Rattle.std.proofs.Common.{List, ℕ, string_bytes, subst, ap, ◌∙◌, sym, refl}
-use Rattle.std.specs.Prelude.{All}
-use Rattle.call_number.specs.CallNumber.{IsCallNumber}
-use Rattle.farm_report.specs.declared.report.CallLine.{CallLine}
-use Rattle.farm_report.specs.View.{ReportView}
+use Rattle.std.proofs.Common.{List, ℕ, string_bytes, subst, refl}
+use Rattle.std.proofs.lemmas.Result.{IfOk-weaker}
 use Rattle.trau_orders.specs.Text.{text_lines, IsFirstBad}
 use Rattle.drill_run.proofs.Rooms.{ample_drilled}
 use Rattle.drill_run.proofs.Telling.{calls_numbered, drilling_of, is_drilled}
@@ -16,15 +13,14 @@ orders_of-requires-clause-good g c = λ n bad.
 pub new-trunk-requires : goal.new-trunk-requires
 new-trunk-requires g c = ample_drilled c.args.seed c.args.calls c.args.pace.now.periods c.in_ok-lines.lines c.requires.calls c.in_ok-lines.ensures.lines
 
-pub put_sums-requires : goal.put_sums-requires
-put_sums-requires g c =
+pub text_of-requires : goal.text_of-requires
+text_of-requires g c =
     let drilling = drilling_of c.args.seed c.args.calls c.args.pace.now.periods c.new-trunk.result c.run.new.trunk c.in_ok-lines.lines c.in_ok-orders.orders
     c.args.pace.now c.in_ok-report.report
     c.in_ok-lines.text.items c.deref.result.now c.one_answer.ensures.orders c.requires.calls c.new-trunk.ensures c.in_ok-lines.ensures.lines
     c.in_ok-lines.ensures.orders
     c.in_ok-lines.ensures.within c.deref.ensures.value c.in_ok-orders.ensures c.has_rooms.ensures c.in_ok-report.ensures.runs refl in
-    let listed = c.deref-2.ensures.value ∙ ap (λ (report : ReportView). report.calls) c.report.view_is in
-    subst (λ (lines : List CallLine). All (λ (line : CallLine). IsCallNumber line.end.call) lines) (sym listed) (calls_numbered _ _ _ _ _ _ _ _ drilling)
+    calls_numbered _ _ _ _ _ _ _ _ drilling
 
 pub returns : goal.returns
 returns g c =
@@ -33,5 +29,5 @@ returns g c =
     c.in_ok-lines.text.items c.deref.result.now c.one_answer.ensures.orders c.requires.calls c.new-trunk.ensures c.in_ok-lines.ensures.lines
     c.in_ok-lines.ensures.orders
     c.in_ok-lines.ensures.within c.deref.ensures.value c.in_ok-orders.ensures c.has_rooms.ensures c.in_ok-report.ensures.runs refl in
-    let listed = c.deref-2.ensures.value ∙ ap (λ (report : ReportView). report.calls) c.report.view_is in
-    is_drilled _ _ _ _ _ _ _ _ drilling _ (string_bytes c.in_ok-text.text) c.deref-2.result.now listed c.in_ok-text.ensures c.in_ok-put_sums.ensures
+    IfOk-weaker c.text_of.result _ _
+    (λ text is. is_drilled _ _ _ _ _ _ _ _ drilling (string_bytes text) _ _ refl refl is) c.text_of.ensures
