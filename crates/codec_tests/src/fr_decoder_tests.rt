@@ -33,3 +33,39 @@ fn decodes_a_first_frame(rt: HostRuntime) {
 fn a_first_lag_out_of_range_is_40(rt: HostRuntime) {
     assert!(rt; silent_start(127) == silent_start(40));
 }
+
+// The fields of a frame whose 260 bits are all 1, with this lag in place of 127.
+fn greatest(nc: u8) -> Params
+    requires { nc ≤ 127 }
+{
+    Params::new(
+        [63, 63, 31, 31, 15, 15, 7, 7],
+        [nc; 4],
+        [3; 4],
+        [3; 4],
+        [63; 4],
+        [[7; 13]; 4],
+    )
+}
+
+// Whether ten such frames decode from home as those with lag 40.
+fn decode_as_lag_40() -> bool {
+    let mut ones = Decoder::home();
+    let mut others = Decoder::home();
+    for _ in 0..10 {
+        let mut x = [1; 160];
+        let mut y = [2; 160];
+        ones.decode(&greatest(127), &mut x);
+        others.decode(&greatest(40), &mut y);
+        if x != y {
+            return false;
+        }
+    }
+    true
+}
+
+// A hostile line of frames whose data bits are all 1 never has a lag of its own.
+#[test]
+fn every_lag_of_ones_is_40(rt: HostRuntime) {
+    assert!(rt; decode_as_lag_40());
+}

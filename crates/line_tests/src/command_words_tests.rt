@@ -1,7 +1,7 @@
 //! What words ask for, command by command, and words that ask for nothing.
 
 use crate::rows::assert_rows;
-use command_words::{Asked, Settings, WordsFault, read_words};
+use command_words::{Asked, LiveSettings, Settings, WordsFault, read_words};
 use std::alloc::{AllocError, Global};
 
 // Puts a word at the end of others.
@@ -126,6 +126,41 @@ fn options_of_runs_and_drills(rt: HostRuntime) {
     assert_rows(&rt, runs_asked(rt.alloc()), 17);
 }
 
+// The words of live drills, with their seed, calls, periods, callers and inbox.
+static LIVES: [(&str, [u32; 5]); 5] = [
+    ("live", [1, 64, 200, 4, 8]),
+    ("live --", [1, 64, 200, 4, 8]),
+    (
+        "live --seed 0 --calls 1 --periods 1 --callers 1 --inbox 1",
+        [0, 1, 1, 1, 1],
+    ),
+    (
+        "live --inbox=1024 --callers=64 --periods=1000 --calls=256 --seed=4294967295",
+        [4_294_967_295, 256, 1000, 64, 1024],
+    ),
+    ("live --calls 2 --callers=3 --", [1, 2, 200, 3, 8]),
+];
+
+// Whether a line asks for a live drill of these.
+fn is_live(alloc: Global, line: &str, made_of: [u32; 5]) -> bool {
+    let [seed, calls, periods, callers, inbox] = made_of;
+    let settings = LiveSettings {
+        seed,
+        calls,
+        periods,
+        callers,
+        inbox,
+    };
+    is_answered(alloc, line, Ok(Asked::Live(settings)))
+}
+
+#[test]
+fn options_of_live_drills(rt: HostRuntime) {
+    for (line, made_of) in &LIVES {
+        assert!(rt; is_live(rt.alloc(), line, *made_of), "{line}");
+    }
+}
+
 static TOOLS: [(&str, Asked); 8] = [
     ("relay 7", Asked::Relay(7)),
     ("frames 1", Asked::Frames(1)),
@@ -239,6 +274,18 @@ drill --workers 65
 drill --call 2
 drill --help
 drills
+live 7
+live --seed 01
+live --calls 0
+live --calls 257
+live --periods 0
+live --periods 1001
+live --callers 0
+live --callers 65
+live --inbox 0
+live --inbox 1025
+live --workers 4
+lives
 7
 ";
 
@@ -256,6 +303,6 @@ fn usages(alloc: Global) -> usize {
 
 #[test]
 fn other_words_are_usage(rt: HostRuntime) {
-    assert_rows(&rt, usages(rt.alloc()), 80);
+    assert_rows(&rt, usages(rt.alloc()), 92);
     assert!(rt; read_words(rt.alloc(), &[]) == Err(WordsFault::Usage));
 }

@@ -1,5 +1,5 @@
 //! Sums of lines that other programs made, which were written from the same rules.
-use farm_drill::{drill, hostile};
+use farm_drill::{Generator, drill, hostile, pcm};
 use std::alloc::{AllocError, Global};
 use trau_io::{Filled, Line, MemTrunk, Side, Trunk, read_block};
 
@@ -103,4 +103,14 @@ fn is_hostile_as_another_program(rt: HostRuntime) {
             "kind {kind}"
         );
     }
+}
+
+// The first draw of a call of the drill with seed 1, as a loud line has it.
+fn first_draw(call: u32) -> u8 {
+    pcm(&mut Generator::new(1, call.min(4095)), 32)[0]
+}
+
+#[test]
+fn first_draws_of_two_calls(rt: HostRuntime) {
+    assert!(rt; [first_draw(1), first_draw(2)] == [210, 211]);
 }

@@ -65,25 +65,51 @@ fn frames_at_five(rt: HostRuntime) {
     assert_fed(&rt, &periods, [None, Some((true, 5)), Some((true, 325))]);
 }
 
-static ARE_FRAMES: [bool; 8] = [true, false, false, true, false, false, false, true];
+// Whether a yield is a frame, and its place, period by period. Two misses keep the lock, and a frame between lets two more
+// pass. The third miss gives it up, and what is hunted from the end of the missed frame on is found at once.
+type Turn = [(bool, u64); 8];
 
-// How many periods are told in turn as frames and misses, from the first on.
-fn told_in_turn() -> usize {
+static TURNS: [Turn; 2] = [
+    [
+        (true, 0),
+        (false, 320),
+        (false, 640),
+        (true, 960),
+        (false, 1280),
+        (false, 1600),
+        (false, 1920),
+        (true, 2240),
+    ],
+    [
+        (true, 0),
+        (false, 320),
+        (false, 640),
+        (false, 960),
+        (true, 1280),
+        (false, 1600),
+        (false, 1920),
+        (true, 2240),
+    ],
+];
+
+// How many periods are told in turn as frames and misses, from the first on, where the sync bits of the missed ones are
+// broken.
+fn told_in_turn(turn: &Turn) -> usize {
     let mut sync = FrameSync::new();
     for k in 0..8 {
-        let frame = ARE_FRAMES[k];
-        let octets = if frame { &GOOD } else { &BROKEN };
-        if fed(&mut sync, octets) != Some((frame, 320 * k as u64)) {
+        let octets = if turn[k].0 { &GOOD } else { &BROKEN };
+        if fed(&mut sync, octets) != Some(turn[k]) {
             return k;
         }
     }
     8
 }
 
-// Two misses keep the lock, and a frame between lets two more pass. The third miss gives it up.
 #[test]
 fn misses_in_a_row(rt: HostRuntime) {
-    assert_rows(&rt, told_in_turn(), 8);
+    for turn in &TURNS {
+        assert_rows(&rt, told_in_turn(turn), 8);
+    }
 }
 
 // Nothing matches while it hunts.
