@@ -1,7 +1,8 @@
 #!/bin/sh
 # `trau run` where lines fail: on recorded lines of which some are missing (checks/faults/README.md), and, with the lines of
 # examples/farm, where outgoing files may not grow past a size or the device is full. There each outgoing line has to be a front
-# of its wanted one, and the report names those that aren't whole and no others.
+# of its wanted one, and the report names those that aren't whole and no others. Then lines that have one file, by links: the one
+# that comes second fails, and nothing that was recorded is lost. Last, the reasons on standard error.
 set -eu
 top=$(cd "$(dirname "$0")/.." && pwd)
 work=$(mktemp -d)
@@ -130,4 +131,171 @@ for size in 8k 32k 56k; do
     umount "$work/small"
     mounted=
 done
+
+# Lines that have one file.
+
+# plain ORDERS: the run of these orders (printf's escapes) over lines of which none is a link, to compare with
+plain() {
+    orders=$1
+    rm -rf "$work/plain"
+    mkdir "$work/plain"
+    cp "$top"/examples/farm/*.up "$top"/examples/farm/*.pcm "$work/plain"
+    (cd "$work/plain" && printf "$orders" | "$top/trau" run >report.txt)
+}
+
+# linked FAILED REASON WORDS..: the same over lines of which some are links, in $work/run. Just the line FAILED fails, for this
+# REASON, or none; incoming lines stay as they were, the others and the report are those of the plain run.
+linked() {
+    wanted=$1
+    reason=$2
+    shift 2
+    good=yes
+    status=0
+    (cd "$work/run" && printf "$orders" | "$top/trau" run "$@" >report.txt 2>said) || status=$?
+    : >"$work/told"
+    [ -z "$wanted" ] || echo "line $wanted failed" >"$work/told"
+    [ "$status" = "${wanted:+6}" ] || [ "$status$wanted" = 0 ] || good="status $status"
+    [ "$(cat "$work/run/said")" = "${wanted:+trau: ${wanted% *}.${wanted#* }: $reason}" ] || good="$(cat "$work/run/said")"
+    grep '^line ' "$work/run/report.txt" | cmp -s - "$work/told" || good="lines that failed"
+    grep -v '^line ' "$work/run/report.txt" | cmp -s - "$work/plain/report.txt" || good="report"
+    for file in "$work"/plain/*.*; do
+        name=$(basename "$file")
+        case $name in
+        report.txt | "${wanted% *}.${wanted#* }") continue ;;
+        esac
+        [ -p "$work/run/$name" ] || [ -c "$work/run/$name" ] || cmp -s "$file" "$work/run/$name" || good="$name"
+    done
+    if [ "$good" = yes ]; then
+        echo "ok $what, $*"
+    else
+        fail "$what, $*: $good"
+        cat "$work/run/report.txt" "$work/run/said"
+    fi
+}
+
+# begin WHAT: a folder with the incoming lines alone
+begin() {
+    what=$1
+    rm -rf "$work/run"
+    mkdir "$work/run"
+    cp "$top"/examples/farm/*.up "$top"/examples/farm/*.pcm "$work/run"
+    cd "$work/run"
+}
+
+for batch in 1 7 250; do
+    plain '0 open 1\n0 open 2\n'
+    begin "an outgoing line that leads to its call's incoming one"
+    ln -s 1.pcm 1.out
+    linked "1 out" "this is the file of 1.pcm" --batch "$batch"
+    begin "the same by a second name"
+    ln 1.up 1.out
+    linked "1 out" "this is the file of 1.up" --batch "$batch"
+    begin "the same through another folder"
+    mkdir there
+    mv 2.up there/up
+    ln -s there/up 2.up
+    ln there/up there/down
+    ln -s there/down 1.down
+    linked "1 down" "this is the file of 2.up" --batch "$batch"
+    begin "two outgoing lines in one file"
+    ln -s 1.out 2.out
+    linked "2 out" "this is the file of 1.out" --batch "$batch"
+
+    begin "an incoming line that leads to an outgoing one of before"
+    cp 2.pcm 1.out
+    ln -sf 1.out 2.pcm
+    linked "1 out" "this is the file of 2.pcm" --batch "$batch"
+
+    begin "two incoming lines in one file"
+    cp 2.up 1.up
+    cp 1.up "$work/plain"
+    (cd "$work/plain" && printf "$orders" | "$top/trau" run >report.txt)
+    ln -sf 1.up 2.up
+    linked "" "" --batch "$batch"
+
+    plain '0 open 1\n100 open 2\n'
+    begin "an outgoing line that leads to an incoming one whose call is opened later"
+    ln -s 2.pcm 1.out
+    linked "1 out" "this is the file of 2.pcm" --batch "$batch"
+    begin "the same by a second name"
+    ln 2.up 1.down
+    linked "1 down" "this is the file of 2.up" --batch "$batch"
+    begin "an outgoing line that leads to a recording of no call of the run"
+    ln -s 4.pcm 2.down
+    linked "2 down" "this is the file of 4.pcm" --batch "$batch"
+done
+
+# Two calls that hand their speech on from folder to folder: 2.pcm is what call 1 sends. It isn't there before.
+plain '0 open 1\n100 open 2\n'
+begin "an incoming line that leads to an outgoing one that is written"
+ln -sf 1.out 2.pcm
+status=0
+printf "$orders" | "$top/trau" run >report.txt 2>said || status=$?
+if [ "$status" = 6 ] && [ "$(grep '^line ' report.txt)" = "line 2 pcm failed" ] && cmp -s 1.out ../plain/1.out &&
+    [ "$(cat said)" = "trau: 2.pcm: this is the file of 1.out" ]; then
+    echo "ok $what"
+else
+    fail "$what"
+    cat report.txt said
+fi
+
+# What keeps nothing, or lies elsewhere, goes on working.
+plain '0 open 1\n0 open 2\n'
+begin "outgoing lines that are one device"
+ln -s /dev/null 1.out
+ln -s /dev/null 2.out
+linked "" ""
+begin "outgoing lines that lie elsewhere, and one that is a pipe"
+mkdir "$work/run/there" "$work/elsewhere"
+ln -s "$work/elsewhere/here" 1.out
+ln -s there/down 2.down
+echo before >there/down
+mkfifo 2.out
+cat 2.out >"$work/heard" &
+linked "" ""
+wait
+cmp "$work/heard" "$work/plain/2.out" || fail "what a pipe took"
+
+# The tools of one call.
+begin "decode, to its own uplink"
+cp "$top/examples/7.up" .
+ln 7.up 7.out
+status=0
+text=$("$top/trau" decode 7 2>said) || status=$?
+if [ "$status $text" = "6 line 7 out failed" ] && cmp -s 7.up "$top/examples/7.up"; then
+    echo "ok $what"
+else
+    fail "$what: status $status, $text"
+fi
+
+# Reasons, of twenty lines.
+rm -rf "$work/run"
+mkdir "$work/run"
+cd "$work/run"
+status=0
+seq 25 | sed 's/^/0 open /' | "$top/trau" run >report.txt 2>said || status=$?
+if [ "$status" = 6 ] && [ "$(grep -c '^line ' report.txt)" = 50 ] && [ "$(sed -n 21p said)" = "trau: lines failed beside these: 30" ] &&
+    [ "$(grep -c '^trau: [0-9]*\.\(up\|pcm\): No such file or directory' said)" = 20 ] && [ "$(wc -l <said)" = 21 ]; then
+    echo "ok reasons of twenty lines"
+else
+    fail "reasons: status $status"
+    cat said
+fi
+status=0
+echo '0 open 1' | "$top/trau" run >/dev/full 2>said || status=$?
+if [ "$status" = 4 ] && grep -q '^trau: standard output: No space left on device' said; then
+    echo "ok standard output that fails"
+else
+    fail "standard output that fails: status $status"
+    cat said
+fi
+status=0
+"$top/trau" run <. >text 2>said || status=$?
+if [ "$status $(cat text)" = "3 orders unread" ] && grep -q '^trau: standard input: Is a directory' said; then
+    echo "ok standard input that fails"
+else
+    fail "standard input that fails: status $status"
+    cat said
+fi
+cd "$top"
 [ "$failed" = 0 ]

@@ -1,9 +1,9 @@
-"""Makes a package of the proved program: a tarball with the program, the scripts, a man page, completion of words in bash,
-examples, the tools, SHA256SUMS and a script `install`. Where it is installed it needs the C library alone; the tools need
-Python 3 there.
+"""Makes a package of the proved program: a tarball with the program, the scripts, man pages, completion of words in bash, the
+documents, examples, the tools, SHA256SUMS and a script `install`; with --deb a Debian package too. Where it is installed it needs
+the C library alone; the tools need Python 3 there.
 
 The program is the one that `trau` proves and builds, which comes first where a source changed. The same sources and program give
-the same octets.
+the same octets. The version is that of docs/CHANGELOG.md.
 """
 
 from __future__ import annotations
@@ -20,6 +20,8 @@ import tarfile
 from pathlib import Path
 from typing import Dict, NamedTuple, Sequence
 
+import tool_pages
+import trau_deb
 import trau_frames
 import trau_words
 from trau_frames import Refusal
@@ -31,9 +33,8 @@ SCRIPTS = ("trau", "demo")
 TOOLS = ("lines.py", "orders.py", "report.py", "shard.py", "timeline.py", "watch.py")
 BESIDE_TOOLS = (
     *("captures.py", "levels.py", "looks.py", "picture.py", "picture_page.py", "run_lines.py", "run_texts.py", "sync_losses.py"),
-    *("trau_frames.py", "trau_words.py", "help.txt", "README.md", "farm.svg"),
+    *("trau_frames.py", "trau_words.py", "help.txt", "pages.txt", "grammar.txt"),
 )
-DOCUMENTS = ("CLUSTER.md", "FILES.md", "OPERATORS.md", "INSTALL.md", "commands")
 EXAMPLES = re.compile(r"README\.md|7\.up|farm/(\d+\.(up|pcm)|orders\.txt|wanted/[\w.]+)")
 
 
@@ -102,22 +103,38 @@ def files_below(folder: Path) -> Dict[str, Path]:
     return {str((TOP / name).relative_to(folder)): TOP / name for name in names if name}
 
 
+def documents() -> Dict[str, Path]:
+    """README.md and all files that its links lead to, and the links of these: documents, pictures, and sources that they name."""
+    found: Dict[str, Path] = {}
+    waiting = [TOP / "README.md"]
+    while waiting:
+        path = waiting.pop()
+        name = str(path.relative_to(TOP))
+        if name not in found and path.is_file():
+            found[name] = path
+            links = re.findall(r"\]\(([^)#:\s]+)[^):]*\)", path.read_text()) if path.suffix == ".md" else ()
+            waiting += [Path(os.path.normpath(path.parent / link)) for link in links]
+    return found
+
+
 def members(state: State) -> Dict[str, Member]:
     """The files of the package, by their names in it."""
     found = {name: Member(trau_frames.read_file(TOP / name), True) for name in SCRIPTS}
     found["install"] = Member(trau_frames.read_file(TOP / "tools" / "install"), True)
     found["trau_program"] = Member(proved_program(), True)
     found["VERSION"] = Member(f"trau {state.commit} of {state.date}, {origin()}\n".encode())
-    found["trau.1"] = Member(trau_words.man_page(f"trau {state.commit}", state.date).encode())
+    found["man/trau.1"] = Member(trau_words.man_page(f"trau {state.commit}", state.date).encode())
+    for tool in TOOLS:
+        name = f"trau-{Path(tool).stem}"
+        found[f"man/{name}.1"] = Member(tool_pages.man_page(name, f"trau {state.commit}", state.date).encode())
     found["trau.bash"] = Member(trau_words.completion().encode())
     for name in (*TOOLS, *BESIDE_TOOLS):
         found[f"tools/{name}"] = Member(trau_frames.read_file(TOP / "tools" / name), name in TOOLS)
     for name, path in files_below(TOP / "examples").items():
         if EXAMPLES.fullmatch(name):
             found[f"examples/{name}"] = Member(trau_frames.read_file(path))
-    for name, path in files_below(TOP / "docs").items():
-        if name.split("/")[0] in DOCUMENTS:
-            found[f"docs/{name}"] = Member(trau_frames.read_file(path))
+    for name, path in documents().items():
+        found.setdefault(name, Member(trau_frames.read_file(path)))
     sums = [f"{hashlib.sha256(member.content).hexdigest()}  {name}\n" for name, member in sorted(found.items())]
     found["SHA256SUMS"] = Member("".join(sums).encode())
     return found
@@ -141,17 +158,24 @@ def main(words: Sequence[str]) -> int:
     parser = trau_frames.Words(
         prog="package", description=__doc__, formatter_class=argparse.RawDescriptionHelpFormatter, allow_abbrev=False
     )
-    parser.add_argument("folder", type=Path, metavar="FOLDER", help="the folder that the tarball is written to")
+    parser.add_argument("folder", type=Path, metavar="FOLDER", help="the folder that the package is written to")
+    parser.add_argument("--deb", action="store_true", help="make a Debian package too, by dpkg-deb")
     asked = parser.parse_args(words)
     try:
         if not asked.folder.is_dir():
             raise Refusal(f"{asked.folder}: isn't a folder")
         state = state_of_repository()
-        content = tarball(state, members(state))
-        new = asked.folder / f"{state.name()}.tar.gz"
-        trau_frames.write_file(new, content, [])
+        found = members(state)
+        made = {f"{state.name()}.tar.gz": tarball(state, found)}
+        if asked.deb:
+            author = git("log", "-1", "--format=%an <%ae>")
+            name, content = trau_deb.package({name: member.content for name, member in found.items()}, author, state.seconds)
+            made[name] = content
+        for name, content in made.items():
+            trau_frames.write_file(asked.folder / name, content, [])
     except Refusal as refusal:
         print(f"package: {refusal}", file=sys.stderr)
         return 2
-    print(f"package {new} octets {len(content)} sha256 {hashlib.sha256(content).hexdigest()}")
+    for name, content in made.items():
+        print(f"package {asked.folder / name} octets {len(content)} sha256 {hashlib.sha256(content).hexdigest()}")
     return 0

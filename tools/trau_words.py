@@ -1,6 +1,7 @@
 #!/usr/bin/env python3
 """The commands, options and statuses of trau, in one place, and what is made of them: the help of the script `trau`
-(help.txt), the man page and the completion of words in bash.
+(help.txt, and pages.txt of each command), by what it finds a wrong word (grammar.txt), the man page and the completion of words
+in bash.
 
 The documents say the same at greater length; the tests of the tools hold both to each other.
 """
@@ -20,11 +21,14 @@ PURPOSE = "the GSM transcoder and rate adaptor unit, on recorded lines"
 
 @dataclass(frozen=True)
 class Command:
-    """A command, with its words behind the name, and what it does, with the lines that it takes and writes."""
+    """A command, with its words behind the name, and what it does, with the lines that it takes and writes; the statuses that it
+    ends with, and the greatest number of a call that it takes."""
 
     name: str
     words: str
     does: str
+    statuses: Tuple[int, ...]
+    last_call: int = 4096
 
 
 @dataclass(frozen=True)
@@ -60,44 +64,82 @@ COMMANDS = (
     Command(
         "run",
         "[OPTIONS] <ORDERS",
-        "reads orders from standard input, works the calls that they open on their lines, writes their outgoing lines, and tells"
-        " the report",
+        "reads orders from standard input, works the calls that they open on their lines, writes their outgoing"
+        " lines, and tells the report",
+        (0, 1, 2, 3, 4, 5, 6, 7),
     ),
     Command(
         "save",
         "[OPTIONS] <ORDERS",
-        "runs as run does to the period of --periods, which must be there, and tells a mark in place of the report: the open"
-        " calls with sums of what went out",
+        "runs as run does to the period of --periods, which must be there, and tells a mark in place of the"
+        " report: the open calls with sums of what went out",
+        (0, 1, 2, 3, 4, 5, 6, 7),
     ),
     Command(
         "resume",
         "[OPTIONS] <MARKED",
-        "reads a mark and the orders behind it, works the same lines from the start, writes what follows the mark's period, and"
-        " tells the whole run's report",
+        "reads a mark and the orders behind it, works the same lines from the start, writes what follows the"
+        " mark's period, and tells the whole run's report",
+        (0, 1, 2, 3, 4, 5, 6, 7, 9),
     ),
     Command(
         "drill",
         "[OPTIONS]",
-        "draws lines and orders from a number, works them in memory as run does, and tells the report, with sums of what goes"
-        " out; it uses no file",
+        "draws lines and orders from a number, works them in memory as run does, and tells the report, with sums"
+        " of what goes out; it uses no file",
+        (0, 1, 4, 5),
     ),
     Command(
         "live",
         "[OPTIONS]",
-        "has callers on threads of their own post periods, drawn from a number, to calls and work them, and tells sums of what"
-        " goes out; it uses no file",
+        "has callers on threads of their own post periods, drawn from a number, to calls and work them, and tells"
+        " sums of what goes out; it uses no file",
+        (0, 1, 4, 5),
     ),
-    Command("relay", CALL, "takes C.up, and writes its good speech frames to C.down with the same 260 data bits"),
-    Command("decode", CALL, "takes C.up, and writes the A-law of its good speech frames to C.out"),
-    Command("encode", CALL, "takes C.pcm, and writes its speech frames to C.down"),
-    Command("frames", CALL, "searches C.up for frames at any bit, and tells a line of text for each; it writes no line"),
-    Command("split", CALL, "takes the time slot C.pcm, and writes its four channels to the Down lines of calls C to C + 3"),
-    Command("merge", CALL, "takes C.up and the Up lines of the next three calls as four channels, and writes the time slot C.out"),
+    Command(
+        "relay",
+        CALL,
+        "takes C.up, and writes its good speech frames to C.down with the same 260 data bits",
+        (0, 1, 4, 5, 6, 8),
+    ),
+    Command(
+        "decode",
+        CALL,
+        "takes C.up, and writes the A-law of its good speech frames to C.out",
+        (0, 1, 4, 5, 6, 8),
+    ),
+    Command(
+        "encode",
+        CALL,
+        "takes C.pcm, and writes its speech frames to C.down",
+        (0, 1, 4, 5, 6),
+    ),
+    Command(
+        "frames",
+        CALL,
+        "searches C.up for frames at any bit, and tells a line of text for each; it writes no line",
+        (0, 1, 4, 5, 6),
+    ),
+    Command(
+        "split",
+        CALL,
+        "takes the time slot C.pcm, and writes its four channels to the Down lines of calls C to C + 3",
+        (0, 1, 4, 6),
+        4093,
+    ),
+    Command(
+        "merge",
+        CALL,
+        "takes C.up and the Up lines of the next three calls as four channels, and writes the time slot C.out",
+        (0, 1, 4, 6),
+        4093,
+    ),
     Command(
         "follow",
         "C W",
-        "takes C.up as a downlink, tells a line of text for each frame that a base station finds on it, and writes to C.down what"
-        " it sends up, asking for frames at W modulo 320, 0 to 316 and a multiple of 4",
+        "takes C.up as a downlink, tells a line of text for each frame that a base station finds on it, and"
+        " writes to C.down what it sends up, asking for frames at W modulo 320, 0 to 316 and a multiple of 4",
+        (0, 1, 4, 6),
     ),
 )
 
@@ -153,7 +195,7 @@ STATUSES = (
     ),
     Status(8, "a block isn't a good speech frame", "relay refused N, decode refused N"),
     Status(9, "the mark isn't that of this run: call C is the least that differs", "save differs C"),
-    Status(125, "(of the script trau) there is no program to run", ""),
+    Status(125, "(of the script trau) there is no program to run, or another run writes lines of this folder", ""),
 )
 
 FILES = (
@@ -167,10 +209,15 @@ NOTE_ON_FILES = (
     "Lines are files of the current folder. C is a call's number, 1 to 4,096, in decimal digits without leading zeros. The"
     " commands of one call write the same files as run does."
 )
+NOTE_ON_OPTIONS = "A value is the next word, or stands behind an equals sign. Each option stands once at most."
 NOTE_ON_ORDERS = "An order is a line of words with one space between. S is the period at whose start it takes effect."
 NOTE_ON_HELP = (
-    "help, --help, and no words at a terminal, print a help on standard error, and --version says there what is installed;"
-    " the program's own answer to these words is usage, with status 1."
+    "help and --help print a help, help COMMAND and COMMAND --help the page of a command, and --version says what is installed."
+    " What is wrong with words that are no command, and why a line failed, stands on standard error."
+)
+NOTE_ON_LOCK = (
+    "A command that writes lines locks the folder (flock(1)) while it runs, so that two don't write into each other's lines; the"
+    " second ends with status 125. With --no-lock as the first word it starts all the same."
 )
 
 
@@ -228,7 +275,48 @@ def help_text() -> str:
     lines += table(FILES)
     lines += ["", "Statuses:", ""]
     lines += table((str(status.number), status.means) for status in STATUSES)
-    lines += ["", "demo, beside this script, runs an example; docs/ tells the rest."]
+    lines += ["", *folded(NOTE_ON_LOCK, "")]
+    lines += ["", "trau help COMMAND tells of one command; demo, beside this script, runs an", "example; docs/ tells the rest."]
+    return "\n".join(lines) + "\n"
+
+
+def options_of(command: Command) -> Sequence[Option]:
+    """The options that a command takes."""
+    return next((options for name, options in OPTIONS_OF.items() if command.name in (name, *ALSO.get(name, ()))), ())
+
+
+def page(command: Command) -> str:
+    """What the script `trau` says of one command."""
+    options = options_of(command)
+    lines = [f"{NAME} {command.name} {command.words}", "", *folded(command.does[0].upper() + command.does[1:] + ".", "")]
+    if options:
+        lines += ["", *folded(NOTE_ON_OPTIONS, ""), ""]
+        lines += table((f"{option.name} N", f"{option.means} ({range_of(option)})") for option in options)
+    if CALL in command.words.split():
+        lines += ["", f"C is a call's number, 1 to {grouped(command.last_call)}, in decimal digits without leading zeros."]
+    if "ORDERS" in command.words or "MARKED" in command.words:
+        lines += ["", *folded(NOTE_ON_ORDERS, ""), ""]
+        lines += table((order.words, order.does) for order in ORDERS)
+    lines += ["", "Statuses, and what standard output has:", ""]
+    of_it = (status for status in STATUSES if status.number in command.statuses)
+    lines += table((str(status.number), f"{status.means}: {status.text}") for status in of_it)
+    return "\n".join([*lines, "", f"docs/commands/{command.name}.md tells the rest."]) + "\n"
+
+
+def pages_text() -> str:
+    """The pages of all commands, each behind a line with the command's name, as the script `trau` looks for them."""
+    return "".join(f"== {command.name}\n{page(command)}" for command in COMMANDS)
+
+
+def grammar_text() -> str:
+    """The values of each command and their ranges, as the script `trau` reads them to say which word is wrong."""
+    lines = []
+    for command in COMMANDS:
+        lines += [f"{command.name} {option.name} {option.least} {option.most}" for option in options_of(command)]
+        if CALL in command.words.split():
+            lines += [f"{command.name} {CALL} 1 {command.last_call}"]
+        if command.words == "C W":
+            lines += [f"{command.name} W 0 316"]
     return "\n".join(lines) + "\n"
 
 
@@ -259,10 +347,10 @@ def man_page(version: str, date: str) -> str:
         lines += [".br"] * (number > 0) + [f".B {NAME} {command.name}{escaped(options + orders)}"]
     lines += [".SH COMMANDS", escaped(NOTE_ON_FILES)]
     lines += paragraphs((f"{command.name} {command.words}", command.does) for command in COMMANDS)
-    lines += [".PP", escaped(NOTE_ON_HELP)]
+    lines += [".PP", escaped(NOTE_ON_HELP), ".PP", escaped(NOTE_ON_LOCK)]
     for name, options in OPTIONS_OF.items():
         lines += [f".SH OPTIONS OF {with_its_options(name, ' AND ').upper()}"]
-        lines += ["A value is the next word, or stands behind an equals sign. Each option stands once at most."]
+        lines += [NOTE_ON_OPTIONS]
         lines += paragraphs((f"{option.name} N", f"{option.means} ({range_of(option)})") for option in options)
     lines += [".SH ORDERS", escaped(NOTE_ON_ORDERS)]
     lines += paragraphs((order.words, order.does) for order in ORDERS)
@@ -279,7 +367,7 @@ _trau() {{
     local word=${{COMP_WORDS[COMP_CWORD]}} before=${{COMP_WORDS[COMP_CWORD - 1]}} name
     COMPREPLY=()
     if [ "$COMP_CWORD" = 1 ]; then
-        COMPREPLY=($(compgen -W "{commands} help --help --version" -- "$word"))
+        COMPREPLY=($(compgen -W "{commands} help --help --version --no-lock" -- "$word"))
         return
     fi
     case ${{COMP_WORDS[1]}} in
@@ -328,9 +416,15 @@ def main(words: Sequence[str]) -> int:
     parser = trau_frames.Words(
         description=__doc__, formatter_class=argparse.RawDescriptionHelpFormatter, allow_abbrev=False
     )
-    parser.add_argument("what", choices=("help", "man", "completion"), help="what is printed")
+    parser.add_argument("what", choices=("help", "pages", "grammar", "man", "completion"), help="what is printed")
     asked = parser.parse_args(words)
-    made = {"help": help_text, "man": lambda: man_page("trau", ""), "completion": completion}
+    made = {
+        "help": help_text,
+        "pages": pages_text,
+        "grammar": grammar_text,
+        "man": lambda: man_page("trau", ""),
+        "completion": completion,
+    }
     sys.stdout.write(made[asked.what]())
     return 0
 

@@ -18,6 +18,7 @@ from support import EXAMPLES, TOP, InFolder
 
 import build
 import trau_frames
+import trau_words
 
 CRATES = """# crate: the crates that it stands on
 low:
@@ -255,26 +256,31 @@ class Help(Started):
     HELP = (TOP / "tools" / "help.txt").read_text()
 
     def test_before_any_proof(self):
-        for words in (["help"], ["--help"], ["-h"], ["help", "run"], ["run", "--help"], ["drill", "--help"], ["relay", "--help"]):
-            self.assertEqual(self.trau(*words), (1, "usage\n", self.HELP), words)
+        for words in (["help"], ["--help"], ["-h"]):
+            self.assertEqual(self.trau(*words), (0, self.HELP, ""), words)
         self.assertEqual(self.at_terminal(), (1, self.HELP + "usage\n"))
         self.assertFalse(self.asked.exists())
 
-    def test_where_the_program_is_built_it_has_the_words(self):
+    def test_a_page_for_each_command(self):
+        for command in trau_words.COMMANDS:
+            for words in (["help", command.name], [command.name, "--help"]):
+                self.assertEqual(self.trau(*words), (0, trau_words.page(command), ""), words)
+        self.assertEqual(self.trau("help", "x"), (1, "usage\n", "trau: help x: no command; trau help tells them\n"))
+
+    def test_where_the_program_is_built_too(self):
         self.built()
-        self.assertEqual(self.trau("help"), (0, "the program: help\n", self.HELP))
+        self.assertEqual(self.trau("help"), (0, self.HELP, ""))
         self.assertEqual(self.at_terminal(), (1, self.HELP + "usage\n"))
         self.assertEqual(self.trau(), (1, "usage\n", ""))
 
     def test_version(self):
-        status, out, err = self.trau("--version")
-        self.assertEqual((status, out, err), (1, "usage\n", "trau of no known commit; a kit\n"))
+        self.assertEqual(self.trau("--version"), (0, "trau of no known commit; a kit\n", ""))
         git = ["git", "-C", self.top, "-c", "user.name=n", "-c", "user.email=e"]
         for words in (["init", "-q"], ["add", "trau"], ["commit", "-qm", "x"]):
             subprocess.run([*git, *words], check=True)
         (self.tools / "rt").unlink()
         self.assertRegex(
-            self.trau("--version")[2], r"^trau [0-9a-f]{7,} of \d{4}-\d\d-\d\d, with changes; no kit: rt isn't on the path\n$"
+            self.trau("--version")[1], r"^trau [0-9a-f]{7,} of \d{4}-\d\d-\d\d, with changes; no kit: rt isn't on the path\n$"
         )
 
     def test_run_at_a_terminal(self):
@@ -283,6 +289,107 @@ class Help(Started):
         self.assertEqual(self.at_terminal("run"), (0, note + "the program: run\n"))
         self.assertEqual(self.at_terminal("relay", "7"), (0, "the program: relay 7\n"))
         self.assertEqual(self.trau("run"), (0, "the program: run\n", ""))
+
+    def test_a_pipe_at_a_terminal(self):
+        self.built()
+        os.mkfifo(self.folder / "7.pcm")
+        note = "trau: 7.pcm is a pipe; where its call is opened, it is waited for until someone opens it for writing\n"
+        for words in (["encode", "7"], ["resume"]):
+            self.assertEqual(self.at_terminal(*words), (0, f"{note}the program: {' '.join(words)}\n"))
+        self.assertEqual(self.at_terminal("encode", "8"), (0, "the program: encode 8\n"))
+        self.assertEqual(self.trau("encode", "7"), (0, "the program: encode 7\n", ""))
+
+
+class WrongWords(Started):
+    """Which word is wrong. The stand-in takes all words, so that a status 0 says that the script refused none by itself."""
+
+    WRONG = {
+        "run --workers 65": "--workers 65: 1 to 64",
+        "run --workers=65": "--workers 65: 1 to 64",
+        "run --workers 0": "--workers 0: 1 to 64",
+        "run --workers 04": "--workers 04: 1 to 64, without leading zeros",
+        "run --slice x": "--slice x: 1 to 250",
+        "run --periods 4294967296": "--periods 4294967296: 1 to 4294967295",
+        "run --periods 99999999999999999999": "--periods 99999999999999999999: 1 to 4294967295",
+        "run --batch": "--batch: its value is missing, 1 to 250",
+        "run --batch 2 --batch=3": "--batch: it stands twice",
+        "run --work 2": "--work: no option of run; trau help run tells them",
+        "run --seed 2": "--seed: no option of run; trau help run tells them",
+        "run orders.txt": "orders.txt: a word too many",
+        "drill --calls 257": "--calls 257: 1 to 256",
+        "live --inbox --seed 3": "--inbox --seed: 1 to 1024",
+        "save": "save: --periods is missing, the period of the mark",
+        "save --workers 3": "save: --periods is missing, the period of the mark",
+        "relay": "relay: C is missing, 1 to 4096",
+        "relay 4097": "relay 4097: C is 1 to 4096",
+        "relay 07": "relay 07: C is 1 to 4096, without leading zeros",
+        "relay 7 8": "8: a word too many",
+        "split 4094": "split 4094: C is 1 to 4093",
+        "follow 7": "follow: W is missing, 0 to 316",
+        "follow 7 6": "follow 6: W is a multiple of 4",
+        "follow 7 320": "follow 320: W is 0 to 316",
+        "relya 7": "relya: no command; trau help tells them",
+        "-x": "-x: no command; trau help tells them",
+        "no such/thing": "no: no command; trau help tells them",
+    }
+    RIGHT = ("run --workers 64 --batch=1", "save --periods 4294967295", "live --seed 0", "split 4093", "follow 7 316", "frames 1")
+
+    def test_what_is_wrong_is_said_before_any_proof(self):
+        for words, wrong in self.WRONG.items():
+            self.assertEqual(self.trau(*words.split()), (1, "usage\n", f"trau: {wrong}\n"), words)
+        self.assertFalse(self.asked.exists())
+
+    def test_the_program_decides(self):
+        self.built()
+        for words in [*self.WRONG, *self.RIGHT]:
+            self.assertEqual(self.trau(*words.split()), (0, f"the program: {words}\n", ""), words)
+
+
+@unittest.skipUnless(shutil.which("flock"), "there is no flock")
+class TwoRuns(Started):
+    """A run locks its folder."""
+
+    def setUp(self):
+        super().setUp()
+        self.built()
+
+    def lasting(self, *words):
+        """A run that goes on until its input ends: the stand-in's program is one that reads it."""
+        program = self.folder / "lasting"
+        program.write_text("#!/bin/sh\necho begun\ncat\n")
+        program.chmod(0o755)
+        run = subprocess.Popen(
+            [self.top / "trau", *words],
+            stdin=subprocess.PIPE,
+            stdout=subprocess.PIPE,
+            env={**self.surroundings, "TRAU_PROGRAM": str(program)},
+            cwd=self.folder,
+        )
+        self.assertEqual(run.stdout.readline(), b"begun\n")
+        return run
+
+    def test_the_second_says_who_has_the_folder(self):
+        with self.lasting("run") as run:
+            for name in ("run", "resume", "relay", "merge"):
+                words = [name] if name in ("run", "resume") else [name, "7"]
+                said = f"trau: process {run.pid} writes lines of this folder; trau --no-lock {name} starts all the same\n"
+                self.assertEqual(self.trau(*words), (125, "", said))
+            self.assertEqual(self.trau("frames", "7"), (0, "the program: frames 7\n", ""))
+            self.assertEqual(self.trau("drill"), (0, "the program: drill\n", ""))
+            self.assertEqual(self.trau("--no-lock", "run"), (0, "the program: run\n", ""))
+            run.communicate(b"")
+        self.assertEqual(self.trau("run"), (0, "the program: run\n", ""))
+
+    def test_where_there_is_no_lock(self):
+        with self.lasting("frames", "7") as run:
+            self.assertEqual(self.trau("run"), (0, "the program: run\n", ""))
+            run.communicate(b"")
+        flock = self.tools / "flock"
+        flock.write_text("#!/bin/sh\nexit 66\n")
+        flock.chmod(0o755)
+        with self.lasting("run") as run:
+            self.assertEqual(self.trau("run"), (0, "the program: run\n", ""))
+            run.communicate(b"")
 
 
 class Demo(Started):

@@ -57,6 +57,13 @@ class Documents(unittest.TestCase):
         self.assertEqual(told, set(statuses) - {125})
         self.assertIn("| 125 |", (TOP / "README.md").read_text() + (DOCS / "INSTALL.md").read_text())
 
+    def test_statuses_of_each_command(self):
+        for command in trau_words.COMMANDS:
+            text = (DOCS / "commands" / f"{command.name}.md").read_text()
+            table = text[text.index("| Status | Meaning | Text |") :].split("\n\n")[0]
+            found = re.findall(r"^\| ([\d, ]+) \|", table, re.M)
+            self.assertEqual({int(number) for cell in found for number in cell.split(",")}, set(command.statuses), command.name)
+
     def test_orders(self):
         text = (DOCS / "OPERATORS.md").read_text()
         table = text[text.index("| Order |") : text.index("## When")]
@@ -66,7 +73,10 @@ class Documents(unittest.TestCase):
 
     def test_help(self):
         self.assertEqual((TOOLS / "help.txt").read_text(), trau_words.help_text(), "tools/trau_words.py help >tools/help.txt")
-        self.assertTrue(all(len(line) < 80 for line in trau_words.help_text().splitlines()))
+        for name, made in (("pages", trau_words.pages_text()), ("grammar", trau_words.grammar_text())):
+            self.assertEqual((TOOLS / f"{name}.txt").read_text(), made, f"tools/trau_words.py {name} >tools/{name}.txt")
+        for text in (trau_words.help_text(), trau_words.pages_text()):
+            self.assertTrue(all(len(line) < 80 for line in text.splitlines()))
         for made in (trau_words.help_text(), trau_words.man_page("trau x", "2026-01-01").replace("\\-", "-")):
             for word in [command.name for command in trau_words.COMMANDS] + [option.name for option in trau_words.DRILL_OPTIONS]:
                 self.assertIn(word, made)
@@ -100,7 +110,7 @@ class Completion(InFolder):
         for name in ("7.up", "12.up", "8.pcm", "7.down", "x.up"):
             self.path(name, b"")
         self.assertEqual(self.completed("r"), ["run", "resume", "relay"])
-        self.assertEqual(self.completed("--"), ["--help", "--version"])
+        self.assertEqual(self.completed("--"), ["--help", "--version", "--no-lock"])
         self.assertEqual(self.completed("run", "--"), ["--workers", "--batch", "--slice", "--periods"])
         self.assertEqual(self.completed("run", "--workers", "2", "--b"), ["--batch"])
         self.assertEqual(self.completed("run", "--workers", ""), [])

@@ -1,2 +1,3 @@
--- Lemmas on files that are open.
+-- Lemmas on files that are open, and on which line has which file.
+pub mod Apart
 pub mod Seating

@@ -8,7 +8,7 @@ use Rattle.trau_io.proofs.Tables.{same_line}
 use Rattle.trau_files.specs.Files.{OpenLine, IsFileOf, OpenAfter, AreSeated, in_seat, file_after}
 
 -- an element is the one that was put there, or as before
-set_place : {X : Type 0} (xs : List X) (i : ℕ) (y d : X) (k : ℕ) →
+pub set_place : {X : Type 0} (xs : List X) (i : ℕ) (y d : X) (k : ℕ) →
     ((k ≡ i) × (slice_index_or (slice_set xs i y) k d ≡ y)) ⊎ (slice_index_or (slice_set xs i y) k d ≡ slice_index_or xs k d)
 set_place [] i y d k = inr refl
 set_place (x ∷ xs) zero y d zero = inl (refl, refl)
@@ -16,12 +16,12 @@ set_place (x ∷ xs) zero y d (suc k) = inr refl
 set_place (x ∷ xs) (suc i) y d zero = inr refl
 set_place (x ∷ xs) (suc i) y d (suc k) = elim (set_place xs i y d k) [ inl s ↦ inl (ap suc s.0, s.1) | inr s ↦ inr s ]
 
-set_there : {X : Type 0} (xs : List X) (i : ℕ) (y d : X) → i < length xs → slice_index_or (slice_set xs i y) i d ≡ y
+pub set_there : {X : Type 0} (xs : List X) (i : ℕ) (y d : X) → i < length xs → slice_index_or (slice_set xs i y) i d ≡ y
 set_there [] i y d within = absurd (omega arith)
 set_there (x ∷ xs) zero y d within = refl
 set_there (x ∷ xs) (suc i) y d within = set_there xs i y d (omega arith)
 
-empty : (seats : List (Option OpenLine)) → All (λ seat. seat ≡ None) seats → (k : ℕ) → in_seat seats k ≡ None
+pub empty : {X : Type 0} (seats : List (Option X)) → All (λ seat. seat ≡ None) seats → (k : ℕ) → slice_index_or seats k None ≡ None
 empty [] none k = refl
 empty (s ∷ ss) none zero = none 0 None (omega arith)
 empty (s ∷ ss) none (suc k) = empty ss (λ j d within. none (suc j) d (omega arith)) k

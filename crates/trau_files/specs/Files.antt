@@ -8,6 +8,7 @@ use Rattle.trau_io.specs.declared.line.Side.{Side}
 use Rattle.trau_io.specs.Lines.{LineState}
 use Rattle.trau_io.specs.Places.{place_of}
 use Rattle.trau_io.specs.Texts.{side_word}
+use Rattle.trau_files.specs.declared.trunk.claims.Claim.{Claim}
 use Rattle.trau_files.specs.declared.trunk.seats.Access.{Access}
 use Rattle.trau_files.specs.declared.trunk.seats.Access.TheVariants.{Reading, Writing}
 
@@ -68,11 +69,11 @@ abbrev pub opened : {A E : Type 0} → ℕ → Side → Access → ℕ → Resul
 opened call side access at (Ok a) = Some (record { call = call; side = side; access = access; at = at })
 opened call side access at (Err e) = None
 
--- how a line's file is opened to go on at this octet: for reading as it is; for writing made anew or emptied where nothing
--- has been written yet, and else as it is
+-- how a line's file is opened to go on at this octet: as it is, and for writing made where it is missing and nothing has been
+-- written yet. No opening empties a file: it isn't known yet whose it is.
 abbrev pub options_for : Access → ℕ → OpenOptions
 options_for Reading at = record new_options { read = true }
-options_for Writing at = record new_options { write = true; truncate = at == 0; create = at == 0 }
+options_for Writing at = record new_options { write = true; create = at == 0 }
 
 -- the files that are open, each in a seat: the one in this seat
 abbrev pub in_seat : List (Option OpenLine) → ℕ → Option OpenLine
@@ -97,10 +98,16 @@ pub record OpenAfter (old new : List (Option OpenLine)) (call : ℕ) (side : Sid
 abbrev pub AreSeated : List (Option OpenLine) → List ℕ → Type 0
 AreSeated seats seat_of = (k : ℕ) (o : OpenLine) → in_seat seats k ≡ Some o → slice_index_or seat_of (place_of o.call o.side) 0 ≡ k
 
--- all lines, and the files that are open
+-- the files that are open, each in a seat, and which line has which file
+pub record OpenFiles : Type 0 where
+  pub seats : List (Option OpenLine)
+  pub claims : List (Option Claim)
+
+-- all lines, the files that are open, and which line has which file
 pub record TrunkFiles : Type 0 where
   pub lines : List FileLine
   pub files : List (Option OpenLine)
+  pub claims : List (Option Claim)
 
 -- a read of a line that stood so, with this answer: by the trunk's account it took the line's next octets, and nothing else
 pub record TrunkReads (old new : TrunkFiles) (call : ℕ) (side : Side) (l : FileLine) (result : Result ℕ Failed) : Type 0 where

@@ -3,6 +3,7 @@ ghost use Rattle.std.specs.Prelude.{◌≡◌};
 ghost use Rattle.trau_io.specs.Desks.{DeskState};
 
 use crate::retry::{read_again, write_some};
+use std::io;
 use std::io::{Read, Write};
 use std::marker::Model;
 use trau_io::{Desk, Failed};
@@ -15,6 +16,8 @@ pub struct StdDesk<R: Read + Drop, W: Write + Drop> {
     output: W,
     read_faults: u64,
     write_faults: u64,
+    read_fault: Option<io::Error>,
+    write_fault: Option<io::Error>,
 }
 
 impl<R: Read + Drop, W: Write + Drop> Model for StdDesk<R, W> {
@@ -33,7 +36,19 @@ impl<R: Read + Drop, W: Write + Drop> StdDesk<R, W> {
             output,
             read_faults: 0,
             write_faults: 0,
+            read_fault: None,
+            write_fault: None,
         }
+    }
+
+    /// What the system said where reading failed last.
+    pub fn read_fault(&self) -> Option<&io::Error> {
+        self.read_fault.as_ref()
+    }
+
+    /// What the system said where writing failed last.
+    pub fn write_fault(&self) -> Option<&io::Error> {
+        self.write_fault.as_ref()
     }
 }
 
@@ -43,8 +58,9 @@ impl<R: Read + Drop, W: Write + Drop> Desk for StdDesk<R, W> {
     fn read(&mut self, buf: &mut [u8]) -> Result<usize, Failed> {
         match read_again(&mut self.input, buf) {
             Ok(count) => Ok(count),
-            Err(_) => {
+            Err(fault) => {
                 self.read_faults = self.read_faults.saturating_add(1);
+                self.read_fault = Some(fault);
                 Err(Failed)
             }
         }
@@ -53,8 +69,9 @@ impl<R: Read + Drop, W: Write + Drop> Desk for StdDesk<R, W> {
     fn write(&mut self, bytes: &[u8]) -> Result<usize, Failed> {
         match write_some(&mut self.output, bytes) {
             Ok(count) => Ok(count),
-            Err(_) => {
+            Err(fault) => {
                 self.write_faults = self.write_faults.saturating_add(1);
+                self.write_fault = Some(fault);
                 Err(Failed)
             }
         }

@@ -4,11 +4,15 @@ ghost use Rattle.std.specs.Prelude.{◌≡◌, ◌<◌, None, All, vec_len, leng
 ghost use Rattle.trau_io.specs.Lines.{Reads, Writes, OthersStay};
 ghost use Rattle.trau_io.specs.Places.{place_of};
 ghost use Rattle.trau_io.specs.declared.places.TheConstants.{PLACES};
+ghost use Rattle.trau_files.specs.Claims.{AreApart};
 ghost use Rattle.trau_files.specs.Files.{TrunkFiles, TrunkReads, TrunkWrites, states_of};
 
+mod claims;
+mod fault;
 mod file;
 mod name;
 mod open;
+mod recordings;
 mod seats;
 
 use file::LineFile;
@@ -20,8 +24,9 @@ use trau_io::{Failed, Line, PLACES, Trunk, place};
 
 /// All lines of a farm, each a file. The first 255 that are opened stay open, and of the others the last one; fewer where
 /// the system gives fewer. A line goes on in its open file; without one its file is opened anew, so that the number of
-/// open files is no limit. It tells how often each line failed, which files are open and at which octet each line goes on,
-/// and nothing of the lines' contents.
+/// open files is no limit. A file of a disk that is written for one line is no other line's, by whatever names both have it: the
+/// line that comes to it second fails. It tells how often each line failed, which files are open and at which octet each line
+/// goes on, which line has which file, and nothing of the lines' contents. Why a line failed goes to standard error.
 #[derive(Drop)]
 pub struct FileTrunk<'a, R: Files> {
     files: LineFiles<'a, R>,
@@ -31,9 +36,9 @@ pub struct FileTrunk<'a, R: Files> {
 impl<'a, R: Files> Model for FileTrunk<'a, R> {
     ghost Value = { TrunkFiles };
 
-    ghost view = { λ t. record { lines = t.lines.items; files = t.files } };
+    ghost view = { λ t. record { lines = t.lines.items; files = t.files.seats; claims = t.files.claims } };
 
-    ghost invariant = { λ t. vec_len t.lines ≡ PLACES };
+    ghost invariant = { λ t. (vec_len t.lines ≡ PLACES) × AreApart t.files.claims };
 }
 
 impl<'a, R: Files> FileTrunk<'a, R> {
@@ -43,6 +48,7 @@ impl<'a, R: Files> FileTrunk<'a, R> {
         ensures each { IfOk result (λ t. All (λ l. l ≡ record { read = 0; written = 0; faults = 0 }) t.lines) }
         ensures seats { IfOk result (λ t. length t.files ≡ 256) }
         ensures closed { IfOk result (λ t. All (λ seat. seat ≡ None) t.files) }
+        ensures unclaimed { IfOk result (λ t. All (λ claim. claim ≡ None) t.claims) }
     {
         let mut lines = Vec::with_capacity(alloc, PLACES)?;
         for _ in 0..PLACES {
@@ -53,7 +59,14 @@ impl<'a, R: Files> FileTrunk<'a, R> {
     }
 }
 
-impl<'a, R: Files> Trunk for FileTrunk<'a, R> {
+impl<'a, R: Files + Eprint> FileTrunk<'a, R> {
+    /// Tells on standard error how many lines failed beside the first twenty, of which the reasons were told.
+    pub fn tell_rest(&self) {
+        self.files.tell_rest();
+    }
+}
+
+impl<'a, R: Files + Eprint> Trunk for FileTrunk<'a, R> {
     ghost lines = { λ t. states_of t.lines };
 
     fn read(&mut self, line: Line, buf: &mut [u8]) -> Result<usize, Failed>
@@ -61,6 +74,7 @@ impl<'a, R: Files> Trunk for FileTrunk<'a, R> {
         ensures this { Reads (states_of self.old.lines line.call line.side) (states_of self.new.lines line.call line.side) result buf.new }
         ensures others { OthersStay (states_of self.old.lines) (states_of self.new.lines) line.call line.side }
         ensures after { IfSome (slice_get self.old.lines (place_of line.call line.side)) (λ l. TrunkReads self.old self.new line.call line.side l result) }
+        ensures apart { AreApart self.new.claims }
     {
         self.lines[place(line)].read(&mut self.files, line, buf)
     }
@@ -70,6 +84,7 @@ impl<'a, R: Files> Trunk for FileTrunk<'a, R> {
         ensures this { Writes (states_of self.old.lines line.call line.side) (states_of self.new.lines line.call line.side) result bytes.now }
         ensures others { OthersStay (states_of self.old.lines) (states_of self.new.lines) line.call line.side }
         ensures after { IfSome (slice_get self.old.lines (place_of line.call line.side)) (λ l. TrunkWrites self.old self.new line.call line.side l result) }
+        ensures apart { AreApart self.new.claims }
     {
         self.lines[place(line)].write(&mut self.files, line, bytes)
     }

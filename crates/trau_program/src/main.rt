@@ -3,8 +3,8 @@
 //! At the top: makes the two outsides that the top call works on, the lines as files (`FileTrunk`) and
 //! the standard streams as the desk (`StdDesk`: the orders of a run come in, texts go out), hands it the
 //! words of the command line and ends with the status that it answers. Nothing is decided here but what
-//! comes before that call: words that aren't UTF-8, and want of memory. The statuses are this project's
-//! profile. Definitions: `specs/Refusals.antt`.
+//! comes before that call: words that aren't UTF-8, and want of memory. Why something failed goes to standard
+//! error, of which no clause speaks. The statuses are this project's profile. Definitions: `specs/Refusals.antt`.
 #![tactic(auto)]
 
 ghost use Rattle.std.specs.Prelude.{◌≡◌};
@@ -68,14 +68,26 @@ fn words_given<R: Env + AllocGlobal>(rt: &R) -> Result<Vec<String>, Refusal> {
     }
 }
 
-// The status of the top call.
-fn run<R: Env + Files + AllocGlobal + Threads + Wait + Sync, I: Read + Drop, O: Write + Drop>(
+// The status of the top call. Why lines failed is told as they fail, and at the end of how many it wasn't.
+fn run<R: Env + Eprint + Files + AllocGlobal + Threads + Wait + Sync, I: Read + Drop, O: Write + Drop>(
     rt: &R,
     desk: &mut StdDesk<I, O>,
 ) -> Result<u8, Refusal> {
     let words = words_given(rt)?;
     let mut trunk = FileTrunk::new(rt.alloc(), rt)?;
-    Ok(farm_top(rt, rt.alloc(), &words, &mut trunk, desk, &OpenGate))
+    let status = farm_top(rt, rt.alloc(), &words, &mut trunk, desk, &OpenGate);
+    trunk.tell_rest();
+    Ok(status)
+}
+
+// Tells on standard error why the standard streams failed, where they did. Where that fails too, there is nobody to tell.
+fn tell_why<R: Eprint, I: Read + Drop, O: Write + Drop>(rt: &R, desk: &StdDesk<I, O>) {
+    if let Some(fault) = desk.read_fault() {
+        let _ = eprintln!(rt; "trau: standard input: {fault}");
+    }
+    if let Some(fault) = desk.write_fault() {
+        let _ = eprintln!(rt; "trau: standard output: {fault}");
+    }
 }
 
 // Tells why the top call isn't made. A desk that fails here changes nothing of the status.
@@ -93,5 +105,6 @@ fn main(rt: HostRuntime) -> ExitCode {
         Ok(status) => status,
         Err(refusal) => refuse(&mut desk, refusal),
     };
+    tell_why(&rt, &desk);
     ExitCode::from(status)
 }

@@ -3,8 +3,10 @@
 ghost use Rattle.std.specs.Prelude.{◌≡◌, ◌≤◌};
 ghost use Rattle.trau_io.specs.Lines.{Reads, Writes};
 ghost use Rattle.trau_files.specs.declared.trunk.seats.Access.TheVariants.{Reading, Writing};
+ghost use Rattle.trau_files.specs.Claims.{AreApart};
 ghost use Rattle.trau_files.specs.Files.{FileLine, OpenAfter, raised, after_read, after_write, file_after, state_of};
 
+use super::fault::Fault;
 use super::open::LineFiles;
 use std::marker::Model;
 use std::rt::Files;
@@ -37,7 +39,7 @@ impl LineFile {
     }
 
     /// Moves the next octets of the file into the front of `buf`.
-    pub fn read<R: Files>(
+    pub fn read<R: Files + Eprint>(
         &mut self,
         files: &mut LineFiles<'_, R>,
         line: Line,
@@ -45,20 +47,21 @@ impl LineFile {
     ) -> Result<usize, Failed>
         ensures reads { Reads (state_of self.old) (state_of self.new) result buf.new }
         ensures after { self.new ≡ after_read self.old result }
-        ensures place { OpenAfter files.old files.new line.call line.side (file_after line.call line.side Reading self.old.read result) }
+        ensures place { OpenAfter files.old.seats files.new.seats line.call line.side (file_after line.call line.side Reading self.old.read result) }
+        ensures apart { AreApart files.new.claims }
     {
         match files.read_at(line, self.read, buf) {
             Ok(count) => {
                 self.read = self.read.saturating_add(count as u64);
                 Ok(count)
             }
-            Err(_) => Err(self.fail()),
+            Err(fault) => Err(self.fail(files, line, &fault)),
         }
     }
 
     /// Appends the front of `bytes` to what was written, at least one octet. The first octets make the
     /// file anew.
-    pub fn write<R: Files>(
+    pub fn write<R: Files + Eprint>(
         &mut self,
         files: &mut LineFiles<'_, R>,
         line: Line,
@@ -66,22 +69,32 @@ impl LineFile {
     ) -> Result<usize, Failed>
         ensures writes { Writes (state_of self.old) (state_of self.new) result bytes.now }
         ensures after { self.new ≡ after_write self.old result }
-        ensures place { OpenAfter files.old files.new line.call line.side (file_after line.call line.side Writing self.old.written result) }
+        ensures place { OpenAfter files.old.seats files.new.seats line.call line.side (file_after line.call line.side Writing self.old.written result) }
+        ensures apart { AreApart files.new.claims }
     {
         match files.write_at(line, self.written, bytes) {
             Ok(count) => {
                 self.written = self.written.saturating_add(count as u64);
                 Ok(count)
             }
-            Err(_) => Err(self.fail()),
+            Err(fault) => Err(self.fail(files, line, &fault)),
         }
     }
 
-    // The count stops at its last value.
-    fn fail(&mut self) -> Failed
+    // The reason is told once a line. The count stops at its last value.
+    fn fail<R: Files + Eprint>(
+        &mut self,
+        files: &mut LineFiles<'_, R>,
+        line: Line,
+        fault: &Fault,
+    ) -> Failed
         ensures count { self.new ≡ record self.old { faults = raised self.old.faults 1 } }
         ensures later { self.old.faults ≤ self.new.faults }
+        ensures files { files.new ≡ files.old }
     {
+        if self.faults == 0 {
+            files.tell_why(line, fault);
+        }
         self.faults = self.faults.saturating_add(1);
         Failed
     }

@@ -4,16 +4,21 @@ ghost use Rattle.std.specs.Prelude.{◌≡◌, ◌<◌, ◌↔◌, ◌⊎◌, le
 ghost use Rattle.std.specs.IoError.{raw_os_error};
 ghost use Rattle.std.specs.Io.{ReadsAtMost, WritesAtMost};
 ghost use Rattle.trau_files.specs.declared.trunk.seats.Access.TheVariants.{Reading, Writing};
+ghost use Rattle.trau_files.specs.Claims.{AreApart};
 ghost use Rattle.trau_files.specs.Files.{IsOpenAt, IsFileOf, OpenAfter, in_seat, file_after, opened, options_for};
 
+use super::claims::{Claim, Claims, FileIdentity};
+use super::fault::{Fault, Reasons};
 use super::name::name_of;
+use super::recordings::Recordings;
 use super::seats::{Access, OpenFile, Seats};
 use std::alloc::{AllocError, Global};
-use std::fs::OpenOptions;
-use std::io;
+use std::fs::{Metadata, OpenFile as _, OpenOptions};
 use std::io::{Seek, SeekFrom};
 use std::marker::Model;
+use std::os::unix::fs::MetadataExt;
 use std::rt::Files;
+use std::{fs, io};
 use trau_io::Line;
 
 // The system's errors where no descriptor is left: in the whole system, and in this process.
@@ -22,55 +27,73 @@ const NONE_IN_SYSTEM: i32 = 23;
 const NONE_IN_PROCESS: i32 = 24;
 
 /// The files of all lines. The first 255 that are opened stay open, and of the others the last one; fewer where the system
-/// gives fewer. A fault closes the file.
+/// gives fewer. A fault closes the file. A file of a disk that is written for one line is no other line's.
 #[derive(Drop)]
 pub struct LineFiles<'a, R: Files> {
     files: &'a R,
     seats: Seats<R::File>,
+    claims: Claims,
+    recordings: Recordings,
+    reasons: Reasons,
 }
 
 impl<'a, R: Files> Model for LineFiles<'a, R> {
-    ghost use Rattle.std.specs.Prelude.{List, Option};
-    ghost use Rattle.trau_files.specs.Files.{OpenLine};
+    ghost use Rattle.trau_files.specs.Claims.{AreApart};
+    ghost use Rattle.trau_files.specs.Files.{OpenFiles};
 
-    ghost Value = { List (Option OpenLine) };
+    ghost Value = { OpenFiles };
 
-    ghost view = { λ f. f.seats };
+    ghost view = { λ f. record { seats = f.seats; claims = f.claims } };
+
+    ghost invariant = { λ f. AreApart f.claims };
 }
 
 impl<'a, R: Files> LineFiles<'a, R> {
     /// No file is open yet.
     pub fn new(alloc: Global, files: &'a R) -> Result<LineFiles<'a, R>, AllocError>
-        ensures number { IfOk result (λ seats. length seats ≡ 256) }
-        ensures closed { IfOk result (All (λ seat. seat ≡ None)) }
+        ensures number { IfOk result (λ f. length f.seats ≡ 256) }
+        ensures closed { IfOk result (λ f. All (λ seat. seat ≡ None) f.seats) }
+        ensures unclaimed { IfOk result (λ f. All (λ claim. claim ≡ None) f.claims) }
+        ensures apart { IfOk result (λ f. AreApart f.claims) }
     {
         let seats = Seats::new(alloc)?;
-        Ok(LineFiles { files, seats })
+        let claims = Claims::new(alloc)?;
+        let recordings = Recordings::new(alloc)?;
+        Ok(LineFiles {
+            files,
+            seats,
+            claims,
+            recordings,
+            reasons: Reasons::new(),
+        })
     }
 
     /// Moves octets of a line's file, from this octet on, into the front of `buf`.
-    pub fn read_at(&mut self, line: Line, at: u64, buf: &mut [u8]) -> io::Result<usize>
+    pub fn read_at(&mut self, line: Line, at: u64, buf: &mut [u8]) -> Result<usize, Fault>
         ensures bound { ReadsAtMost result buf.new }
-        ensures open { OpenAfter self.old self.new line.call line.side (file_after line.call line.side Reading at result) }
+        ensures open { OpenAfter self.old.seats self.new.seats line.call line.side (file_after line.call line.side Reading at result) }
+        ensures apart { AreApart self.new.claims }
     {
         let seat = self.seat(line, Access::Reading, at)?;
         self.seats.read(seat, buf)
     }
 
     /// Writes the front of `bytes` to a line's file, from this octet on, at least one octet.
-    pub fn write_at(&mut self, line: Line, at: u64, bytes: &[u8]) -> io::Result<usize>
+    pub fn write_at(&mut self, line: Line, at: u64, bytes: &[u8]) -> Result<usize, Fault>
         ensures some { IfOk result (λ n. 0 < n) }
         ensures bound { WritesAtMost result bytes.now }
-        ensures open { OpenAfter self.old self.new line.call line.side (file_after line.call line.side Writing at result) }
+        ensures open { OpenAfter self.old.seats self.new.seats line.call line.side (file_after line.call line.side Writing at result) }
+        ensures apart { AreApart self.new.claims }
     {
         let seat = self.seat(line, Access::Writing, at)?;
         self.seats.write(seat, bytes)
     }
 
     // The seat of the line's file, which stands at this octet: the open one, or opened for it.
-    fn seat(&mut self, line: Line, access: Access, at: u64) -> io::Result<u8>
-        ensures stands { IfOk result (λ seat. IsOpenAt (in_seat self.new seat) line.call line.side access at) }
-        ensures open { OpenAfter self.old self.new line.call line.side (opened line.call line.side access at result) }
+    fn seat(&mut self, line: Line, access: Access, at: u64) -> Result<u8, Fault>
+        ensures stands { IfOk result (λ seat. IsOpenAt (in_seat self.new.seats seat) line.call line.side access at) }
+        ensures open { OpenAfter self.old.seats self.new.seats line.call line.side (opened line.call line.side access at result) }
+        ensures apart { AreApart self.new.claims }
     {
         match self.seats.find(line, access, at) {
             Some(seat) => Ok(seat),
@@ -82,16 +105,17 @@ impl<'a, R: Files> LineFiles<'a, R> {
     // It stays a function of its own: what it has room for would be cleared at each use of an open file.
     #[cold]
     #[inline(never)]
-    fn open(&mut self, line: Line, access: Access, at: u64) -> io::Result<u8>
-        requires { IsFileOf self.old line.call line.side None }
-        ensures stands { IfOk result (λ seat. IsOpenAt (in_seat self.new seat) line.call line.side access at) }
-        ensures open { OpenAfter self.old self.new line.call line.side (opened line.call line.side access at result) }
+    fn open(&mut self, line: Line, access: Access, at: u64) -> Result<u8, Fault>
+        requires { IsFileOf self.old.seats line.call line.side None }
+        ensures stands { IfOk result (λ seat. IsOpenAt (in_seat self.new.seats seat) line.call line.side access at) }
+        ensures open { OpenAfter self.old.seats self.new.seats line.call line.side (opened line.call line.side access at result) }
+        ensures apart { AreApart self.new.claims }
     {
         self.seats.free_next();
-        let file = match open_at(self.files, line, access, at) {
-            Err(fault) if lacks_descriptor(&fault) => {
+        let file = match self.open_at(line, access, at) {
+            Err(Fault::System(fault)) if lacks_descriptor(&fault) => {
                 self.seats.lessen();
-                open_at(self.files, line, access, at)?
+                self.open_at(line, access, at)?
             }
             opened => opened?,
         };
@@ -104,6 +128,69 @@ impl<'a, R: Files> LineFiles<'a, R> {
             }),
         )
     }
+
+    // Opens a line's file at this octet, unless it is another line's.
+    fn open_at(&mut self, line: Line, access: Access, at: u64) -> Result<R::File, Fault>
+        ensures seats { self.new.seats ≡ self.old.seats }
+        ensures apart { AreApart self.new.claims }
+    {
+        let mut file = options_for(access, at).open(self.files, name_of(line).as_str())?;
+        self.take(line, access, at, &file)?;
+        if at > 0 {
+            file.seek(SeekFrom::Start(at))?;
+        }
+        Ok(file)
+    }
+
+    // Has an opened file be the line's, unless it is another line's. Where nothing has been written yet, it is emptied then, and not
+    // before. A pipe or a device keeps nothing that could be lost, and any number of lines may have it.
+    fn take(&mut self, line: Line, access: Access, at: u64, file: &R::File) -> Result<(), Fault>
+        ensures seats { self.new.seats ≡ self.old.seats }
+        ensures apart { AreApart self.new.claims }
+    {
+        // Here the check learns that the lines' files are apart.
+        let _ = &self.claims;
+        let metadata = file.metadata()?;
+        if !metadata.is_file() {
+            return Ok(());
+        }
+        self.claim(line, access, &metadata)?;
+        match access {
+            Access::Writing if at == 0 => Ok(file.set_len(0)?),
+            _ => Ok(()),
+        }
+    }
+
+    // Has the file be the line's, unless it is another line's that was opened before, or that of a recording.
+    fn claim(&mut self, line: Line, access: Access, metadata: &Metadata) -> Result<(), Fault>
+        ensures seats { self.new.seats ≡ self.old.seats }
+        ensures apart { AreApart self.new.claims }
+    {
+        let file = FileIdentity::of(metadata);
+        if access == Access::Writing && is_linked(self.files, line, metadata) {
+            if let Some(place) = self.recordings.place_of(self.files, file) {
+                return Err(Fault::Shared(place));
+            }
+        }
+        match self.claims.claim(line, Claim { file, access }) {
+            Ok(()) => Ok(()),
+            Err(place) => Err(Fault::Shared(place)),
+        }
+    }
+}
+
+impl<'a, R: Files + Eprint> LineFiles<'a, R> {
+    /// Tells on standard error why a line failed.
+    pub fn tell_why(&mut self, line: Line, fault: &Fault)
+        ensures { self.new ≡ self.old }
+    {
+        self.reasons.tell(self.files, line, fault);
+    }
+
+    /// Tells there how many lines failed beside those that were told of.
+    pub fn tell_rest(&self) {
+        self.reasons.tell_rest(self.files);
+    }
 }
 
 // Whether a file wasn't opened because no descriptor is left.
@@ -113,26 +200,24 @@ fn lacks_descriptor(fault: &io::Error) -> bool
     matches!(fault.raw_os_error(), Some(NONE_IN_SYSTEM | NONE_IN_PROCESS))
 }
 
-// How a line's file is opened. Where nothing has been written yet, an older file of its name is emptied or a new one is made.
+// Whether a line's file has another name beside that of the line: the line's name is a link, or the file has several. Where the
+// system doesn't say, it may.
+fn is_linked<R: Files>(files: &R, line: Line, metadata: &Metadata) -> bool {
+    metadata.nlink() > 1
+        || match fs::symlink_metadata(files, name_of(line).as_str()) {
+            Ok(entry) => entry.is_symlink(),
+            Err(_) => true,
+        }
+}
+
+// How a line's file is opened. Where nothing has been written yet, a new one is made of its name where there is none.
 fn options_for(access: Access, at: u64) -> OpenOptions
     ensures { result ≡ options_for access at }
 {
     let is_written = access == Access::Writing;
-    let is_first = is_written && at == 0;
     let mut how = OpenOptions::new();
     how.read(!is_written)
         .write(is_written)
-        .create(is_first)
-        .truncate(is_first);
+        .create(is_written && at == 0);
     how
-}
-
-// Opens a line's file at this octet.
-fn open_at<R: Files>(files: &R, line: Line, access: Access, at: u64) -> io::Result<R::File> {
-    let name = name_of(line);
-    let mut file = options_for(access, at).open(files, name.as_str())?;
-    if at > 0 {
-        file.seek(SeekFrom::Start(at))?;
-    }
-    Ok(file)
 }

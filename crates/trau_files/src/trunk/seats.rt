@@ -5,9 +5,9 @@ ghost use Rattle.std.specs.Io.{ReadsAtMost, WritesAtMost};
 ghost use Rattle.trau_io.specs.declared.line.Side.{Side};
 ghost use Rattle.trau_files.specs.Files.{OpenLine, IsOpenAt, IsFileOf, OnlyCloses, OpenAfter, in_seat, file_after};
 
+use super::fault::Fault;
 use crate::retry::{read_again, write_some};
 use std::alloc::{AllocError, Global};
-use std::io;
 use std::io::{Read, Write};
 use std::marker::Model;
 use trau_io::{Line, PLACES, place};
@@ -129,7 +129,7 @@ impl<F: Drop> Seats<F> {
 
 impl<F: Read + Write + Drop> Seats<F> {
     /// Moves the next octets of the file in a seat into the front of `buf`. A fault closes the file.
-    pub fn read(&mut self, seat: u8, buf: &mut [u8]) -> io::Result<usize>
+    pub fn read(&mut self, seat: u8, buf: &mut [u8]) -> Result<usize, Fault>
         requires { IsSome (in_seat self.old seat) }
         ensures bound { ReadsAtMost result buf.new }
         ensures open { IfSome (in_seat self.old seat) (λ o. OpenAfter self.old self.new o.call o.side (file_after o.call o.side o.access o.at result)) }
@@ -138,7 +138,7 @@ impl<F: Read + Write + Drop> Seats<F> {
     }
 
     /// Writes the front of `bytes` to the file in a seat, at least one octet. A fault closes the file.
-    pub fn write(&mut self, seat: u8, bytes: &[u8]) -> io::Result<usize>
+    pub fn write(&mut self, seat: u8, bytes: &[u8]) -> Result<usize, Fault>
         requires { IsSome (in_seat self.old seat) }
         ensures some { IfOk result (λ n. 0 < n) }
         ensures bound { WritesAtMost result bytes.now }
@@ -167,7 +167,7 @@ fn stands<F: Drop>(seat: &mut Option<OpenFile<F>>, line: Line, access: Access, a
 }
 
 // Reads from the file in a seat; the file stays there.
-fn read_in<F: Read + Drop>(seat: &mut Option<OpenFile<F>>, buf: &mut [u8]) -> io::Result<usize>
+fn read_in<F: Read + Drop>(seat: &mut Option<OpenFile<F>>, buf: &mut [u8]) -> Result<usize, Fault>
     requires { IsSome seat.old }
     ensures bound { ReadsAtMost result buf.new }
     ensures after { IfSome seat.old (λ o. seat.new ≡ file_after o.call o.side o.access o.at result) }
@@ -180,7 +180,7 @@ fn read_in<F: Read + Drop>(seat: &mut Option<OpenFile<F>>, buf: &mut [u8]) -> io
             }
             Err(fault) => {
                 *seat = None;
-                Err(fault)
+                Err(Fault::System(fault))
             }
         },
         None => unreachable!(),
@@ -188,7 +188,7 @@ fn read_in<F: Read + Drop>(seat: &mut Option<OpenFile<F>>, buf: &mut [u8]) -> io
 }
 
 // Writes to the file in a seat; the file stays there.
-fn write_in<F: Write + Drop>(seat: &mut Option<OpenFile<F>>, bytes: &[u8]) -> io::Result<usize>
+fn write_in<F: Write + Drop>(seat: &mut Option<OpenFile<F>>, bytes: &[u8]) -> Result<usize, Fault>
     requires { IsSome seat.old }
     ensures some { IfOk result (λ n. 0 < n) }
     ensures bound { WritesAtMost result bytes.now }
@@ -202,7 +202,7 @@ fn write_in<F: Write + Drop>(seat: &mut Option<OpenFile<F>>, bytes: &[u8]) -> io
             }
             Err(fault) => {
                 *seat = None;
-                Err(fault)
+                Err(Fault::System(fault))
             }
         },
         None => unreachable!(),

@@ -13,3 +13,6 @@ loop-preserved g c = record {
   each = rw c.push_reserved.ensures.items
       (All-push (λ (l : FileLine). l ≡ record { read = 0; written = 0; faults = 0 }) _ _ c.loop.invariant.each c.new.ensures);
 }
+
+pub invariant_of-result : goal.invariant_of-result
+invariant_of-result g c = (omega (arith, c.loop.invariant.size), c.in_ok-files.ensures.apart)

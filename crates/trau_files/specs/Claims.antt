@@ -1,0 +1,33 @@
+-- Which line has which file of a disk, so that no line is written to another one's file (this project's profile).
+use Rattle.std.specs.Prelude.{◌≡◌, ◌≢◌, ◌⊎◌, ℕ, List, Option, None, Some, slice_index_or}
+use Rattle.trau_files.specs.declared.trunk.claims.Claim.{Claim}
+use Rattle.trau_files.specs.declared.trunk.seats.Access.TheVariants.{Reading, Writing}
+
+-- the file that the line at this place was last opened with, where that is a file of a disk
+abbrev pub claim_at : List (Option Claim) → ℕ → Option Claim
+claim_at claims k = slice_index_or claims k None
+
+-- two lines have one file only where both are read
+abbrev pub MayShare : Claim → Claim → Type 0
+MayShare a b = a.file ≡ b.file → (a.access ≡ Reading) × (b.access ≡ Reading)
+
+-- no file is written for one line and read or written for another
+abbrev pub AreApart : List (Option Claim) → Type 0
+AreApart claims = (i j : ℕ) (a b : Claim) → claim_at claims i ≡ Some a → claim_at claims j ≡ Some b → i ≢ j → MayShare a b
+
+-- the line at this place may have this file beside those of the other lines
+abbrev pub MayHave : List (Option Claim) → ℕ → Claim → Type 0
+MayHave claims p c = (k : ℕ) (b : Claim) → claim_at claims k ≡ Some b → k ≢ p → MayShare c b
+
+-- the line has this file, and is known to be written where it is claimed for that
+abbrev pub Has : Option Claim → Claim → Type 0
+Has None c = ⊥
+Has (Some held) c = (held.file ≡ c.file) × (c.access ≡ Writing → held.access ≡ Writing)
+
+-- another line has this file, and one of both is written
+pub record IsTaken (claims : List (Option Claim)) (p : ℕ) (c : Claim) (other : ℕ) : Type 0 where
+  pub elsewhere : other ≢ p
+  pub by : Claim
+  pub there : claim_at claims other ≡ Some by
+  pub file : by.file ≡ c.file
+  pub written : (by.access ≡ Writing) ⊎ (c.access ≡ Writing)

@@ -1,0 +1,76 @@
+//! Which files the folder's incoming lines have, also those that no order has opened yet.
+
+use super::claims::FileIdentity;
+use super::name::name_of;
+use call_number::LAST_CALL;
+use std::alloc::{AllocError, Global};
+use std::fs;
+use std::marker::Model;
+use std::rt::Files;
+use trau_io::{Line, PLACES, Side, place};
+
+/// The files of the incoming lines of all calls, by the lines' places: as they were when one was first asked for.
+#[derive(Drop)]
+pub struct Recordings {
+    of_lines: Vec<Option<FileIdentity>>,
+    is_searched: bool,
+}
+
+impl Model for Recordings {
+    ghost use Rattle.std.specs.Prelude.{◌≡◌, List, Option, vec_len};
+    ghost use Rattle.trau_io.specs.declared.places.TheConstants.{PLACES};
+    ghost use Rattle.trau_files.specs.declared.trunk.claims.FileIdentity.{FileIdentity};
+
+    ghost Value = { List (Option FileIdentity) };
+
+    ghost view = { λ r. r.of_lines.items };
+
+    ghost invariant = { λ r. vec_len r.of_lines ≡ PLACES };
+}
+
+impl Recordings {
+    /// The folder isn't searched yet.
+    pub fn new(alloc: Global) -> Result<Recordings, AllocError> {
+        let of_lines = Vec::from_elem(alloc, None, PLACES)?;
+        Ok(Recordings {
+            of_lines,
+            is_searched: false,
+        })
+    }
+
+    /// The place of an incoming line that has this file.
+    pub fn place_of<R: Files>(&mut self, files: &R, file: FileIdentity) -> Option<usize> {
+        if !self.is_searched {
+            self.search(files);
+        }
+        self.of_lines.iter().position(|found| *found == Some(file))
+    }
+
+    // Up and Pcm of each call.
+    fn search<R: Files>(&mut self, files: &R) {
+        self.is_searched = true;
+        for call in 1..=LAST_CALL {
+            self.note(
+                files,
+                Line {
+                    call,
+                    side: Side::Up,
+                },
+            );
+            self.note(
+                files,
+                Line {
+                    call,
+                    side: Side::Pcm,
+                },
+            );
+        }
+    }
+
+    // The file of an incoming line, where it has one.
+    fn note<R: Files>(&mut self, files: &R, line: Line) {
+        if let Ok(metadata) = fs::metadata(files, name_of(line).as_str()) {
+            self.of_lines[place(line)] = Some(FileIdentity::of(&metadata));
+        }
+    }
+}
