@@ -1,6 +1,8 @@
 """Runs the commands that the documents show, and compares what they print.
 
-Usage: documents.py TOP WORK [--write]
+Usage: documents.py TOP WORK [--write] [DOCUMENT..]
+
+Where documents are named, by their paths from TOP on, only these are looked at.
 
 A block of lines that are indented by four spaces, the first of which begins with `$ `, is one session of a shell: lines
 that begin with `$ ` are its commands (a line `> ` goes on with the one above), all other lines their output, standard
@@ -24,10 +26,11 @@ import sys
 
 if {"-h", "--help"} & set(sys.argv[1:]):
     sys.exit(print(__doc__.strip()))
-if len(sys.argv) < 3 or sys.argv[3:] not in ([], ["--write"]):
-    sys.exit("usage: documents.sh [--write]")
+if len(sys.argv) < 3 or any(word.startswith("-") and word != "--write" for word in sys.argv[3:]):
+    sys.exit("usage: documents.sh [--write] [DOCUMENT..]")
 TOP, WORK = (pathlib.Path(word) for word in sys.argv[1:3])
-WRITE = sys.argv[3:] == ["--write"]
+WRITE = "--write" in sys.argv[3:]
+NAMED = {TOP / word for word in sys.argv[3:]} - {TOP / "--write"}
 # Made by the examples themselves, and by no clone.
 MADE = shutil.ignore_patterns("*.down", "*.out", "7.pcm", "__pycache__")
 INDENT = "    "
@@ -39,6 +42,9 @@ def documents():
     for folder, names, files in os.walk(TOP):
         names[:] = [name for name in names if name != "out" and not name.startswith(".")]
         found += [pathlib.Path(folder, name) for name in files if name.endswith(".md")]
+    if not NAMED <= set(found):
+        sys.exit("documents.sh: no document " + " ".join(str(path.relative_to(TOP)) for path in NAMED - set(found)))
+    found = [path for path in found if path in NAMED or not NAMED]
     return sorted(found, key=lambda path: (len(path.parts), path))
 
 

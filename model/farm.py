@@ -1,0 +1,287 @@
+"""A run: orders and lines in, the octets of each outgoing line and all that the report says out (docs/commands/run.md).
+
+A run is a function of its orders, its number of periods and what its incoming lines gave. Rounds matter only where a line
+fails: how far lines are read ahead decides which failures come to light. All rules of this module are this project's profile.
+"""
+
+from __future__ import annotations
+
+import enum
+from typing import Dict, List, Mapping, NamedTuple, Optional, Sequence, Tuple
+
+from . import profile
+from .board import (
+    Act,
+    Reply,
+    Span,
+    acts_of,
+    closings,
+    executed,
+    last_moments,
+    openings,
+    replies_of,
+    settings_of,
+    spans_of,
+)
+from .call import Call, Outgoing, Setting, Uplink, handed, outgoing, uplink
+from .call import Span as CallSpan
+from .g711 import Law
+from .orders import Level, Open, Order
+from .outside import Given, Lines, Side
+
+
+class Cause(enum.Enum):
+    """Why a call ended; the value is the report's word (docs/OPERATORS.md, "Ends and their causes")."""
+
+    CLOSED = "closed"
+    LIMIT = "limit"
+    END = "end"
+    FAULT = "fault"
+
+
+class End(NamedTuple):
+    """The first period that a call doesn't have, and why: of `END` and `FAULT` the line's side, of `END` also the octets of that
+    line after the whole periods."""
+
+    at: int
+    cause: Cause
+    side: Optional[Side] = None
+    left: int = 0
+
+
+class Incoming(NamedTuple):
+    """What the two incoming lines of a call gave."""
+
+    up: Given
+    pcm: Given
+
+    @property
+    def periods(self) -> int:
+        """The number of whole periods that both lines give (docs/FILES.md)."""
+        return min(len(self.up.octets) // profile.UP_OCTETS, len(self.pcm.octets) // profile.PCM_OCTETS)
+
+
+class Plan(NamedTuple):
+    """All of a run that is known without working any octet."""
+
+    orders: Sequence[Order]
+    periods: int
+    left: int
+    incoming: Mapping[int, Incoming]
+    opening: Mapping[int, int]
+    replies: Sequence[Reply]
+    ends: Mapping[int, End]
+    spans: Sequence[Span]
+
+    @property
+    def acts(self) -> List[Act]:
+        """The accepted orders (docs/OPERATORS.md, "When an order takes effect")."""
+        return acts_of(self.replies)
+
+
+class CallOfRun(NamedTuple):
+    """A call of a run: its number, its first period, its end, and what it sent."""
+
+    number: int
+    opening: int
+    end: End
+    outgoing: Outgoing
+
+
+class BridgeOfRun(NamedTuple):
+    """A bridge, and how many frames of its first and of its second call went out on the other's downlink."""
+
+    span: Span
+    sent_of_first: int
+    sent_of_second: int
+
+
+class Farm(NamedTuple):
+    """What a run gives: the replies, the bridges as they were accepted, the calls by number, the orders that weren't executed."""
+
+    replies: Sequence[Reply]
+    bridges: Sequence[BridgeOfRun]
+    calls: Sequence[CallOfRun]
+    left: int
+
+
+# What is read
+
+
+def read_incoming(orders: Sequence[Order], periods: int, lines: Lines) -> Dict[int, Incoming]:
+    """What the incoming lines of each opened call gave, as far as the run can need them, Up before Pcm, by rising number
+    (docs/OPERATORS.md, "When an order takes effect").
+
+    A call that can have no period, as it is closed where it is opened, isn't read at all.
+    """
+    known = executed(orders, periods)
+    opening, last = openings(known), last_moments(known, periods)
+    given = {}
+    for number in sorted(opening):
+        most = last[number] - opening[number]
+        given[number] = _read_both(number, most, lines) if most else Incoming(Given(b"", False), Given(b"", False))
+    return given
+
+
+def _read_both(number: int, most: int, lines: Lines) -> Incoming:
+    """Both incoming lines of a call, to so many periods at most (docs/commands/run.md)."""
+    up = lines.read(number, Side.UP, most * profile.UP_OCTETS)
+    return Incoming(up, lines.read(number, Side.PCM, most * profile.PCM_OCTETS))
+
+
+# What follows from orders and lines
+
+
+def plan_of(orders: Sequence[Order], periods: int, incoming: Mapping[int, Incoming]) -> Plan:
+    """Replies, ends and bridges of a run that ends at so many periods, over what its incoming lines gave (docs/commands/run.md)."""
+    known = executed(orders, periods)
+    opening = openings(known)
+    replies = replies_of(known, {number: opening[number] + incoming[number].periods for number in opening})
+    closed = closings(acts_of(replies))
+    ends = {number: end_of(opening[number], incoming[number], closed.get(number), periods) for number in sorted(opening)}
+    spans = spans_of(acts_of(replies), {number: end.at for number, end in ends.items()})
+    return Plan(known, periods, len(orders) - len(known), incoming, opening, replies, ends, spans)
+
+
+def end_of(opening: int, incoming: Incoming, closing: Optional[int], periods: int) -> End:
+    """A call's end: `closed` goes before `limit`, and `limit` before the ends of its lines, of which Up goes before Pcm
+    (docs/OPERATORS.md, "Ends and their causes").
+    """
+    natural = opening + incoming.periods
+    if closing is not None:
+        return End(closing, Cause.CLOSED)
+    if natural >= periods:
+        return End(periods, Cause.LIMIT)
+    lacks_up = len(incoming.up.octets) // profile.UP_OCTETS == incoming.periods
+    side, given = (Side.UP, incoming.up) if lacks_up else (Side.PCM, incoming.pcm)
+    unit = profile.UP_OCTETS if lacks_up else profile.PCM_OCTETS
+    return End(natural, Cause.FAULT, side) if given.failed else End(natural, Cause.END, side, len(given.octets) % unit)
+
+
+# What the calls send
+
+
+def farm_of(plan: Plan) -> Farm:
+    """The octets and counts of each call of a run, and what went out in each bridge (docs/commands/run.md)."""
+    uplinks = {
+        number: uplink(number, plan.incoming[number].up.octets[: profile.UP_OCTETS * (end.at - plan.opening[number])])
+        for number, end in plan.ends.items()
+    }
+    calls = {number: _call_of(plan, uplinks, number) for number in plan.ends}
+    bridges = [
+        BridgeOfRun(span, _sent_to(plan, calls, span, span.second), _sent_to(plan, calls, span, span.first))
+        for span in plan.spans
+    ]
+    return Farm(plan.replies, bridges, list(calls.values()), plan.left)
+
+
+def _call_of(plan: Plan, uplinks: Mapping[int, Uplink], number: int) -> CallOfRun:
+    """One call of a run, from its own lines and orders, and in bridges from its partner's uplink (docs/commands/run.md)."""
+    opening, end = plan.opening[number], plan.ends[number]
+    spans = [_span_of_call(plan, uplinks, number, span) for span in _spans_of_call(plan, number)]
+    settings = [_setting(order, opening) for order in settings_of(plan.acts, number)]
+    pcm = plan.incoming[number].pcm.octets
+    sent = outgoing(Call(number, law_of(plan, number), end.at - opening, uplinks[number], pcm, settings, spans))
+    return CallOfRun(number, opening, end, sent)
+
+
+def law_of(plan: Plan, number: int) -> Law:
+    """The law of a call: that of the order that opened it (docs/OPERATORS.md, "Orders")."""
+    return next(act.order.what.law for act in plan.acts if isinstance(act.order.what, Open) and act.order.what.call == number)
+
+
+def _setting(order: Order, opening: int) -> Setting:
+    """A `level` or `dtx` order as the call sees it, its period counted from the call's opening (docs/OPERATORS.md, "Orders")."""
+    if isinstance(order.what, Level):
+        return Setting(order.stamp - opening, level=order.what.level)
+    return Setting(order.stamp - opening, dtx=order.what.mode)
+
+
+def _spans_of_call(plan: Plan, number: int) -> List[Span]:
+    """The bridges of a call, in order (docs/OPERATORS.md, "Bridges")."""
+    return [span for span in plan.spans if number in (span.first, span.second)]
+
+
+def _span_of_call(plan: Plan, uplinks: Mapping[int, Uplink], number: int, span: Span) -> CallSpan:
+    """A bridge as one of its calls sees it: its own periods, and what its partner hands over in these (docs/OPERATORS.md, "Bridges")."""
+    partner = span.second if number == span.first else span.first
+    opening, of_partner = plan.opening[number], plan.opening[partner]
+    items = handed(uplinks[partner], span.start - of_partner, span.end - of_partner)
+    return CallSpan(span.start - opening, span.end - opening, items)
+
+
+def _sent_to(plan: Plan, calls: Mapping[int, CallOfRun], span: Span, number: int) -> int:
+    """How many of the frames that a bridge handed to one of its calls went out on that call's downlink (docs/OPERATORS.md, "The
+    report, line by line").
+    """
+    return calls[number].outgoing.sent[_spans_of_call(plan, number).index(span)]
+
+
+# What is read ahead, and what fails
+
+
+def rounds(plan: Plan, batch: int, also: Sequence[int] = ()) -> List[Tuple[int, int]]:
+    """The rounds of a run, each by its first period and the first that it doesn't have (docs/commands/run.md).
+
+    Where a call is open at the clock, a round goes to the next stamp, to the run's end or as far as the batch allows; where none
+    is, the clock goes to the next stamp. A round doesn't pass the periods `also` named.
+    """
+    stops = sorted({order.stamp for order in plan.orders} | set(also) | {plan.periods})
+    clock, found = 0, []
+    while clock < plan.periods:
+        following = next(stop for stop in stops if stop > clock)
+        is_round = any(is_read_at(plan, number, clock) for number in plan.ends)
+        stop = min(clock + batch, following) if is_round else following
+        found += [(clock, stop)] if is_round else []
+        clock = stop
+    return found
+
+
+def is_read_at(plan: Plan, number: int, clock: int) -> bool:
+    """Whether a call's lines are read in a round that begins at the clock: it is open there after the orders of that stamp
+    (docs/OPERATORS.md, "Faults").
+
+    At its natural end a call is open still: that its lines have ended is seen by reading on.
+    """
+    end = plan.ends[number]
+    return plan.opening[number] <= clock and (clock < end.at if end.cause in (Cause.CLOSED, Cause.LIMIT) else clock <= end.at)
+
+
+def faults_met(plan: Plan, batch: int, also: Sequence[int] = ()) -> List[Tuple[int, Side]]:
+    """The incoming lines that failed in a run: those of which a round asked for more octets than they gave before a failure
+    (docs/OPERATORS.md, "Faults").
+    """
+    failing = [number for number, both in plan.incoming.items() if both.up.failed or both.pcm.failed]
+    turns = rounds(plan, batch, also) if failing else []
+    found: List[Tuple[int, Side]] = []
+    for number in failing:
+        asked = [stop - plan.opening[number] for start, stop in turns if is_read_at(plan, number, start)]
+        most, both = max(asked, default=0), plan.incoming[number]
+        found += [(number, Side.UP)] if both.up.failed and len(both.up.octets) < most * profile.UP_OCTETS else []
+        found += [(number, Side.PCM)] if both.pcm.failed and len(both.pcm.octets) < most * profile.PCM_OCTETS else []
+    return found
+
+
+def write_outgoing(farm: Farm, lines: Lines, since: int = 0) -> List[Tuple[int, Side]]:
+    """Writes the octets of all calls' periods from `since` on, and answers the lines that failed, Down before Out, by number
+    (docs/commands/run.md).
+
+    A line that has no octets isn't touched.
+    """
+    failed = []
+    for call in farm.calls:
+        past = max(0, since - call.opening)
+        for side, octets in (
+            (Side.DOWN, call.outgoing.down[profile.UP_OCTETS * past :]),
+            (Side.OUT, call.outgoing.out[profile.PCM_OCTETS * past :]),
+        ):
+            failed += [(call.number, side)] if octets and not lines.write(call.number, side, octets) else []
+    return failed
+
+
+SIDES = (Side.UP, Side.PCM, Side.DOWN, Side.OUT)
+
+
+def in_order(failed: Sequence[Tuple[int, Side]]) -> List[Tuple[int, Side]]:
+    """Failed lines by call, and of a call in the order up, pcm, down, out (docs/OPERATORS.md, "The report, line by line")."""
+    return sorted(failed, key=lambda line: (line[0], SIDES.index(line[1])))

@@ -1,0 +1,109 @@
+"""The numbers of this project's profile, each once: what the standards leave open, and this project chose.
+
+Tables that a standard has stand where the model uses them: GSM 06.10 in `codec`, GSM 08.60 in `frame`, G.711 in `g711`.
+"""
+
+# Lines (docs/FILES.md). Octets in a period of 20 ms; an octet of an idle line to the exchange.
+UP_OCTETS = 40
+PCM_OCTETS = 160
+FRAME_BITS = 320
+IDLE_A = 0xD5
+IDLE_MU = 0xFF
+
+# Numbers of calls, of periods, and the most blocks that a command on one call takes.
+MOST_CALL = 4096
+MOST_STAMP = 4_294_967_294
+MOST_PERIODS = 4_294_967_295
+
+# Patterns of C1 to C5 (docs/FILES.md, "Control bits").
+UP_SPEECH = (0, 0, 0, 1, 0)
+UP_IDLE = (1, 0, 0, 0, 0)
+UP_OTHER = (1, 1, 1, 1, 1)  # what is written where a frame of another kind is written
+DOWN_SPEECH = (1, 1, 1, 0, 0)
+DOWN_IDLE = (0, 1, 1, 1, 0)
+
+# The search for frames on an uplink: so many misses in a row end the lock.
+MISSES_TO_HUNT = 3
+
+# The source of random numbers of a call: r becomes (STEP r + ADD) mod MODULUS, and starts at the call's number.
+RANDOM_STEP = 25173
+RANDOM_ADD = 13849
+RANDOM_MODULUS = 65536
+
+# Lost speech (modelled on GSM 06.11) and comfort noise (modelled on GSM 06.12).
+SILENT_AFTER = 17  # the lost frame, or the fall of noise, from which on there is silence
+MUTING_STEP = 4  # by how much the coded block maxima fall with each frame
+GRIDS = 4  # grid positions among which one is drawn
+NOISE_LAGS = (40, 120, 40, 120)
+NOISE_PULSES = 6  # values of a pulse of noise that are drawn, from LEAST_NOISE_PULSE on
+LEAST_NOISE_PULSE = 1
+APPROACH_STEPS = 8  # frames over which noise approaches a new silence descriptor
+DESCRIPTORS_MISSED = 2  # descriptors that were due and didn't come, from which on noise falls
+
+# The frame of silence: what is heard of the quiet codec.
+SILENCE_LARC = (42, 39, 21, 10, 9, 4, 3, 2)
+SILENCE_LAG = 40
+SILENCE_GRID = 1
+SILENCE_PULSES = (3, 4, 3, 4, 4, 3, 3, 3, 3, 4, 4, 3, 3)
+
+# Discontinuous transmission (modelled on GSM 06.31 and 06.32).
+FIRST_LEVEL = 256  # a frame is speech from this peak on, before any order
+MOST_LEVEL = 32767
+HANGOVER = 4  # frames without speech that are sent as they are before a silence descriptor
+REST_BEFORE_HANGOVER = 24  # frames from a new descriptor to the first frame of a pause that has a hangover
+
+# Time alignment (modelled on GSM 08.60). A shift is counted in octets of the Pcm line, two bits of the downlink each.
+MOST_STEPS = 39  # the alignment fields 1 to 39 ask for so many steps
+STEP_OCTETS = 4
+SMALL_DELAY_FIELD = 62
+SMALL_DELAY_OCTETS = 2
+ADVANCE_FIELD = 63
+ADVANCE_OCTETS = -2
+LEADING_ONES = 320  # ones at the start of a Down line, before the first frame
+
+# Time slots: four channels, two bits each of an octet.
+CHANNELS = 4
+MOST_SLOT_CALL = MOST_CALL - CHANNELS + 1
+
+# The base station's end (docs/commands/follow.md).
+FOUND_BITS = 316  # a downlink frame may lack its four time bits
+MOST_WANTED = 316
+WANTED_STEP = 4
+FRAMES_OF_A_WAIT = 8  # frames after which a request that wasn't met is made again
+
+# Orders and texts (docs/OPERATORS.md, docs/FILES.md).
+MOST_ORDER_OCTETS = 1_048_576
+MOST_ORDER_LINES = 65_536
+MOST_MARKED_OCTETS = 1_310_720  # a mark and its orders together
+SUM_MODULUS = 1 << 32  # of the sums of octets in a mark, a drill and a live drill
+
+# Options of the commands: the least value, the greatest, and the value without the option (None: it has to be there).
+PACE_OPTIONS = {"workers": (1, 64, 4), "batch": (1, 250, 50), "slice": (1, 250, 5)}
+DRAWN_OPTIONS = {"seed": (0, 4_294_967_295, 1), "calls": (1, 256, 64), "periods": (1, 1_000, 200)}
+OPTIONS = {
+    "run": {**PACE_OPTIONS, "periods": (1, MOST_PERIODS, MOST_PERIODS)},
+    "resume": {**PACE_OPTIONS, "periods": (1, MOST_PERIODS, MOST_PERIODS)},
+    "save": {**PACE_OPTIONS, "periods": (1, MOST_PERIODS, None)},
+    "drill": {**PACE_OPTIONS, **DRAWN_OPTIONS},
+    "live": {**DRAWN_OPTIONS, "callers": (1, 64, 4), "inbox": (1, 1_024, 8)},
+}
+
+# What a drill draws (docs/commands/drill.md). The generator: x becomes (FACTOR x + ADD) mod MODULUS.
+DRILL_FACTOR = 1_664_525
+DRILL_ADD = 1_013_904_223
+DRILL_MODULUS = 1 << 32
+DRILL_CALLS = 4_096  # call C begins at the seed times this, plus C
+DRILL_DRAWS = 256  # a draw is the highest octet of the generator
+# The frame on Up: from which draw on it is of which kind and class (names in frame.py); below the last, no frame.
+DRILL_FRAMES = (
+    (250, None),
+    (244, ("IDLE", "UNUSABLE")),
+    (230, ("SPEECH", "UNUSABLE")),
+    (220, ("SPEECH", "INVALID_SID")),
+    (200, ("SPEECH", "SID")),
+    (0, ("SPEECH", "GOOD")),
+)
+DRILL_FIELDS = {0: 39, 1: 63}  # the alignment fields that draws stand for; any other draw stands for 0
+DRILL_TAF_PERIODS = 24  # TAF is 1 in the last of each
+DRILL_PCM_PERIODS = 32  # so many periods of an idle Pcm line and as many that are drawn, in turn
+DRILL_BRIDGE_CALLS = 4  # of each four calls the first is bridged with the next

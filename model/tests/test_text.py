@@ -1,0 +1,76 @@
+"""Tests of the model's own text: each function says what it is, by which document, with types."""
+
+import ast
+import re
+import unittest
+from typing import Iterator, List, Tuple, Union
+
+from material import TOP
+
+Function = Union[ast.FunctionDef, ast.AsyncFunctionDef]
+MODULES = sorted((TOP / "model").glob("*.py"))
+CITED = re.compile(r'(docs/[A-Za-z/]+\.md)((?:,? (?:and )?"[^"]+")*)')
+
+
+def functions(tree: ast.Module) -> Iterator[Function]:
+    """The functions of a module and the methods of its classes; those within functions aren't among them."""
+    for node in tree.body:
+        members = node.body if isinstance(node, ast.ClassDef) else [node]
+        yield from (one for one in members if isinstance(one, (ast.FunctionDef, ast.AsyncFunctionDef)))
+
+
+def untyped(function: Function) -> List[str]:
+    """The arguments without a type, but `self`."""
+    arguments = function.args.posonlyargs + function.args.args + function.args.kwonlyargs
+    return [one.arg for one in arguments if one.annotation is None and one.arg not in ("self", "cls")]
+
+
+def headings(name: str) -> List[str]:
+    """The headings of a document."""
+    return [row.lstrip("# ") for row in (TOP / name).read_text().splitlines() if row.startswith("#")]
+
+
+def cited(text: str) -> List[Tuple[str, List[str]]]:
+    """The documents that a text cites, each with the headings that it names."""
+    return [(name, re.findall('"([^"]+)"', names)) for name, names in CITED.findall(re.sub(r"\s+", " ", text))]
+
+
+class Text(unittest.TestCase):
+    """All modules of the model."""
+
+    def test_each_function_has_types_and_a_docstring(self) -> None:
+        for path in MODULES:
+            for function in functions(ast.parse(path.read_text())):
+                where = "%s of %s" % (function.name, path.name)
+                self.assertEqual(untyped(function), [], where)
+                self.assertIsNotNone(function.returns, where)
+                if function.name != "__init__":
+                    self.assertTrue(ast.get_docstring(function), where)
+
+    def test_each_module_and_class_has_a_docstring(self) -> None:
+        for path in MODULES:
+            tree = ast.parse(path.read_text())
+            self.assertTrue(ast.get_docstring(tree), path.name)
+            for node in tree.body:
+                if isinstance(node, ast.ClassDef):
+                    self.assertTrue(ast.get_docstring(node), "%s of %s" % (node.name, path.name))
+
+    def test_documents_that_are_cited_have_these_headings(self) -> None:
+        for path in MODULES:
+            for name, named in cited(path.read_text()):
+                self.assertTrue((TOP / name).exists(), "%s in %s" % (name, path.name))
+                for heading in named:
+                    self.assertIn(heading, headings(name), "%s in %s" % (name, path.name))
+
+    def test_the_standard_library_alone(self) -> None:
+        names = {"argparse", "bisect", "contextlib", "ctypes", "enum", "itertools", "operator", "os", "pathlib", "random", "re", "resource",
+                 "shutil", "signal", "subprocess", "sys", "tempfile", "time", "typing", "__future__", "concurrent", "threading", "model"}
+        for path in MODULES:
+            for node in ast.walk(ast.parse(path.read_text())):
+                found = [one.name for one in node.names] if isinstance(node, ast.Import) else []
+                found += [node.module or ""] if isinstance(node, ast.ImportFrom) and node.level == 0 else []
+                self.assertLessEqual({one.split(".")[0] for one in found}, names, path.name)
+
+
+if __name__ == "__main__":
+    unittest.main()

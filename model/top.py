@@ -1,0 +1,144 @@
+"""The whole program: words, lines and standard streams in, a status out (docs/commands)."""
+
+from __future__ import annotations
+
+from typing import List, NamedTuple, Optional, Sequence, Tuple, Union
+
+from . import profile
+from .checkpoint import Mark, differs, mark_of, read_mark, text_of_mark
+from .commands import command
+from .drill import drill_text
+from .farm import Farm, faults_met, farm_of, in_order, plan_of, read_incoming, write_outgoing
+from .live import live_text
+from .orders import BadLine, Order, TooLong, orders_of
+from .outside import Desk, Lines, Side
+from .report import failed_lines, report_of, text_of
+from .status import Status
+from .words import Asked, Drill, Live, Resume, Run, Save, asked
+
+
+class Failure(NamedTuple):
+    """Why a command did nothing: its status, and the line of text that says so."""
+
+    status: Status
+    line: str
+
+
+def top(words: Sequence[str], lines: Lines, desk: Desk) -> int:
+    """Carries out the command that the words ask for, and answers the program's status (docs/commands)."""
+    of_a_line = command(words, lines, desk)
+    return of_a_line if of_a_line is not None else int(_others(asked(words), lines, desk))
+
+
+def _others(command: Optional[Asked], lines: Lines, desk: Desk) -> Status:
+    """Carries out `run`, `save`, `resume`, `drill` or `live` (docs/commands)."""
+    if command is None:
+        return refuse(Failure(Status.USAGE, "usage"), desk)
+    if isinstance(command, Drill):
+        return say(drill_text(command.seed, command.calls, command.periods), False, desk)
+    if isinstance(command, Live):
+        return say(live_text(command.seed, command.calls, command.periods), False, desk)
+    if isinstance(command, Resume):
+        return resume(command, lines, desk)
+    return save(command, lines, desk) if isinstance(command, Save) else run(command, lines, desk)
+
+
+def refuse(failure: Failure, desk: Desk) -> Status:
+    """Says why nothing was done; that this text can't be written leaves the status (docs/commands/run.md, "Statuses")."""
+    desk.write(text_of([failure.line]))
+    return failure.status
+
+
+def say(text: str, has_failed_lines: bool, desk: Desk) -> Status:
+    """Writes a command's text at its end: a standard output that fails goes before lines that failed (docs/commands/run.md,
+    "Statuses").
+    """
+    if not desk.write(text):
+        return Status.UNWRITTEN
+    return Status.LINE_FAILED if has_failed_lines else Status.DONE
+
+
+def read_desk(most: int, desk: Desk) -> Union[bytes, Failure]:
+    """All of standard input where it has `most` octets at most: a failure goes before too many octets (docs/commands/run.md,
+    "Statuses").
+    """
+    given = desk.read(most + 1)
+    if given.failed:
+        return Failure(Status.UNREAD, "orders unread")
+    return Failure(Status.TOO_LONG, "orders too long") if len(given.octets) > most else given.octets
+
+
+def orders_or_failure(text: bytes) -> Union[List[Order], Failure]:
+    """The orders of a text, or why there are none (docs/commands/run.md, "Statuses")."""
+    orders = orders_of(text)
+    if isinstance(orders, TooLong):
+        return Failure(Status.TOO_LONG, "orders too long")
+    return Failure(Status.BAD_LINE, f"orders line {orders.line}") if isinstance(orders, BadLine) else orders
+
+
+def read_orders(desk: Desk) -> Union[List[Order], Failure]:
+    """The orders that standard input gives, or why there are none (docs/commands/run.md, "Statuses")."""
+    text = read_desk(profile.MOST_ORDER_OCTETS, desk)
+    return text if isinstance(text, Failure) else orders_or_failure(text)
+
+
+def work(orders: Sequence[Order], command: Union[Run, Save], lines: Lines) -> Tuple[Farm, List[Tuple[int, Side]]]:
+    """Reads the lines that the orders ask for, writes what comes of them, and answers that with the lines that failed
+    (docs/commands/run.md).
+    """
+    plan = plan_of(orders, command.periods, read_incoming(orders, command.periods, lines))
+    farm = farm_of(plan)
+    return farm, in_order(faults_met(plan, command.batch) + write_outgoing(farm, lines))
+
+
+def run(command: Run, lines: Lines, desk: Desk) -> Status:
+    """`run`: the orders' calls, and the report (docs/commands/run.md)."""
+    orders = read_orders(desk)
+    if isinstance(orders, Failure):
+        return refuse(orders, desk)
+    farm, failed = work(orders, command, lines)
+    return say(report_of(farm, failed), bool(failed), desk)
+
+
+def save(command: Save, lines: Lines, desk: Desk) -> Status:
+    """`save`: a run to the mark's period, and the mark, or the lines that failed (docs/commands/save.md)."""
+    orders = read_orders(desk)
+    if isinstance(orders, Failure):
+        return refuse(orders, desk)
+    farm, failed = work(orders, command, lines)
+    text = text_of(failed_lines(failed)) if failed else text_of_mark(mark_of(farm, command.periods))
+    return say(text, bool(failed), desk)
+
+
+def read_marked(desk: Desk) -> Union[Tuple[Mark, List[Order]], Failure]:
+    """The mark and the orders that standard input gives, or why there are none; the mark is looked at first
+    (docs/commands/resume.md, "Statuses").
+    """
+    text = read_desk(profile.MOST_MARKED_OCTETS, desk)
+    if isinstance(text, Failure):
+        return text
+    marked = read_mark(text)
+    if isinstance(marked, BadLine):
+        return Failure(Status.BAD_LINE, f"save line {marked.line}")
+    orders = orders_or_failure(marked[1])
+    return orders if isinstance(orders, Failure) else (marked[0], orders)
+
+
+def resume(command: Resume, lines: Lines, desk: Desk) -> Status:
+    """`resume`: the whole run again, of which the octets from the mark's period on are written (docs/commands/resume.md).
+
+    Before anything is written, the calls that are open at the mark's period are compared with the mark's.
+    """
+    marked = read_marked(desk)
+    if isinstance(marked, Failure):
+        return refuse(marked, desk)
+    mark, orders = marked
+    periods = max(mark.period, command.periods)
+    incoming = read_incoming(orders, periods, lines)
+    call = differs(mark, mark_of(farm_of(plan_of(orders, mark.period, incoming)), mark.period))
+    if call is not None:
+        return refuse(Failure(Status.DIFFERS, f"save differs {call}"), desk)
+    plan = plan_of(orders, periods, incoming)
+    farm = farm_of(plan)
+    failed = in_order(faults_met(plan, command.batch, [mark.period]) + write_outgoing(farm, lines, mark.period))
+    return say(report_of(farm, failed), bool(failed), desk)
