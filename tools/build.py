@@ -23,6 +23,7 @@ from pathlib import Path
 from typing import Dict, Iterator, List, NoReturn, Optional, Sequence, TextIO
 
 import trau_frames
+from tool_ends import tool
 from trau_frames import Refusal
 
 TOP = Path(__file__).resolve().parents[1]
@@ -295,6 +296,7 @@ def stop(number: int, _: object) -> NoReturn:
     raise KeyboardInterrupt(number)
 
 
+@tool("trau", prints=False)
 def main(words: Sequence[str]) -> int:
     """Carries out the words of the command line, and gives the status."""
     parser = trau_frames.Words(description=__doc__, formatter_class=argparse.RawDescriptionHelpFormatter, allow_abbrev=False)
@@ -305,9 +307,6 @@ def main(words: Sequence[str]) -> int:
         signal.signal(number, stop)
     try:
         return build(asked.top.resolve(), asked.program)
-    except Refusal as refusal:
-        print(f"trau: {refusal}", file=sys.stderr)
-        return 2
     except KeyboardInterrupt:
         print("trau: broken off; the next start goes on from here", file=sys.stderr)
         return 130

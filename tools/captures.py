@@ -1,172 +1,28 @@
 """Speech in captures of network packets: RTP (RFC 3550, RFC 3551) with full rate speech, A-law or mu-law to the lines of a call,
 and lines to captures that others play.
 
-The library dpkt reads and writes the files of captures and their packets; without it, what is here is refused with a word.
+The library dpkt writes the files of captures and their packets; without it, what is here is refused with a word.
 """
 
 from __future__ import annotations
 
-import importlib
 import io
-import ipaddress
 from dataclasses import dataclass
 from pathlib import Path
 from typing import Any, Dict, Iterable, Iterator, List, NamedTuple, Optional, Sequence, Tuple, Union
 
 import run_lines
 import trau_frames
+from code_word import FrameKind, Marker
+from rtp_packets import GSM, NAMES, PCMA, PCMU, Packet, chosen, kind_of, library, periods_between, streams_of
 from run_lines import Heard
-from trau_frames import GSM_OCTETS, PCM_OCTETS, PERIODS_A_SECOND, Law, Parameters, Refusal, Sort, SpeechControl
+from trau_frames import GSM_OCTETS, PCM_OCTETS, Law, Parameters, Refusal, Sort, SpeechControl
 
-PCMU, GSM, PCMA = 0, 3, 8
-NAMES = {PCMU: "pcmu", GSM: "gsm", PCMA: "pcma"}
 LAWS = {PCMA: Law.A, PCMU: Law.MU}
-RTCP_KINDS = range(72, 77)
 SAMPLES_A_SECOND = 8000
 FRAME_SAMPLES = 160
 SEQUENCES, STAMPS = 1 << 16, 1 << 32
 LONGEST_GAP = 3600 * SAMPLES_A_SECOND
-
-
-def library(part: str) -> Any:
-    """A part of the library dpkt."""
-    try:
-        return importlib.import_module(f"dpkt.{part}")
-    except ImportError:
-        raise Refusal(
-            "captures need the library dpkt; apt-get install python3-dpkt, or pip install dpkt, brings it"
-        ) from None
-
-
-# Packets of a capture
-
-
-class Packet(NamedTuple):
-    """An RTP packet: its number in the capture, from 1 as other programs count, what it says, and when it was captured."""
-
-    number: int
-    kind: int
-    sequence: int
-    stamp: int
-    payload: bytes
-    time: float
-
-
-class Flow(NamedTuple):
-    """Where the packets of a stream go from and to, and their source's name."""
-
-    source: str
-    target: str
-    name: int
-
-    def said(self) -> str:
-        """The flow in words."""
-        return f"{self.source} to {self.target} ssrc 0x{self.name:08x}"
-
-
-# How packets begin, by the capture's kind of link.
-LINKS = {
-    0: ("loopback", "Loopback"),
-    1: ("ethernet", "Ethernet"),
-    12: ("ip", "IP"),
-    101: ("ip", "IP"),
-    113: ("sll", "SLL"),
-    276: ("sll2", "SLL2"),
-}
-
-
-def datagrams(name: Path, content: bytes) -> Iterator[Tuple[int, float, Any, Any]]:
-    """The datagrams of a capture, each with its number, its time, its IP packet and its UDP packet."""
-    ip, ip6, udp, errors = library("ip").IP, library("ip6").IP6, library("udp").UDP, library("dpkt")
-    try:
-        reader = library("pcap").UniversalReader(io.BytesIO(content))
-        link = reader.datalink()
-        if link not in LINKS:
-            raise Refusal(f"{name}: has a kind of link, {link}, that isn't known here")
-        module, kind = LINKS[link]
-        unpack = getattr(library(module), kind)
-        for number, (time, octets) in enumerate(reader, 1):
-            try:
-                packet = unpack(octets)
-            except errors.UnpackError:
-                continue
-            outer = packet if isinstance(packet, ip) else packet.data
-            if isinstance(outer, (ip, ip6)) and isinstance(outer.data, udp):
-                yield number, float(time), outer, outer.data
-    except (errors.Error, ValueError) as failure:
-        raise Refusal(f"{name}: isn't a capture: {str(failure)[:80]}") from None
-
-
-def payload_of(rtp: Any) -> bytes:
-    """The payload of an RTP packet, without the extension of its head and without padding."""
-    payload = bytes(rtp.data)
-    if rtp.x:
-        payload = payload[4 + 4 * int.from_bytes(payload[2:4], "big") :]
-    return payload[: len(payload) - payload[-1]] if rtp.p and payload else payload
-
-
-def address(octets: bytes, port: int) -> str:
-    """An address with its port, in words."""
-    read = ipaddress.ip_address(octets)
-    return f"[{read}]:{port}" if read.version == 6 else f"{read}:{port}"
-
-
-def streams_of(name: Path, content: bytes) -> Dict[Flow, List[Packet]]:
-    """The RTP packets of a capture by their flows, in their order; flows without speech of the three kinds are left out."""
-    rtp_kind, errors = library("rtp").RTP, library("dpkt")
-    streams: Dict[Flow, List[Packet]] = {}
-    for number, time, outer, datagram in datagrams(name, content):
-        try:
-            rtp = rtp_kind(bytes(datagram.data))
-        except errors.UnpackError:
-            continue
-        if rtp.version != 2 or rtp.pt in RTCP_KINDS:
-            continue
-        if len(datagram.data) < datagram.ulen - 8 and rtp.pt in NAMES:
-            raise Refusal(f"{name}: packet {number} wasn't captured whole")
-        flow = Flow(address(outer.src, datagram.sport), address(outer.dst, datagram.dport), rtp.ssrc)
-        streams.setdefault(flow, []).append(Packet(number, rtp.pt, rtp.seq, rtp.ts, payload_of(rtp), time))
-    return {flow: packets for flow, packets in streams.items() if any(packet.kind in NAMES for packet in packets)}
-
-
-def kinds_said(packets: Sequence[Packet]) -> str:
-    """The kinds of speech of a stream, in words."""
-    return " and ".join(NAMES[kind] for kind in sorted({packet.kind for packet in packets} & NAMES.keys()))
-
-
-def kind_of(packets: Sequence[Packet]) -> int:
-    """The kind of speech of a stream."""
-    kinds = sorted({packet.kind for packet in packets} & NAMES.keys())
-    if len(kinds) > 1:
-        raise Refusal(f"this stream has speech of several kinds: {kinds_said(packets)}")
-    return kinds[0]
-
-
-def listed(streams: Dict[Flow, List[Packet]]) -> str:
-    """The streams of a capture, in words."""
-    return "; ".join(
-        f"{place} is {flow.said()}, packets {len(packets)}, {kinds_said(packets)}"
-        for place, (flow, packets) in enumerate(streams.items(), 1)
-    )
-
-
-def chosen(name: Path, streams: Dict[Flow, List[Packet]], option: str, number: Optional[int]) -> List[Packet]:
-    """The packets of the stream with the number that an option gives, counted from 1, or of the only one."""
-    if not streams:
-        raise Refusal(f"{name}: has no RTP stream with GSM, PCMA or PCMU")
-    if number is None and len(streams) == 1:
-        number = 1
-    if number is None or not 1 <= number <= len(streams):
-        raise Refusal(f"{name}: has {len(streams)} streams, one of which {option} names: {listed(streams)}")
-    return list(streams.values())[number - 1]
-
-
-def periods_between(name: Path, since: Sequence[Packet], packets: Sequence[Packet]) -> int:
-    """How many periods a stream begins later in its capture than another."""
-    passed = packets[0].time - since[0].time
-    if passed < 0:
-        raise Refusal(f"{name}: the stream begins {-passed:.2f} s before that of --since")
-    return round(passed * PERIODS_A_SECOND)
 
 
 # A stream in the order of its time stamps
@@ -273,18 +129,20 @@ IDLE_UPLINK = trau_frames.octets_of(trau_frames.frame_of(trau_frames.IDLE_UP + "
 LOST_UPLINK = trau_frames.octets_of(trau_frames.frame_of(SpeechControl(bad=True).bits(), trau_frames.SILENCE.bits()))
 
 
-def uplink_of(found: Iterable[Stretch]) -> bytes:
-    """An uplink: good speech frames, unusable ones for those that were lost, and idle ones where nothing was sent."""
+def uplink_of(found: Iterable[Stretch], marker: Marker) -> bytes:
+    """An uplink: the frames as they are marked, unusable ones for those that were lost, and idle ones where nothing was sent. In a pause
+    that a silence descriptor began, the base station sends unusable frames, so that its noise goes on."""
     frames: List[bytes] = []
-    control = SpeechControl().bits()
+    kind = FrameKind.SPEECH
     for stretch in found:
         if isinstance(stretch, Lost):
             frames.append(stretch.units * LOST_UPLINK)
         elif isinstance(stretch, Paused):
-            frames.append(stretch.units * IDLE_UPLINK)
+            frames.append(stretch.units * (IDLE_UPLINK if kind is FrameKind.SPEECH else LOST_UPLINK))
         else:
-            data = (trau_frames.data_of_gsm(frame) for frame in stretch)
-            frames += [trau_frames.octets_of(trau_frames.frame_of(control, bits)) for bits in data]
+            for data in map(trau_frames.data_of_gsm, stretch):
+                kind = marker.kind(data)
+                frames.append(trau_frames.octets_of(trau_frames.frame_of(marker.control(kind), data)))
     return b"".join(frames)
 
 
@@ -305,26 +163,39 @@ def total(found: Sequence[Stretch], kind: type) -> int:
     return sum(len(each) if isinstance(each, list) else each.units for each in found if isinstance(each, kind))
 
 
-def line_of(name: Path, content: bytes, number: Optional[int], since: Optional[int], law: Law) -> Tuple[bytes, str]:
-    """A line of a capture's stream, an uplink of GSM and a Pcm line with this law of the others, from the beginning of another
-    stream on if one is given; and what was found."""
-    streams = streams_of(name, content)
-    packets = chosen(name, streams, "--stream", number)
-    lead = 0 if since is None else periods_between(name, chosen(name, streams, "--since", since), packets)
+class Asked(NamedTuple):
+    """What a line is made of: a stream, from the beginning of another stream on if one is given, and the law of a Pcm line; and whether
+    a capture that was cut is taken."""
+
+    stream: Optional[int]
+    since: Optional[int]
+    law: Law
+    partial: bool
+
+
+def line_of(name: Path, content: bytes, asked: Asked, marker: Marker) -> Tuple[bytes, str]:
+    """A line of a capture's stream, an uplink of GSM and a Pcm line of the others; and what was found."""
+    streams = streams_of(name, content, asked.partial)
+    packets = chosen(name, streams.by_flow, "--stream", asked.stream)
+    lead = 0
+    if asked.since is not None:
+        lead = periods_between(name, chosen(name, streams.by_flow, "--since", asked.since), packets)
     kind = kind_of(packets)
     counts = Counts()
     found = list(stretches(name, packets, kind, counts))
+    if kind == GSM:
+        line, units = lead * IDLE_UPLINK + uplink_of(found, marker), f"frames {total(found, list)} {marker.said()}"
+    else:
+        line, units = lead * PCM_OCTETS * bytes([asked.law.idle()]), f"octets {total(found, list)}"
+        line += pcm_of(found, LAWS[kind], asked.law)
     said = (
         f"pcap {NAMES[kind]} packets {counts.packets} late {counts.late} doubled {counts.doubled} others {counts.others}"
-        f" {'frames' if kind == GSM else 'octets'} {total(found, list)} lost {total(found, Lost)} paused {total(found, Paused)}"
-        f" lead {lead}"
+        f" {units} lost {total(found, Lost)} paused {total(found, Paused)} lead {lead}"
     )
-    if kind == GSM:
-        return lead * IDLE_UPLINK + uplink_of(found), said
-    idle = bytes([law.idle()])
-    line = lead * PCM_OCTETS * idle + pcm_of(found, LAWS[kind], law)
-    padded = -len(line) % PCM_OCTETS
-    return line + padded * idle, f"{said} padded {padded}"
+    if kind != GSM:
+        padded = -len(line) % PCM_OCTETS
+        line, said = line + padded * bytes([asked.law.idle()]), f"{said} padded {padded}"
+    return line, f"{said} cut {streams.cut}" if asked.partial else said
 
 
 # From lines

@@ -1,30 +1,35 @@
 #!/usr/bin/env python3
-"""Makes recorded lines of what people have, and back: speech frames of libgsm, WAV files, raw A-law and mu-law, and captures of
-network packets; and damages uplinks.
+"""Makes recorded lines of what people have, and back: frames of libgsm, WAV files, raw A-law and mu-law, slots of E1 recordings and
+captures of network packets; says what a file is, and damages uplinks.
 
-Every command reads one file and writes another (`idle` reads none), and says in one line on standard output what it did;
-`-` stands for standard input and output, and where the file goes there, the line goes to standard error. What it doesn't take
-gets one line on standard error and status 2, and then nothing is written.
+A command reads one file and writes another (`idle` reads none, `look` writes none), and prints in one line on standard output what it
+did; `-` stands for standard input and output, and where the file goes there, the line goes to standard error. A file whose name ends
+with .gz is unpacked first. What a command doesn't take gets one line on standard error and status 2, and then nothing is written.
 """
 
 from __future__ import annotations
 
 import argparse
 import re
-import shlex
-import struct
 import sys
 from array import array
-from collections import Counter
-from dataclasses import dataclass, replace
 from pathlib import Path
-from typing import Callable, List, NamedTuple, Optional, Sequence, Set, Tuple
+from typing import Callable, NamedTuple, Sequence
 
 import captures
+import damages
+import file_kinds
+import gsm_files
+import listening
+import recordings
+import slots
 import trau_frames
-from trau_frames import FRAME_BITS, PCM_OCTETS, Law, Parameters, Refusal, Sort, SpeechControl
-
-SAMPLES_A_SECOND = 8000
+import wav_files
+from code_word import Marker
+from file_kinds import Kind
+from tool_ends import tool
+from trau_frames import PCM_OCTETS, Law, Refusal
+from wav_files import LAWS_BY_TAG, WAV_LINEAR
 
 
 class Made(NamedTuple):
@@ -37,196 +42,58 @@ class Made(NamedTuple):
 # A command makes a file of the words of the command line and the octets of the file that they name.
 Command = Callable[[argparse.Namespace, bytes], Made]
 
-# Speech frames of libgsm: to an uplink, and from a downlink
 
-
-def data_of_file(name: Path, given: bytes) -> List[str]:
-    """D1 to D260 of each frame of a file of libgsm frames."""
-    size = trau_frames.GSM_OCTETS
-    if not given or len(given) % size:
-        raise Refusal(f"{name}: {len(given)} octets are no frames of libgsm, which have {size} octets each")
-    places = range(0, len(given), size)
-    for place in places:
-        if given[place] >> 4 != trau_frames.GSM_MAGIC:
-            raise Refusal(f"{name}: no frame of libgsm begins at octet {place}: its first four bits aren't 1101")
-    return [trau_frames.data_of_gsm(given[place : place + size]) for place in places]
-
-
-def data_of_wav(name: Path, given: bytes) -> List[str]:
-    """D1 to D260 of each frame of a WAV file of speech frames, two in a block of 65 octets."""
-    wav = read_wav(name, given)
-    if wav.tag != WAV_GSM:
-        quoted = shlex.quote(str(name))
-        raise Refusal(
-            f"{name}: is a WAV file of samples and not of GSM frames; sox makes frames of libgsm of it:"
-            f" sox {quoted} -r {SAMPLES_A_SECOND} -c 1 NEW.gsm"
-        )
-    size = trau_frames.WAV_BLOCK_OCTETS
-    # sox counts the octet that makes an odd number of octets even.
-    octets = wav.data[:-1] if len(wav.data) % size == 1 and wav.data[-1] == 0 else wav.data
-    if (wav.channels, wav.samples_a_second) != (1, SAMPLES_A_SECOND) or not octets or len(octets) % size:
-        raise Refusal(
-            f"{name}: has {wav.samples_a_second} Hz, channels {wav.channels} and {len(wav.data)} octets of GSM frames; needed is"
-            f" {SAMPLES_A_SECOND} Hz mono in blocks of {size} octets"
-        )
-    blocks = (octets[place : place + size] for place in range(0, len(octets), size))
-    return [data for block in blocks for data in trau_frames.data_of_wav_block(block)]
+# Frames of libgsm: to an uplink, and from a downlink
 
 
 def uplink(words: argparse.Namespace, given: bytes) -> Made:
-    """An uplink of good speech frames, from frames of libgsm or from those of a WAV file."""
-    frames = data_of_wav(words.given, given) if is_wav(given) else data_of_file(words.given, given)
-    control = SpeechControl(dtxd=words.dtxd == 1).bits()
-    line = b"".join(trau_frames.octets_of(trau_frames.frame_of(control, data)) for data in frames)
-    return Made(line, f"uplink frames {len(frames)}")
-
-
-def sort_of_downlink_frame(control: str) -> str:
-    """What a frame of a downlink is, by its control bits."""
-    if control.startswith(trau_frames.SPEECH_DOWN):
-        return "speech" if control[15] == "1" else "silence"
-    return "idle" if control.startswith(trau_frames.IDLE_DOWN) else "other"
-
-
-def treated(data: str, treatment: str, source: trau_frames.RandomSource) -> Optional[str]:
-    """D1 to D260 as they are written, or None where nothing is."""
-    if treatment == "noise":
-        return trau_frames.noise(Parameters.read(data), source).bits()
-    if treatment == "quiet":
-        return trau_frames.SILENCE.bits()
-    return data if treatment == "keep" else None
+    """An uplink, from frames of libgsm or from those of a WAV file."""
+    marker = Marker(words.sid == "keep", words.dtxd == 1)
+    return Made(*gsm_files.uplink_of(words.given, given, marker, words.partial))
 
 
 def gsm(words: argparse.Namespace, given: bytes) -> Made:
     """Frames of libgsm, from a downlink."""
     treatments = {"speech": "keep", "silence": words.silence, "idle": words.idle, "other": "skip"}
-    bits = trau_frames.bits_of(given)
-    source = trau_frames.RandomSource(1)
-    counts: Counter = Counter()
-    frames = []
-    outside = len(bits)
-    of_uplink = 0
-    for frame in trau_frames.frames_of_downlink(bits):
-        outside -= len(frame)
-        control = trau_frames.control_of(frame)
-        sort = sort_of_downlink_frame(control)
-        counts[sort] += 1
-        of_uplink += control.startswith(trau_frames.SPEECH_UP)
-        data = treated(trau_frames.data_of(frame), treatments[sort], source)
-        if data is not None:
-            frames.append(trau_frames.gsm_of_data(data))
-    found = " ".join(f"{sort} {counts[sort]}" for sort in treatments) + f" outside {outside}"
-    if of_uplink and of_uplink == sum(counts.values()):
-        raise Refusal(f"{words.given}: is an uplink; trau relay first, which makes a downlink of it")
-    if not frames:
-        raise Refusal(f"{words.given}: no frame of a downlink that would be written: {found}")
-    return Made(b"".join(frames), f"gsm frames {len(frames)} found {found}")
+    found = gsm_files.treated_downlink(words.given, given, treatments)
+    frames = [trau_frames.gsm_of_data(data) for _, data in found.frames]
+    return Made(b"".join(frames), f"gsm frames {len(frames)} found {found.said}")
+
+
+def listen(words: argparse.Namespace, given: bytes) -> Made:
+    """A WAV file, from a downlink."""
+    octets, said = listening.alaw_of_downlink(words.given, given, words.trau)
+    return Made(linear_wav(octets, Law.A), f"listen samples {len(octets)} {said}")
 
 
 # Octets of A-law or mu-law, and samples: to a Pcm line, and from an Out line
 
-WAV_LINEAR, WAV_ALAW, WAV_MULAW, WAV_GSM, WAV_EXTENSIBLE = 1, 6, 7, 0x31, 0xFFFE
-LAWS_BY_TAG = {WAV_ALAW: Law.A, WAV_MULAW: Law.MU}
-SAMPLE_KINDS = ((WAV_LINEAR, 16), (WAV_ALAW, 8), (WAV_MULAW, 8))
-# A program that writes WAV to a pipe can't know the size and puts a great number there.
-WAV_LEAST_UNKNOWN_SIZE = 0x7FFF0000
+
+def check_law(name: Path, octets: bytes, law: Law) -> None:
+    """Refuses a file of another kind than octets of a law, where its head or its frames tell that."""
+    if recordings.name_within(name).suffix in (".up", ".down"):
+        raise Refusal(f"{name}: is a line of frames by its name, and no {law.title()}")
+    file_kinds.refuse_other(name, octets, f"no {law.title()}", Kind.LAW)
 
 
-@dataclass(frozen=True)
-class Wav:
-    """The kind of a WAV file, and its data."""
-
-    tag: int
-    channels: int
-    samples_a_second: int
-    sample_bits: int
-    data: bytes
-
-
-def is_wav(content: bytes) -> bool:
-    """Whether this is a WAV file, of any kind."""
-    return content[:4] == b"RIFF" and content[8:12] == b"WAVE"
-
-
-def read_wav(name: Path, content: bytes) -> Wav:
-    """Reads a WAV file of any kind."""
-    if not is_wav(content):
-        raise Refusal(f"{name}: isn't a WAV file; raw octets of a law are taken with --raw")
-    form, place = None, 12
-    while place + 8 <= len(content):
-        chunk, size = struct.unpack_from("<4sI", content, place)
-        place += 8
-        if chunk == b"data" and size >= WAV_LEAST_UNKNOWN_SIZE:
-            size = len(content) - place
-        if place + size > len(content):
-            raise Refusal(f"{name}: this WAV file ends too early, in its part '{chunk.decode('latin-1').strip()}'")
-        if chunk == b"fmt " and size >= 16:
-            form = struct.unpack_from("<HHIIHH", content, place)
-            if form[0] == WAV_EXTENSIBLE and size >= 26:
-                form = struct.unpack_from("<H", content, place + 24) + form[1:]
-        if chunk == b"data":
-            if form is None:
-                break
-            return Wav(form[0], form[1], form[2], form[5], content[place : place + size])
-        place += size + size % 2
-    raise Refusal(f"{name}: this WAV file has no format with data behind it")
-
-
-def octets_of_wav(name: Path, content: bytes, law: Law) -> bytes:
-    """The octets of a law for a WAV file's samples; those of the same law stay as they are."""
-    wav = read_wav(name, content)
-    kind = (wav.tag, wav.sample_bits)
-    if wav.tag == WAV_GSM:
-        raise Refusal(f"{name}: has GSM frames and no samples; lines.py uplink makes an uplink of it, without transcoding")
-    if (wav.channels, wav.samples_a_second) != (1, SAMPLES_A_SECOND) or kind not in SAMPLE_KINDS:
-        raise Refusal(
-            f"{name}: has {wav.samples_a_second} Hz, channels {wav.channels}, bits {wav.sample_bits}, format {wav.tag}; needed"
-            f" is {SAMPLES_A_SECOND} Hz mono of 16 bits linear, A-law or mu-law; sox makes it:"
-            f" sox {shlex.quote(str(name))} -r {SAMPLES_A_SECOND} -c 1 -b 16 -e signed-integer NEW.wav"
-        )
-    if wav.tag in LAWS_BY_TAG:
-        return wav.data.translate(LAWS_BY_TAG[wav.tag].table_to(law))
-    if len(wav.data) % 2:
-        raise Refusal(f"{name}: its {len(wav.data)} octets of data are no samples of 16 bits")
-    samples = array("H", wav.data)
-    if sys.byteorder == "big":
-        samples.byteswap()
-    return bytes(map(law.octets_by_sample().__getitem__, samples))
-
-
-def wav_of(tag: int, sample_bits: int, data: bytes) -> bytes:
-    """A WAV file of one channel."""
-    sample_octets = sample_bits // 8
-    form = struct.pack(
-        "<HHIIHH", tag, 1, SAMPLES_A_SECOND, SAMPLES_A_SECOND * sample_octets, sample_octets, sample_bits
-    )
-    chunks = [(b"fmt ", form)]
-    if tag != WAV_LINEAR:
-        chunks = [(b"fmt ", form + b"\0\0"), (b"fact", struct.pack("<I", len(data) // sample_octets))]
-    chunks.append((b"data", data))
-    body = b"WAVE" + b"".join(
-        struct.pack("<4sI", name, len(chunk)) + chunk + bytes(len(chunk) % 2) for name, chunk in chunks
-    )
-    return struct.pack("<4sI", b"RIFF", len(body)) + body
-
-
-# So much of a file is searched for a frame of a line of frames. In other octets its 35 sync bits don't occur by chance.
-OCTETS_SEARCHED = 4000
-
-
-def raw_octets(name: Path, octets: bytes, law: Law) -> bytes:
-    """The octets of a file of a law's octets alone; a file of another kind is refused, where that shows."""
-    if is_wav(octets):
-        raise Refusal(f"{name}: is a WAV file and no raw {law.title()}; pcm takes it without --raw")
-    is_named = name.suffix in (".up", ".down")
-    if is_named or trau_frames.FRAME_OF_DOWNLINK.search(trau_frames.bits_of(octets[:OCTETS_SEARCHED])):
-        raise Refusal(f"{name}: is a line of frames and no {law.title()}; trau decode makes A-law of an uplink")
+def raw_octets(words: argparse.Namespace, given: bytes) -> bytes:
+    """Octets of a law and nothing else. Those that are plainly something else by their statistics are refused too, if they aren't to be
+    trusted."""
+    octets = slots.turned(given) if words.lsb_first else given
+    if not words.trust:
+        check_law(words.given, octets, words.law)
+        other = file_kinds.other_than_law(octets, words.law)
+        if other:
+            file_kinds.refuse(words.given, other, f"no {words.law.title()}", "; --trust takes it as it is")
     return octets
 
 
 def pcm(words: argparse.Namespace, given: bytes) -> Made:
     """A Pcm line of whole periods, from a WAV file or raw octets of its law."""
-    octets = (raw_octets if words.raw else octets_of_wav)(words.given, given, words.law)
+    if words.raw:
+        octets = raw_octets(words, given)
+    else:
+        octets = wav_files.octets_of_wav(words.given, given, words.law, words.partial)
     if not octets:
         raise Refusal(f"{words.given}: holds no samples")
     padded = -len(octets) % PCM_OCTETS
@@ -234,20 +101,27 @@ def pcm(words: argparse.Namespace, given: bytes) -> Made:
     return Made(line, f"pcm periods {len(line) // PCM_OCTETS} padded {padded}")
 
 
+def linear_wav(octets: bytes, law: Law) -> bytes:
+    """A WAV file of 16 bits linear, of octets of a law."""
+    expanded = [law.expand(octet) for octet in range(256)]
+    samples = array("h", map(expanded.__getitem__, octets))
+    if sys.byteorder == "big":
+        samples.byteswap()
+    return wav_files.wav_of(WAV_LINEAR, 16, samples.tobytes())
+
+
 def sound(words: argparse.Namespace, given: bytes) -> Made:
     """A WAV file or raw octets, from an Out line."""
-    if not raw_octets(words.given, given, words.law):
+    if not given:
         raise Refusal(f"{words.given}: holds no octets")
+    check_law(words.given, given, words.law)
     said = f"sound samples {len(given)}"
     if words.raw:
         return Made(given, said)
     if words.tag in LAWS_BY_TAG:
-        return Made(wav_of(words.tag, 8, given.translate(words.law.table_to(LAWS_BY_TAG[words.tag]))), said)
-    expanded = [words.law.expand(octet) for octet in range(256)]
-    samples = array("h", map(expanded.__getitem__, given))
-    if sys.byteorder == "big":
-        samples.byteswap()
-    return Made(wav_of(WAV_LINEAR, 16, samples.tobytes()), said)
+        table = words.law.table_to(LAWS_BY_TAG[words.tag])
+        return Made(wav_files.wav_of(words.tag, 8, given.translate(table)), said)
+    return Made(linear_wav(given, words.law), said)
 
 
 # Captures of network packets: to a line, and from lines
@@ -255,18 +129,30 @@ def sound(words: argparse.Namespace, given: bytes) -> Made:
 
 def pcap(words: argparse.Namespace, given: bytes) -> Made:
     """An uplink or a Pcm line, from a stream of a capture."""
-    return Made(*captures.line_of(words.given, given, words.stream, words.since, words.law))
+    marker = Marker(words.sid == "keep")
+    asked = captures.Asked(words.stream, words.since, words.law, words.partial)
+    return Made(*captures.line_of(words.given, given, asked, marker))
 
 
 def capture(words: argparse.Namespace, given: bytes) -> Made:
     """A capture, from lines of calls."""
-    more = [(name, trau_frames.read_file(name)) for name in words.also]
-    return Made(*captures.capture_of([(words.given, given), *more], words.law))
+    more = [(name, recordings.read_recording(name)) for name in words.also]
+    lines = [(recordings.name_within(name), octets) for name, octets in ((words.given, given), *more)]
+    return Made(*captures.capture_of(lines, words.law))
 
 
-# An idle line
+# Time slots, an idle line, and damage
+
+
+def slot(words: argparse.Namespace, given: bytes) -> Made:
+    """A time slot, whose octets were taken from a recording of a whole line as it was read."""
+    if not given:
+        raise Refusal(f"{words.given}: has no octet of slot {words.slot}")
+    return Made(slots.turned(given) if words.lsb_first else given, f"slot octets {len(given)}")
+
 
 MOST_PERIODS = 1_000_000
+MOST_SKIPPED = 1 << 40
 
 
 def idle(words: argparse.Namespace, _: bytes) -> Made:
@@ -274,195 +160,55 @@ def idle(words: argparse.Namespace, _: bytes) -> Made:
     return Made(bytes([words.law.idle()]) * PCM_OCTETS * words.periods, f"idle periods {words.periods}")
 
 
-def periods_word(word: str) -> int:
-    """A number of periods."""
-    if not re.fullmatch(r"\d{1,7}", word, re.ASCII) or not 1 <= int(word) <= MOST_PERIODS:
-        raise argparse.ArgumentTypeError(f"'{word}' isn't 1 to {MOST_PERIODS}")
-    return int(word)
-
-
-# Damage to an uplink
-
-FRAMES_FROM_TAF_TO_TAF = 24
-
-
-class Part(NamedTuple):
-    """Every `step`th number from `first` to `last`, or to the last there is."""
-
-    first: int
-    last: Optional[int]
-    step: int
-
-
-@dataclass(frozen=True)
-class Frames:
-    """Numbers of frames, as a word of the command line names them: parts `A`, `A-B` and `every:N` with commas between."""
-
-    parts: Tuple[Part, ...]
-
-    @staticmethod
-    def parse(word: str) -> Frames:
-        """Reads the word."""
-        return Frames(tuple(map(Frames.parse_part, word.split(","))))
-
-    @staticmethod
-    def parse_part(word: str) -> Part:
-        """Reads one part of the word."""
-        found = re.fullmatch(r"(\d+)(?:-(\d+))?|every:(\d+)", word, re.ASCII)
-        if not found:
-            raise argparse.ArgumentTypeError(f"'{word}' isn't a frame A, frames A-B or every:N")
-        if found[3]:
-            part = Part(int(found[3]) - 1, None, int(found[3]))
-        else:
-            part = Part(int(found[1]), int(found[2] or found[1]), 1)
-        if part.step == 0 or part.last is not None and part.last < part.first:
-            raise argparse.ArgumentTypeError(f"'{word}' names no frames")
-        return part
-
-    def within(self, count: int) -> Set[int]:
-        """The numbers that are named, all below `count`."""
-        numbers: Set[int] = set()
-        for part in self.parts:
-            last = count - 1 if part.last is None else part.last
-            if last >= count:
-                raise Refusal(f"there is no frame {last}; the uplink has frames 0 to {count - 1}")
-            numbers.update(range(part.first, last + 1, part.step))
-        return numbers
-
-
-@dataclass(frozen=True)
-class AtFrame:
-    """A value for one frame, as a word `FRAME:VALUE` gives it."""
-
-    frame: int
-    value: int
-
-    @staticmethod
-    def parse(word: str, least: int, most: int) -> AtFrame:
-        """Reads the word, whose value is within these ends, and not 0 where it may be negative."""
-        found = re.fullmatch(r"(\d+):([+-]?\d+)", word, re.ASCII)
-        if not found:
-            raise argparse.ArgumentTypeError(f"'{word}' isn't FRAME:NUMBER")
-        value = int(found[2])
-        if not least <= value <= most or least < 0 and value == 0:
-            raise argparse.ArgumentTypeError(f"'{word}': the number isn't {least} to {most}{' without 0' * (least < 0)}")
-        return AtFrame(int(found[1]), value)
-
-
-def slip_word(word: str) -> AtFrame:
-    """A word of `--slip`."""
-    return AtFrame.parse(word, -FRAME_BITS, FRAME_BITS)
-
-
-def align_word(word: str) -> AtFrame:
-    """A word of `--align`."""
-    return AtFrame.parse(word, 0, 63)
-
-
-def lost(frame: str) -> str:
-    """A speech frame, marked as unusable."""
-    control = replace(SpeechControl.read(trau_frames.control_of(frame)), bad=True, silence=0)
-    return trau_frames.frame_of(control.bits(), trau_frames.data_of(frame))
-
-
-def paused(frame: str, number: int, begins: bool) -> str:
-    """What a speech frame becomes in a pause: a silence descriptor where the pause begins and where TAF is 1, else unusable."""
-    taf = number % FRAMES_FROM_TAF_TO_TAF == FRAMES_FROM_TAF_TO_TAF - 1
-    describes = begins or taf
-    control = replace(
-        SpeechControl.read(trau_frames.control_of(frame)), bad=not describes, silence=2 if describes else 0, taf=taf
-    )
-    data = trau_frames.data_of(frame)
-    if describes:
-        data = trau_frames.silence_descriptor(Parameters.read(data)).bits()
-    return trau_frames.frame_of(control.bits(), data)
-
-
-def aligned(frame: str, field: int) -> str:
-    """A frame with another alignment field, which is C6 to C11."""
-    return frame[:22] + f"{field:06b}" + frame[28:]
-
-
-class Uplink:
-    """The frames of an uplink, by the numbers of the search's yields, with the bits before each."""
-
-    def __init__(self, name: Path, octets: bytes) -> None:
-        bits = trau_frames.bits_of(octets)
-        yields = list(trau_frames.search(bits))
-        if not yields:
-            raise Refusal(f"{name}: no frame found")
-        self.sorts = [each.sort() for each in yields]
-        self.before: List[str] = []
-        self.frames: List[str] = []
-        place = 0
-        for each in yields:
-            self.before.append(bits[place : each.place])
-            place = each.place + FRAME_BITS
-            self.frames.append(bits[each.place : place])
-        self.rest = bits[place:]
-
-    def is_speech(self, number: int) -> bool:
-        """Whether a yield is a speech frame, of whatever class."""
-        return self.sorts[number] in (Sort.GOOD, Sort.SID, Sort.INVALID, Sort.BAD)
-
-    def has_field(self, number: int) -> bool:
-        """Whether a yield is a frame that has an alignment field."""
-        return self.is_speech(number) or self.sorts[number] is Sort.IDLE
-
-    def slip(self, number: int, bits: int) -> None:
-        """Puts ones before a frame, or leaves out the last bits that stand there."""
-        if bits > 0:
-            self.before[number] += bits * "1"
-            return
-        kept = len(self.before[number]) + bits
-        if kept >= 0:
-            self.before[number] = self.before[number][:kept]
-        elif number > 0:
-            self.before[number] = ""
-            self.frames[number - 1] = self.frames[number - 1][:kept]
-        else:
-            raise Refusal(f"there are no {-bits} bits before frame 0 to leave out")
-
-    def bits(self) -> str:
-        """The bits of the line."""
-        return "".join(before + frame for before, frame in zip(self.before, self.frames)) + self.rest
-
-
 def damage(words: argparse.Namespace, given: bytes) -> Made:
     """An uplink with damages of the kinds that the options name."""
-    line = Uplink(words.given, given)
-    count = len(line.frames)
+    asked = damages.Damages(words.sid, words.drop, words.zero, tuple(words.align), tuple(words.slip))
+    return Made(*damages.damaged(words.given, given, asked))
 
-    def named(option: Optional[Frames]) -> Set[int]:
-        """The speech frames that an option names."""
-        return set() if option is None else {number for number in option.within(count) if line.is_speech(number)}
 
-    pause, drop, zero = named(words.sid), named(words.drop), named(words.zero)
-    for number in pause:
-        line.frames[number] = paused(line.frames[number], number, number - 1 not in pause)
-    for number in drop:
-        line.frames[number] = lost(line.frames[number])
-    for number in zero:
-        line.frames[number] = FRAME_BITS * "0"
+# What is read and written
 
-    for change in (*words.align, *words.slip):
-        if change.frame >= count:
-            raise Refusal(f"there is no frame {change.frame}; the uplink has frames 0 to {count - 1}")
-    for align in words.align:
-        if align.frame in zero or not line.has_field(align.frame):
-            raise Refusal(f"frame {align.frame} has no alignment field")
-        line.frames[align.frame] = aligned(line.frames[align.frame], align.value)
-    for slip in words.slip:
-        line.slip(slip.frame, slip.value)
 
-    bits = line.bits()
-    if words.slip:
-        bits += -len(bits) % FRAME_BITS * "1"
-    said = f"sid {len(pause)} drop {len(drop)} zero {len(zero)} align {len(words.align)} slip {len(words.slip)}"
-    return Made(trau_frames.octets_of(bits), f"damage frames {count} {said}")
+def read_given(words: argparse.Namespace) -> bytes:
+    """The file that a command reads, if any."""
+    if words.given is None:
+        return b""
+    if words.made is slot:
+        if words.slot >= words.of:
+            raise Refusal(f"--slot {words.slot}: the slots of this line are 0 to {words.of - 1}")
+        return recordings.read_slot(words.given, words.slot, words.of, words.skip, words.partial)
+    return recordings.read_recording(words.given, getattr(words, "partial", False))
+
+
+def make_file(words: argparse.Namespace) -> int:
+    """Makes the file that a command makes, and says what was done."""
+    made = words.made(words, read_given(words))
+    inputs = [*([words.given] if words.given else []), *getattr(words, "also", [])]
+    trau_frames.write_file(words.new, made.content, inputs)
+    print(made.said, file=sys.stderr if words.new == trau_frames.STREAM else sys.stdout)
+    return 0
+
+
+def look(words: argparse.Namespace) -> int:
+    """Says what files are."""
+    for name in words.files:
+        found = file_kinds.look(*file_kinds.head_of(name))
+        print(f"{name}: {found.said}{file_kinds.command_for(found, name)}")
+    return 0
 
 
 # The words of the command line
+
+
+def number_word(least: int, most: int) -> Callable[[str], int]:
+    """Reads a number between these ends."""
+
+    def read(word: str) -> int:
+        if not re.fullmatch(r"\d{1,12}", word, re.ASCII) or not least <= int(word) <= most:
+            raise argparse.ArgumentTypeError(f"'{word}' isn't {least} to {most}")
+        return int(word)
+
+    return read
 
 
 def command(
@@ -478,10 +224,10 @@ def command(
         formatter_class=argparse.RawDescriptionHelpFormatter,
         allow_abbrev=False,
     )
-    added.set_defaults(made=made)
+    added.set_defaults(made=made, carried_out=make_file)
     if given == "PERIODS":
         added.set_defaults(given=None)
-        added.add_argument("periods", type=periods_word, metavar=given, help="how many periods of 20 ms")
+        added.add_argument("periods", type=number_word(1, MOST_PERIODS), metavar=given, help="how many periods of 20 ms")
     else:
         added.add_argument("given", type=Path, metavar=given, help="the file that is read, or - for standard input")
     added.add_argument(
@@ -508,6 +254,29 @@ def add_law(added: argparse.ArgumentParser) -> None:
     )
 
 
+def add_partial(added: argparse.ArgumentParser, what: str) -> None:
+    """Adds the option `--partial` to a command."""
+    added.add_argument("--partial", action="store_true", help=f"take a file that was cut as far as it goes: {what}")
+
+
+def add_sid(added: argparse.ArgumentParser) -> None:
+    """Adds the option `--sid` to a command."""
+    added.add_argument(
+        "--sid",
+        choices=("mark", "keep"),
+        default="mark",
+        help="what becomes of silence descriptors, which their code word tells: marked by C13 and C14, as a base station does"
+        " (default), or kept as if they were speech, which then buzzes",
+    )
+
+
+def add_lsb_first(added: argparse.ArgumentParser, more: str = "") -> None:
+    """Adds the option `--lsb-first` to a command."""
+    added.add_argument(
+        "--lsb-first", action="store_true", help=f"the recording has the least significant bit of each octet first{more}"
+    )
+
+
 def add_uplink(commands: argparse._SubParsersAction) -> None:
     """Adds the command `uplink`: frames of libgsm to an uplink."""
     added = command(
@@ -515,9 +284,10 @@ def add_uplink(commands: argparse._SubParsersAction) -> None:
         uplink,
         "IN.gsm",
         "OUT.up",
-        "Makes an uplink of good speech frames from frames of libgsm, of 33 octets each, as toast, sox and ffmpeg write\n"
-        "them to .gsm files, or from a WAV file of GSM frames, two in a block of 65 octets. Nothing is transcoded: the 260\n"
-        "bits of a frame stay as they are. Says `uplink frames N`.",
+        "Makes an uplink of frames of libgsm, of 33 octets each, as toast, sox and ffmpeg write them to .gsm files, or of a WAV\n"
+        "file of GSM frames, two in a block of 65 octets. Nothing is transcoded: the 260 bits of a frame stay as they are. Silence\n"
+        "descriptors are marked as such, and damaged ones as invalid. Prints `uplink frames N sid A invalid B`, and with --partial\n"
+        "`left R`: the octets behind the last whole frame.",
         "call.gsm 7.up --dtxd 1",
     )
     added.add_argument(
@@ -527,6 +297,8 @@ def add_uplink(commands: argparse._SubParsersAction) -> None:
         default=0,
         help="DTXd of all frames: whether the downlink may send silence descriptors (default 0, it may not)",
     )
+    add_sid(added)
+    add_partial(added, "the whole frames")
 
 
 def add_gsm(commands: argparse._SubParsersAction) -> None:
@@ -537,7 +309,7 @@ def add_gsm(commands: argparse._SubParsersAction) -> None:
         "IN.down",
         "OUT.gsm",
         "Finds the frames of a downlink at any bit, and writes their speech as frames of libgsm, which untoast, sox and\n"
-        "ffmpeg decode. Says `gsm frames N found speech A silence B idle C other D outside E`: the frames that were\n"
+        "ffmpeg decode. Prints `gsm frames N found speech A silence B idle C other D outside E`: the frames that were\n"
         "written, those of each kind that were found, and the bits that belong to no frame.",
         "7.down call.gsm --idle quiet",
     )
@@ -564,11 +336,18 @@ def add_pcm(commands: argparse._SubParsersAction) -> None:
         "IN",
         "OUT.pcm",
         "Makes a Pcm line from a WAV file of 8000 Hz, mono, 16 bits linear, A-law or mu-law, or from raw octets of its law. The\n"
-        "last period is filled up with the idle octet, 0xD5 or 0xFF. Says `pcm periods N padded R`, R being the number of these\n"
+        "last period is filled up with the idle octet, 0xD5 or 0xFF. Prints `pcm periods N padded R`, R being the number of these\n"
         "octets.",
         "call.wav 7.pcm",
     )
     added.add_argument("--raw", action="store_true", help="the file has octets of the line's law and nothing else")
+    add_lsb_first(added, " (with --raw)")
+    added.add_argument(
+        "--trust",
+        action="store_true",
+        help="take raw octets as they are, also where they look like something else (with --raw)",
+    )
+    add_partial(added, "the samples of a WAV file that are there")
     add_law(added)
 
 
@@ -579,7 +358,7 @@ def add_sound(commands: argparse._SubParsersAction) -> None:
         sound,
         "IN.out",
         "OUT",
-        "Makes a WAV file of 8000 Hz, mono, 16 bits linear from an Out line, or from a Pcm line. Says `sound samples N`.",
+        "Makes a WAV file of 8000 Hz, mono, 16 bits linear from an Out line, or from a Pcm line. Prints `sound samples N`.",
         "7.out call.wav",
     )
     kind = added.add_mutually_exclusive_group()
@@ -599,7 +378,7 @@ def add_idle(commands: argparse._SubParsersAction) -> None:
         idle,
         "PERIODS",
         "OUT.pcm",
-        "Makes an idle Pcm line of so many periods, with which an uplink alone can be run. Says `idle periods N`.",
+        "Makes an idle Pcm line of so many periods, with which an uplink alone can be run. Prints `idle periods N`.",
         "312 7.pcm",
     )
     add_law(added)
@@ -614,9 +393,10 @@ def add_pcap(commands: argparse._SubParsersAction) -> None:
         "OUT",
         "Makes a line of an RTP stream of a capture (pcap or pcapng), by its time stamps: an uplink of GSM (payload type 3), a\n"
         "Pcm line of PCMA (8) or PCMU (0). Packets that are missing become unusable frames, or idle octets; where nothing was\n"
-        "sent there are idle frames, or idle octets. Says `pcap gsm packets N late A doubled B others C frames D lost E paused\n"
-        "F lead G`, or `octets D .. padded H`: packets that came after later ones, that came again, and that have no speech; and\n"
-        "the periods before the first. Needs the library dpkt.",
+        "sent there are idle frames, or idle octets, and unusable frames in a pause that a silence descriptor began. Prints `pcap gsm\n"
+        "packets N late A doubled B others C frames D sid S invalid I lost E paused F lead G`, or `octets D lost E .. padded H`:\n"
+        "packets that came after later ones, that came again, and that have no speech; and the periods before the first. With\n"
+        "--partial also `cut K`: packets that weren't captured whole. Needs the library dpkt.",
         "call.pcapng 7.up",
     )
     added.add_argument(
@@ -628,6 +408,8 @@ def add_pcap(commands: argparse._SubParsersAction) -> None:
         metavar="N",
         help="the line begins when this stream began, by the times of the capture: so the lines of a call keep step",
     )
+    add_sid(added)
+    add_partial(added, "packets that weren't captured whole are lost")
     add_law(added)
 
 
@@ -639,14 +421,76 @@ def add_capture(commands: argparse._SubParsersAction) -> None:
         "LINE",
         "OUT.pcap",
         "Makes a capture with an RTP stream of a line, which Wireshark plays: GSM of an Up or Down line, PCMA or PCMU of a Pcm or\n"
-        "Out line, by the line's name and its law. Lost speech has no packet, a pause has comfort noise, and an idle frame gives nothing. Says\n"
-        "`capture streams N packets M`. Needs the library dpkt.",
+        "Out line, by the line's name and its law. Lost speech has no packet, a pause has comfort noise, and an idle frame gives\n"
+        "nothing. Prints `capture streams N packets M`. Needs the library dpkt.",
         "7.down call.pcap --also 7.out",
     )
     added.add_argument(
         "--also", type=Path, action="append", default=[], metavar="LINE", help="a further line, as a stream of its own"
     )
     add_law(added)
+
+
+def add_listen(commands: argparse._SubParsersAction) -> None:
+    """Adds the command `listen`: a downlink to a WAV file."""
+    added = command(
+        commands,
+        listen,
+        "IN.down",
+        "OUT.wav",
+        "Makes a WAV file of 8000 Hz, mono, 16 bits linear of what is heard of a downlink: finds its frames at any bit, and has\n"
+        "the program `trau` decode them. Silence descriptors give comfort noise; idle frames, and each period without a frame,\n"
+        "silence. Prints `listen samples N found speech A silence B idle C other D outside E`.",
+        "7.down call.wav",
+    )
+    added.add_argument(
+        "--trau", default=listening.program_beside(), metavar="PROGRAM", help="the program (default %(default)s)"
+    )
+
+
+def add_slot(commands: argparse._SubParsersAction) -> None:
+    """Adds the command `slot`: a time slot of a recording of a whole line."""
+    added = command(
+        commands,
+        slot,
+        "IN",
+        "OUT",
+        "Takes one time slot of a recording of a whole line: every Nth octet, as each 32nd one of an E1 line. Without --of the\n"
+        "recording is of one slot, and --lsb-first turns the bits of its octets. Prints `slot octets N`.",
+        "line.e1 1.pcm --slot 16 --of 32, and then: trau split 1",
+    )
+    added.add_argument(
+        "--slot", type=number_word(0, slots.MOST_SLOTS - 1), default=0, metavar="N", help="the slot, counted from 0 (default 0)"
+    )
+    added.add_argument(
+        "--of", type=number_word(1, slots.MOST_SLOTS), default=1, metavar="N", help="how many slots the line has (default 1)"
+    )
+    added.add_argument(
+        "--skip",
+        type=number_word(0, MOST_SKIPPED),
+        default=0,
+        metavar="N",
+        help="how many octets stand before the first one of slot 0 (default 0)",
+    )
+    add_lsb_first(added)
+    add_partial(added, "what of a file that gzip packed is there")
+
+
+def add_look(commands: argparse._SubParsersAction) -> None:
+    """Adds the command `look`: what files are."""
+    added = commands.add_parser(
+        "look",
+        help="what files are",
+        description="Says of each file what it is, and which command makes something of it: sound files, frames of libgsm and\n"
+        "captures by their heads; uplinks, downlinks, time slots and E1 lines by what is found in them, at any bit and in either\n"
+        "order of the bits of an octet; A-law, mu-law and samples of 16 bits by statistics, as it seems. It looks at the first\n"
+        f"{file_kinds.HEAD_OCTETS} octets.",
+        epilog="example: lines.py look *",
+        formatter_class=argparse.RawDescriptionHelpFormatter,
+        allow_abbrev=False,
+    )
+    added.add_argument("files", type=Path, nargs="+", metavar="FILE", help="a file, or - for standard input")
+    added.set_defaults(carried_out=look)
 
 
 def add_damage(commands: argparse._SubParsersAction) -> None:
@@ -659,22 +503,22 @@ def add_damage(commands: argparse._SubParsersAction) -> None:
         "Damages an uplink. Its frames, and the misses, are numbered from 0 as the search for frames yields them. FRAMES\n"
         "are parts with commas between: a frame A, frames A-B, every:N (the Nth, the 2Nth and so on, thus N-1, 2N-1, ..).\n"
         "The damages are done in the order of the options below. Frames that --sid, --drop and --zero name and that aren't\n"
-        "speech frames stay as they are. Says `damage frames N sid A drop B zero C align D slip E`: how many frames there\n"
+        "speech frames stay as they are. Prints `damage frames N sid A drop B zero C align D slip E`: how many frames there\n"
         "are, and how many changes of each kind were made.",
         "7.up 8.up --sid 100-160 --drop 20-22,every:50 --slip 200:-3",
     )
     added.add_argument(
         "--sid",
-        type=Frames.parse,
+        type=damages.Frames.parse,
         metavar="FRAMES",
         help="put a pause instead of speech frames: a silence descriptor at its start and at each 24th frame (23, 47"
         " and so on), which has TAF 1, and unusable frames between. A descriptor has the frame's spectrum and its least block maximum",
     )
-    added.add_argument("--drop", type=Frames.parse, metavar="FRAMES", help="mark speech frames as unusable: BFI 1")
-    added.add_argument("--zero", type=Frames.parse, metavar="FRAMES", help="put 320 zeros instead of speech frames")
+    added.add_argument("--drop", type=damages.Frames.parse, metavar="FRAMES", help="mark speech frames as unusable: BFI 1")
+    added.add_argument("--zero", type=damages.Frames.parse, metavar="FRAMES", help="put 320 zeros instead of speech frames")
     added.add_argument(
         "--align",
-        type=align_word,
+        type=damages.align_word,
         action="append",
         default=[],
         metavar="FRAME:FIELD",
@@ -682,7 +526,7 @@ def add_damage(commands: argparse._SubParsersAction) -> None:
     )
     added.add_argument(
         "--slip",
-        type=slip_word,
+        type=damages.slip_word,
         action="append",
         default=[],
         metavar="FRAME:BITS",
@@ -691,29 +535,28 @@ def add_damage(commands: argparse._SubParsersAction) -> None:
     )
 
 
+ADDED = (
+    *(add_look, add_uplink, add_gsm, add_listen, add_pcm, add_sound, add_idle, add_slot, add_pcap, add_capture),
+    add_damage,
+)
+
+
 def parser() -> argparse.ArgumentParser:
     """The parser of the words."""
     program = trau_frames.Words(
         description=__doc__, formatter_class=argparse.RawDescriptionHelpFormatter, allow_abbrev=False
     )
     commands = program.add_subparsers(metavar="COMMAND", required=True, parser_class=trau_frames.Words)
-    for add in (add_uplink, add_gsm, add_pcm, add_sound, add_idle, add_pcap, add_capture, add_damage):
+    for add in ADDED:
         add(commands)
     return program
 
 
+@tool("lines.py")
 def main(words: Sequence[str]) -> int:
     """Carries out the words of the command line, and gives the status."""
     asked = parser().parse_args(words)
-    inputs = [asked.given] if asked.given else []
-    try:
-        made = asked.made(asked, b"".join(map(trau_frames.read_file, inputs)))
-        trau_frames.write_file(asked.new, made.content, [*inputs, *getattr(asked, "also", [])])
-    except Refusal as refusal:
-        print(f"lines.py: {refusal}", file=sys.stderr)
-        return 2
-    print(made.said, file=sys.stderr if asked.new == trau_frames.STREAM else sys.stdout)
-    return 0
+    return asked.carried_out(asked)
 
 
 if __name__ == "__main__":

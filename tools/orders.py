@@ -1,7 +1,8 @@
 #!/usr/bin/env python3
-"""Says what is wrong with the orders of a run, line by line, in words, where `trau run` names the first bad line alone.
+"""Says what is wrong with the orders of a run, line by line, in words, where `trau run` names the first bad line alone; and strips
+comments and empty lines, which `trau run` doesn't take, from a text of orders.
 
-It also warns of orders that are in the grammar, and that the run will refuse.
+It also warns of orders that are in the grammar, and that the run will refuse, and of lines that aren't what their names say.
 """
 
 from __future__ import annotations
@@ -11,9 +12,11 @@ import re
 import sys
 from dataclasses import dataclass, field
 from pathlib import Path
-from typing import Dict, List, Optional, Sequence, Tuple
+from typing import Dict, List, NamedTuple, Optional, Sequence, Tuple
 
+import file_kinds
 import trau_frames
+from file_kinds import Look
 from run_texts import (
     FORMS,
     MOST_CALLS,
@@ -25,6 +28,7 @@ from run_texts import (
     Order,
     read_order,
 )
+from tool_ends import tool
 from trau_frames import FRAME_OCTETS, PCM_OCTETS, Refusal
 
 BYTE_ORDER_MARK = b"\xef\xbb\xbf"
@@ -42,6 +46,10 @@ FEW_NAMES = {"law": "mulaw, or nothing for A-law", "mode": "on, off or uplink"}
 def grouped(number: int) -> str:
     """A number as the documents write it."""
     return f"{number:,}"
+
+
+COMMENT = "#"
+STRIPS = "orders.py strip leaves comments and empty lines out"
 
 
 def fault_of_number(what: str, word: str, least: int, most: int) -> Optional[str]:
@@ -122,8 +130,8 @@ class Text:
         before: Optional[Tuple[int, int]] = None
         for number, line in enumerate(lines, 1):
             faults, words = faults_of_spaces(line)
-            if not words:
-                text.faults[number] = faults or ["an empty line"]
+            if not words or words.startswith(COMMENT):
+                text.faults[number] = [f"a comment; {STRIPS}"] if words else faults or ["an empty line"]
                 continue
             faults += faults_of_words(words.split(" "))
             stamp = words.split(" ")[0]
@@ -142,13 +150,21 @@ class Text:
 # The board, which executes the orders
 
 
+PERIOD_OCTETS = {"up": FRAME_OCTETS, "pcm": PCM_OCTETS}
+
+
+def periods_of_lines(folder: Path, call: int) -> Dict[str, int]:
+    """How many whole periods each of a call's incoming lines has; none of one that isn't there."""
+    found = {}
+    for side, octets in PERIOD_OCTETS.items():
+        path = folder / f"{call}.{side}"
+        found[side] = path.stat().st_size // octets if path.is_file() else 0
+    return found
+
+
 def periods_of(folder: Path, call: int) -> int:
     """How many periods the lines of a call have: those that both its incoming lines give."""
-    sizes = []
-    for side, octets in (("up", FRAME_OCTETS), ("pcm", PCM_OCTETS)):
-        path = folder / f"{call}.{side}"
-        sizes.append(path.stat().st_size // octets if path.is_file() else 0)
-    return min(sizes)
+    return min(periods_of_lines(folder, call).values())
 
 
 class Board:
@@ -219,21 +235,69 @@ class Board:
         return None
 
 
-def missing_lines(folder: Path, order: Order) -> List[str]:
-    """The incoming lines of an opened call that aren't there."""
-    names = [f"{order.calls[0]}.{side}" for side in ("up", "pcm")]
-    return [name for name in names if not (folder / name).is_file()]
+# What is said of the lines of a call that is opened
+
+LOOKED_AT = 4000  # octets of a line, so that a farm of thousands of calls is looked at in seconds
 
 
-def warnings_of(orders: Sequence[Order], folder: Optional[Path]) -> List[Tuple[int, str]]:
-    """What is warned of, by the lines' numbers."""
-    board, found = Board(folder), []
+def line_name(order: Order, side: str) -> str:
+    """The name of an incoming line of a call that is opened."""
+    return f"{order.calls[0]}.{side}"
+
+
+def other_kind(name: Path, side: str, order: Order) -> Optional[Look]:
+    """What a line plainly is instead of an uplink, or of sound of the call's law."""
+    head, size = file_kinds.head_of(name, LOOKED_AT)
+    found = file_kinds.known_kind(head, size)
+    if side == "pcm" and not found:
+        return file_kinds.other_than_law(head, order.law())
+    if not found or found.kind is file_kinds.Kind.EMPTY:
+        return None
+    return None if side == "up" and found.kind is file_kinds.Kind.UPLINK and not found.turned else found
+
+
+def warning_of_line(folder: Path, order: Order, side: str) -> Optional[str]:
+    """What is wrong with an incoming line of a call that is opened, if anything."""
+    name = line_name(order, side)
+    if not (folder / name).is_file():
+        return f"there is no {name}: the line will fail"
+    found = other_kind(folder / name, side, order)
+    if not found:
+        return None
+    wanted = "no uplink" if side == "up" else f"no {order.law().title()}"
+    return f"{name} is {file_kinds.said_beside(found, folder / name, wanted)}"
+
+
+def note_on_periods(folder: Path, order: Order) -> Optional[str]:
+    """How many periods of the longer incoming line won't be used, if any."""
+    periods = periods_of_lines(folder, order.calls[0])
+    shorter, longer = sorted(periods, key=periods.__getitem__)
+    unused = periods[longer] - periods[shorter]
+    if not periods[shorter] or not unused:
+        return None
+    what = f"the last {unused} periods" if unused > 1 else "the last period"
+    return f"{what} of {line_name(order, longer)} won't be used: {line_name(order, shorter)} has {periods[shorter]}"
+
+
+class Remarks(NamedTuple):
+    """What is said of orders that are in the grammar, by the lines' numbers: warnings, and notes on what is no fault."""
+
+    warnings: List[Tuple[int, str]]
+    notes: List[Tuple[int, str]]
+
+
+def remarks_on(orders: Sequence[Order], folder: Optional[Path]) -> Remarks:
+    """What is said of orders, and of the lines in the folder, if it is given."""
+    board, found = Board(folder), Remarks([], [])
     for order in orders:
         refusal = board.execute(order)
         if refusal:
-            found.append((order.number, f"the run will refuse it ({refusal[0]}): {refusal[1]}"))
+            found.warnings.append((order.number, f"the run will refuse it ({refusal[0]}): {refusal[1]}"))
         elif order.verb == "open" and folder is not None:
-            found += [(order.number, f"there is no {name}: the line will fail") for name in missing_lines(folder, order)]
+            said = (warning_of_line(folder, order, side) for side in PERIOD_OCTETS)
+            found.warnings.extend((order.number, each) for each in said if each)
+            note = note_on_periods(folder, order)
+            found.notes.extend([(order.number, note)] if note else [])
     return found
 
 
@@ -247,8 +311,9 @@ def check(words: argparse.Namespace) -> int:
     octets = trau_frames.read_file(words.orders)
     text = Text.read(octets)
     said = [(line, "; ".join(faults)) for line, faults in text.faults.items()]
-    warned = warnings_of(text.orders, words.lines)
-    said += [(line, f"warning: {what}") for line, what in warned]
+    remarks = remarks_on(text.orders, words.lines)
+    said += [(line, f"warning: {what}") for line, what in remarks.warnings]
+    said += [(line, f"note: {what}") for line, what in remarks.notes]
     for line, what in sorted(said, key=lambda each: each[0]):
         print(f"line {line}: {what}")
     too_long = len(octets) > MOST_ORDER_OCTETS or text.lines > MOST_ORDERS
@@ -257,16 +322,30 @@ def check(words: argparse.Namespace) -> int:
             f"too long: {grouped(len(octets))} octets and {grouped(text.lines)} lines; the program takes {grouped(MOST_ORDER_OCTETS)}"
             f" octets and {grouped(MOST_ORDERS)} lines"
         )
-    print(f"orders {text.lines} bad {len(text.faults)} warnings {len(warned)}")
+    print(f"orders {text.lines} bad {len(text.faults)} warnings {len(remarks.warnings)}")
     return 1 if text.faults or too_long else 0
 
 
-def main(words: Sequence[str]) -> int:
-    """Carries out the words of the command line, and gives the status."""
-    program = trau_frames.Words(
-        description=__doc__, formatter_class=argparse.RawDescriptionHelpFormatter, allow_abbrev=False
-    )
-    commands = program.add_subparsers(metavar="COMMAND", required=True, parser_class=trau_frames.Words)
+def strip(words: argparse.Namespace) -> int:
+    """Prints orders without their comments and without empty lines."""
+    lines = trau_frames.read_file(words.orders).split(b"\n")
+    kept = [line for line in map(without_comment, lines) if line]
+    content = b"".join(line + b"\n" for line in kept)
+    trau_frames.write_file(words.new, content, [words.orders])
+    if words.new != trau_frames.STREAM:
+        print(f"strip orders {len(kept)}")
+    return 0
+
+
+def without_comment(line: bytes) -> bytes:
+    """A line without its comment and the spaces before it; a line without a comment stays as it is, unless it has nothing but spaces."""
+    text, mark, _ = line.partition(COMMENT.encode())
+    blank = b" \t\r"
+    return text.rstrip(blank) if mark or not text.strip(blank) else line
+
+
+def add_check(commands: argparse._SubParsersAction) -> None:
+    """Adds the command `check`."""
     added = commands.add_parser(
         "check",
         help="says what is wrong with orders",
@@ -282,15 +361,47 @@ def main(words: Sequence[str]) -> int:
         "--lines",
         type=Path,
         metavar="FOLDER",
-        help="the folder of the calls' incoming lines: calls then end with their lines, as in a run, and missing lines are told."
-        " Without it calls end by orders alone",
+        help="the folder of the calls' incoming lines: calls then end with their lines, as in a run. Missing lines, and lines that"
+        " aren't what their names say, are warned of, and the periods of the longer line that won't be used are noted. Without it"
+        " calls end by orders alone",
     )
+    added.set_defaults(carried_out=check)
+
+
+def add_strip(commands: argparse._SubParsersAction) -> None:
+    """Adds the command `strip`."""
+    added = commands.add_parser(
+        "strip",
+        help="leaves comments and empty lines out",
+        description="Writes the orders without comments, which begin with # anywhere in a line, and without empty lines. All else stays\n"
+        "as it is. `trau run` numbers the lines that are left.",
+        epilog="example: orders.py strip notes.txt | trau run",
+        formatter_class=argparse.RawDescriptionHelpFormatter,
+        allow_abbrev=False,
+    )
+    added.add_argument("orders", type=Path, metavar="ORDERS", help="the file of the orders, or - for standard input")
+    added.add_argument(
+        "new",
+        type=Path,
+        nargs="?",
+        default=trau_frames.STREAM,
+        metavar="OUT",
+        help="the file that is written (standard output if left out); never the one that is read",
+    )
+    added.set_defaults(carried_out=strip)
+
+
+@tool("orders.py")
+def main(words: Sequence[str]) -> int:
+    """Carries out the words of the command line, and gives the status."""
+    program = trau_frames.Words(
+        description=__doc__, formatter_class=argparse.RawDescriptionHelpFormatter, allow_abbrev=False
+    )
+    commands = program.add_subparsers(metavar="COMMAND", required=True, parser_class=trau_frames.Words)
+    add_check(commands)
+    add_strip(commands)
     asked = program.parse_args(words)
-    try:
-        return check(asked)
-    except Refusal as refusal:
-        print(f"orders.py: {refusal}", file=sys.stderr)
-        return 2
+    return asked.carried_out(asked)
 
 
 if __name__ == "__main__":

@@ -24,9 +24,11 @@ import sync_losses
 import trau_frames
 from run_lines import Call, Heard, Sent
 from run_texts import SIDES, Report
+from tool_ends import tool
 from trau_frames import FRAME_BITS, FRAME_OCTETS, PCM_OCTETS, PERIODS_A_SECOND, Refusal
 
 Row = Dict[str, Any]
+OCTETS_OF_SIDE = dict(zip(SIDES, (FRAME_OCTETS, PCM_OCTETS, FRAME_OCTETS, PCM_OCTETS)))
 
 
 class Told(NamedTuple):
@@ -89,6 +91,7 @@ CALL_COLUMNS = (
     *("call", "periods", "speech", "lost", "rate", "longest", "from"),
     *("pauses", "noise", "longest_pause", "pause_from", "descriptors", "quiet"),
     *("down_frames", "down_speech", "down_descriptors", "down_idle", "down_handed"),
+    *("unused_up", "unused_pcm"),
 )
 
 
@@ -109,6 +112,12 @@ def longest_of(found: Sequence[Tuple[int, int]], start: int) -> Tuple[int, Optio
         return 0, None
     length, place = max(found, key=lambda stretch: (stretch[0], -stretch[1]))
     return length, start + place
+
+
+def unused_periods(folder: Path, call: Call, side: str) -> Optional[int]:
+    """How many whole periods an incoming line has behind those of its call, or None where there is no line."""
+    name = folder / f"{call.number}.{side}"
+    return name.stat().st_size // OCTETS_OF_SIDE[side] - call.periods() if name.is_file() else None
 
 
 def row_of_call(folder: Path, call: Call) -> Row:
@@ -140,6 +149,8 @@ def row_of_call(folder: Path, call: Call) -> Row:
         "down_descriptors": down[Sent.SILENCE],
         "down_idle": down[Sent.IDLE],
         "down_handed": down[Sent.HANDED],
+        "unused_up": unused_periods(folder, call, "up"),
+        "unused_pcm": unused_periods(folder, call, "pcm"),
     }
 
 
@@ -152,7 +163,6 @@ def calls(words: argparse.Namespace) -> Told:
 
 # Two runs
 
-OCTETS_OF_SIDE = dict(zip(SIDES, (FRAME_OCTETS, PCM_OCTETS, FRAME_OCTETS, PCM_OCTETS)))
 COMPARE_COLUMNS = ("call", "what", "period", "seconds", "octet", "periods", "one", "other")
 
 
@@ -349,7 +359,8 @@ def parser() -> argparse.ArgumentParser:
         "losses, pauses and comfort noise of each call",
         "A row for each call of a run. Of the uplink: periods of speech, of speech that is lost, the part of lost ones in both\n"
         "(the frame erasure rate), the longest loss and the period at which it begins; pauses, the periods of comfort noise in\n"
-        "them, the longest one; silence descriptors; periods that are quiet. Of the downlink: its frames by what they are.",
+        "them, the longest one; silence descriptors; periods that are quiet. Of the downlink: its frames by what they are. And the\n"
+        "periods of the incoming lines that weren't used, since the call had ended.",
     )
     added.add_argument("folder", type=Path, metavar="FOLDER", help="the folder of the run")
     added.add_argument("--report", type=Path, metavar="FILE", help="the report of the run (default FOLDER/report.txt)")
@@ -376,14 +387,11 @@ def parser() -> argparse.ArgumentParser:
     return words
 
 
+@tool("report.py")
 def main(words: Sequence[str]) -> int:
     """Carries out the words of the command line, and gives the status."""
     asked = parser().parse_args(words)
-    try:
-        told = asked.made(asked)
-    except Refusal as refusal:
-        print(f"report.py: {refusal}", file=sys.stderr)
-        return 2
+    told = asked.made(asked)
     sys.stdout.write(asked.form(told))
     return told.status
 

@@ -21,9 +21,11 @@ from dataclasses import dataclass
 from pathlib import Path
 from typing import Callable, Dict, FrozenSet, Iterator, List, Optional, Sequence, Tuple
 
+import listening
 import run_texts
 import trau_frames
 from run_texts import MOST_CALLS, MOST_PERIODS, SIDES, Bridge, FailedLine, Order, Reply, Report, Span
+from tool_ends import naming, tool
 from trau_frames import FRAME_OCTETS, PCM_OCTETS, Refusal
 
 CUT = "cut.json"
@@ -95,7 +97,14 @@ def lay_line(source: Path, target: Path, side: str, copied: bool) -> None:
     elif os.path.lexists(source) and not source.is_file():
         raise Refusal(f"{source}: isn't a file; only links to such lines can be cut, without --copy")
     elif side in INCOMING and source.is_file():
-        shutil.copyfile(source, target)
+        with naming(target):
+            shutil.copyfile(source, target)
+
+
+def write_new(path: Path, text: str) -> None:
+    """Writes a file of a cut."""
+    with naming(path):
+        path.write_text(text)
 
 
 def script_of(words: argparse.Namespace) -> str:
@@ -108,9 +117,9 @@ def script_of(words: argparse.Namespace) -> str:
 def lay_part(folder: Path, words: argparse.Namespace, orders: Sequence[Order]) -> None:
     """Makes the folder of a part."""
     folder.mkdir()
-    (folder / ORDERS).write_text("".join(f"{order.line()}\n" for order in orders))
+    write_new(folder / ORDERS, "".join(f"{order.line()}\n" for order in orders))
     script = folder / SCRIPT
-    script.write_text(script_of(words))
+    write_new(script, script_of(words))
     script.chmod(script.stat().st_mode | stat.S_IXUSR | stat.S_IXGRP | stat.S_IXOTH)
     for call in {order.calls[0] for order in orders if order.verb == "open"}:
         for side in SIDES:
@@ -125,14 +134,14 @@ def lay_cut(place: Path, words: argparse.Namespace, orders: Sequence[Order], par
         own = [order for order in orders if order.calls[0] in part.calls]
         numbers.append([order.number for order in own])
         lay_part(place / str(number), words, own)
-    (place / ORDERS).write_text("".join(f"{order.line()}\n" for order in orders))
+    write_new(place / ORDERS, "".join(f"{order.line()}\n" for order in orders))
     told = {
         "farm": os.path.abspath(words.folder),
         "copied": words.copy,
         "periods": words.periods or MOST_PERIODS,
         "orders_of_parts": numbers,
     }
-    (place / CUT).write_text(json.dumps(told) + "\n")
+    write_new(place / CUT, json.dumps(told) + "\n")
 
 
 def split(words: argparse.Namespace) -> int:
@@ -151,6 +160,10 @@ def split(words: argparse.Namespace) -> int:
         lay_cut(place, words, orders, parts)
         place.chmod(0o777 & ~current_mask())
         place.rename(words.cut)
+    except OSError as failure:
+        shutil.rmtree(place)
+        name = str(failure.filename).replace(str(place), str(words.cut))
+        raise Refusal(f"{name}: {failure.strerror}") from None
     except BaseException:
         shutil.rmtree(place)
         raise
@@ -305,12 +318,6 @@ def number_within(least: int, most: int) -> Callable[[str], int]:
     return read
 
 
-def program_beside() -> str:
-    """The script `trau` of the repository that has this tool, or else the program of that name on the path."""
-    beside = Path(__file__).resolve().parents[1] / "trau"
-    return str(beside) if beside.is_file() else "trau"
-
-
 def add_split(commands: argparse._SubParsersAction) -> None:
     """Adds the command `split`."""
     cutting = commands.add_parser(
@@ -332,7 +339,7 @@ def add_split(commands: argparse._SubParsersAction) -> None:
     )
     cutting.add_argument("--copy", action="store_true", help="copies of the incoming lines instead of links")
     cutting.add_argument(
-        "--trau", default=program_beside(), metavar="PROGRAM", help="the program (default %(default)s)"
+        "--trau", default=listening.program_beside(), metavar="PROGRAM", help="the program (default %(default)s)"
     )
     cutting.add_argument(
         "--workers", type=number_within(1, 64), default=1, metavar="N", help="as of trau run (default 1)"
@@ -371,16 +378,11 @@ def parser() -> argparse.ArgumentParser:
     return words
 
 
+@tool("shard.py")
 def main(words: Sequence[str]) -> int:
     """Carries out the words of the command line, and gives the status."""
     asked = parser().parse_args(words)
-    try:
-        return asked.carried_out(asked)
-    except Refusal as refusal:
-        print(f"shard.py: {refusal}", file=sys.stderr)
-    except OSError as failure:
-        print(f"shard.py: {failure.filename}: {failure.strerror}", file=sys.stderr)
-    return 2
+    return asked.carried_out(asked)
 
 
 if __name__ == "__main__":

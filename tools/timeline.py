@@ -21,6 +21,7 @@ import trau_frames
 from picture import COMPACT, FULL, WITHOUT_LEVELS, Picture, Shape
 from run_lines import Run
 from run_texts import MOST_CALLS, MOST_PERIODS
+from tool_ends import tool
 from trau_frames import Refusal
 
 MOST_FULL_ROWS = 40
@@ -113,6 +114,7 @@ def draw(asked: argparse.Namespace) -> Run:
     return run
 
 
+@tool("timeline.py")
 def main(words: Sequence[str]) -> int:
     """Carries out the words of the command line, and gives the status."""
     reader = parser()
@@ -121,11 +123,7 @@ def main(words: Sequence[str]) -> int:
         reader.error(f"--width {asked.width} isn't 200 to 100000")
     asked.orders = asked.orders or asked.folder / "orders.txt"
     asked.report = asked.report or asked.folder / "report.txt"
-    try:
-        run = draw(asked)
-    except Refusal as refusal:
-        print(f"timeline.py: {refusal}", file=sys.stderr)
-        return 2
+    run = draw(asked)
     shifts = sum(made.shift != 0 for call in run.calls for made in call.made)
     refused = sum(each.reply.refusal is not None for each in run.orders)
     print(

@@ -13,7 +13,7 @@ import re
 import sys
 from dataclasses import dataclass
 from pathlib import Path
-from typing import Iterable, Iterator, NamedTuple, NoReturn, Optional, Tuple
+from typing import Iterable, Iterator, NamedTuple, NoReturn, Optional, TextIO, Tuple
 
 PERIODS_A_SECOND = 50
 FRAME_BITS = 320
@@ -351,6 +351,8 @@ STREAM = Path("-")  # standard input, or standard output
 
 def read_file(path: Path) -> bytes:
     """The octets of a file, or of standard input."""
+    if path == STREAM and sys.stdin is None:
+        raise Refusal("standard input is closed")
     try:
         return sys.stdin.buffer.read() if path == STREAM else path.read_bytes()
     except OSError as failure:
@@ -366,7 +368,8 @@ def write_file(path: Path, content: bytes, inputs: Iterable[Path]) -> None:
         else:
             replace_file(path, content, inputs)
     except OSError as failure:
-        raise Refusal(f"{path}: {failure.strerror}") from None
+        name = "standard output" if path == STREAM else path
+        raise Refusal(f"{name}: {failure.strerror}") from None
 
 
 def replace_file(path: Path, content: bytes, inputs: Iterable[Path]) -> None:
@@ -391,6 +394,10 @@ def replace_file(path: Path, content: bytes, inputs: Iterable[Path]) -> None:
 
 class Words(argparse.ArgumentParser):
     """The words of a command line; bad ones get one line on standard error and status 2."""
+
+    def print_help(self, file: Optional[TextIO] = None) -> None:
+        """Prints the help; argparse's own function does as if that never failed."""
+        print(self.format_help(), end="", file=file)
 
     def error(self, message: str) -> NoReturn:
         self.exit(2, f"{self.prog}: {message}\n")

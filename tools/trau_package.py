@@ -15,7 +15,6 @@ import io
 import os
 import re
 import subprocess
-import sys
 import tarfile
 from pathlib import Path
 from typing import Dict, NamedTuple, Sequence
@@ -24,6 +23,7 @@ import tool_pages
 import trau_deb
 import trau_frames
 import trau_words
+from tool_ends import tool
 from trau_frames import Refusal
 
 TOP = Path(__file__).resolve().parents[1]
@@ -31,9 +31,12 @@ PROGRAM = TOP / "crates" / "trau_program" / "out" / "trau_program"
 
 SCRIPTS = ("trau", "demo")
 TOOLS = ("lines.py", "orders.py", "report.py", "shard.py", "timeline.py", "watch.py")
+# What the tools stand on.
 BESIDE_TOOLS = (
-    *("captures.py", "levels.py", "looks.py", "picture.py", "picture_page.py", "run_lines.py", "run_texts.py", "sync_losses.py"),
-    *("trau_frames.py", "trau_words.py", "help.txt", "pages.txt", "grammar.txt"),
+    *("captures.py", "code_word.py", "damages.py", "file_kinds.py", "gsm_files.py", "levels.py", "listening.py", "looks.py"),
+    *("picture.py", "picture_page.py", "readings.py", "recordings.py", "rtp_packets.py", "run_lines.py", "run_texts.py"),
+    *("slots.py", "sync_losses.py", "tool_ends.py", "trau_frames.py", "trau_words.py", "wav_files.py"),
+    *("help.txt", "pages.txt", "grammar.txt"),
 )
 EXAMPLES = re.compile(r"README\.md|7\.up|farm/(\d+\.(up|pcm)|orders\.txt|wanted/[\w.]+)")
 
@@ -153,6 +156,7 @@ def tarball(state: State, found: Dict[str, Member]) -> bytes:
     return packed.getvalue()
 
 
+@tool("package")
 def main(words: Sequence[str]) -> int:
     """Carries out the words of the command line, and gives the status."""
     parser = trau_frames.Words(
@@ -161,21 +165,16 @@ def main(words: Sequence[str]) -> int:
     parser.add_argument("folder", type=Path, metavar="FOLDER", help="the folder that the package is written to")
     parser.add_argument("--deb", action="store_true", help="make a Debian package too, by dpkg-deb")
     asked = parser.parse_args(words)
-    try:
-        if not asked.folder.is_dir():
-            raise Refusal(f"{asked.folder}: isn't a folder")
-        state = state_of_repository()
-        found = members(state)
-        made = {f"{state.name()}.tar.gz": tarball(state, found)}
-        if asked.deb:
-            author = git("log", "-1", "--format=%an <%ae>")
-            name, content = trau_deb.package({name: member.content for name, member in found.items()}, author, state.seconds)
-            made[name] = content
-        for name, content in made.items():
-            trau_frames.write_file(asked.folder / name, content, [])
-    except Refusal as refusal:
-        print(f"package: {refusal}", file=sys.stderr)
-        return 2
+    if not asked.folder.is_dir():
+        raise Refusal(f"{asked.folder}: isn't a folder")
+    state = state_of_repository()
+    found = members(state)
+    made = {f"{state.name()}.tar.gz": tarball(state, found)}
+    if asked.deb:
+        author = git("log", "-1", "--format=%an <%ae>")
+        name, content = trau_deb.package({name: member.content for name, member in found.items()}, author, state.seconds)
+        made[name] = content
     for name, content in made.items():
+        trau_frames.write_file(asked.folder / name, content, [])
         print(f"package {asked.folder / name} octets {len(content)} sha256 {hashlib.sha256(content).hexdigest()}")
     return 0

@@ -14,6 +14,7 @@ from dataclasses import dataclass
 from typing import Iterable, List, Sequence, Tuple
 
 import trau_frames
+from tool_ends import tool
 
 NAME = "trau"
 PURPOSE = "the GSM transcoder and rate adaptor unit, on recorded lines"
@@ -411,6 +412,7 @@ def completion() -> str:
     )
 
 
+@tool("trau_words.py")
 def main(words: Sequence[str]) -> int:
     """Prints what is asked for, and gives the status."""
     parser = trau_frames.Words(

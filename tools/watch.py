@@ -2,7 +2,8 @@
 """Shows how far a run is, and when it will be done, while `trau run <orders.txt >report.txt` works in a folder.
 
 It looks at the sizes of the lines, and writes nothing. A run writes its report at its end in one piece: as long as the
-report's file is empty, the run is on, and outgoing lines that are older than this file are of an earlier run.
+report's file is empty, the run is on, and outgoing lines that are older than this file are of an earlier run. Status 1: there is no
+run, or it ended without a report, or its lines have stopped growing.
 """
 
 from __future__ import annotations
@@ -18,6 +19,7 @@ from typing import Any, Dict, List, NamedTuple, Optional, Sequence, Union
 import run_texts
 import trau_frames
 from run_texts import MOST_PERIODS, Order
+from tool_ends import tool
 from trau_frames import FRAME_OCTETS, PCM_OCTETS, Refusal
 
 
@@ -45,6 +47,10 @@ def expected_periods(folder: Path, orders: Sequence[Order], periods: int) -> Dic
     return expected
 
 
+class NoRun(Exception):
+    """There is no run to be watched, or it doesn't go on; the text says why, in one line."""
+
+
 class Progress(NamedTuple):
     """How far runs are: periods of calls that are on the lines, and calls that are done; when the first run began, and
     whether all have ended."""
@@ -66,9 +72,16 @@ class Watched:
     @staticmethod
     def read(folder: Path, words: argparse.Namespace) -> Watched:
         """Reads the orders of the run."""
-        orders = run_texts.read_orders(words.orders or folder / "orders.txt")
+        name = words.orders or folder / "orders.txt"
+        if not words.orders and not name.is_file():
+            raise NoRun(f"{folder}: no run in this folder: there is no {name.name}")
         report = words.report or folder / "report.txt"
-        return Watched(folder, report, expected_periods(folder, orders, words.periods))
+        return Watched(folder, report, expected_periods(folder, run_texts.read_orders(name), words.periods))
+
+    def octets(self) -> int:
+        """How many octets are on the outgoing lines of the calls."""
+        lines = (self.folder / f"{call}.{side}" for call in self.expected for side in ("down", "out"))
+        return sum(line.stat().st_size for line in lines if line.is_file())
 
     def done(self, call: int, began: float) -> int:
         """How many periods of a call are on its Out line."""
@@ -124,6 +137,22 @@ def said(progress: Progress, expected: int, calls: int, left: Optional[float]) -
     return f"watch periods {progress.periods} of {expected}, {percent} %, calls done {progress.calls} of {calls}{until}"
 
 
+@dataclass
+class Growth:
+    """Since when the lines of runs have had as many octets as they have."""
+
+    octets: int = -1
+    since: float = 0.0
+
+    def look(self, runs: Sequence[Watched], progress: Progress, patience: float) -> None:
+        """Looks once more; raises NoRun where nothing has grown for longer than the patience lasts."""
+        octets, now = sum(run.octets() for run in runs) + progress.periods, time.monotonic()
+        if octets != self.octets:
+            self.octets, self.since = octets, now
+        elif now - self.since >= patience:
+            raise NoRun(f"no growth for {patience:g} s: stalled or ended")
+
+
 class PlainLines:
     """Shows the progress as lines of text."""
 
@@ -175,17 +204,23 @@ def watch(words: argparse.Namespace) -> int:
     runs = [Watched.read(folder, words) for folder in words.folders]
     expected = sum(sum(run.expected.values()) for run in runs)
     calls = sum(len(run.expected) for run in runs)
+    if not any(run.report.is_file() for run in runs):
+        raise NoRun(f"{runs[0].folder}: no run in this folder: there is no {runs[0].report.name}")
     shown = display(words, expected)
     pace: Optional[Pace] = None
-    while True:
-        progress = progress_of(runs)
-        pace = pace or Pace.of(runs, progress)
-        left = pace.seconds_left(progress, expected)
-        shown.show(progress, said(progress, expected, calls, left))
-        if progress.ended or words.once:
-            break
-        time.sleep(words.interval)
-    shown.close()
+    growth = Growth()
+    try:
+        while True:
+            progress = progress_of(runs)
+            pace = pace or Pace.of(runs, progress)
+            left = pace.seconds_left(progress, expected)
+            shown.show(progress, said(progress, expected, calls, left))
+            if progress.ended or words.once:
+                break
+            growth.look(runs, progress, words.patience)
+            time.sleep(words.interval)
+    finally:
+        shown.close()
     ends = text_of_ends(runs) if progress.ended else []
     for line in ends:
         print(f"watch.py: {line}", file=sys.stderr)
@@ -205,6 +240,13 @@ def parser() -> argparse.ArgumentParser:
     words.add_argument("--report", type=Path, metavar="FILE", help="the report of the run (default FOLDER/report.txt)")
     words.add_argument("--periods", type=int, default=MOST_PERIODS, metavar="N", help="as of trau run")
     words.add_argument("--interval", type=float, default=1.0, metavar="SECONDS", help="between two looks (default 1)")
+    words.add_argument(
+        "--patience",
+        type=float,
+        default=60.0,
+        metavar="SECONDS",
+        help="how long the lines may stay as they are until the run counts as stalled or ended (default 60)",
+    )
     words.add_argument("--once", action="store_true", help="look once")
     words.add_argument(
         "--plain", action="store_true", help="lines of text also where there is a terminal and the library tqdm"
@@ -212,8 +254,10 @@ def parser() -> argparse.ArgumentParser:
     return words
 
 
+@tool("watch.py")
 def main(words: Sequence[str]) -> int:
-    """Carries out the words of the command line: 0 where all runs ended with a report, or are on; 1 where one has none."""
+    """Carries out the words of the command line: 0 where all runs ended with a report, or are on; 1 where one has none, or there is no
+    run that goes on."""
     reader = parser()
     asked = reader.parse_args(words)
     if not 0.01 <= asked.interval <= 3600:
@@ -222,13 +266,13 @@ def main(words: Sequence[str]) -> int:
         reader.error(f"--periods {asked.periods} isn't 1 to {MOST_PERIODS:,}")
     if len(asked.folders) > 1 and (asked.orders or asked.report):
         reader.error("--orders and --report are of one folder")
+    if not 0.01 <= asked.patience <= 1_000_000:
+        reader.error(f"--patience {asked.patience} isn't 0.01 to 1,000,000")
     try:
         return watch(asked)
-    except Refusal as refusal:
-        print(f"watch.py: {refusal}", file=sys.stderr)
-        return 2
-    except KeyboardInterrupt:
-        return 130
+    except NoRun as why:
+        print(f"watch.py: {why}", file=sys.stderr)
+        return 1
 
 
 if __name__ == "__main__":

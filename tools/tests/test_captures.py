@@ -3,12 +3,14 @@ that tshark reads of them; damaged ones; and lines out to captures. They need th
 
 import importlib.util
 import io
+import sys
 import unittest
 from collections import Counter
 
 from support import DATA, EXAMPLES, InFolder
 
 import captures
+import code_word
 import lines
 import trau_frames
 from trau_frames import Law, Sort
@@ -37,7 +39,7 @@ class WithoutTheLibrary(InFolder):
     @unittest.skipIf(HAS_DPKT, "dpkt is there")
     def test_asked_for_with_a_word(self):
         words = ["pcap", DATA / "gsm.pcap", self.folder / "7.up"]
-        self.assert_refused(lines.main, words, "captures need the library dpkt; apt-get install python3-dpkt")
+        self.assert_refused(lines.main, words, f"captures need the library dpkt, which {sys.executable} doesn't have; apt-get")
 
 
 @unittest.skipUnless(HAS_DPKT, "no library dpkt")
@@ -49,13 +51,13 @@ class Captures(InFolder):
 
     def test_packets_are_those_that_tshark_reads(self):
         for kind, name in CAPTURES.items():
-            (packets,) = captures.streams_of(name, (DATA / name).read_bytes()).values()
+            (packets,) = captures.streams_of(name, (DATA / name).read_bytes()).by_flow.values()
             self.assertEqual([packet[:5] for packet in packets], fields(kind))
 
     def test_gsm(self):
         frames = b"".join(row[4] for row in fields("gsm"))
         said, line = self.pcap(DATA / "gsm.pcap")
-        self.assertEqual(said, "pcap gsm packets 30 late 0 doubled 0 others 0 frames 30 lost 0 paused 0 lead 0\n")
+        self.assertEqual(said, "pcap gsm packets 30 late 0 doubled 0 others 0 frames 30 sid 0 invalid 0 lost 0 paused 0 lead 0\n")
         self.run_tool(lines.main, "uplink", self.path("7.gsm", frames), self.folder / "7.up")
         self.assertEqual(line, self.path("7.up").read_bytes())
 
@@ -90,14 +92,14 @@ class Captures(InFolder):
         reader = captures.library("pcap").UniversalReader(io.BytesIO((DATA / CAPTURES[kind]).read_bytes()))
         return reader.datalink(), [octets for _, octets in reader]
 
-    def changed(self, change, kind="gsm"):
+    def changed(self, change, kind="gsm", words=()):
         """What is made of a capture whose list of packets was changed."""
         link, packets = self.packets(kind)
         file = io.BytesIO()
         writer = captures.library("pcap").Writer(file, linktype=link)
         for place, octets in enumerate(change(packets)):
             writer.writepkt(octets, ts=place / 50)
-        return self.pcap(self.path("changed.pcap", file.getvalue()))
+        return self.pcap(self.path("changed.pcap", file.getvalue()), *words)
 
     def sorts(self, line):
         return [each.sort().value for each in trau_frames.search(trau_frames.bits_of(line))]
@@ -115,7 +117,7 @@ class Captures(InFolder):
 
     def test_lost(self):
         said, line = self.changed(lambda packets: packets[:7] + packets[9:20] + packets[21:])
-        self.assertEqual(said, "pcap gsm packets 27 late 0 doubled 0 others 0 frames 27 lost 3 paused 0 lead 0\n")
+        self.assertEqual(said, "pcap gsm packets 27 late 0 doubled 0 others 0 frames 27 sid 0 invalid 0 lost 3 paused 0 lead 0\n")
         self.assertEqual([place for place, sort in enumerate(self.sorts(line)) if sort == "bad"], [7, 8, 20])
         said, line = self.changed(lambda packets: packets[:4] + packets[6:], "pcma")
         whole = b"".join(row[4] for row in fields("pcma"))
@@ -130,10 +132,10 @@ class Captures(InFolder):
     def test_late_and_doubled(self):
         whole = self.pcap(DATA / "gsm.pcap")[1]
         said, line = self.changed(lambda packets: packets[:5] + [packets[7], packets[5], packets[6]] + packets[8:])
-        self.assertEqual(said, "pcap gsm packets 30 late 2 doubled 0 others 0 frames 30 lost 0 paused 0 lead 0\n")
+        self.assertEqual(said, "pcap gsm packets 30 late 2 doubled 0 others 0 frames 30 sid 0 invalid 0 lost 0 paused 0 lead 0\n")
         self.assertEqual(line, whole)
         said, line = self.changed(lambda packets: packets[:5] + packets[3:5] + packets[5:])
-        self.assertEqual(said, "pcap gsm packets 32 late 0 doubled 2 others 0 frames 30 lost 0 paused 0 lead 0\n")
+        self.assertEqual(said, "pcap gsm packets 32 late 0 doubled 2 others 0 frames 30 sid 0 invalid 0 lost 0 paused 0 lead 0\n")
         self.assertEqual(line, whole)
         # The first packet of all comes late.
         said, line = self.changed(lambda packets: [packets[1], packets[0]] + packets[2:])
@@ -149,7 +151,7 @@ class Captures(InFolder):
             rtp.ts = (rtp.ts - first[3] + 4294966000) % 4294967296
 
         said, line = self.changed(lambda packets: [self.rewritten(octets, moved) for octets in packets])
-        self.assertEqual(said, "pcap gsm packets 30 late 0 doubled 0 others 0 frames 30 lost 0 paused 0 lead 0\n")
+        self.assertEqual(said, "pcap gsm packets 30 late 0 doubled 0 others 0 frames 30 sid 0 invalid 0 lost 0 paused 0 lead 0\n")
         self.assertEqual(line, whole)
 
     def test_pauses_and_other_kinds(self):
@@ -159,7 +161,7 @@ class Captures(InFolder):
         said, line = self.changed(
             lambda packets: packets[:10] + [self.rewritten(octets, later) for octets in packets[10:]]
         )
-        self.assertEqual(said, "pcap gsm packets 30 late 0 doubled 0 others 0 frames 30 lost 0 paused 5 lead 0\n")
+        self.assertEqual(said, "pcap gsm packets 30 late 0 doubled 0 others 0 frames 30 sid 0 invalid 0 lost 0 paused 5 lead 0\n")
         self.assertEqual(self.sorts(line)[9:16], ["good", *5 * ["idle"], "good"])
 
         def digit(rtp):
@@ -168,8 +170,66 @@ class Captures(InFolder):
         said, line = self.changed(
             lambda packets: packets[:10] + [self.rewritten(octets, digit) for octets in packets[10:12]] + packets[12:]
         )
-        self.assertEqual(said, "pcap gsm packets 30 late 0 doubled 0 others 2 frames 28 lost 0 paused 2 lead 0\n")
+        self.assertEqual(said, "pcap gsm packets 30 late 0 doubled 0 others 2 frames 28 sid 0 invalid 0 lost 0 paused 2 lead 0\n")
         self.assertEqual(self.sorts(line)[9:13], ["good", "idle", "idle", "good"])
+
+    def test_silence_descriptors(self):
+        # The 11th frame is a descriptor, the 12th a damaged one, and then nothing is sent for five periods.
+        descriptor = trau_frames.silence_descriptor(trau_frames.SILENCE)
+        whole = descriptor.bits()
+        damaged = whole[: code_word.CODE_WORD_BITS[0]] + "1111" + whole[code_word.CODE_WORD_BITS[0] + 4 :]
+
+        def put(data, steps):
+            def change(rtp):
+                rtp.ts = (rtp.ts + steps * 160) % 4294967296
+                rtp.data = trau_frames.gsm_of_data(data) if data else rtp.data
+
+            return change
+
+        def change(packets):
+            later = [self.rewritten(octets, put(None, 5)) for octets in packets[12:]]
+            return [
+                *packets[:10],
+                self.rewritten(packets[10], put(whole, 0)),
+                self.rewritten(packets[11], put(damaged, 0)),
+                *later,
+            ]
+
+        said, line = self.changed(change)
+        self.assertEqual(
+            said, "pcap gsm packets 30 late 0 doubled 0 others 0 frames 30 sid 1 invalid 1 lost 0 paused 5 lead 0\n"
+        )
+        self.assertEqual(self.sorts(line)[9:19], ["good", "sid", "invalid", *5 * ["bad"], "good", "good"])
+        said, line = self.changed(change, words=("--sid", "keep"))
+        self.assertIn("frames 30 sid 0 invalid 0 lost 0 paused 5 ", said)
+        self.assertEqual(self.sorts(line)[9:19], [*3 * ["good"], *5 * ["idle"], "good", "good"])
+
+    def test_captures_that_were_cut(self):
+        whole = self.pcap(DATA / "gsm.pcap")[1]
+        octets = (DATA / "gsm.pcap").read_bytes()
+        cut = self.path("cut.pcap", octets[:-15])
+        self.assert_refused(lines.main, ["pcap", cut, self.path("new")], "ends within a packet; --partial takes those before it")
+        said, line = self.pcap(cut, "--partial")
+        self.assertEqual(
+            said,
+            "pcap gsm packets 29 late 0 doubled 0 others 0 frames 29 sid 0 invalid 0 lost 0 paused 0 lead 0 cut 1\n",
+        )
+        self.assertEqual(line, whole[:-40])
+        for name, octets in ((name, (DATA / name).read_bytes()) for name in CAPTURES.values()):
+            for missing in (1, 20, 60, 80, 95, 103):
+                cut = self.path("cut", octets[:-missing])
+                refused = self.run_tool(lines.main, "pcap", cut, self.path("new"))
+                self.assertIn("ends within a packet" if missing < 103 or name != "gsm.pcap" else "", refused[2])
+                line = self.pcap(cut, "--partial")[1].rstrip(b"\xd5")
+                whole = self.pcap(DATA / name)[1]
+                self.assertEqual(line, whole[:-40] if name == "gsm.pcap" else whole[: len(line)])
+                self.assertGreater(len(line), len(whole) - 500)
+        # Each third packet is cut in its payload, as by a capture with a limit on their octets: these are lost.
+        said, line = self.changed(
+            lambda packets: [each[: -9 if at % 3 == 1 else None] for at, each in enumerate(packets)], words=("--partial",)
+        )
+        self.assertIn("packets 20 late 0 doubled 0 others 0 frames 20 sid 0 invalid 0 lost 10 paused 0 lead 0 cut 10", said)
+        self.assertEqual(self.sorts(line)[:5], ["good", "bad", "good", "good", "bad"])
 
     def test_lines_that_keep_step(self):
         # Two streams of one capture, the second of which begins 0.12 s after the first: ffmpeg sends a packet of RTCP before.
@@ -226,7 +286,7 @@ class Captures(InFolder):
             self.capture(folder / "wanted" / f"{call}.down", self.folder / "d.pcap")
             self.run_tool(lines.main, "gsm", folder / "wanted" / f"{call}.down", self.folder / "d.gsm")
             frames = self.path("d.gsm").read_bytes()
-            (packets,) = captures.streams_of("d", self.path("d.pcap").read_bytes()).values()
+            (packets,) = captures.streams_of("d", self.path("d.pcap").read_bytes()).by_flow.values()
             self.assertEqual(b"".join(packet.payload for packet in packets), frames)
 
     def test_refused(self):
@@ -238,7 +298,7 @@ class Captures(InFolder):
         refused("isn't a capture", "pcap", self.path("empty", b""), line)
         refused("has 1 streams, one of which", "pcap", DATA / "gsm.pcap", line, "--stream", "2")
         octets = (DATA / "gsm.pcap").read_bytes()
-        refused("isn't a capture", "pcap", self.path("cut.pcap", octets[:30]), line)
+        refused("ends within a packet; --partial takes those before it", "pcap", self.path("cut.pcap", octets[:30]), line)
         refused("has no RTP stream", "pcap", self.path("none.pcap", octets[:24]), line)
         refused("the name of a line ends with", "capture", DATA / "speech.gsm", line)
         refused("gives no speech", "capture", self.path("9.up", bytes(400)), line)

@@ -75,20 +75,20 @@ class Frames(InFolder):
     def test_uplink_of_frames_by_toast(self):
         # toast made the frames of the first 40 periods of speech whose uplink is examples/7.up.
         said = self.lines("uplink", DATA / "speech.gsm", self.path("7.up"))
-        self.assertEqual(said, "uplink frames 40\n")
+        self.assertEqual(said, "uplink frames 40 sid 0 invalid 0\n")
         self.assertEqual(self.path("7.up").read_bytes(), (EXAMPLES / "7.up").read_bytes()[:1600])
 
     def test_uplink_of_a_wav_file_of_gsm_frames(self):
         # sox wrote the same samples (those of speech.gsm) to both files: sox.gsm has a frame in 33 octets, sox.wav two in 65.
         for name in ("sox.wav", "sox.gsm"):
-            self.assertEqual(self.lines("uplink", DATA / name, self.path(f"{name}.up")), "uplink frames 40\n")
+            self.assertEqual(self.lines("uplink", DATA / name, self.path(f"{name}.up")), "uplink frames 40 sid 0 invalid 0\n")
         self.assertEqual(self.path("sox.wav.up").read_bytes(), self.path("sox.gsm.up").read_bytes())
 
     def test_a_wav_file_of_an_odd_number_of_blocks(self):
         block = (DATA / "sox.wav").read_bytes()[60:125]
         for data in (block, block + b"\0", 3 * block + b"\0"):
             said = self.lines("uplink", self.path("x.wav", wav(tag=49, bits=0, data=data)), self.path("x.up"))
-            self.assertEqual(said, f"uplink frames {2 * (len(data) // 65)}\n")
+            self.assertEqual(said, f"uplink frames {2 * (len(data) // 65)} sid 0 invalid 0\n")
         other = self.path("x.wav", wav(tag=49, bits=0, data=block + b"x"))
         self.assert_refused(lines.main, ["uplink", other, self.path("y.up")], "66 octets of GSM")
 
@@ -342,11 +342,11 @@ class Sound(InFolder):
         for words in (["sound"], ["sound", "--raw"], ["pcm", "--raw"]):
             command, *options = words
             for name, content, part in (
-                ("x.wav", wav(), "is a WAV file and no raw A-law"),
-                ("1.up", frames, "is a line of frames"),
-                ("1.up", bytes(160), "is a line of frames"),
-                ("other", frames, "is a line of frames"),
-                ("other", b"\xff\xff" + down, "is a line of frames"),
+                ("x.wav", wav(), "is a WAV file, 8000 Hz, channels 1, bits 16 linear, and no A-law; lines.py pcm "),
+                ("1.up", frames, "is a line of frames by its name, and no A-law"),
+                ("1.up", bytes(160), "is a line of frames by its name"),
+                ("other", frames, "is an uplink, its first frame at bit 0, and no A-law; trau run"),
+                ("other", b"\xff\xff" + down, "is a downlink, its first frame at bit 336, and no A-law; lines.py listen"),
             ):
                 self.assert_refused(lines.main, [command, self.path(name, content), new, *options], part)
         # A-law of speech, and zeros, which are A-law too, are taken.
@@ -478,6 +478,9 @@ class Damage(InFolder):
         self.assert_refused(lines.main, ["damage", self.path("ones.up", b"\xff" * 400), new, "--drop", "0"], "no frame found")
 
 
+COMMANDS = ("look", "uplink", "gsm", "listen", "pcm", "sound", "idle", "slot", "pcap", "capture", "damage")
+
+
 class TheFileThatIsWritten(InFolder):
     def test_never_the_input(self):
         up = self.path("7.up", (EXAMPLES / "7.up").read_bytes())
@@ -505,8 +508,8 @@ class TheFileThatIsWritten(InFolder):
         tool, speech = support.TOOLS / "lines.py", (DATA / "speech.gsm").read_bytes()
         self.run_tool(lines.main, "uplink", DATA / "speech.gsm", self.path("7.up"))
         for new, out, err in (
-            ("-", self.path("7.up").read_bytes(), b"uplink frames 40\n"),
-            (self.path("8.up"), b"uplink frames 40\n", b""),
+            ("-", self.path("7.up").read_bytes(), b"uplink frames 40 sid 0 invalid 0\n"),
+            (self.path("8.up"), b"uplink frames 40 sid 0 invalid 0\n", b""),
         ):
             ended = subprocess.run([sys.executable, tool, "uplink", "-", new], input=speech, capture_output=True)
             self.assertEqual((ended.returncode, ended.stdout, ended.stderr), (0, out, err))
@@ -519,7 +522,7 @@ class TheFileThatIsWritten(InFolder):
 
     def test_as_a_program(self):
         tool = support.TOOLS / "lines.py"
-        for words in ([], ["uplink"], ["gsm"], ["pcm"], ["sound"], ["idle"], ["damage"]):
+        for words in ([], *([command] for command in COMMANDS)):
             ended = subprocess.run([sys.executable, tool, *words, "--help"], capture_output=True, text=True)
             self.assertEqual((ended.returncode, ended.stderr), (0, ""))
             self.assertIn("example: lines.py" if words else "COMMAND", ended.stdout)

@@ -37,7 +37,7 @@ FAULTS = (
     (b"0", "no order behind the stamp"),
     (b"0 opne 1", "no order 'opne'; the orders are open, close, bridge, unbridge, level, dtx"),
     (b"0 OPEN 1", "no order 'OPEN'; write open"),
-    (b"# calls", "stamp '#'"),
+    (b"# calls", "a comment; orders.py strip leaves comments and empty lines out"),
     (b"0 open", "too few words: S open C or S open C mulaw"),
     (b"0 open 1 alaw", "'alaw': mulaw, or nothing for A-law"),
     (b"0 open 1 mulaw 2", "too many words: S open C or S open C mulaw"),
@@ -119,6 +119,7 @@ class Orders(InFolder):
         self.assertEqual(
             said,
             [
+                "line 1: note: the last 25 periods of 4.pcm won't be used: 4.up has 75",
                 "line 2: warning: the run will refuse it (1): call 4 is open since line 1",
                 "line 4: warning: the run will refuse it (2): call 4 has ended",
                 "line 5: warning: the run will refuse it (7): call 4 was opened by line 1",
@@ -128,7 +129,36 @@ class Orders(InFolder):
             ],
         )
         self.assertEqual(self.check(b"0 open 4\n76 close 4\n")[1], ["orders 2 bad 0 warnings 0"])
-        self.assertIn("(2): call 4 has ended", self.check(b"0 open 4\n76 close 4\n", "--lines", self.folder)[1][0])
+        self.assertIn("(2): call 4 has ended", self.check(b"0 open 4\n76 close 4\n", "--lines", self.folder)[1][1])
+
+    def test_periods_that_wont_be_used(self):
+        for up, pcm, note in (
+            (400, 1600, None),
+            (439, 1759, None),
+            (440, 1600, "the last period of 1.up won't be used: 1.pcm has 10"),
+            (400, 3200, "the last 10 periods of 1.pcm won't be used: 1.up has 10"),
+            (0, 3200, None),
+        ):
+            self.path("1.up", bytes(up))
+            self.path("1.pcm", bytes(pcm))
+            status, said = self.check(b"0 open 1\n", "--lines", self.folder)
+            self.assertEqual((status, said[:-1]), (0, [f"line 1: note: {note}"] if note else []))
+            self.assertEqual(said[-1], "orders 1 bad 0 warnings 0")
+
+    def test_strip(self):
+        notes = b"# two calls\n\n0 open 1 # Alice\n  \n0 open 2\t#  Bob # her brother\n   # and then\n5 close 1\n \t\r\n9  close 2"
+        given, new = self.path("notes.txt", notes), self.path("orders.txt")
+        wanted = b"0 open 1\n0 open 2\n5 close 1\n9  close 2\n"
+        self.assertEqual(self.run_tool(orders.main, "strip", given, new), (0, "strip orders 4\n", ""))
+        self.assertEqual(new.read_bytes(), wanted)
+        ended = subprocess.run([support.TOOLS / "orders.py", "strip", "-"], input=notes, capture_output=True)
+        self.assertEqual((ended.returncode, ended.stdout, ended.stderr), (0, wanted, b""))
+        # Nothing else is changed, so orders without comments stay as they are.
+        for content in ((EXAMPLES / "farm" / "orders.txt").read_bytes(), b"", b" 0 open 1\r\n", b"\xff\n"):
+            self.run_tool(orders.main, "strip", self.path("notes.txt", content), new)
+            self.assertEqual(new.read_bytes(), content)
+        self.assert_refused(orders.main, ["strip", given, given], "is an input")
+        self.assert_refused(orders.main, ["strip", self.folder / "gone", new], "gone: No such file")
 
     def test_refused_words(self):
         self.assert_refused(orders.main, ["check", self.path("gone.txt")], "gone.txt: No such file")
@@ -142,7 +172,7 @@ class Orders(InFolder):
         ended = subprocess.run([tool, "check", "-"], input=b"0 open 1\r\n", capture_output=True)
         self.assertEqual((ended.returncode, ended.stderr), (1, b""))
         self.assertEqual(ended.stdout, b"line 1: a carriage return at its end\norders 1 bad 1 warnings 0\n")
-        for words in ([], ["check"]):
+        for words in ([], ["check"], ["strip"]):
             ended = subprocess.run([tool, *words, "--help"], capture_output=True)
             self.assertEqual((ended.returncode, ended.stderr), (0, b""))
 
@@ -189,7 +219,7 @@ class AgainstTheProgram(InFolder):
                 form = source.choice(FORMS)
                 lines.append(f"{stamp} {form}".format(source.randint(1, 6), source.randint(1, 5)))
             content = "\n".join(lines).encode()
-            warned = orders.warnings_of(orders.Text.read(content).orders, self.folder)
+            warned = orders.remarks_on(orders.Text.read(content).orders, self.folder).warnings
             found = [(line, int(re.search(r"\((\d)\)", what)[1])) for line, what in warned if "refuse" in what]
             self.assertEqual(found, refusals(self.run_program(content)), content)
             seen.update(number for _, number in found)

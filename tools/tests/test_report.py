@@ -128,6 +128,15 @@ class Calls(Told):
         self.assertEqual((rows["1"]["longest"], rows["1"]["from"]), ("18", "89"))
         self.assertEqual((rows["4"]["rate"], rows["4"]["from"]), ("", ""))
         self.assertEqual(json.loads(self.told("calls", folder, "--json"))[3]["rate"], None)
+
+    def test_periods_that_werent_used(self):
+        folder = lay_run("mixed", self.folder / "mixed")
+        for row in self.rows("calls", folder):
+            for side, octets in (("up", 40), ("pcm", 160)):
+                periods = (folder / f"{row['call']}.{side}").stat().st_size // octets
+                self.assertEqual(int(row[f"unused_{side}"]), periods - int(row["periods"]))
+        (folder / "1.pcm").unlink()
+        self.assertEqual(self.rows("calls", folder)[0]["unused_pcm"], "")
         self.assertIn("0.3673", self.told("calls", folder))
 
     def test_of_another_run(self):

@@ -1,6 +1,8 @@
 """Tests of watch.py: how far a run is by the sizes of its lines, and what is refused."""
 
 import os
+import threading
+import time
 import unittest
 
 from support import InFolder
@@ -44,11 +46,41 @@ class Watching(InFolder):
         self.assertEqual((status, err), (0, ""))
         self.assertRegex(out, r"^watch periods 173 of 386, 44 %, calls done 1 of 4, 1[12] s left\n$")
 
-    def test_a_run_that_hasnt_begun_or_has_ended(self):
+    def test_a_run_that_has_ended(self):
         self.assertEqual(self.watch(self.folder)[1], "watch periods 386 of 386, 100 %, calls done 4 of 4\n")
+
+    def test_no_run(self):
         (self.folder / "report.txt").unlink()
         self.put("1.out", 153 * 160, 60)
-        self.assertEqual(self.watch(self.folder, "--once")[1], "watch periods 0 of 386, 0 %, calls done 0 of 4\n")
+        wanted = f"watch.py: {self.folder}: no run in this folder: there is no report.txt\n"
+        self.assertEqual(self.watch(self.folder), (1, "", wanted))
+        for folder in (self.folder / "gone", self.folder):
+            (self.folder / "orders.txt").unlink(missing_ok=True)
+            wanted = f"watch.py: {folder}: no run in this folder: there is no orders.txt\n"
+            self.assertEqual(self.watch(folder, "--once"), (1, "", wanted))
+
+    def test_no_growth(self):
+        self.put("report.txt", 0, 10)
+        self.put("1.out", 50 * 160, 1)
+        status, out, err = self.watch(self.folder, "--plain", "--interval", "0.1", "--patience", "0.3")
+        self.assertEqual((status, err), (1, "watch.py: no growth for 0.3 s: stalled or ended\n"))
+        self.assertGreaterEqual(out.count("watch periods 50 of 386"), 3)
+
+    def test_growth_of_a_line_is_growth(self):
+        self.put("report.txt", 0, 10)
+        grows = threading.Thread(target=self.grow)
+        grows.start()
+        status, out, err = self.watch(self.folder, "--plain", "--interval", "0.1", "--patience", "1")
+        grows.join()
+        self.assertEqual((status, err), (0, ""))
+        self.assertTrue(out.endswith("watch periods 386 of 386, 100 %, calls done 4 of 4\n"))
+
+    def grow(self):
+        """A downlink that grows by an octet each 0.2 s for 2 s, and then the report."""
+        for octets in range(10):
+            self.path("1.down", bytes(octets))
+            time.sleep(0.2)
+        self.path("report.txt", self.report)
 
     def test_several_runs(self):
         other = self.folder / "other"
@@ -69,7 +101,8 @@ class Watching(InFolder):
         for words, part in (
             ([self.folder, "--interval", "0"], "--interval 0.0 isn't"),
             ([self.folder, "--periods", "0"], "--periods 0 isn't"),
-            ([self.folder / "gone"], "No such file"),
+            ([self.folder, "--patience", "0"], "--patience 0.0 isn't"),
+            ([self.folder, "--orders", self.folder / "gone"], "No such file"),
             ([self.folder, self.folder, "--orders", "x"], "are of one folder"),
             ([], "FOLDER"),
         ):

@@ -69,10 +69,11 @@ fn words_given<R: Env + AllocGlobal>(rt: &R) -> Result<Vec<String>, Refusal> {
 }
 
 // The status of the top call. Why lines failed is told as they fail, and at the end of how many it wasn't.
-fn run<R: Env + Eprint + Files + AllocGlobal + Threads + Wait + Sync, I: Read + Drop, O: Write + Drop>(
-    rt: &R,
-    desk: &mut StdDesk<I, O>,
-) -> Result<u8, Refusal> {
+fn run<
+    R: Env + Eprint + Files + AllocGlobal + Threads + Wait + Sync,
+    I: Read + Drop,
+    O: Write + Drop,
+>(rt: &R, desk: &mut StdDesk<I, O>) -> Result<u8, Refusal> {
     let words = words_given(rt)?;
     let mut trunk = FileTrunk::new(rt.alloc(), rt)?;
     let status = farm_top(rt, rt.alloc(), &words, &mut trunk, desk, &OpenGate);

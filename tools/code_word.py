@@ -1,0 +1,89 @@
+"""Silence descriptors among full rate frames, told by their code word (GSM 06.12) within the limits of GSM 06.31 section 6.1.
+
+A base station looks for the code word and marks the frame by C13 and C14 of its uplink. Files and packets of full rate frames have no
+such marks, so the tools that make uplinks of them do this work of the base station.
+"""
+
+from __future__ import annotations
+
+import enum
+from collections import Counter
+from dataclasses import replace
+from typing import Tuple
+
+from trau_frames import BLOCK_WIDTHS, RATIO_WIDTHS, SpeechControl
+
+BLOCKS = 4
+PULSES = 13
+PULSE_BITS = 3
+# In the last block only so many pulses have their middle bits in class I.
+PULSES_OF_LAST_BLOCK = 4
+
+
+def first_bit(block: int, pulse: int) -> int:
+    """Where the least significant bit of a pulse stands, counted from D1 as 0; blocks and pulses count from 0."""
+    before_pulses = sum(BLOCK_WIDTHS) - PULSES * PULSE_BITS
+    return sum(RATIO_WIDTHS) + block * sum(BLOCK_WIDTHS) + before_pulses + PULSE_BITS * pulse
+
+
+def code_word_bits() -> Tuple[int, ...]:
+    """The bits of the pulses that class I of GSM 05.03 has: the highest bit of each, and the middle bit of all but nine."""
+    found = []
+    for block in range(BLOCKS):
+        for pulse in range(PULSES):
+            least = first_bit(block, pulse)
+            has_middle = block < BLOCKS - 1 or pulse < PULSES_OF_LAST_BLOCK
+            found += [least + 1, least + 2] if has_middle else [least + 2]
+    return tuple(found)
+
+
+CODE_WORD_BITS = code_word_bits()  # 95 bits, which are 0 in a silence descriptor
+LEAST_ERRORS_OF_INVALID = 2
+LEAST_ERRORS_OF_SPEECH = 16
+
+
+class FrameKind(enum.Enum):
+    """What a full rate frame is by its code word."""
+
+    SPEECH = "speech"
+    VALID = "sid"
+    INVALID = "invalid"
+
+
+def errors_of(data: str) -> int:
+    """How many bits of the code word are wrong in D1 to D260."""
+    return sum(data[bit] == "1" for bit in CODE_WORD_BITS)
+
+
+def kind_of(data: str) -> FrameKind:
+    """What D1 to D260 are, by GSM 06.31 section 6.1."""
+    errors = errors_of(data)
+    if errors >= LEAST_ERRORS_OF_SPEECH:
+        return FrameKind.SPEECH
+    return FrameKind.INVALID if errors >= LEAST_ERRORS_OF_INVALID else FrameKind.VALID
+
+
+class Marker:
+    """Marks frames as a base station does, and counts the descriptors; or keeps all of them as speech."""
+
+    def __init__(self, keeps: bool = False, dtxd: bool = False) -> None:
+        self.speech = SpeechControl(dtxd=dtxd)
+        self.keeps = keeps
+        self.counts: Counter = Counter()
+
+    def kind(self, data: str) -> FrameKind:
+        """What a frame counts as."""
+        kind = FrameKind.SPEECH if self.keeps else kind_of(data)
+        self.counts[kind] += 1
+        return kind
+
+    def control(self, kind: FrameKind) -> str:
+        """C1 to C21 of the uplink frame: a damaged descriptor is a bad frame too."""
+        if kind is FrameKind.SPEECH:
+            return self.speech.bits()
+        damaged = kind is FrameKind.INVALID
+        return replace(self.speech, bad=damaged, silence=1 if damaged else 2).bits()
+
+    def said(self) -> str:
+        """The descriptors that were marked, in words."""
+        return f"sid {self.counts[FrameKind.VALID]} invalid {self.counts[FrameKind.INVALID]}"

@@ -1,0 +1,201 @@
+"""Damage to an uplink: pauses, unusable frames, zeros, alignment fields and slips of bits, at frames that are named."""
+
+from __future__ import annotations
+
+import argparse
+import re
+from dataclasses import dataclass, replace
+from pathlib import Path
+from typing import List, NamedTuple, Optional, Set, Tuple
+
+import trau_frames
+from trau_frames import FRAME_BITS, Parameters, Refusal, Sort, SpeechControl
+
+FRAMES_FROM_TAF_TO_TAF = 24
+
+
+class Part(NamedTuple):
+    """Every `step`th number from `first` to `last`, or to the last there is."""
+
+    first: int
+    last: Optional[int]
+    step: int
+
+
+@dataclass(frozen=True)
+class Frames:
+    """Numbers of frames, as a word of the command line names them: parts `A`, `A-B` and `every:N` with commas between."""
+
+    parts: Tuple[Part, ...]
+
+    @staticmethod
+    def parse(word: str) -> Frames:
+        """Reads the word."""
+        return Frames(tuple(map(Frames.parse_part, word.split(","))))
+
+    @staticmethod
+    def parse_part(word: str) -> Part:
+        """Reads one part of the word."""
+        found = re.fullmatch(r"(\d+)(?:-(\d+))?|every:(\d+)", word, re.ASCII)
+        if not found:
+            raise argparse.ArgumentTypeError(f"'{word}' isn't a frame A, frames A-B or every:N")
+        if found[3]:
+            part = Part(int(found[3]) - 1, None, int(found[3]))
+        else:
+            part = Part(int(found[1]), int(found[2] or found[1]), 1)
+        if part.step == 0 or part.last is not None and part.last < part.first:
+            raise argparse.ArgumentTypeError(f"'{word}' names no frames")
+        return part
+
+    def within(self, count: int) -> Set[int]:
+        """The numbers that are named, all below `count`."""
+        numbers: Set[int] = set()
+        for part in self.parts:
+            last = count - 1 if part.last is None else part.last
+            if last >= count:
+                raise Refusal(f"there is no frame {last}; the uplink has frames 0 to {count - 1}")
+            numbers.update(range(part.first, last + 1, part.step))
+        return numbers
+
+
+@dataclass(frozen=True)
+class AtFrame:
+    """A value for one frame, as a word `FRAME:VALUE` gives it."""
+
+    frame: int
+    value: int
+
+    @staticmethod
+    def parse(word: str, least: int, most: int) -> AtFrame:
+        """Reads the word, whose value is within these ends, and not 0 where it may be negative."""
+        found = re.fullmatch(r"(\d+):([+-]?\d+)", word, re.ASCII)
+        if not found:
+            raise argparse.ArgumentTypeError(f"'{word}' isn't FRAME:NUMBER")
+        value = int(found[2])
+        if not least <= value <= most or least < 0 and value == 0:
+            raise argparse.ArgumentTypeError(f"'{word}': the number isn't {least} to {most}{' without 0' * (least < 0)}")
+        return AtFrame(int(found[1]), value)
+
+
+def slip_word(word: str) -> AtFrame:
+    """A word of `--slip`."""
+    return AtFrame.parse(word, -FRAME_BITS, FRAME_BITS)
+
+
+def align_word(word: str) -> AtFrame:
+    """A word of `--align`."""
+    return AtFrame.parse(word, 0, 63)
+
+
+def lost(frame: str) -> str:
+    """A speech frame, marked as unusable."""
+    control = replace(SpeechControl.read(trau_frames.control_of(frame)), bad=True, silence=0)
+    return trau_frames.frame_of(control.bits(), trau_frames.data_of(frame))
+
+
+def paused(frame: str, number: int, begins: bool) -> str:
+    """What a speech frame becomes in a pause: a silence descriptor where the pause begins and where TAF is 1, else unusable."""
+    taf = number % FRAMES_FROM_TAF_TO_TAF == FRAMES_FROM_TAF_TO_TAF - 1
+    describes = begins or taf
+    control = replace(
+        SpeechControl.read(trau_frames.control_of(frame)), bad=not describes, silence=2 if describes else 0, taf=taf
+    )
+    data = trau_frames.data_of(frame)
+    if describes:
+        data = trau_frames.silence_descriptor(Parameters.read(data)).bits()
+    return trau_frames.frame_of(control.bits(), data)
+
+
+def aligned(frame: str, field: int) -> str:
+    """A frame with another alignment field, which is C6 to C11."""
+    return frame[:22] + f"{field:06b}" + frame[28:]
+
+
+class Uplink:
+    """The frames of an uplink, by the numbers of the search's yields, with the bits before each."""
+
+    def __init__(self, name: Path, octets: bytes) -> None:
+        bits = trau_frames.bits_of(octets)
+        yields = list(trau_frames.search(bits))
+        if not yields:
+            raise Refusal(f"{name}: no frame found")
+        self.sorts = [each.sort() for each in yields]
+        self.before: List[str] = []
+        self.frames: List[str] = []
+        place = 0
+        for each in yields:
+            self.before.append(bits[place : each.place])
+            place = each.place + FRAME_BITS
+            self.frames.append(bits[each.place : place])
+        self.rest = bits[place:]
+
+    def is_speech(self, number: int) -> bool:
+        """Whether a yield is a speech frame, of whatever class."""
+        return self.sorts[number] in (Sort.GOOD, Sort.SID, Sort.INVALID, Sort.BAD)
+
+    def has_field(self, number: int) -> bool:
+        """Whether a yield is a frame that has an alignment field."""
+        return self.is_speech(number) or self.sorts[number] is Sort.IDLE
+
+    def slip(self, number: int, bits: int) -> None:
+        """Puts ones before a frame, or leaves out the last bits that stand there."""
+        if bits > 0:
+            self.before[number] += bits * "1"
+            return
+        kept = len(self.before[number]) + bits
+        if kept >= 0:
+            self.before[number] = self.before[number][:kept]
+        elif number > 0:
+            self.before[number] = ""
+            self.frames[number - 1] = self.frames[number - 1][:kept]
+        else:
+            raise Refusal(f"there are no {-bits} bits before frame 0 to leave out")
+
+    def bits(self) -> str:
+        """The bits of the line."""
+        return "".join(before + frame for before, frame in zip(self.before, self.frames)) + self.rest
+
+
+@dataclass(frozen=True)
+class Damages:
+    """The damages that are asked for: frames of each kind, alignment fields and slips."""
+
+    sid: Optional[Frames]
+    drop: Optional[Frames]
+    zero: Optional[Frames]
+    align: Tuple[AtFrame, ...]
+    slip: Tuple[AtFrame, ...]
+
+
+def damaged(name: Path, octets: bytes, asked: Damages) -> Tuple[bytes, str]:
+    """An uplink with damages, done in the order of the kinds, and how many there were of each."""
+    line = Uplink(name, octets)
+    count = len(line.frames)
+
+    def named(option: Optional[Frames]) -> Set[int]:
+        """The speech frames that an option names."""
+        return set() if option is None else {number for number in option.within(count) if line.is_speech(number)}
+
+    pause, drop, zero = named(asked.sid), named(asked.drop), named(asked.zero)
+    for number in pause:
+        line.frames[number] = paused(line.frames[number], number, number - 1 not in pause)
+    for number in drop:
+        line.frames[number] = lost(line.frames[number])
+    for number in zero:
+        line.frames[number] = FRAME_BITS * "0"
+
+    for change in (*asked.align, *asked.slip):
+        if change.frame >= count:
+            raise Refusal(f"there is no frame {change.frame}; the uplink has frames 0 to {count - 1}")
+    for align in asked.align:
+        if align.frame in zero or not line.has_field(align.frame):
+            raise Refusal(f"frame {align.frame} has no alignment field")
+        line.frames[align.frame] = aligned(line.frames[align.frame], align.value)
+    for slip in asked.slip:
+        line.slip(slip.frame, slip.value)
+
+    bits = line.bits()
+    if asked.slip:
+        bits += -len(bits) % FRAME_BITS * "1"
+    said = f"sid {len(pause)} drop {len(drop)} zero {len(zero)} align {len(asked.align)} slip {len(asked.slip)}"
+    return trau_frames.octets_of(bits), f"damage frames {count} {said}"

@@ -1,0 +1,331 @@
+"""What a file is: by its head, by the frames that are found in it, and else by the statistics of its octets.
+
+Only the head of a file is looked at, so a kind says nothing of what comes behind it. What the statistics say is a guess, which needs
+a tenth of a second of sound; it is plain for speech and for idle lines, and silent where two kinds are about as likely.
+"""
+
+from __future__ import annotations
+
+import enum
+import re
+import shlex
+from dataclasses import dataclass
+from pathlib import Path
+from typing import Dict, NamedTuple, NoReturn, Optional, Tuple
+
+import readings
+import slots
+import trau_frames
+import wav_files
+from readings import Reading
+from trau_frames import GSM_MAGIC, GSM_OCTETS, Law, Refusal
+
+HEAD_OCTETS = 1 << 16
+
+
+class Kind(enum.Enum):
+    """What a file may be."""
+
+    EMPTY = "empty"
+    SOUND = "a sound file"
+    GSM = "frames of libgsm"
+    CAPTURE = "a capture"
+    PACKED = "packed by gzip"
+    TEXT = "a text"
+    UPLINK = "an uplink"
+    DOWNLINK = "a downlink"
+    E1 = "an E1 line"
+    SLOT = "a time slot"
+    LAW = "sound of a law"
+    LINEAR = "samples of 16 bits"
+    UNKNOWN = "unknown"
+
+
+@dataclass(frozen=True)
+class Look:
+    """What a file is: its kind, the same in words, the command that makes something of it, and whether its octets have their bits in the
+    other order. In the command {} stands for the file's name."""
+
+    kind: Kind
+    said: str
+    command: str = ""
+    turned: bool = False
+
+
+# By the head
+
+SOX = "sox {} -r 8000 -c 1 -b 16 -e signed-integer NEW.wav"
+MAGICS = (
+    (b"RIFX", Kind.SOUND, "a WAV file of big-endian samples", SOX),
+    (b"RF64", Kind.SOUND, "a WAV file of 64 bits", SOX),
+    (b".snd", Kind.SOUND, "an .au file", SOX),
+    (b"fLaC", Kind.SOUND, "a FLAC file", SOX),
+    (b"OggS", Kind.SOUND, "an Ogg file", SOX),
+    (b"ID3", Kind.SOUND, "an MP3 file", SOX),
+    (b"#!AMR", Kind.SOUND, "an AMR file", "ffmpeg -i {} -ar 8000 -ac 1 NEW.wav"),
+    (b"\xa1\xb2\xc3\xd4", Kind.CAPTURE, "a pcap capture", "lines.py pcap {} NEW"),
+    (b"\xd4\xc3\xb2\xa1", Kind.CAPTURE, "a pcap capture", "lines.py pcap {} NEW"),
+    (b"\xa1\xb2\x3c\x4d", Kind.CAPTURE, "a pcap capture", "lines.py pcap {} NEW"),
+    (b"\x4d\x3c\xb2\xa1", Kind.CAPTURE, "a pcap capture", "lines.py pcap {} NEW"),
+    (b"\x0a\x0d\x0d\x0a", Kind.CAPTURE, "a pcapng capture", "lines.py pcap {} NEW"),
+    (b"\x1f\x8b\x08", Kind.PACKED, "packed by gzip", "lines.py reads such files where their names end with .gz"),
+)
+
+
+def by_magic(head: bytes, size: int) -> Optional[Look]:
+    """A file whose first octets tell its kind."""
+    for magic, kind, said, command in MAGICS:
+        if head.startswith(magic):
+            return Look(kind, said, command)
+    return None
+
+
+WAV_SAMPLES = {wav_files.WAV_LINEAR: "linear", wav_files.WAV_ALAW: "A-law", wav_files.WAV_MULAW: "mu-law"}
+
+
+def by_wav(head: bytes, size: int) -> Optional[Look]:
+    """A WAV file."""
+    if not wav_files.is_wav(head):
+        return None
+    try:
+        wav = wav_files.read_wav(Path("wav"), head, partial=True)
+    except Refusal:
+        return Look(Kind.SOUND, "a WAV file without a whole head")
+    form = f"{wav.samples_a_second} Hz, channels {wav.channels}"
+    if wav.tag == wav_files.WAV_GSM:
+        return Look(Kind.SOUND, f"a WAV file of GSM frames, {form}", "lines.py uplink {} NEW.up")
+    said = f"a WAV file, {form}, bits {wav.sample_bits} {WAV_SAMPLES.get(wav.tag, f'of format {wav.tag}')}"
+    is_taken = (wav.channels, wav.samples_a_second) == (1, wav_files.SAMPLES_A_SECOND)
+    is_taken = is_taken and (wav.tag, wav.sample_bits) in wav_files.SAMPLE_KINDS
+    return Look(Kind.SOUND, said, "lines.py pcm {} NEW.pcm" if is_taken else SOX)
+
+
+# An idle line of A-law has the four bits of libgsm's magic in each octet.
+MOST_MAGIC = 0.5
+LEAST_FRAMES_OF_CUT = 3
+
+
+def is_mostly_magic(octets: bytes) -> bool:
+    """Whether the octets that don't begin a frame of libgsm mostly have the four bits of its magic too."""
+    others = [octet >> 4 == GSM_MAGIC for place, octet in enumerate(octets[:HEAD_OCTETS]) if place % GSM_OCTETS]
+    return sum(others) > MOST_MAGIC * len(others)
+
+
+def by_gsm(head: bytes, size: int) -> Optional[Look]:
+    """Frames of libgsm, each of which begins with its magic, and the other octets of which mostly don't."""
+    firsts = head[::GSM_OCTETS]
+    if len(head) < GSM_OCTETS or any(octet >> 4 != GSM_MAGIC for octet in firsts):
+        return None
+    if is_mostly_magic(head) or len(firsts) < LEAST_FRAMES_OF_CUT and size % GSM_OCTETS:
+        return None
+    left = size % GSM_OCTETS
+    cut, word = (f", and {left} octets of one that was cut", " --partial") if left else ("", "")
+    return Look(Kind.GSM, f"{size // GSM_OCTETS} frames of libgsm{cut}", f"lines.py uplink {{}} NEW.up{word}")
+
+
+ORDER_LINE = re.compile(rb"\d+ (?:open|close|bridge|unbridge|level|dtx) [^\n]*")
+
+
+def by_text(head: bytes, size: int) -> Optional[Look]:
+    """A text, of orders maybe."""
+    if b"\n" not in head or re.search(rb"[^\t\n\r -~]", head):
+        return None
+    if any(ORDER_LINE.match(line) for line in head.split(b"\n")):
+        return Look(Kind.TEXT, "a text of orders", "orders.py check {}")
+    if head.startswith((b"order 1 ", b"end period ")):
+        return Look(Kind.TEXT, "the report of a run", "report.py text {}")
+    return Look(Kind.TEXT, "a text")
+
+
+# By frames
+
+
+class Frames(NamedTuple):
+    """The frames that were found in bits: those of an uplink and those of a downlink, the bit at which the first one begins, and the part
+    of the bits from there on that frames cover."""
+
+    up: int
+    down: int
+    first: int
+    covered: float
+
+    def count(self) -> int:
+        """How many they are."""
+        return self.up + self.down
+
+
+UP = (trau_frames.SPEECH_UP, trau_frames.IDLE_UP)
+DOWN = (trau_frames.SPEECH_DOWN, trau_frames.IDLE_DOWN)
+
+
+def frames_of(octets: bytes) -> Optional[Frames]:
+    """The frames of a line. Sync bits alone may come by chance, as in a loud square wave, so most frames must have known control bits."""
+    up = down = other = 0
+    first: Optional[int] = None
+    bits = trau_frames.bits_of(octets)
+    for found in trau_frames.FRAME_OF_DOWNLINK.finditer(bits):
+        control = trau_frames.control_of(found.group())
+        if control.startswith(UP):
+            up += 1
+        elif control.startswith(DOWN):
+            down += 1
+        else:
+            other += 1
+            continue
+        first = found.start() if first is None else first
+    if first is None or other > up + down:
+        return None
+    return Frames(up, down, first, (up + down) * trau_frames.FRAME_BITS / (len(bits) - first))
+
+
+def line_said(frames: Frames) -> Tuple[Kind, str]:
+    """The kind of a line of frames, and the same in words."""
+    kind = Kind.UPLINK if frames.up >= frames.down else Kind.DOWNLINK
+    return kind, f"{kind.value}, its first frame at bit {frames.first}"
+
+
+COMMANDS = {
+    Kind.UPLINK: "trau run takes it as C.up, and makes sound of it",
+    Kind.DOWNLINK: "lines.py listen {} NEW.wav",
+}
+TURN = "lines.py slot {} NEW --lsb-first"
+TURNED = ", with the bits of each octet in the other order"
+
+
+def by_frames(head: bytes, size: int) -> Optional[Look]:
+    """A line of frames, in the order of bits that gives more of them."""
+    found = [(frames_of(slots.turned(head) if turned else head), turned) for turned in (False, True)]
+    frames, turned = max(found, key=lambda each: each[0].count() if each[0] else 0)
+    if not frames:
+        return None
+    kind, said = line_said(frames)
+    return Look(kind, said + TURNED * turned, TURN if turned else COMMANDS[kind], turned)
+
+
+# In a channel, which has two of the eight bits of an octet, the signs and segments of idle sound look like a frame at times.
+LEAST_COVERED = 0.5
+
+
+def frames_of_channels(slot: bytes) -> Dict[int, Frames]:
+    """The frames in the channels of a slot, of those that have a line of frames."""
+    found = ((number, frames_of(slots.channel(slot, number))) for number in range(slots.CHANNELS))
+    return {number: frames for number, frames in found if frames and frames.covered >= LEAST_COVERED}
+
+
+def by_channels(head: bytes, size: int) -> Optional[Look]:
+    """A time slot that carries lines of frames in its channels of 16 kbit/s, in the order of bits that gives more of them."""
+    found = [(frames_of_channels(slots.turned(head) if turned else head), turned) for turned in (False, True)]
+    channels, turned = max(found, key=lambda each: sum(frames.count() for frames in each[0].values()))
+    if not channels:
+        return None
+    said = "; ".join(f"channel {number} is {line_said(frames)[1]}" for number, frames in channels.items())
+    command = TURN if turned else "name it C.pcm, and trau split C"
+    return Look(Kind.SLOT, f"a time slot of 64 kbit/s: {said}{TURNED * turned}", command, turned)
+
+
+# A whole E1 line shows by the frame alignment signal of ITU-T G.704 in every second octet of its slot 0, and by the bit that isn't
+# alike in the octets between.
+SIGNAL, SIGNAL_BITS, OTHER_BIT = 0x1B, 0x7F, 0x40
+LEAST_SIGNALS = 8
+
+
+def has_signal(octets: bytes) -> bool:
+    """Whether the slot 0 of these octets, the first of which is of slot 0, has the signal in each other octet."""
+    slot = octets[:: slots.SLOTS_OF_E1]
+    for first in (0, 1):
+        signals, others = slot[first::2], slot[1 - first :: 2]
+        if len(signals) >= LEAST_SIGNALS and all(octet & SIGNAL_BITS == SIGNAL for octet in signals):
+            return all(octet & OTHER_BIT for octet in others)
+    return False
+
+
+def by_signal(head: bytes, size: int) -> Optional[Look]:
+    """A whole E1 line, whose first octet is of slot 0 or of another one."""
+    for turned in (False, True):
+        octets = slots.turned(head) if turned else head
+        for first in range(slots.SLOTS_OF_E1):
+            if has_signal(octets[first:]):
+                began = f" from octet {first} on" if first else ""
+                order = " --lsb-first" if turned else ""
+                skip = f" --skip {first}" if first else ""
+                command = f"lines.py slot {{}} NEW.pcm --slot N --of {slots.SLOTS_OF_E1}{skip}{order}"
+                return Look(Kind.E1, f"an E1 line of {slots.SLOTS_OF_E1} slots{began}{TURNED * turned}", command, turned)
+    return None
+
+
+# By statistics
+
+
+def look_of_reading(reading: Reading) -> Look:
+    """What a file is by the best reading of its octets."""
+    if reading.law is None:
+        command = "sox -t raw -r 8000 -c 1 -b 16 -e signed-integer {} NEW.wav"
+        return Look(Kind.LINEAR, "sound of 16 bits a sample, as it seems", command)
+    law = "" if reading.law is Law.A else f" --law {reading.law}"
+    order = " --lsb-first" if reading.turned else ""
+    said = f"{reading.law.title()}, as it seems{TURNED * reading.turned}"
+    return Look(Kind.LAW, said, f"lines.py pcm {{}} NEW.pcm --raw{order}{law}", reading.turned)
+
+
+def by_statistics(head: bytes) -> Optional[Look]:
+    """Sound of a law, or samples of 16 bits, where one of them is plainly the best reading."""
+    best = readings.best_reading(head)
+    return look_of_reading(best) if best else None
+
+
+def other_than_law(head: bytes, law: Law) -> Optional[Look]:
+    """What octets that are said to have this law plainly are instead."""
+    other = readings.plainly_other(head, law)
+    return look_of_reading(other) if other else None
+
+
+# All of it
+
+TESTS = (by_wav, by_magic, by_text, by_gsm, by_frames, by_signal, by_channels)
+
+
+def known_kind(head: bytes, size: int) -> Optional[Look]:
+    """The kind that the head of a file of so many octets tells, without statistics."""
+    if not size:
+        return Look(Kind.EMPTY, "empty")
+    return next(filter(None, (test(head, size) for test in TESTS)), None)
+
+
+def look(head: bytes, size: int) -> Look:
+    """What a file of so many octets with this head is."""
+    return known_kind(head, size) or by_statistics(head) or Look(Kind.UNKNOWN, "nothing that is known here")
+
+
+def head_of(path: Path, octets: int = HEAD_OCTETS) -> Tuple[bytes, int]:
+    """The head of a file, which has so many octets, and the file's size."""
+    if path == trau_frames.STREAM:
+        content = trau_frames.read_file(path)
+        return content[:octets], len(content)
+    try:
+        with open(path, "rb") as file:
+            head = file.read(octets)
+            return head, max(len(head), path.stat().st_size)
+    except OSError as failure:
+        raise Refusal(f"{path}: {failure.strerror}") from None
+
+
+def command_for(found: Look, name: Path) -> str:
+    """What is said of the command that makes something of this file, behind what the file is."""
+    return f"; {found.command}".replace("{}", shlex.quote(str(name))) if found.command else ""
+
+
+def said_beside(found: Look, name: Path, not_this: str) -> str:
+    """What a file is instead of what was wanted, with the command that does what was meant."""
+    return f"{found.said}, and {not_this}{command_for(found, name)}"
+
+
+def refuse(name: Path, found: Look, not_this: str, more: str = "") -> NoReturn:
+    """Refuses a file that isn't what was wanted."""
+    raise Refusal(f"{name}: is {said_beside(found, name, not_this)}{more}")
+
+
+def refuse_other(name: Path, content: bytes, not_this: str, wanted: Kind) -> None:
+    """Refuses a file that is plainly of another kind than the one that is wanted."""
+    found = known_kind(content[:HEAD_OCTETS], len(content))
+    if found and found.kind not in (Kind.EMPTY, wanted):
+        refuse(name, found, not_this)

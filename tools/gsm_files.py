@@ -1,0 +1,131 @@
+"""Files of full rate frames: those of libgsm (.gsm), of 33 octets each, and WAV files of GSM frames, to an uplink; and of a downlink."""
+
+from __future__ import annotations
+
+import shlex
+from collections import Counter
+from pathlib import Path
+from typing import List, Mapping, NamedTuple, Optional, Tuple
+
+import file_kinds
+import trau_frames
+import wav_files
+from code_word import Marker
+from file_kinds import Kind
+from trau_frames import Parameters, Refusal
+
+# To an uplink
+
+
+class Found(NamedTuple):
+    """D1 to D260 of each frame of a file, and the octets behind the last whole one."""
+
+    data: List[str]
+    left: int
+
+
+def data_of_file(name: Path, given: bytes, partial: bool) -> Found:
+    """The frames of a file of libgsm; one that was cut is taken where `partial` says so."""
+    size = trau_frames.GSM_OCTETS
+    left = len(given) % size
+    whole = given[: len(given) - left]
+    wrong = next((place for place in range(0, len(whole), size) if whole[place] >> 4 != trau_frames.GSM_MAGIC), None)
+    if wrong is not None or not whole or left and not partial:
+        file_kinds.refuse_other(name, given, "no frames of libgsm", Kind.GSM)
+    if not whole or left and not partial:
+        raise Refusal(
+            f"{name}: {len(given)} octets are no frames of libgsm, which have {size} octets each"
+            + ("; --partial takes the whole ones" if whole and wrong is None else "")
+        )
+    if wrong is not None:
+        raise Refusal(f"{name}: no frame of libgsm begins at octet {wrong}: its first four bits aren't 1101")
+    if file_kinds.is_mostly_magic(whole):
+        raise Refusal(f"{name}: nearly each of its octets begins with 1101, as in idle A-law and not in frames of libgsm")
+    frames = (whole[place : place + size] for place in range(0, len(whole), size))
+    return Found([trau_frames.data_of_gsm(frame) for frame in frames], left)
+
+
+def data_of_wav(name: Path, given: bytes, partial: bool) -> Found:
+    """The frames of a WAV file of GSM frames, two in a block of 65 octets."""
+    wav = wav_files.read_wav(name, given, partial)
+    if wav.tag != wav_files.WAV_GSM:
+        raise Refusal(
+            f"{name}: is a WAV file of samples and not of GSM frames; sox makes frames of libgsm of it:"
+            f" sox {shlex.quote(str(name))} -r {wav_files.SAMPLES_A_SECOND} -c 1 NEW.gsm"
+        )
+    size = trau_frames.WAV_BLOCK_OCTETS
+    # sox counts the octet that makes an odd number of octets even.
+    octets = wav.data[:-1] if len(wav.data) % size == 1 and wav.data[-1] == 0 else wav.data
+    left = len(octets) % size
+    fits = (wav.channels, wav.samples_a_second) == (1, wav_files.SAMPLES_A_SECOND) and len(octets) >= size
+    if not fits or left and not partial:
+        raise Refusal(
+            f"{name}: has {wav.samples_a_second} Hz, channels {wav.channels} and {len(wav.data)} octets of GSM frames; needed is"
+            f" {wav_files.SAMPLES_A_SECOND} Hz mono in blocks of {size} octets"
+        )
+    blocks = (octets[place : place + size] for place in range(0, len(octets) - left, size))
+    return Found([data for block in blocks for data in trau_frames.data_of_wav_block(block)], left)
+
+
+def uplink_of(name: Path, given: bytes, marker: Marker, partial: bool) -> Tuple[bytes, str]:
+    """An uplink of the frames of a file, whose silence descriptors are marked, and what was found."""
+    found = (data_of_wav if wav_files.is_wav(given) else data_of_file)(name, given, partial)
+    frames = (trau_frames.frame_of(marker.control(marker.kind(data)), data) for data in found.data)
+    line = b"".join(map(trau_frames.octets_of, frames))
+    left = f" left {found.left}" if partial else ""
+    return line, f"uplink frames {len(found.data)} {marker.said()}{left}"
+
+
+# From a downlink
+
+
+SORTS = ("speech", "silence", "idle", "other")
+
+
+def sort_of_downlink_frame(control: str) -> str:
+    """What a frame of a downlink is, by its control bits."""
+    if control.startswith(trau_frames.SPEECH_DOWN):
+        return "speech" if control[15] == "1" else "silence"
+    return "idle" if control.startswith(trau_frames.IDLE_DOWN) else "other"
+
+
+def treated(data: str, treatment: str, source: trau_frames.RandomSource) -> Optional[str]:
+    """D1 to D260 as they are written, or None where nothing is."""
+    if treatment == "noise":
+        return trau_frames.noise(Parameters.read(data), source).bits()
+    if treatment == "quiet":
+        return trau_frames.SILENCE.bits()
+    return data if treatment == "keep" else None
+
+
+class Treated(NamedTuple):
+    """The frames that are written of a downlink, each with the number of bits before it that belong to no written frame; and what was
+    found, in words."""
+
+    frames: List[Tuple[int, str]]
+    said: str
+
+
+def treated_downlink(name: Path, octets: bytes, treatments: Mapping[str, str]) -> Treated:
+    """The frames of a downlink, wherever they begin, by the treatment of each sort."""
+    bits = trau_frames.bits_of(octets)
+    source = trau_frames.RandomSource(1)
+    counts: Counter = Counter()
+    frames: List[Tuple[int, str]] = []
+    written, inside, of_uplink = 0, 0, 0
+    for found in trau_frames.FRAME_OF_DOWNLINK.finditer(bits):
+        control = trau_frames.control_of(found.group())
+        sort = sort_of_downlink_frame(control)
+        counts[sort] += 1
+        inside += found.end() - found.start()
+        of_uplink += control.startswith(trau_frames.SPEECH_UP)
+        data = treated(trau_frames.data_of(found.group()), treatments[sort], source)
+        if data is not None:
+            frames.append((found.start() - written, data))
+            written = found.end()
+    said = " ".join(f"{sort} {counts[sort]}" for sort in SORTS) + f" outside {len(bits) - inside}"
+    if of_uplink and of_uplink == sum(counts.values()):
+        raise Refusal(f"{name}: is an uplink; trau relay first, which makes a downlink of it")
+    if not frames:
+        raise Refusal(f"{name}: no frame of a downlink that would be written: {said}")
+    return Treated(frames, said)

@@ -1,0 +1,73 @@
+"""Recordings as they are read: files, standard input, and files that gzip packed, whose names end with .gz."""
+
+from __future__ import annotations
+
+import contextlib
+import sys
+import zlib
+from pathlib import Path
+from typing import BinaryIO, Iterator
+
+from trau_frames import STREAM, Refusal
+
+BLOCK_OCTETS = 1 << 20
+PACKED = ".gz"
+GZIP_WINDOW = 31  # zlib's word for its greatest window, with the head and tail of gzip
+
+
+def name_within(path: Path) -> Path:
+    """The name of what a packed file holds; of another file its own name."""
+    return path.with_suffix("") if path.suffix == PACKED else path
+
+
+@contextlib.contextmanager
+def opened(path: Path) -> Iterator[BinaryIO]:
+    """A file, or standard input, to be read."""
+    if path != STREAM:
+        with open(path, "rb") as file:
+            yield file
+    elif sys.stdin is None:
+        raise Refusal("standard input is closed")
+    else:
+        yield sys.stdin.buffer
+
+
+def unpacked(path: Path, packed: Iterator[bytes], partial: bool) -> Iterator[bytes]:
+    """What gzip packed into these blocks, as far as it goes where `partial` says so."""
+    reader = zlib.decompressobj(GZIP_WINDOW)
+    try:
+        for block in packed:
+            while block:
+                if reader.eof:  # a further part begins, as where packed files were put together
+                    reader = zlib.decompressobj(GZIP_WINDOW)
+                yield reader.decompress(block)
+                block = reader.unused_data
+    except zlib.error:
+        raise Refusal(f"{path}: its name ends with {PACKED}, and gzip didn't pack it") from None
+    if not reader.eof and not partial:
+        raise Refusal(f"{path}: ends too early; --partial takes what is there")
+
+
+def blocks_of(path: Path, partial: bool = False) -> Iterator[bytes]:
+    """The octets of a recording, in blocks."""
+    try:
+        with opened(path) as file:
+            blocks = iter(lambda: file.read(BLOCK_OCTETS), b"")
+            yield from unpacked(path, blocks, partial) if path.suffix == PACKED else blocks
+    except OSError as failure:
+        raise Refusal(f"{path}: {failure.strerror}") from None
+
+
+def read_recording(path: Path, partial: bool = False) -> bytes:
+    """The octets of a recording."""
+    return b"".join(blocks_of(path, partial))
+
+
+def read_slot(path: Path, number: int, of: int, skipped: int, partial: bool = False) -> bytes:
+    """The octets of one slot of a recorded line, which may be longer than the memory: every `of`th one, behind those that are skipped."""
+    parts, wanted = [], skipped + number
+    for block in blocks_of(path, partial):
+        parts.append(block[wanted::of])
+        behind = len(block) - wanted
+        wanted = -behind if behind <= 0 else -behind % of
+    return b"".join(parts)

@@ -1,0 +1,212 @@
+"""The packets of a capture: which streams of RTP with speech it has (RFC 3550, RFC 3551), and whether it was cut.
+
+The library dpkt reads the files of captures and their packets; without it, what is here is refused with a word.
+"""
+
+from __future__ import annotations
+
+import importlib
+import io
+import ipaddress
+import struct
+import sys
+from pathlib import Path
+from typing import Any, Dict, Iterator, List, NamedTuple, Optional, Sequence, Tuple
+
+from trau_frames import PERIODS_A_SECOND, Refusal
+
+PCMU, GSM, PCMA = 0, 3, 8
+NAMES = {PCMU: "pcmu", GSM: "gsm", PCMA: "pcma"}
+RTCP_KINDS = range(72, 77)
+
+
+def library(part: str) -> Any:
+    """A part of the library dpkt."""
+    try:
+        return importlib.import_module(f"dpkt.{part}")
+    except ImportError:
+        raise Refusal(
+            f"captures need the library dpkt, which {sys.executable} doesn't have; apt-get install python3-dpkt brings it to"
+            f" /usr/bin/python3, and {sys.executable} -m pip install dpkt to this one"
+        ) from None
+
+
+# Packets of a capture
+
+
+class Packet(NamedTuple):
+    """An RTP packet: its number in the capture, from 1 as other programs count, what it says, and when it was captured."""
+
+    number: int
+    kind: int
+    sequence: int
+    stamp: int
+    payload: bytes
+    time: float
+
+
+class Flow(NamedTuple):
+    """Where the packets of a stream go from and to, and their source's name."""
+
+    source: str
+    target: str
+    name: int
+
+    def said(self) -> str:
+        """The flow in words."""
+        return f"{self.source} to {self.target} ssrc 0x{self.name:08x}"
+
+
+# How packets begin, by the capture's kind of link.
+LINKS = {
+    0: ("loopback", "Loopback"),
+    1: ("ethernet", "Ethernet"),
+    12: ("ip", "IP"),
+    101: ("ip", "IP"),
+    113: ("sll", "SLL"),
+    276: ("sll2", "SLL2"),
+}
+
+
+# Where the lengths stand by which one goes from packet to packet: dpkt takes a last packet that was cut for a shorter one.
+PCAP_HEAD, PACKET_HEAD, CAPTURED = 24, 16, 8
+PCAPNG_BLOCK, ORDER_MARK, LEAST_BLOCK = b"\x0a\x0d\x0d\x0a", b"\x1a\x2b\x3c\x4d", 12
+
+
+def is_whole_pcap(content: bytes) -> bool:
+    """Whether a pcap file ends with a whole packet."""
+    order = ">" if content[:1] == b"\xa1" else "<"
+    place = PCAP_HEAD
+    while place + PACKET_HEAD <= len(content):
+        place += PACKET_HEAD + struct.unpack_from(f"{order}I", content, place + CAPTURED)[0]
+    return place == len(content)
+
+
+def is_whole_pcapng(content: bytes) -> bool:
+    """Whether a pcapng file ends with a whole block."""
+    order, place = "<", 0
+    while place + LEAST_BLOCK <= len(content):
+        if content.startswith(PCAPNG_BLOCK, place):
+            order = ">" if content.startswith(ORDER_MARK, place + 8) else "<"
+        place += max(LEAST_BLOCK, struct.unpack_from(f"{order}I", content, place + 4)[0])
+    return place == len(content)
+
+
+def packets_of_file(reader: Any, partial: bool) -> Iterator[Tuple[float, bytes]]:
+    """The packets of a capture; of one that was cut those before the cut, where `partial` says so."""
+    errors = library("dpkt")
+    try:
+        yield from reader
+    except (errors.Error, ValueError):
+        if not partial:
+            raise
+
+
+def datagrams(name: Path, content: bytes, partial: bool) -> Iterator[Tuple[int, float, Any, Any]]:
+    """The datagrams of a capture, each with its number, its time, its IP packet and its UDP packet."""
+    ip, ip6, udp, errors = library("ip").IP, library("ip6").IP6, library("udp").UDP, library("dpkt")
+    try:
+        reader = library("pcap").UniversalReader(io.BytesIO(content))
+        is_whole = is_whole_pcapng if content.startswith(PCAPNG_BLOCK) else is_whole_pcap
+        if not partial and not is_whole(content):
+            raise Refusal(f"{name}: ends within a packet; --partial takes those before it")
+        link = reader.datalink()
+        if link not in LINKS:
+            raise Refusal(f"{name}: has a kind of link, {link}, that isn't known here")
+        module, kind = LINKS[link]
+        unpack = getattr(library(module), kind)
+        for number, (time, octets) in enumerate(packets_of_file(reader, partial), 1):
+            try:
+                packet = unpack(octets)
+            except errors.UnpackError:
+                continue
+            outer = packet if isinstance(packet, ip) else packet.data
+            if isinstance(outer, (ip, ip6)) and isinstance(outer.data, udp):
+                yield number, float(time), outer, outer.data
+    except (errors.Error, ValueError) as failure:
+        raise Refusal(f"{name}: isn't a capture: {str(failure)[:80]}") from None
+
+
+def payload_of(rtp: Any) -> bytes:
+    """The payload of an RTP packet, without the extension of its head and without padding."""
+    payload = bytes(rtp.data)
+    if rtp.x:
+        payload = payload[4 + 4 * int.from_bytes(payload[2:4], "big") :]
+    return payload[: len(payload) - payload[-1]] if rtp.p and payload else payload
+
+
+def address(octets: bytes, port: int) -> str:
+    """An address with its port, in words."""
+    read = ipaddress.ip_address(octets)
+    return f"[{read}]:{port}" if read.version == 6 else f"{read}:{port}"
+
+
+class Streams(NamedTuple):
+    """The RTP packets of a capture by their flows, in their order, and how many with speech weren't captured whole."""
+
+    by_flow: Dict[Flow, List[Packet]]
+    cut: int
+
+
+def streams_of(name: Path, content: bytes, partial: bool = False) -> Streams:
+    """The streams of a capture; flows without speech of the three kinds are left out. A packet that wasn't captured whole is left out
+    where `partial` says so."""
+    rtp_kind, errors = library("rtp").RTP, library("dpkt")
+    streams: Dict[Flow, List[Packet]] = {}
+    cut = 0
+    for number, time, outer, datagram in datagrams(name, content, partial):
+        try:
+            rtp = rtp_kind(bytes(datagram.data))
+        except errors.UnpackError:
+            continue
+        if rtp.version != 2 or rtp.pt in RTCP_KINDS:
+            continue
+        if len(datagram.data) < datagram.ulen - 8 and rtp.pt in NAMES:
+            if not partial:
+                raise Refusal(f"{name}: packet {number} wasn't captured whole; --partial leaves such packets out")
+            cut += 1
+            continue
+        flow = Flow(address(outer.src, datagram.sport), address(outer.dst, datagram.dport), rtp.ssrc)
+        streams.setdefault(flow, []).append(Packet(number, rtp.pt, rtp.seq, rtp.ts, payload_of(rtp), time))
+    with_speech = {flow: each for flow, each in streams.items() if any(packet.kind in NAMES for packet in each)}
+    return Streams(with_speech, cut)
+
+
+def kinds_said(packets: Sequence[Packet]) -> str:
+    """The kinds of speech of a stream, in words."""
+    return " and ".join(NAMES[kind] for kind in sorted({packet.kind for packet in packets} & NAMES.keys()))
+
+
+def kind_of(packets: Sequence[Packet]) -> int:
+    """The kind of speech of a stream."""
+    kinds = sorted({packet.kind for packet in packets} & NAMES.keys())
+    if len(kinds) > 1:
+        raise Refusal(f"this stream has speech of several kinds: {kinds_said(packets)}")
+    return kinds[0]
+
+
+def listed(streams: Dict[Flow, List[Packet]]) -> str:
+    """The streams of a capture, in words."""
+    return "; ".join(
+        f"{place} is {flow.said()}, packets {len(packets)}, {kinds_said(packets)}"
+        for place, (flow, packets) in enumerate(streams.items(), 1)
+    )
+
+
+def chosen(name: Path, streams: Dict[Flow, List[Packet]], option: str, number: Optional[int]) -> List[Packet]:
+    """The packets of the stream with the number that an option gives, counted from 1, or of the only one."""
+    if not streams:
+        raise Refusal(f"{name}: has no RTP stream with GSM, PCMA or PCMU")
+    if number is None and len(streams) == 1:
+        number = 1
+    if number is None or not 1 <= number <= len(streams):
+        raise Refusal(f"{name}: has {len(streams)} streams, one of which {option} names: {listed(streams)}")
+    return list(streams.values())[number - 1]
+
+
+def periods_between(name: Path, since: Sequence[Packet], packets: Sequence[Packet]) -> int:
+    """How many periods a stream begins later in its capture than another."""
+    passed = packets[0].time - since[0].time
+    if passed < 0:
+        raise Refusal(f"{name}: the stream begins {-passed:.2f} s before that of --since")
+    return round(passed * PERIODS_A_SECOND)

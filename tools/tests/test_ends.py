@@ -1,0 +1,145 @@
+"""Tests of how tools end where standard output or a disk fails: one line on standard error, status 2, and no traceback."""
+
+import os
+import resource
+import shlex
+import subprocess
+import sys
+import unittest
+from concurrent.futures import ThreadPoolExecutor
+from pathlib import Path
+
+from support import DATA, TOOLS, InFolder
+from test_timeline import lay
+
+# Each tool with words for which it prints on standard output; {} is a folder with a run.
+PRINTS = (
+    "lines.py idle 1 {}/7.pcm",
+    "lines.py idle 1000 -",
+    "lines.py look {}/1.up",
+    "lines.py --help",
+    "orders.py check {}/orders.txt",
+    "orders.py strip {}/orders.txt",
+    "report.py text {}/report.txt",
+    "report.py compare {} {}",
+    "report.py --help",
+    "timeline.py {} {}/run.svg",
+    "watch.py {} --once",
+    "shard.py split {} {}/cut --parts 2",
+    "trau_words.py man",
+    "package --help",
+)
+
+
+def limited(octets):
+    """Lets no file of the process that begins grow beyond so many octets, as a disk that is full there."""
+    return lambda: resource.setrlimit(resource.RLIMIT_FSIZE, (octets, octets))
+
+
+class Ends(InFolder):
+    def setUp(self):
+        super().setUp()
+        lay("mixed", self.folder)
+
+    def words(self, line):
+        tool, *words = shlex.split(line.replace("{}", shlex.quote(str(self.folder))))
+        return [sys.executable, str(TOOLS / tool), *words]
+
+    def assert_one_line(self, line, ended):
+        tool = line.split()[0]
+        self.assertEqual((ended.returncode, ended.stderr.count("\n")), (2, 1), (line, ended.stderr))
+        self.assertTrue(ended.stderr.startswith(f"{tool}: "), ended.stderr)
+
+    def assert_all_end(self, wanted, output=None, before=()):
+        """Each tool with its standard output at a file, or with words before it, ends with one line that says this."""
+
+        def end(line):
+            words = [*before, *self.words(line)]
+            return subprocess.run(words, stdout=output, stderr=subprocess.PIPE, text=True)
+
+        with ThreadPoolExecutor(4) as pool:
+            for line, ended in zip(PRINTS, pool.map(end, PRINTS)):
+                self.assert_one_line(line, ended)
+                self.assertIn(wanted, ended.stderr)
+
+    def test_full(self):
+        with open("/dev/full", "w") as full:
+            self.assert_all_end("standard output: No space left on device", full)
+
+    def test_broken(self):
+        reads, writes = os.pipe()
+        os.close(reads)
+        self.assert_all_end("standard output: Broken pipe", writes)
+        os.close(writes)
+
+    def test_closed(self):
+        before = sorted(self.folder.iterdir())
+        self.assert_all_end("standard output is closed", before=["sh", "-c", 'exec "$@" >&-', "sh"])
+        self.assertEqual(before, sorted(self.folder.iterdir()))
+
+    def test_head(self):
+        # More text than a pipe holds, so that head ends first.
+        self.path("many.txt", b"0 open x\n" * 50_000)
+        lined = f"{shlex.join(self.words('orders.py check {}/many.txt'))} | head -n 1"
+        ended = subprocess.run(["sh", "-c", lined], capture_output=True, text=True)
+        self.assertEqual(ended.stdout.count("\n"), 1)
+        self.assertEqual(ended.stderr, "orders.py: standard output: Broken pipe\n")
+
+    def test_other_streams_that_are_closed(self):
+        for closed, line, wanted in (
+            ("<&-", "lines.py uplink - {}/9.up", "lines.py: standard input is closed\n"),
+            ("<&-", "orders.py check -", "orders.py: standard input is closed\n"),
+        ):
+            ended = subprocess.run(["sh", "-c", f'exec "$@" {closed}', "sh", *self.words(line)], capture_output=True, text=True)
+            self.assertEqual((ended.returncode, ended.stdout, ended.stderr), (2, "", wanted))
+        # What would go to a closed standard error doesn't go to standard output.
+        for line in ("report.py text {}/gone", "report.py text"):
+            ended = subprocess.run(["sh", "-c", 'exec "$@" 2>&-', "sh", *self.words(line)], capture_output=True, text=True)
+            self.assertEqual((ended.returncode, ended.stdout, ended.stderr), (2, "", ""))
+
+    def test_status_1_of_compare_says_that_runs_differ(self):
+        other = self.folder / "other"
+        other.mkdir()
+        lay("clean", other)
+        words = self.words("report.py compare {} {}/other")
+        self.assertEqual(subprocess.run(words, capture_output=True).returncode, 1)
+        with open("/dev/full", "w") as full:
+            ended = subprocess.run(words, stdout=full, stderr=subprocess.PIPE, text=True)
+        self.assert_one_line("report.py", ended)
+
+    def test_a_full_disk(self):
+        wanted = ": File too large\n"
+        for line, octets, name in (
+            (f"lines.py uplink {DATA}/speech.gsm {{}}/9.up", 100, "9.up"),
+            ("timeline.py {} {}/run.svg", 100, "run.svg"),
+            ("orders.py strip {}/orders.txt {}/stripped.txt", 100, "stripped.txt"),
+            ("shard.py split {} {}/cut --parts 2", 10, "cut/0/orders.txt"),
+            ("shard.py split {} {}/cut --parts 2", 400, "cut/0/run.sh"),
+            ("shard.py split {} {}/cut --parts 1 --copy", 2000, r"cut/0/\d\.(?:up|pcm)"),
+        ):
+            ended = subprocess.run(self.words(line), capture_output=True, text=True, preexec_fn=limited(octets))
+            self.assert_one_line(line, ended)
+            self.assertRegex(ended.stderr, f"^{line.split()[0]}: {self.folder}/{name}{wanted}$")
+            self.assertFalse((self.folder / name.split("/")[0]).exists())
+
+    def test_names_that_are_no_text(self):
+        name = os.fsencode(self.folder) + b"/\xff.gsm"
+        Path(os.fsdecode(name)).write_bytes(bytes(7))
+        for streams in ({}, {"PYTHONIOENCODING": "ascii"}):
+            ended = subprocess.run(
+                [sys.executable, TOOLS / "lines.py", "look", name], capture_output=True, env={**os.environ, **streams}
+            )
+            self.assertEqual((ended.returncode, ended.stderr), (0, b""))
+
+    def test_an_interrupt(self):
+        self.path("report.txt", b"")
+        watching = subprocess.Popen(self.words("watch.py {} --plain"), stdout=subprocess.PIPE, stderr=subprocess.PIPE)
+        watching.stdout.readline()
+        watching.send_signal(2)
+        self.assertEqual((watching.wait(), watching.stderr.read()), (130, b""))
+        watching.stdout.close()
+        watching.stderr.close()
+
+
+if __name__ == "__main__":
+    unittest.main()

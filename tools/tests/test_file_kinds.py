@@ -1,0 +1,233 @@
+"""Tests of file_kinds.py: what `lines.py look` says of files, and what other commands refuse by it."""
+
+import gzip
+import math
+import random
+import struct
+import unittest
+
+from support import CODEC, DATA, EXAMPLES, InFolder
+from test_lines import wav
+
+import file_kinds
+import lines
+import orders
+import readings
+import slots
+import trau_frames
+from file_kinds import Kind
+from trau_frames import Law
+
+FARM = EXAMPLES / "farm"
+UP = (EXAMPLES / "7.up").read_bytes()
+DOWN = (FARM / "wanted" / "2.down").read_bytes()
+# A-law of speech, and of a run: what is said, comfort noise, and idle stretches.
+SPOKEN = [CODEC / "speech-en-m3.pcm", CODEC / "speech-loud-m7.out", FARM / "4.pcm", *(FARM / "wanted").glob("*.out")]
+TO_MULAW = Law.A.table_to(Law.MU)
+TURNED = "with the bits of each octet in the other order"
+
+
+def e1(slot):
+    """An E1 line whose slot 16 has these octets, with the frame alignment signal in its slot 0, and idle slots else."""
+    frames = []
+    for place, octet in enumerate(slot):
+        frames.append(bytes([0x9B if place % 2 == 0 else 0x40]) + 15 * b"\xd5" + bytes([octet]) + 15 * b"\xd5")
+    return b"".join(frames)
+
+
+def merged(channels):
+    """A time slot with these lines in its channels."""
+    pairs = ([octet >> shift & 3 for octet in line for shift in (6, 4, 2, 0)] for line in channels)
+    return bytes(a << 6 | b << 4 | c << 2 | d for a, b, c, d in zip(*pairs))
+
+
+def shifted(octets, ones):
+    """A line behind so many ones."""
+    bits = ones * "1" + trau_frames.bits_of(octets)
+    return trau_frames.octets_of(bits + -len(bits) % 8 * "1")
+
+
+def linear(octets):
+    """The samples of 16 bits of A-law."""
+    return struct.pack(f"<{len(octets)}h", *map(Law.A.expand, octets))
+
+
+class Look(InFolder):
+    def look(self, content, name="file"):
+        """What is said of a file, without its name."""
+        path = self.path(name, content)
+        status, out, err = self.run_tool(lines.main, "look", path)
+        self.assertEqual((status, err, out.count("\n")), (0, "", 1))
+        self.assertTrue(out.startswith(f"{path}: "))
+        return out[len(f"{path}: ") : -1].replace(str(path), "FILE")
+
+    def test_heads(self):
+        speech = (DATA / "speech.gsm").read_bytes()
+        sox = "; sox FILE -r 8000 -c 1 -b 16 -e signed-integer NEW.wav"
+        for content, wanted in (
+            (b"", "empty"),
+            (wav(data=bytes(100)), "a WAV file, 8000 Hz, channels 1, bits 16 linear; lines.py pcm FILE NEW.pcm"),
+            (wav(tag=6, bits=8), "a WAV file, 8000 Hz, channels 1, bits 8 A-law; lines.py pcm FILE NEW.pcm"),
+            (wav(tag=3, bits=32), f"a WAV file, 8000 Hz, channels 1, bits 32 of format 3{sox}"),
+            (wav(rate=44100, channels=2), f"a WAV file, 44100 Hz, channels 2, bits 16 linear{sox}"),
+            (wav()[:30], "a WAV file without a whole head"),
+            ((DATA / "sox.wav").read_bytes(), "a WAV file of GSM frames, 8000 Hz, channels 1; lines.py uplink FILE NEW.up"),
+            (b".snd\0\0\0\x18\0\0\0\x20\0\0\0\x1b" + bytes(20), f"an .au file{sox}"),
+            (b"fLaC\0\0\0\x22" + bytes(34), f"a FLAC file{sox}"),
+            (b"OggS" + bytes(30), f"an Ogg file{sox}"),
+            (speech, "40 frames of libgsm; lines.py uplink FILE NEW.up"),
+            (speech[:-7], "39 frames of libgsm, and 26 octets of one that was cut; lines.py uplink FILE NEW.up --partial"),
+            ((DATA / "gsm.pcap").read_bytes(), "a pcap capture; lines.py pcap FILE NEW"),
+            ((DATA / "pcma.pcapng").read_bytes(), "a pcapng capture; lines.py pcap FILE NEW"),
+            (gzip.compress(UP), "packed by gzip; lines.py reads such files where their names end with .gz"),
+            ((FARM / "orders.txt").read_bytes(), "a text of orders; orders.py check FILE"),
+            ((FARM / "wanted" / "report.txt").read_bytes(), "the report of a run; report.py text FILE"),
+            (random.Random(1).randbytes(20000), "nothing that is known here"),
+        ):
+            self.assertEqual(self.look(content), wanted)
+
+    def test_lines_of_frames_at_any_bit(self):
+        for ones in (0, 1, 13, 320, 4000):
+            self.assertTrue(self.look(shifted(UP, ones)).startswith(f"an uplink, its first frame at bit {ones}; "))
+            self.assertTrue(self.look(shifted(DOWN, ones)).startswith(f"a downlink, its first frame at bit {320 + ones}; "))
+        said = f"an uplink, its first frame at bit 13, {TURNED}; lines.py slot FILE NEW --lsb-first"
+        self.assertEqual(self.look(slots.turned(shifted(UP, 13))), said)
+
+    def test_every_line_of_the_examples(self):
+        for path in (*FARM.glob("*.up"), *EXAMPLES.glob("7.up")):
+            self.assertIs(file_kinds.look(*file_kinds.head_of(path)).kind, Kind.UPLINK)
+        for path in (FARM / "wanted").glob("*.down"):
+            self.assertIs(file_kinds.look(*file_kinds.head_of(path)).kind, Kind.DOWNLINK)
+
+    def test_slots_and_whole_lines(self):
+        slot = merged([UP[:4000], bytes(4000), shifted(UP, 5)[:4000], DOWN[:4000]])
+        wanted = (
+            "a time slot of 64 kbit/s: channel 0 is an uplink, its first frame at bit 0; channel 2 is an uplink, its first frame at bit 5;"
+            " channel 3 is a downlink, its first frame at bit 320"
+        )
+        self.assertEqual(self.look(slot), f"{wanted}; name it C.pcm, and trau split C")
+        self.assertEqual(self.look(slots.turned(slot)), f"{wanted}, {TURNED}; lines.py slot FILE NEW --lsb-first")
+        line = e1(slot[:3000])
+        command = "lines.py slot FILE NEW.pcm --slot N --of 32"
+        self.assertEqual(self.look(line), f"an E1 line of 32 slots; {command}")
+        self.assertEqual(self.look(line[7:]), f"an E1 line of 32 slots from octet 25 on; {command} --skip 25")
+        self.assertEqual(self.look(slots.turned(line)), f"an E1 line of 32 slots, {TURNED}; {command} --lsb-first")
+
+    def test_sound_by_statistics(self):
+        for path in SPOKEN:
+            octets = path.read_bytes()
+            if len(set(octets)) < readings.LEAST_DISTINCT:
+                continue
+            raw = "lines.py pcm FILE NEW.pcm --raw"
+            for content, wanted in (
+                (octets, f"A-law, as it seems; {raw}"),
+                (octets.translate(TO_MULAW), f"mu-law, as it seems; {raw} --law mulaw"),
+                (slots.turned(octets), f"A-law, as it seems, {TURNED}; {raw} --lsb-first"),
+                (slots.turned(octets.translate(TO_MULAW)), f"mu-law, as it seems, {TURNED}; {raw} --lsb-first --law mulaw"),
+            ):
+                self.assertEqual(self.look(content), wanted, path)
+        for path in SPOKEN[:2]:
+            said = self.look(linear(path.read_bytes()))
+            self.assertEqual(
+                said,
+                "sound of 16 bits a sample, as it seems; sox -t raw -r 8000 -c 1 -b 16 -e signed-integer FILE NEW.wav",
+            )
+
+    def test_idle_sound(self):
+        for law in Law:
+            said = "A-law" if law is Law.A else "mu-law"
+            for octets in ([law.idle()], [law.idle(), law.idle() ^ 0x80], [law.idle(), law.idle() ^ 0x80, law.idle() ^ 1]):
+                content = bytes(random.Random(3).choices(octets, k=3300))
+                self.assertTrue(self.look(content).startswith(f"{said}, as it seems;"))
+
+    def test_too_little_for_statistics(self):
+        self.assertEqual(self.look(SPOKEN[0].read_bytes()[4000:4799]), "nothing that is known here")
+
+    def test_several_files(self):
+        one, other = self.path("1.up", UP), self.path("a b", b"")
+        status, out, err = self.run_tool(lines.main, "look", one, other)
+        self.assertEqual((status, out.splitlines()[1], err), (0, f"{other}: empty", ""))
+        self.assert_refused(lines.main, ["look", self.folder / "gone"], "gone: No such file")
+        self.assert_refused(lines.main, ["look", self.folder], "Is a directory")
+
+
+class Refused(InFolder):
+    def test_raw(self):
+        spoken, new = SPOKEN[0].read_bytes(), self.path("new")
+        for words, content, part in (
+            ([], spoken.translate(TO_MULAW), "is mu-law, as it seems, and no A-law; lines.py pcm FILE NEW.pcm --raw --law mulaw"),
+            (["--law", "mulaw"], spoken, "is A-law, as it seems, and no mu-law; lines.py pcm FILE NEW.pcm --raw; --trust"),
+            ([], slots.turned(spoken), f"is A-law, as it seems, {TURNED}, and no A-law; lines.py pcm FILE NEW.pcm --raw --lsb-first"),
+            ([], linear(spoken), "is sound of 16 bits a sample, as it seems, and no A-law; sox -t raw "),
+            ([], b"fLaC" + bytes(4000), "is a FLAC file, and no A-law; sox FILE -r 8000"),
+            ([], (DATA / "speech.gsm").read_bytes(), "is 40 frames of libgsm, and no A-law; lines.py uplink FILE NEW.up"),
+            ([], (DATA / "gsm.pcap").read_bytes(), "is a pcap capture, and no A-law; lines.py pcap FILE NEW"),
+            ([], e1(UP[:1000]), "is an E1 line of 32 slots, and no A-law; lines.py slot FILE NEW.pcm --slot N --of 32"),
+            ([], slots.turned(UP), f"is an uplink, its first frame at bit 0, {TURNED}, and no A-law; lines.py slot FILE NEW"),
+        ):
+            path = self.path("raw", content)
+            self.assert_refused(lines.main, ["pcm", path, new, "--raw", *words], part.replace("FILE", str(path)))
+            self.assertEqual(self.run_tool(lines.main, "pcm", path, new, "--raw", "--trust", *words)[0], 0)
+            new.unlink()
+
+    def test_raw_that_is_taken(self):
+        # All lines of the examples, also those with tones and noise of which nothing can be said.
+        for path in (*FARM.glob("*.pcm"), *(FARM / "wanted").glob("*.out"), *CODEC.glob("*.pcm"), *CODEC.glob("*.out")):
+            octets = path.read_bytes()
+            self.assertEqual(self.run_tool(lines.main, "pcm", path, self.path("new"), "--raw")[2], "", path)
+            mulaw = self.path("mulaw", octets.translate(TO_MULAW))
+            self.assertEqual(self.run_tool(lines.main, "pcm", mulaw, self.path("new"), "--raw", "--law", "mulaw")[2], "", path)
+
+    def test_tones_and_noise_are_taken(self):
+        source = random.Random(1)
+        sounds = [[source.randint(-9000, 9000) for _ in range(4000)]]
+        for hertz in (50, 440, 1000, 1020, 2000, 2850, 3450):
+            for peak in (30, 3000, 32000):
+                sounds.append([round(peak * math.sin(2 * math.pi * hertz * place / 8000)) for place in range(4000)])
+        for law in Law:
+            table = law.octets_by_sample()
+            for samples in sounds:
+                self.assertIsNone(readings.plainly_other(bytes(table[sample] for sample in samples), law))
+
+    def test_turned_octets(self):
+        spoken, new = SPOKEN[0].read_bytes(), self.path("new")
+        path = self.path("raw", slots.turned(spoken))
+        said = self.run_tool(lines.main, "pcm", path, new, "--raw", "--lsb-first")
+        self.assertEqual((said[0], new.read_bytes()[: len(spoken)]), (0, spoken))
+
+    def test_uplink(self):
+        new = self.path("new")
+        for content, part in (
+            (b".snd" + bytes(62), "is an .au file, and no frames of libgsm; sox FILE -r 8000"),
+            (UP, "is an uplink, its first frame at bit 0, and no frames of libgsm; trau run takes it as C.up"),
+            (DOWN, "is a downlink, its first frame at bit 320, and no frames of libgsm; lines.py listen"),
+            ((DATA / "gsm.pcap").read_bytes(), "is a pcap capture, and no frames of libgsm; lines.py pcap"),
+            (330 * b"\xd5", "nearly each of its octets begins with 1101, as in idle A-law"),
+        ):
+            path = self.path("given", content)
+            self.assert_refused(lines.main, ["uplink", path, new], part.replace("FILE", str(path)))
+
+    def test_lines_of_orders(self):
+        spoken = SPOKEN[0].read_bytes()[:16000]
+        for up, pcm, law, part in (
+            (UP, spoken, "", None),
+            (shifted(UP, 13), bytes(16000), "", None),
+            (DOWN, spoken, "", "1.up is a downlink, its first frame at bit 320, and no uplink; lines.py listen"),
+            (wav(data=bytes(99)), spoken, "", "1.up is a WAV file, 8000 Hz, channels 1, bits 16 linear, and no uplink; lines.py pcm"),
+            (slots.turned(UP), spoken, "", f"1.up is an uplink, its first frame at bit 0, {TURNED}, and no uplink; lines.py slot"),
+            (UP, spoken.translate(TO_MULAW), "", "1.pcm is mu-law, as it seems, and no A-law; lines.py pcm"),
+            (UP, spoken.translate(TO_MULAW), " mulaw", None),
+            (UP, spoken, " mulaw", "1.pcm is A-law, as it seems, and no mu-law; lines.py pcm"),
+            (UP, UP, "", "1.pcm is an uplink, its first frame at bit 0, and no A-law; trau run"),
+        ):
+            self.path("1.up", up)
+            self.path("1.pcm", pcm)
+            given = self.path("orders.txt", f"0 open 1{law}\n".encode())
+            status, out, err = self.run_tool(orders.main, "check", given, "--lines", self.folder)
+            warned = [line for line in out.splitlines() if "warning:" in line]
+            self.assertEqual((status, err, len(warned)), (0, "", 0 if part is None else 1), out)
+            self.assertIn(f"line 1: warning: {part}" if part else "orders 1 bad 0 warnings 0", out)
+
+
+if __name__ == "__main__":
+    unittest.main()

@@ -1,0 +1,174 @@
+"""Tests of what `lines.py` takes of recordings: packed files, files that were cut, slots of whole lines, and a downlink as sound."""
+
+import gzip
+import os
+import random
+import struct
+import subprocess
+import unittest
+
+from support import CODEC, DATA, EXAMPLES, InFolder
+from test_file_kinds import e1, merged, shifted
+from test_lines import wav
+
+import lines
+import recordings
+import slots
+import trau_frames
+from trau_frames import Law
+
+PROGRAM = os.environ.get("TRAU_PROGRAM", "")
+WANTED = EXAMPLES / "farm" / "wanted"
+SPEECH = (DATA / "speech.gsm").read_bytes()
+SPOKEN = (CODEC / "speech-en-m3.pcm").read_bytes()
+
+
+class Recorded(InFolder):
+    def lines(self, *words):
+        status, out, err = self.run_tool(lines.main, *words)
+        self.assertEqual((status, err), (0, ""))
+        return out
+
+
+class Packed(Recorded):
+    def test_as_if_it_werent_packed(self):
+        up = (EXAMPLES / "7.up").read_bytes()
+        down = (WANTED / "2.down").read_bytes()
+        for command, name, content, *words in (
+            ("uplink", "a.gsm", SPEECH),
+            ("pcm", "a.al", SPOKEN, "--raw"),
+            ("pcm", "a.wav", wav(data=bytes(640))),
+            ("sound", "1.out", SPOKEN),
+            ("gsm", "2.down", down),
+            ("damage", "7.up", up, "--drop", "3"),
+            ("slot", "line", up, "--slot", "1", "--of", "4", "--skip", "2"),
+        ):
+            plain = self.lines(command, self.path(name, content), self.path("one"), *words)
+            packed = self.lines(command, self.path(f"{name}.gz", gzip.compress(content)), self.path("other"), *words)
+            self.assertEqual(plain, packed)
+            self.assertEqual(self.path("one").read_bytes(), self.path("other").read_bytes())
+
+    def test_the_name_within(self):
+        path = self.path("7.up.gz", gzip.compress(bytes(160)))
+        self.assert_refused(lines.main, ["sound", path, self.path("new")], "is a line of frames by its name")
+
+    def test_parts_put_together(self):
+        path = self.path("a.gz", gzip.compress(SPEECH[:660]) + gzip.compress(SPEECH[660:]))
+        self.assertEqual(recordings.read_recording(path), SPEECH)
+
+    def test_blocks_of_any_size(self):
+        source = random.Random(1)
+        self.addCleanup(setattr, recordings, "BLOCK_OCTETS", recordings.BLOCK_OCTETS)
+        for _ in range(200):
+            recordings.BLOCK_OCTETS = source.randrange(1, 90)
+            octets = source.randbytes(source.randrange(300))
+            of, skipped = source.randrange(1, 40), source.randrange(50)
+            number = source.randrange(of)
+            for path in (self.path("a", octets), self.path("a.gz", gzip.compress(octets))):
+                self.assertEqual(recordings.read_slot(path, number, of, skipped), octets[skipped + number :: of])
+
+    def test_cut_or_not_packed(self):
+        packed = gzip.compress(SPOKEN)
+        path = self.path("a.al.gz", packed[:-2000])
+        self.assert_refused(lines.main, ["pcm", path, self.path("new"), "--raw"], "a.al.gz: ends too early; --partial takes")
+        self.lines("pcm", path, self.path("new"), "--raw", "--partial")
+        octets = self.path("new").read_bytes().rstrip(b"\xd5")
+        self.assertTrue(SPOKEN.startswith(octets))
+        self.assertGreater(len(octets), 20000)
+        path = self.path("b.gz", SPEECH)
+        self.assert_refused(lines.main, ["uplink", path, self.path("new")], "b.gz: its name ends with .gz, and gzip didn't pack it")
+
+
+class Partial(Recorded):
+    def uplink(self, name, content):
+        return self.lines("uplink", self.path(name, content), self.path("7.up"), "--partial")
+
+    def test_frames_of_libgsm(self):
+        path, new = self.path("cut.gsm", SPEECH[:-7]), self.path("7.up")
+        part = "1313 octets are no frames of libgsm, which have 33 octets each; --partial takes the whole ones"
+        self.assert_refused(lines.main, ["uplink", path, new], part)
+        self.assertEqual(self.uplink("cut.gsm", SPEECH[:-7]), "uplink frames 39 sid 0 invalid 0 left 26\n")
+        self.assertEqual(new.read_bytes(), (EXAMPLES / "7.up").read_bytes()[:1560])
+        self.assertEqual(self.uplink("whole.gsm", SPEECH), "uplink frames 40 sid 0 invalid 0 left 0\n")
+        for content in (SPEECH[:32], b"", bytes(70)):
+            self.assert_refused(lines.main, ["uplink", self.path("no.gsm", content), new, "--partial"], "no")
+
+    def test_wav_files_of_gsm_frames(self):
+        content = (DATA / "sox.wav").read_bytes()
+        path = self.path("cut.wav", content[:-40])
+        self.assert_refused(lines.main, ["uplink", path, self.path("7.up")], "ends too early, in its part 'data'; --partial takes")
+        self.assertEqual(self.uplink("cut.wav", content[:-40]), "uplink frames 38 sid 0 invalid 0 left 25\n")
+
+    def test_wav_files_of_samples(self):
+        samples = struct.pack("<400h", *range(400))
+        content, new = wav(data=samples), self.path("7.pcm")
+        for missing in (1, 2, 301, 800):
+            path = self.path("cut.wav", content[:-missing])
+            self.assert_refused(lines.main, ["pcm", path, self.path("none")], "ends too early, in its part 'data'; --partial takes")
+            if missing == 800:
+                self.assert_refused(lines.main, ["pcm", path, self.path("none"), "--partial"], "holds no samples")
+                continue
+            self.lines("pcm", path, new, "--partial")
+            table = Law.A.octets_by_sample()
+            left = (800 - missing) // 2
+            self.assertEqual(new.read_bytes()[:left], bytes(table[sample] for sample in range(left)))
+        self.assert_refused(lines.main, ["pcm", self.path("cut.wav", content[:30]), self.path("none"), "--partial"], "in its part 'fmt'")
+
+
+class Slots(Recorded):
+    def test_each_slot_of_a_line(self):
+        content = bytes(range(256)) * 16
+        for number in (0, 1, 16, 31):
+            said = self.lines("slot", self.path("line", content), self.path("1.pcm"), "--slot", number, "--of", "32")
+            self.assertEqual(said, "slot octets 128\n")
+            self.assertEqual(self.path("1.pcm").read_bytes(), content[number::32])
+
+    def test_a_line_that_begins_anywhere_in_the_other_order(self):
+        slot = merged([(EXAMPLES / "7.up").read_bytes()[:4000], *3 * [bytes(4000)]])
+        path = self.path("line", slots.turned(e1(slot)[9:]))
+        self.lines("slot", path, self.path("1.pcm"), "--slot", "16", "--of", "32", "--skip", "23", "--lsb-first")
+        self.assertEqual(self.path("1.pcm").read_bytes(), slot[1:])
+
+    def test_the_bits_alone(self):
+        up = shifted((EXAMPLES / "7.up").read_bytes(), 5)
+        self.lines("slot", self.path("turned", slots.turned(up)), self.path("1.up"), "--lsb-first")
+        self.assertEqual(self.path("1.up").read_bytes(), up)
+
+    def test_refused(self):
+        line, new = self.path("line", bytes(64)), self.path("new")
+        for words, part in (
+            (["--slot", "32", "--of", "32"], "--slot 32: the slots of this line are 0 to 31"),
+            (["--slot", "x"], "'x' isn't 0 to 255"),
+            (["--of", "0"], "'0' isn't 1 to 256"),
+            (["--slot", "5", "--of", "8", "--skip", "60"], "has no octet of slot 5"),
+        ):
+            self.assert_refused(lines.main, ["slot", line, new, *words], part)
+
+
+class Listening(Recorded):
+    @unittest.skipUnless(PROGRAM, "no program is built")
+    def test_a_downlink(self):
+        down, new = WANTED / "2.down", self.path("2.wav")
+        said = self.lines("listen", down, new, "--trau", PROGRAM)
+        # 99 frames, and the period of ones before the first.
+        self.assertEqual(said, "listen samples 16000 found speech 91 silence 8 idle 0 other 0 outside 324\n")
+        self.lines("gsm", down, self.path("2.gsm"))
+        quiet = trau_frames.gsm_of_data(trau_frames.SILENCE.bits())
+        self.lines("uplink", self.path("2.gsm", quiet + self.path("2.gsm").read_bytes()), self.path("1.up"))
+        ended = subprocess.run([PROGRAM, "decode", "1"], cwd=self.folder, capture_output=True)
+        self.assertEqual(ended.stdout, b"decode frames 100\n")
+        self.lines("sound", self.path("1.out"), self.path("other.wav"))
+        self.assertEqual(new.read_bytes(), self.path("other.wav").read_bytes())
+
+    def test_refused(self):
+        down, new = WANTED / "2.down", self.path("2.wav")
+        self.assert_refused(lines.main, ["listen", EXAMPLES / "7.up", new, "--trau", "x"], "is an uplink; trau")
+        self.assert_refused(lines.main, ["listen", self.path("x.down", bytes(400)), new], "no frame of a downlink")
+        self.assert_refused(lines.main, ["listen", down, new, "--trau", self.folder / "gone"], "gone: No such file")
+        fails = self.path("fails", b"#!/bin/sh\necho no memory; exit 5\n")
+        fails.chmod(0o755)
+        self.assert_refused(lines.main, ["listen", down, new, "--trau", fails], "fails decode: status 5, no memory")
+
+
+if __name__ == "__main__":
+    unittest.main()
