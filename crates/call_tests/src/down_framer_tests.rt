@@ -7,8 +7,19 @@ use down_framer::Framer;
 use std::alloc::{AllocError, Global};
 use time_align::Align;
 
-// Works a period whose field is asked: its downlink octets, and the number of frames made. A frame is a one and zeros.
-fn period(framer: &mut Framer, align: &mut Align, field: u8) -> ([u8; 40], u32)
+// What a period makes: its downlink octets, how many frames, and of the last one at which octet of the Pcm line it starts, and
+// its shift.
+#[derive(Drop)]
+struct Made {
+    down: [u8; 40],
+    frames: u32,
+    start: u32,
+    shift: i16,
+}
+
+// Works a period whose field is asked, at the end of which this many octets of the Pcm line were put in. A frame is a one and
+// zeros.
+fn period(framer: &mut Framer, align: &mut Align, field: u8, given: u32) -> Made
     requires between { IsBetweenPeriods framer.old }
     requires field { field ≤ 63 }
     ensures { IsBetweenPeriods framer.new }
@@ -16,22 +27,30 @@ fn period(framer: &mut Framer, align: &mut Align, field: u8) -> ([u8; 40], u32)
     let mut frame = [0; 320];
     frame[0] = 1;
     let mut down = [0; 40];
-    let mut made = 0;
+    let (mut frames, mut start, mut shift) = (0, 0, 0);
     align.ask(field);
     framer.put(&[0xD5; 160]);
     while framer.ready() {
-        framer.frame(&frame, align.adopt());
-        made += 1;
+        start = given.saturating_sub(framer.held());
+        shift = align.adopt();
+        framer.frame(&frame, shift);
+        frames += 1;
     }
     framer.take(&mut down);
-    (down, made)
+    Made {
+        down,
+        frames,
+        start,
+        shift,
+    }
 }
 
-// A framer between its periods, and the shift that is asked of it.
+// A framer between its periods, the shift that is asked of it, and how many octets of the Pcm line were put in.
 #[derive(Drop)]
 struct Line {
     framer: Framer,
     align: Align,
+    given: u32,
     ghost between: { IsBetweenPeriods framer },
 }
 
@@ -39,12 +58,17 @@ impl Line {
     fn new(alloc: Global) -> Result<Line, AllocError> {
         let framer = Framer::new(alloc)?;
         let align = Align::new();
-        Ok(Line { framer, align })
+        Ok(Line {
+            framer,
+            align,
+            given: 0,
+        })
     }
 
     // Works a period whose field is asked.
-    fn period(&mut self, field: u8) -> ([u8; 40], u32) {
-        period(&mut self.framer, &mut self.align, field.min(63))
+    fn period(&mut self, field: u8) -> Made {
+        self.given = self.given.saturating_add(160);
+        period(&mut self.framer, &mut self.align, field.min(63), self.given)
     }
 
     // How many bits are in store, and how many octets are held, and to be skipped.
@@ -64,22 +88,26 @@ fn octets_with(same: u8, place: usize, other: u8) -> [u8; 40] {
     octets
 }
 
-// Periods: the field that is asked, the downlink octets (all the same but for one), how many frames are made, and what the
-// framer holds afterwards.
-static PERIODS: [(u8, u8, usize, u8, u32, [u32; 3]); 5] = [
-    (39, 0xFF, 0, 0xFF, 1, [632, 0, 156]),
-    (0, 0x00, 0, 0x80, 0, [312, 4, 0]),
-    (63, 0xFF, 39, 0x80, 1, [308, 6, 0]),
-    (40, 0x00, 38, 0x08, 1, [308, 6, 0]),
-    (0, 0x00, 38, 0x08, 1, [308, 6, 0]),
+// Periods: the field that is asked, the downlink octets (all the same but for one), how many frames are made, where the frame
+// starts, and what the framer holds afterwards.
+static PERIODS: [(u8, u8, usize, u8, u32, u32, [u32; 3]); 5] = [
+    (39, 0xFF, 0, 0xFF, 1, 0, [632, 0, 156]),
+    (0, 0x00, 0, 0x80, 0, 0, [312, 4, 0]),
+    (63, 0xFF, 39, 0x80, 1, 316, [308, 6, 0]),
+    (40, 0x00, 38, 0x08, 1, 474, [308, 6, 0]),
+    (0, 0x00, 38, 0x08, 1, 634, [308, 6, 0]),
 ];
 
 // How many of them are so, from the first on.
 fn are_framed(line: &mut Line) -> usize {
     let mut framed = 0usize;
-    for (field, same, place, other, made, held) in &PERIODS {
-        let worked = line.period(*field);
-        if worked != (octets_with(*same, *place, *other), *made) || line.holds() != *held {
+    for (field, same, place, other, frames, start, held) in &PERIODS {
+        let made = line.period(*field);
+        let down = octets_with(*same, *place, *other);
+        if made.down != down || (made.frames, made.start) != (*frames, *start) {
+            return framed;
+        }
+        if line.holds() != *held {
             return framed;
         }
         framed = framed.saturating_add(1);
@@ -100,7 +128,7 @@ fn frames_of(line: &mut Line, field: u8) -> (u32, u32) {
     let mut frames = 0u32;
     let mut two_at = 0;
     for k in 0..100 {
-        let made = line.period(field).1;
+        let made = line.period(field).frames;
         frames = frames.saturating_add(made);
         if made == 2 {
             two_at = k;
@@ -116,4 +144,35 @@ fn the_same_shift_in_each_period(rt: HostRuntime) {
         let mut line = Line::new(rt.alloc()).expect(&rt, "memory");
         assert!(rt; frames_of(&mut line, field) == frames, "field {field}");
     }
+}
+
+// A period of a line that asks for an advance in each period, as the hostile one of kind 3 does: how many frames it makes, and
+// where the last of them starts and its shift. Period 79 makes frames 79 and 80, of which the first takes the shift; frame 81
+// starts at octet 12,800.
+static ADVANCED: [(u32, u32, u32, i16); 5] = [
+    (0, 1, 0, -2),
+    (78, 1, 12_324, -2),
+    (79, 2, 12_640, 0),
+    (80, 1, 12_800, -2),
+    (99, 1, 15_802, -2),
+];
+
+// How many of them are so.
+fn are_advanced(line: &mut Line) -> u32 {
+    let mut advanced = 0u32;
+    for k in 0..100 {
+        let made = line.period(63);
+        for row in &ADVANCED {
+            if *row == (k, made.frames, made.start, made.shift) {
+                advanced = advanced.saturating_add(1);
+            }
+        }
+    }
+    advanced
+}
+
+#[test]
+fn an_advance_in_each_period(rt: HostRuntime) {
+    let mut line = Line::new(rt.alloc()).expect(&rt, "memory");
+    assert_eq!(rt; are_advanced(&mut line), 5);
 }

@@ -181,6 +181,21 @@ fn starts_noise(rx: &mut Rx) -> bool {
     }
 }
 
+static MISSED_TWICE: [(Coming, Heard); 3] = [
+    (Coming::Bad, Some((false, 20))),
+    (Coming::Missed, Some((false, 20))),
+    (Coming::Missed, Some((false, 16))),
+];
+
+// The good frame right after noise at 16 is unchanged.
+#[test]
+fn good_speech_ends_noise_that_fell_once(rt: HostRuntime) {
+    let mut rx = Rx::new(7);
+    assert!(rt; starts_noise(&mut rx));
+    assert!(rt; are_heard(&mut rx, &MISSED_TWICE));
+    assert!(rt; gives(&mut rx, Coming::GoodBetween, Effective::Speech(loud())));
+}
+
 static FALLING: [(Coming, Heard); 5] = [
     (Coming::Bad, Some((false, 20))),
     (Coming::Missed, Some((false, 20))),

@@ -115,3 +115,39 @@ fn a_sid_of_the_last_four_frames(rt: HostRuntime) {
     assert!(rt; sends(&mut tx, 0, (silence(), true)));
     assert!(rt; sends(&mut tx, 1, (descriptor(32, 36, 7), false)));
 }
+
+// The maxima of a first pause.
+const LOW: Trace = Trace {
+    lar: [0; 8],
+    xmax: [511; 4],
+};
+
+// The active frames between two pauses, how many frames of the second pause go out as speech, and the maximum's code of the
+// descriptor that goes out next: the last one of the first pause, or a new one of the second.
+static BURSTS: [(u32, u32, u8); 4] = [(10, 0, 15), (22, 0, 15), (23, 4, 0), (30, 4, 0)];
+
+// Whether a pause of seven frames with these maxima, a burst, and a pause without any are so.
+fn describes(burst: u32, hangover: u32, maximum: u8) -> bool {
+    let mut tx = Tx::home();
+    for _ in 0..7 {
+        tx.send(&silence(), &LOW, 0, 1, true);
+    }
+    for _ in 0..burst {
+        if !sends(&mut tx, 0, (silence(), true)) {
+            return false;
+        }
+    }
+    for _ in 0..hangover {
+        if !sends(&mut tx, 1, (silence(), true)) {
+            return false;
+        }
+    }
+    sends(&mut tx, 1, (descriptor(32, 32, maximum.min(63)), false))
+}
+
+#[test]
+fn descriptors_behind_bursts(rt: HostRuntime) {
+    for (burst, hangover, maximum) in &BURSTS {
+        assert!(rt; describes(*burst, *hangover, *maximum), "burst {burst}");
+    }
+}

@@ -1,14 +1,16 @@
 //! The command `drill`; and uplinks as no base station sends them.
 
-use crate::desk::FailingDesk;
+use crate::desk::{FailingDesk, WRITTEN};
 use crate::endless::Endless;
-use crate::farm_top_tests::{carry, words_of};
+use crate::farm_top_tests::{carry, status_of};
 use crate::lines::{Laid, NONE, line, put, trunk_of};
+use crate::two_calls::carry_out;
 use farm_drill::hostile;
-use farm_top::farm_top;
 use pool_run::OpenGate;
 use std::alloc::Global;
 use std::process::Abort;
+use std::sync::Wait;
+use std::thread::Threads;
 use trau_io::Side::{Down, Out, Pcm, Up};
 use trau_io::{MemTrunk, Side};
 
@@ -16,14 +18,14 @@ use trau_io::{MemTrunk, Side};
 const ALL: u32 = 10_000;
 
 // Two drills in which comfort noise plays no part, with the sums that another program gives.
-static ONE_PERIOD: &str = "order 1 ok
+const ONE_PERIOD: &str = "order 1 ok
 call 1 from 0 to 1 limit
 counts 1 good 0 sid 1 invalid 0 bad 0 idle 0 other 0 miss 0 none 0 made 1
 end period 1 calls 1 left 0
 sum 1 out 17406 down 10200
 ";
 
-static FOUR_PERIODS: &str = "order 1 ok
+const FOUR_PERIODS: &str = "order 1 ok
 order 2 ok
 order 3 ok
 order 4 ok
@@ -55,61 +57,107 @@ fn is_unused(trunk: &MemTrunk) -> bool {
     true
 }
 
-#[test]
-fn drills_are_those_of_another_program(rt: HostRuntime) {
-    let alloc = rt.alloc();
-    let mut trunk = trunk_of(&rt, alloc, &FAILING);
-    let short: [&str; 5] = ["drill", "--calls", "1", "--periods", "1"];
-    let drilled = carry(&rt, alloc, &short, &mut trunk, "no orders", NONE, &OpenGate);
-    assert!(&rt; drilled.is(0, ONE_PERIOD));
-    let words: [&str; 5] = ["drill", "--calls", "2", "--periods", "4"];
-    let drilled = carry(&rt, alloc, &words, &mut trunk, "no orders", NONE, &OpenGate);
-    assert!(&rt; drilled.is(0, FOUR_PERIODS));
-    assert!(&rt; is_unused(&trunk));
+// Drills, also by several workers and in several slices, and what they tell.
+static DRILLS: [([&str; 5], &str); 6] = [
+    (["drill", "--calls", "1", "--periods", "1"], ONE_PERIOD),
+    (["drill", "--calls", "2", "--periods", "4"], FOUR_PERIODS),
+    (
+        [
+            "drill",
+            "--calls=2",
+            "--workers=1",
+            "--periods=4",
+            "--slice=1",
+        ],
+        FOUR_PERIODS,
+    ),
+    (
+        [
+            "drill",
+            "--calls=2",
+            "--workers=1",
+            "--periods=4",
+            "--slice=9",
+        ],
+        FOUR_PERIODS,
+    ),
+    (
+        [
+            "drill",
+            "--calls=2",
+            "--workers=5",
+            "--periods=4",
+            "--slice=1",
+        ],
+        FOUR_PERIODS,
+    ),
+    (
+        [
+            "drill",
+            "--calls=2",
+            "--workers=5",
+            "--periods=4",
+            "--slice=9",
+        ],
+        FOUR_PERIODS,
+    ),
+];
+
+// Whether a drill tells this text and uses no line.
+fn tells<R: Abort + Threads + Wait + Sync>(
+    rt: &R,
+    alloc: Global,
+    words: &[&str],
+    text: &str,
+) -> bool {
+    let mut trunk = trunk_of(rt, alloc, &FAILING);
+    let drilled = carry(rt, alloc, words, &mut trunk, "no orders", NONE, &OpenGate);
+    drilled.is(0, text) && is_unused(&trunk)
 }
 
 #[test]
-fn a_drill_takes_any_workers_and_slices(rt: HostRuntime) {
-    let alloc = rt.alloc();
-    let mut trunk = trunk_of(&rt, alloc, &FAILING);
-    for workers in ["--workers=1", "--workers=5"] {
-        for slice in ["--slice=1", "--slice=9"] {
-            let words: [&str; 5] = ["drill", "--calls=2", workers, "--periods=4", slice];
-            let drilled = carry(&rt, alloc, &words, &mut trunk, "", NONE, &OpenGate);
-            assert!(&rt; drilled.is(0, FOUR_PERIODS));
-        }
+fn drills_are_those_of_another_program(rt: HostRuntime) {
+    for (words, text) in &DRILLS {
+        assert!(rt; tells(&rt, rt.alloc(), words, text), "{text}");
     }
+}
+
+// Whether a drill at a desk that fails at its second write ends with status 4, and its text is what went before.
+fn is_told_in_part<R: Abort + Threads + Wait + Sync>(rt: &R, alloc: Global) -> bool {
+    let trunk = trunk_of(rt, alloc, &FAILING);
+    let desk = FailingDesk::new(rt, alloc, "", 0, 1);
+    let words = ["drill", "--calls=1", "--periods=1"];
+    let run = carry_out(rt, alloc, &words, trunk, desk);
+    let text = run.desk.text();
+    run.status == 4
+        && text.len() == WRITTEN
+        && ONE_PERIOD.as_bytes().starts_with(text)
+        && is_unused(&run.trunk)
 }
 
 #[test]
 fn the_desk_fails_while_a_drill_is_told(rt: HostRuntime) {
-    let alloc = rt.alloc();
-    let mut trunk = trunk_of(&rt, alloc, &FAILING);
-    let words = words_of(&rt, alloc, &["drill", "--calls=1", "--periods=1"]);
-    // The desk takes thirty octets at a time.
-    let mut desk = FailingDesk::new(&rt, alloc, "", 0, 1);
-    let status = farm_top(&rt, alloc, &words, &mut trunk, &mut desk, &OpenGate);
-    assert_eq!(&rt; status, 4u8);
-    assert_eq!(&rt; desk.text().len(), 30);
-    assert!(&rt; ONE_PERIOD.as_bytes().starts_with(desk.text()));
-    assert!(&rt; is_unused(&trunk));
+    assert!(rt; is_told_in_part(&rt, rt.alloc()));
 }
 
-#[test]
-fn lines_that_never_end_come_to_the_limit(rt: HostRuntime) {
-    let alloc = rt.alloc();
-    let words = words_of(&rt, alloc, &["run", "--periods", "5"]);
-    let mut desk = FailingDesk::calm(&rt, alloc, "0 open 1\n");
-    let mut trunk = Endless { written: 0 };
-    let status = farm_top(&rt, alloc, &words, &mut trunk, &mut desk, &OpenGate);
-    assert_eq!(&rt; status, 0u8);
-    let text = "order 1 ok
+static LIMIT: &str = "order 1 ok
 call 1 from 0 to 5 limit
 counts 1 good 0 sid 0 invalid 0 bad 0 idle 0 other 0 miss 0 none 5 made 5
 end period 5 calls 1 left 0
 ";
-    assert_eq!(&rt; desk.text(), text.as_bytes());
-    assert_eq!(&rt; trunk.written, 5 * 200);
+
+// Whether a run of five periods over lines that never end comes to its limit, and writes them.
+fn comes_to_the_limit<R: Abort + Threads + Wait + Sync>(rt: &R, alloc: Global) -> bool {
+    let mut desk = FailingDesk::calm(rt, alloc, "0 open 1\n");
+    let mut trunk = Endless { written: 0 };
+    let words = ["run", "--periods", "5"];
+    let status = status_of(rt, alloc, &words, &mut trunk, &mut desk, &OpenGate);
+    status == 0 && desk.text() == LIMIT.as_bytes() && trunk.written == 5 * 200
+}
+
+#[test]
+fn lines_that_never_end_come_to_the_limit(rt: HostRuntime) {
+    assert!(rt; comes_to_the_limit(&rt, rt.alloc()));
 }
 
 // A hostile uplink by its kind and periods, what is told of a run over it, and the sums of Down and Out.
@@ -220,23 +268,25 @@ fn hostile_lines(rt: &impl Abort, alloc: Global, row: &Hostile) -> MemTrunk {
     trunk
 }
 
+// Whether a run over a hostile uplink is as its row has it.
+fn comes_of<R: Abort + Threads + Wait + Sync>(rt: &R, alloc: Global, row: &Hostile) -> bool {
+    let mut trunk = hostile_lines(rt, alloc, row);
+    let ran = carry(
+        rt,
+        alloc,
+        &["run"],
+        &mut trunk,
+        "0 open 1\n",
+        NONE,
+        &OpenGate,
+    );
+    ran.is(0, row.text) && [sum(&trunk, Down), sum(&trunk, Out)] == [row.down, row.out]
+}
+
 #[test]
 fn hostile_uplinks_as_another_program(rt: HostRuntime) {
-    let alloc = rt.alloc();
     for row in &HOSTILE {
-        let mut trunk = hostile_lines(&rt, alloc, row);
-        let ran = carry(
-            &rt,
-            alloc,
-            &["run"],
-            &mut trunk,
-            "0 open 1\n",
-            NONE,
-            &OpenGate,
-        );
-        assert!(&rt; ran.is(0, row.text));
-        assert_eq!(&rt; sum(&trunk, Down), row.down);
-        assert_eq!(&rt; sum(&trunk, Out), row.out);
+        assert!(rt; comes_of(&rt, rt.alloc(), row), "kind {}", row.kind);
     }
 }
 
@@ -252,18 +302,14 @@ static CUT_FRAMES: &str = "0 good
 frames 8 left 0
 ";
 
+// Whether they are listed so.
+fn lists_cut_frames<R: Abort + Threads + Wait + Sync>(rt: &R, alloc: Global) -> bool {
+    let mut trunk = hostile_lines(rt, alloc, &HOSTILE[4]);
+    let listed = carry(rt, alloc, &["frames", "1"], &mut trunk, "", NONE, &OpenGate);
+    listed.is(0, CUT_FRAMES)
+}
+
 #[test]
 fn cut_frames_are_found_again(rt: HostRuntime) {
-    let alloc = rt.alloc();
-    let mut trunk = hostile_lines(&rt, alloc, &HOSTILE[4]);
-    let listed = carry(
-        &rt,
-        alloc,
-        &["frames", "1"],
-        &mut trunk,
-        "",
-        NONE,
-        &OpenGate,
-    );
-    assert!(&rt; listed.is(0, CUT_FRAMES));
+    assert!(rt; lists_cut_frames(&rt, rt.alloc()));
 }

@@ -1,8 +1,9 @@
-//! The command `run` over two calls, of which each line fails once at each of its first ten calls: 80 runs. Each is compared
-//! with a run over the octets that were given, of which no operation fails.
+//! The command `run` over two calls, of which each line fails once at each of its first ten operations: 80 runs. Incoming lines
+//! also fail at the eleventh, which gives their end, and would at the one after. Each run is compared with a run over the octets
+//! that were given, in which no operation fails.
 
 use crate::lines::{NONE, line};
-use crate::two_calls::{OF_40, OF_160, Outcome, calm, carry_calm, lay};
+use crate::two_calls::{OF_40, OF_160, Outcome, calm, carry_calm, is_written, lay};
 use std::alloc::Global;
 use std::process::Abort;
 use std::sync::Wait;
@@ -10,12 +11,18 @@ use std::thread::Threads;
 use trau_io::Side::{Down, Out, Pcm, Up};
 use trau_io::{MemTrunk, Side};
 
-// How many octets the calls before each of the first ten move: rounds of 4, 7, 7, 7 and 5 periods, in pieces.
-const BEFORE_40: [usize; 10] = [0, 150, 160, 310, 440, 590, 720, 870, 1000, 1150];
+// How many octets the operations before each one move: rounds of 4, 7, 7, 7 and 5 periods, in pieces. Operation 10 of an
+// incoming line is the read that gives `Ok(0)`.
+const BEFORE_40: [usize; 11] = [0, 150, 160, 310, 440, 590, 720, 870, 1000, 1150, OF_40];
 
-const BEFORE_160: [usize; 10] = [0, 600, 640, 1240, 1760, 2360, 2880, 3480, 4000, 4600];
+const BEFORE_160: [usize; 11] = [
+    0, 600, 640, 1240, 1760, 2360, 2880, 3480, 4000, 4600, OF_160,
+];
 
-// A line that fails, what the report has of it, and how many octets the calls before each of the first ten moved.
+// The first operation of an incoming line that doesn't come, since the one before it gave `Ok(0)`.
+const BEHIND_THE_END: u32 = 11;
+
+// A line that fails, what the report has of it, and how many octets the operations before each one moved.
 struct Failing {
     call: u32,
     side: Side,
@@ -23,7 +30,7 @@ struct Failing {
     head: &'static str,
     cause: &'static str,
     told: &'static str,
-    before: [usize; 10],
+    before: [usize; 11],
 }
 
 static LINES: [Failing; 8] = [
@@ -120,16 +127,22 @@ fn put(rt: &impl Abort, told: &mut String, text: &str) {
     told.push_str(text).expect(rt, "memory");
 }
 
-// The report of the run over the octets that were given, as it is where the line failed: its call ends by the fault, and
-// the line is listed before the last line.
-fn told_of(rt: &impl Abort, alloc: Global, row: &Failing, calm: &[u8]) -> String {
+// Whether a call ends by the fault: not where an outgoing line fails, and not where Pcm fails at the place where Up ends,
+// which goes first.
+fn ends_its_call(side: Side, before: usize) -> bool {
+    side == Up || side == Pcm && before < OF_160
+}
+
+// The report of the run over the octets that were given, as it is where the line failed: the line is listed before the last
+// line, and its call may end by the fault.
+fn told_of(rt: &impl Abort, alloc: Global, row: &Failing, ends: bool, calm: &[u8]) -> String {
     let calm = str::from_utf8(calm).expect(rt, "text");
     let mut told = String::new(alloc);
     for text in calm.lines() {
         if text.starts_with("end ") {
             put(rt, &mut told, row.told);
         }
-        let ended = is_incoming(row.side) && text.starts_with(row.head);
+        let ended = ends && text.starts_with(row.head);
         match text.split_once(" end ") {
             Some((front, _)) if ended => {
                 put(rt, &mut told, front);
@@ -179,26 +192,50 @@ fn is_as_given<R: Abort + Threads + Wait + Sync>(
     given: &Outcome,
 ) -> bool {
     let run = carry_calm(rt, alloc, failed_at(rt, alloc, row, number));
-    let told = told_of(rt, alloc, row, given.desk.text());
+    let ends = ends_its_call(row.side, before);
+    let told = told_of(rt, alloc, row, ends, given.desk.text());
     run.status == 6
         && given.status == 0
         && run.desk.text() == told.as_bytes()
         && have_fronts(&run.trunk, &given.trunk, row, before)
 }
 
-// How many of the first ten calls of an incoming line fail as they should, in turn.
-fn incoming_fails<R: Abort + Threads + Wait + Sync>(rt: &R, alloc: Global, row: &Failing) -> u32 {
-    for number in 0..10u32 {
+// Whether an incoming line isn't read any more where it has ended: the run is as if no operation failed.
+fn ends_once<R: Abort + Threads + Wait + Sync>(
+    rt: &R,
+    alloc: Global,
+    row: &Failing,
+    whole: &Outcome,
+) -> bool {
+    let run = carry_calm(rt, alloc, failed_at(rt, alloc, row, BEHIND_THE_END));
+    run.status == 0
+        && run.desk.text() == whole.desk.text()
+        && is_written(&run.trunk, &whole.trunk)
+        && run.trunk.faults(line(row.call, row.side)) == 0
+}
+
+// How many operations of an incoming line fail as they should, in turn, and whether none comes behind its end.
+fn incoming_fails<R: Abort + Threads + Wait + Sync>(
+    rt: &R,
+    alloc: Global,
+    row: &Failing,
+    whole: &Outcome,
+) -> u32 {
+    for number in 0..BEHIND_THE_END {
         let before = row.before[number as usize];
         let given = carry_calm(rt, alloc, given(rt, alloc, row, before));
         if !is_as_given(rt, alloc, row, number, before, &given) {
             return number;
         }
     }
-    10
+    if ends_once(rt, alloc, row, whole) {
+        12
+    } else {
+        BEHIND_THE_END
+    }
 }
 
-// The same of an outgoing line: the octets that were given are all.
+// How many of the first ten operations of an outgoing line fail as they should: the octets that were given are all.
 fn outgoing_fails<R: Abort + Threads + Wait + Sync>(
     rt: &R,
     alloc: Global,
@@ -213,16 +250,16 @@ fn outgoing_fails<R: Abort + Threads + Wait + Sync>(
     10
 }
 
-// Two calls of 30 periods, in rounds of at most 7: each line fails at each of its first ten calls.
+// Two calls of 30 periods, in rounds of at most 7: each line fails at each of its operations.
 #[test]
 fn each_line_fails_at_each_call(rt: HostRuntime) {
     let whole = carry_calm(&rt, rt.alloc(), calm(&rt, rt.alloc()));
     for row in &LINES {
-        let number = if is_incoming(row.side) {
-            incoming_fails(&rt, rt.alloc(), row)
+        let (number, all) = if is_incoming(row.side) {
+            (incoming_fails(&rt, rt.alloc(), row, &whole), 12)
         } else {
-            outgoing_fails(&rt, rt.alloc(), row, &whole)
+            (outgoing_fails(&rt, rt.alloc(), row, &whole), 10)
         };
-        assert!(rt; number == 10, "{}call {number}", row.told);
+        assert!(rt; number == all, "{}operation {number}", row.told);
     }
 }

@@ -3,6 +3,7 @@
 use crate::farm_top_tests::carry;
 use crate::held::{Held, PAIRS};
 use crate::lines::{Laid, NONE, trunk_of};
+use crate::paired::Paired;
 use std::alloc::Global;
 use std::process::Abort;
 use std::sync::Wait;
@@ -35,7 +36,8 @@ fn run_gated<R: Abort + Threads + Wait + Sync>(rt: &R, alloc: Global, gate: &Hel
     carry(rt, alloc, &WORDS, &mut trunk, ORDERS, NONE, gate).status
 }
 
-// Whether the run was done and each wait of the gate answered.
+// Whether the run was done, each call passed the gate for three slices of each phase, and each wait of the gate was
+// answered.
 fn each_wait_is_answered<R: Abort + Threads + Wait + Sync>(
     rt: &R,
     alloc: Global,
@@ -43,7 +45,7 @@ fn each_wait_is_answered<R: Abort + Threads + Wait + Sync>(
     other: u32,
 ) -> bool {
     let gate = Held::new(one, other);
-    run_gated(rt, alloc, &gate) == 0 && gate.each_is_answered()
+    run_gated(rt, alloc, &gate) == 0 && gate.each_is_answered(6)
 }
 
 // Calls 1 and 3 start in one deque, and call 2 in the other. The worker that is held with one call of a pair can't work the
@@ -56,4 +58,31 @@ fn calls_are_stolen_half_done(rt: HostRuntime) {
             "calls {one} and {other}"
         );
     }
+}
+
+// The lines of call 1, with three periods, and of call 2, with five.
+static UNEVEN_LINES: [Laid; 8] = [
+    (1, Up, 120, 1000, NONE),
+    (1, Pcm, 480, 1000, NONE),
+    (1, Down, 0, 1000, NONE),
+    (1, Out, 0, 1000, NONE),
+    (2, Up, 200, 1000, NONE),
+    (2, Pcm, 800, 1000, NONE),
+    (2, Down, 0, 1000, NONE),
+    (2, Out, 0, 1000, NONE),
+];
+
+// Runs both calls, by two workers in slices of one period. Answers the status.
+fn run_paired<R: Abort + Threads + Wait + Sync>(rt: &R, alloc: Global, gate: &Paired) -> u8 {
+    let mut trunk = trunk_of(rt, alloc, &UNEVEN_LINES);
+    let orders = "0 open 1\n0 open 2\n";
+    carry(rt, alloc, &WORDS, &mut trunk, orders, NONE, gate).status
+}
+
+// Each call passes the gate under its own number, twice for each of its periods: once in each phase.
+#[test]
+fn each_call_passes_twice_a_period(rt: HostRuntime) {
+    let gate = Paired::new();
+    assert!(rt; run_paired(&rt, rt.alloc(), &gate) == 0);
+    assert!(rt; gate.passed([6, 10, 0]));
 }

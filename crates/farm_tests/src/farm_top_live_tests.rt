@@ -40,8 +40,8 @@ fn are_unused(trunk: &MemTrunk) -> bool {
     true
 }
 
-// The drill of one period by so many callers: whether it tells its text and uses no line, and how many waits of the gate
-// used up its turns.
+// The drill of one period by so many callers: whether it tells its text, uses no line and passes the gate once for each
+// call, and how many waits of the gate used up its turns.
 fn live_met<R: Abort + Threads + Wait + Sync>(
     rt: &R,
     alloc: Global,
@@ -53,7 +53,7 @@ fn live_met<R: Abort + Threads + Wait + Sync>(
     let words = ["live", "--calls=2", callers, "--periods=1"];
     let outcome = carry(rt, alloc, &words, &mut trunk, "no orders", NONE, &gate);
     (
-        outcome.is(0, ONE_PERIOD) && are_unused(&trunk),
+        outcome.is(0, ONE_PERIOD) && are_unused(&trunk) && gate.passed(1),
         gate.used_up(),
     )
 }
@@ -101,7 +101,7 @@ fn each_period_passes_the_gate_once(rt: HostRuntime) {
     for callers in ["--callers=2", "--callers=1"] {
         let gate = Paired::new();
         assert!(rt; live_paired(&rt, rt.alloc(), callers, &gate) == 0);
-        assert!(rt; gate.passed(20));
+        assert!(rt; gate.passed([20, 20, 0]));
     }
 }
 

@@ -23,25 +23,25 @@ static LINES: [Laid; 8] = [
 
 const ORDERS: &str = "0 open 1\n0 open 2\n0 bridge 1 2\n";
 
-// Runs both calls, bridged from the first period on, in slices of one period: the status, and how many waits of the gate
-// used up its turns.
+// Runs both calls, bridged from the first period on, in slices of one period: the status, how many waits of the gate used up
+// its turns, and whether each call passed the gate for three slices of each phase.
 fn run_met<R: Abort + Threads + Wait + Sync>(
     rt: &R,
     alloc: Global,
     workers: &'static str,
     turns: u32,
-) -> (u8, u32) {
+) -> (u8, u32, bool) {
     let gate = Met::new(turns);
     let mut trunk = trunk_of(rt, alloc, &LINES);
     let words = ["run", "--workers", workers, "--slice", "1"];
     let outcome = carry(rt, alloc, &words, &mut trunk, ORDERS, NONE, &gate);
-    (outcome.status, gate.used_up())
+    (outcome.status, gate.used_up(), gate.passed(6))
 }
 
 // Each call starts in a deque of its own, and neither of two workers can go on with the first slice of a phase before the
 // other has begun it. A single worker uses the turns up, at the start of each phase, and the run is done all the same.
 #[test]
 fn both_calls_of_a_bridge_are_at_work_at_once(rt: HostRuntime) {
-    assert!(rt; run_met(&rt, rt.alloc(), "2", 5_000_000) == (0, 0));
-    assert!(rt; run_met(&rt, rt.alloc(), "1", 1000) == (0, 2));
+    assert!(rt; run_met(&rt, rt.alloc(), "2", 5_000_000) == (0, 0, true));
+    assert!(rt; run_met(&rt, rt.alloc(), "1", 1000) == (0, 2, true));
 }

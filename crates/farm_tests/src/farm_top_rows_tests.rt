@@ -1,7 +1,7 @@
 //! The command `run` where a line is short or fails, or the desk: values that were worked by hand from the rules.
 
 use crate::farm_top_tests::{Outcome, carry, carry_at};
-use crate::lines::{Laid, NONE, line, quiet_lines, trunk_of};
+use crate::lines::{Laid, NONE, UPLINK_FRAME, line, put, quiet_lines, trunk_of};
 use pool_run::OpenGate;
 use std::alloc::Global;
 use std::process::Abort;
@@ -215,4 +215,67 @@ fn two_fail<R: Abort + Threads + Wait + Sync>(rt: &R, alloc: Global) -> bool {
 #[test]
 fn two_lines_of_three_calls_fail(rt: HostRuntime) {
     assert!(rt; two_fail(&rt, rt.alloc()), "calls 7, 8 and 9");
+}
+
+// An uplink whose frames begin at bit 5: five bits 0, and then good frames without a gap.
+fn shifted_frames(rt: &impl Abort, alloc: Global, octets: usize) -> Vec<u8> {
+    let mut shifted = vec![in alloc; 0; octets].expect(rt, "memory");
+    let mut before = 0;
+    for (place, octet) in shifted.iter_mut().enumerate() {
+        let next = UPLINK_FRAME[place % 40];
+        *octet = before << 3 | next >> 5;
+        before = next;
+    }
+    shifted
+}
+
+// The first frame ends in period 1, so period 0 has none.
+const TEXT_OF_SHIFTED: &str = "order 1 ok
+call 1 from 0 to 4 end up 0
+counts 1 good 3 sid 0 invalid 0 bad 0 idle 0 other 0 miss 0 none 1 made 4
+end period 4 calls 1 left 0
+";
+
+// Runs call 1 over four periods of them, where each line moves at most `cut` octets at a time. Answers what comes of it, and
+// the lines afterwards.
+fn carry_shifted<R: Abort + Threads + Wait + Sync>(
+    rt: &R,
+    alloc: Global,
+    cut: u32,
+) -> (Outcome, MemTrunk) {
+    let lines = [
+        (1, Pcm, 640, cut, NONE),
+        (1, Down, 0, cut, NONE),
+        (1, Out, 0, cut, NONE),
+    ];
+    let mut trunk = trunk_of(rt, alloc, &lines);
+    let up = shifted_frames(rt, alloc, 160);
+    put(rt, alloc, &mut trunk, line(1, Up), up, cut, NONE);
+    let outcome = carry(
+        rt,
+        alloc,
+        &["run"],
+        &mut trunk,
+        "0 open 1\n",
+        NONE,
+        &OpenGate,
+    );
+    (outcome, trunk)
+}
+
+// Whether Down and Out are in these pieces what they are in one piece, and Out is silent in period 0.
+fn is_in_pieces<R: Abort + Threads + Wait + Sync>(rt: &R, alloc: Global, cut: u32) -> bool {
+    let (outcome, trunk) = carry_shifted(rt, alloc, cut);
+    let (_outcome, whole) = carry_shifted(rt, alloc, ALL);
+    outcome.is(0, TEXT_OF_SHIFTED)
+        && is_same(&trunk, &whole, line(1, Down), 160)
+        && is_same(&trunk, &whole, line(1, Out), 640)
+        && trunk.written(line(1, Out)).starts_with(&[0xD5; 160])
+}
+
+#[test]
+fn shifted_frames_in_pieces(rt: HostRuntime) {
+    for cut in [1, 39, 41] {
+        assert!(rt; is_in_pieces(&rt, rt.alloc(), cut), "pieces of {cut}");
+    }
 }

@@ -1,5 +1,6 @@
 //! A gate that shows that jobs are stolen half done: of three calls, by two workers.
 
+use crate::counts::Counts;
 use pool_run::Gate;
 use std::sync::atomic::{AtomicU32, Ordering};
 use std::thread;
@@ -9,32 +10,6 @@ const TURNS: u32 = 5_000_000;
 
 // The pairs of calls that are held against each other.
 pub(crate) static PAIRS: [(u32, u32); 3] = [(1, 3), (1, 2), (2, 3)];
-
-// A count of slices for each of the calls 1, 2 and 3.
-#[derive(Drop)]
-struct Counts {
-    of_1: AtomicU32,
-    of_2: AtomicU32,
-    of_3: AtomicU32,
-}
-
-impl Counts {
-    fn zero() -> Counts {
-        Counts {
-            of_1: AtomicU32::new(0),
-            of_2: AtomicU32::new(0),
-            of_3: AtomicU32::new(0),
-        }
-    }
-
-    fn of(&self, call: u32) -> &AtomicU32 {
-        match call {
-            1 => &self.of_1,
-            2 => &self.of_2,
-            _ => &self.of_3,
-        }
-    }
-}
 
 // Holds back the second slice of each of the calls 1, 2 and 3 until the first slices of all were run, and of a pair of
 // them the one that comes first to its second slice until the third slice of the other was run.
@@ -61,16 +36,17 @@ impl Held {
         }
     }
 
-    // Whether each wait was answered.
-    pub(crate) fn each_is_answered(&self) -> bool {
-        self.used_up.load(Ordering::SeqCst) == 0
+    // Whether each of the three calls passed `before` and `after` once for each of its slices, and each wait was answered.
+    pub(crate) fn each_is_answered(&self, slices: u32) -> bool {
+        self.begun.are([slices; 3])
+            && self.ended.are([slices; 3])
+            && self.used_up.load(Ordering::SeqCst) == 0
     }
 
-    // Waits until so many slices of a call were run.
+    // Waits until this many slices of a call were run.
     fn wait_for(&self, call: u32, slices: u32) {
-        let ended = self.ended.of(call);
         for _ in 0..TURNS {
-            if ended.load(Ordering::SeqCst) >= slices {
+            if self.ended.get(call) >= slices {
                 return;
             }
             thread::yield_now();
@@ -89,7 +65,7 @@ impl Held {
 
 impl Gate for Held {
     fn before(&self, call: u32) {
-        if self.begun.of(call).fetch_add(1, Ordering::SeqCst) != 1 {
+        if self.begun.raise(call) != 1 {
             return;
         }
         for each in 1..=3 {
@@ -103,6 +79,6 @@ impl Gate for Held {
     }
 
     fn after(&self, call: u32) {
-        let _ = self.ended.of(call).fetch_add(1, Ordering::SeqCst);
+        let _ = self.ended.raise(call);
     }
 }

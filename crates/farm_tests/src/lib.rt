@@ -7,6 +7,8 @@
 #[cfg(test)]
 mod between;
 #[cfg(test)]
+mod counts;
+#[cfg(test)]
 mod desk;
 #[cfg(test)]
 mod endless;
@@ -46,3 +48,5 @@ mod paired;
 mod pool_run_tests;
 #[cfg(test)]
 mod two_calls;
+#[cfg(test)]
+mod watched;

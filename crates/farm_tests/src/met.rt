@@ -1,6 +1,7 @@
 //! A gate that shows that two calls are at work at once: those of a bridge in both phases of a round of three periods, or the first
 //! periods that two callers post.
 
+use crate::counts::Counts;
 use pool_run::Gate;
 use std::sync::atomic::{AtomicU32, Ordering};
 use std::thread;
@@ -11,8 +12,8 @@ use std::thread;
 pub(crate) struct Met {
     // How often a wait looks for what it waits for.
     turns: u32,
-    begun_of_1: AtomicU32,
-    begun_of_2: AtomicU32,
+    begun: Counts,
+    ended: Counts,
     used_up: AtomicU32,
 }
 
@@ -20,8 +21,8 @@ impl Met {
     pub(crate) fn new(turns: u32) -> Met {
         Met {
             turns,
-            begun_of_1: AtomicU32::new(0),
-            begun_of_2: AtomicU32::new(0),
+            begun: Counts::zero(),
+            ended: Counts::zero(),
             used_up: AtomicU32::new(0),
         }
     }
@@ -31,10 +32,15 @@ impl Met {
         self.used_up.load(Ordering::SeqCst)
     }
 
-    // Waits until a call has begun so many slices.
-    fn wait_for(&self, begun: &AtomicU32, slices: u32) {
+    // Whether each of both calls passed `before` and `after` once for each of its slices.
+    pub(crate) fn passed(&self, slices: u32) -> bool {
+        self.begun.are([slices, slices, 0]) && self.ended.are([slices, slices, 0])
+    }
+
+    // Waits until a call has begun this many slices.
+    fn wait_for(&self, call: u32, slices: u32) {
         for _ in 0..self.turns {
-            if begun.load(Ordering::SeqCst) >= slices {
+            if self.begun.get(call) >= slices {
                 return;
             }
             thread::yield_now();
@@ -45,17 +51,15 @@ impl Met {
 
 impl Gate for Met {
     fn before(&self, call: u32) {
-        let (own, other) = if call == 1 {
-            (&self.begun_of_1, &self.begun_of_2)
-        } else {
-            (&self.begun_of_2, &self.begun_of_1)
-        };
-        match own.fetch_add(1, Ordering::SeqCst) {
+        let other = if call == 1 { 2 } else { 1 };
+        match self.begun.raise(call) {
             0 => self.wait_for(other, 1),
             3 => self.wait_for(other, 4),
             _ => {}
         }
     }
 
-    fn after(&self, _call: u32) {}
+    fn after(&self, call: u32) {
+        let _ = self.ended.raise(call);
+    }
 }

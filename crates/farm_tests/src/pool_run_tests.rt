@@ -3,6 +3,7 @@
 ghost use Rattle.std.specs.Prelude.{◌≡◌, ◌≤◌, length, vec_len};
 
 use crate::held::{Held, PAIRS};
+use crate::watched::{Told, Watched};
 use pool_run::{Gate, OpenGate, PoolRoom, Work, run_pool};
 use std::alloc::Global;
 use std::process::Abort;
@@ -152,7 +153,8 @@ fn each_job_is_finished_in_its_place(rt: HostRuntime) {
     }
 }
 
-// Whether each wait of the gate was answered, for three jobs of three places and two workers.
+// Whether each job passed the gate three times and each wait of the gate was answered, for three jobs of three places and
+// two workers.
 fn each_wait_is_answered<R: Abort + Threads + Wait + Sync>(
     rt: &R,
     alloc: Global,
@@ -161,7 +163,7 @@ fn each_wait_is_answered<R: Abort + Threads + Wait + Sync>(
 ) -> bool {
     let gate = Held::new(one, other);
     let _answer = run_at_once(rt, alloc, &[(1, 3), (2, 3), (3, 3)], 2, 1, &gate);
-    gate.each_is_answered()
+    gate.each_is_answered(3)
 }
 
 // Jobs 1 and 3 start in one deque, and job 2 in the other. The worker that is held with one job of a pair can't run the
@@ -172,6 +174,51 @@ fn jobs_are_stolen_half_done(rt: HostRuntime) {
         assert!(rt;
             each_wait_is_answered(&rt, rt.alloc(), *one, *other),
             "jobs {one} and {other}"
+        );
+    }
+}
+
+// Jobs of the calls 1, 2 and 3 with this many places.
+fn told<'a>(
+    rt: &impl Abort,
+    alloc: Global,
+    places: &[u32],
+    watched: &'a Watched,
+) -> Vec<Box<Told<'a>>>
+    ensures { vec_len result ≡ length places.now }
+{
+    let mut jobs = Vec::new(alloc);
+    let mut call = 0u32;
+    for left in places {
+        call = call.wrapping_add(1);
+        let job = Box::new(alloc, Told::new(call, *left, watched)).expect(rt, "memory");
+        jobs.push(job).expect(rt, "memory");
+    }
+    jobs
+}
+
+// Whether this many workers run each slice of three jobs between its own two calls of the gate.
+fn each_slice_is_between<R: Abort + Threads + Wait + Sync>(
+    rt: &R,
+    alloc: Global,
+    workers: u32,
+    slice: u32,
+    slices: [u32; 3],
+) -> bool {
+    let watched = Watched::new();
+    let room = PoolRoom::reserve(alloc, workers.clamp(1, 64), 3).expect(rt, "memory");
+    let jobs = told(rt, alloc, &[3, 5, 4], &watched);
+    let _answer = run_pool(rt, room, jobs, slice.max(1), &watched);
+    watched.each_is_between(slices)
+}
+
+// The jobs have 3, 5 and 4 places. Each slice is run after `before` and before `after`, which are told its own call.
+#[test]
+fn each_slice_passes_the_gate(rt: HostRuntime) {
+    for (workers, slice, slices) in [(2, 1, [3, 5, 4]), (2, 2, [2, 3, 2]), (1, 1, [3, 5, 4])] {
+        assert!(rt;
+            each_slice_is_between(&rt, rt.alloc(), workers, slice, slices),
+            "{workers} workers, slices of {slice}"
         );
     }
 }
