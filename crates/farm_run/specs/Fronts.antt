@@ -1,13 +1,14 @@
 -- What a run that want of memory cut short leaves on the lines (this project's profile). `before` are the lines before it,
 -- `now` those after it.
-use Rattle.std.specs.Prelude.{◌≡◌, ◌≤◌, ℕ, ◌*◌, Bool, true, false, List, take}
+use Rattle.std.specs.Prelude.{◌≡◌, ◌<◌, ◌≤◌, ℕ, ◌*◌, Bool, true, false, List, take}
 use Rattle.std.specs.Io.KnownBytes.{Appends}
 use Rattle.trau_io.specs.declared.line.Side.{Side}
 use Rattle.trau_io.specs.declared.line.Side.TheVariants.{Up, Pcm, Down, Out}
 use Rattle.trau_io.specs.Lines.{LineState}
 use Rattle.trau_orders.specs.declared.order.Order.{Order}
 use Rattle.trau_orders.specs.Lists.{AreOrders}
-use Rattle.run_spec.specs.Run.{Run, IsOpened, worked_to}
+use Rattle.round_lines.specs.Rounds.{IsIncoming}
+use Rattle.run_spec.specs.Run.{Run, end_in, IsOpened, worked_to}
 use Rattle.run_spec.specs.Lines.{out_of_call, down_of_call}
 use Rattle.farm_run.specs.Runs.{AreFailures, HasWritten, IsReadTo, IsReadWhole, IsRunOver, AreTold, KeepsSides, OnlyOpenedFail, ReadsOn}
 
@@ -25,15 +26,17 @@ pub record LeavesFronts (r : Run) (fails : ℕ → Side → Bool) (before now : 
   -- the lines of all other calls are as they were, their counts included
   pub others : (c : ℕ) (s : Side) → (IsOpened r c → ⊥) → now c s ≡ before c s
 
--- What a run leaves on the lines where it stops at its period t: all that its calls' periods before t take and give, and nothing of
--- a later one.
+-- What a run leaves on the lines where it stops at its period t: what it writes, and what it reads of calls that their lines didn't
+-- end, is all that the periods before t take and give, and nothing of a later one.
 pub record StopsAt (r : Run) (t : ℕ) (fails : ℕ → Side → Bool) (before now : ℕ → Side → LineState) : Type 0 where
-  -- the outgoing lines of each call that it opens have gained the octets of these periods, those that failed a proper front of them
+  -- the outgoing lines of each call that it opens have gained the octets of these periods, those that failed a proper prefix of them
   pub out : (c : ℕ) → IsOpened r c → HasWritten (fails c Out) (before c Out) (now c Out) (take (160 * worked_to r t c) (out_of_call r c))
   pub down : (c : ℕ) → IsOpened r c → HasWritten (fails c Down) (before c Down) (now c Down) (take (40 * worked_to r t c) (down_of_call r c))
   -- of the incoming lines of a call that they didn't end before t exactly the octets of these periods were read
   pub up_read : (c : ℕ) → IsOpened r c → fails c Up ≡ false → IsReadWhole r t c → IsReadTo (now c Up) (40 * worked_to r t c) (r.lines c).up
   pub pcm_read : (c : ℕ) → IsOpened r c → fails c Pcm ≡ false → IsReadWhole r t c → IsReadTo (now c Pcm) (160 * worked_to r t c) (r.lines c).pcm
+  -- an incoming line that failed ended its call before t
+  pub over : (c : ℕ) (s : Side) → IsIncoming s → fails c s ≡ true → end_in r c < t
 
 -- A run of these orders that want of memory cut short. Its report isn't told, so these clauses tell which lines failed.
 pub record IsCutShort (orders : List Order) (periods : ℕ) (before now : ℕ → Side → LineState) : Type 0 where
@@ -43,7 +46,8 @@ pub record IsCutShort (orders : List Order) (periods : ℕ) (before now : ℕ �
   -- incoming lines were only read, from the front, and outgoing ones only written
   pub sides : KeepsSides before now
   pub reads : ReadsOn before now
-  -- each outgoing line holds a front of what the whole run over what the lines gave gives it, one that failed a proper front ..
+  -- each outgoing line holds a front of what the whole run over what the lines gave gives it, one that failed a proper front. That
+  -- follows from `stops`, but for `others`.
   pub fronts : (r : Run) → IsRunOver orders periods fails before now r → LeavesFronts r fails before now
   -- it stopped at one period, the same for all lines
   pub clock : ℕ
@@ -51,5 +55,5 @@ pub record IsCutShort (orders : List Order) (periods : ℕ) (before now : ℕ �
   pub stops : (r : Run) → IsRunOver orders periods fails before now r → StopsAt r clock fails before now
   -- each line that failed is one of a call that the run opens
   pub opened : (r : Run) → IsRunOver orders periods fails before now r → OnlyOpenedFail r fails
-  -- .. and there is such a run of orders that are in range, wherever the lines tell what they hold
+  -- There is such a run of orders that are in range, wherever the lines tell what they hold.
   pub there : AreOrders orders → AreTold before → (r : Run) × IsRunOver orders periods fails before now r

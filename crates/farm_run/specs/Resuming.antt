@@ -1,18 +1,18 @@
 -- What a resumed run leaves and reports, whatever fails (this project's profile). It works the same recordings from the
 -- start, holds back what was written before the mark's period, and compares the mark there. `before` are the lines before
 -- it, `now` those after it.
-use Rattle.std.specs.Prelude.{◌≡◌, ◌≢◌, ◌≤◌, ℕ, ◌*◌, max, Bool, false, List, length, take, drop}
+use Rattle.std.specs.Prelude.{◌≡◌, ◌≢◌, ◌<◌, ◌≤◌, ℕ, ◌*◌, max, Bool, true, false, List, length, take, drop}
 use Rattle.trau_io.specs.declared.line.Line.{Line}
 use Rattle.trau_io.specs.declared.line.Side.{Side}
 use Rattle.trau_io.specs.declared.line.Side.TheVariants.{Up, Pcm, Down, Out}
 use Rattle.trau_io.specs.Lines.{LineState}
 use Rattle.trau_orders.specs.declared.order.Order.{Order}
 use Rattle.trau_orders.specs.Lists.{AreOrders}
-use Rattle.round_lines.specs.Rounds.{IsOutgoing}
+use Rattle.round_lines.specs.Rounds.{IsIncoming, IsOutgoing}
 use Rattle.farm_report.specs.View.{ReportView}
 use Rattle.farm_checkpoint.specs.Marks.{MarkView}
 use Rattle.farm_checkpoint.specs.Differences.{IsLeastDifference}
-use Rattle.run_spec.specs.Run.{Run, IsOpened, cause_in, worked_to, periods_in}
+use Rattle.run_spec.specs.Run.{Run, end_in, IsOpened, cause_in, worked_to, periods_in}
 use Rattle.run_spec.specs.Lines.{out_of_call, down_of_call}
 use Rattle.run_spec.specs.Facts.{report_of}
 use Rattle.run_spec.specs.Mark.{marked_calls}
@@ -97,7 +97,7 @@ pub record LeavesFrontsFrom (r : Run) (from : ℕ) (fails : ℕ → Side → Boo
 -- What a run leaves on the lines where it stops at its period t, and the outgoing octets of the periods before `from` are held back.
 pub record StopsFrom (r : Run) (from t : ℕ) (fails : ℕ → Side → Bool) (before now : ℕ → Side → LineState) : Type 0 where
   -- the outgoing lines of each call that it opens have gained the octets of its periods from there on and before t, none where t comes
-  -- first, those that failed a proper front of them
+  -- first, those that failed a proper prefix of them
   pub out : (c : ℕ) → IsOpened r c → HasWritten (fails c Out) (before c Out) (now c Out)
       (drop (160 * worked_to r from c) (take (160 * worked_to r t c) (out_of_call r c)))
   pub down : (c : ℕ) → IsOpened r c → HasWritten (fails c Down) (before c Down) (now c Down)
@@ -105,6 +105,8 @@ pub record StopsFrom (r : Run) (from t : ℕ) (fails : ℕ → Side → Bool) (b
   -- of the incoming lines of a call that they didn't end before t exactly the octets of all its periods before t were read
   pub up_read : (c : ℕ) → IsOpened r c → fails c Up ≡ false → IsReadWhole r t c → IsReadTo (now c Up) (40 * worked_to r t c) (r.lines c).up
   pub pcm_read : (c : ℕ) → IsOpened r c → fails c Pcm ≡ false → IsReadWhole r t c → IsReadTo (now c Pcm) (160 * worked_to r t c) (r.lines c).pcm
+  -- an incoming line that failed ended its call before t
+  pub over : (c : ℕ) (s : Side) → IsIncoming s → fails c s ≡ true → end_in r c < t
 
 -- A resumed run of these orders that want of memory cut short. Its report isn't told, so these clauses tell which lines failed.
 pub record IsResumeCutShort (orders : List Order) (periods : ℕ) (mark : MarkView) (before now : ℕ → Side → LineState) : Type 0 where
@@ -115,7 +117,7 @@ pub record IsResumeCutShort (orders : List Order) (periods : ℕ) (mark : MarkVi
   pub sides : KeepsSides before now
   pub reads : ReadsOn before now
   -- each outgoing line holds a front of what the whole run over what the lines gave gives it from the mark's period on, one that
-  -- failed a proper front,
+  -- failed a proper front (this follows from `stops`, but for `others`),
   pub fronts : (r : Run) → IsRunOver orders periods fails before now r → LeavesFrontsFrom r mark.period fails before now
   -- it stopped at one period, the same for all lines,
   pub clock : ℕ

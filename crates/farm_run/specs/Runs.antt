@@ -87,8 +87,7 @@ IsCutOff Limit = Unit {0}
 IsCutOff (End side left) = ⊥
 IsCutOff (Fault side) = ⊥
 
--- Of a call's incoming lines exactly the octets of its periods before t are read as long as it goes on, and also afterwards, where
--- they didn't end it.
+-- The call goes on up to period t, or its lines didn't end it. Exactly the octets of its periods before t are then read of them.
 abbrev pub IsReadWhole : Run → ℕ → ℕ → Type 0
 IsReadWhole r t c = (t ≤ end_in r c) ⊎ IsCutOff (cause_in r c)
 

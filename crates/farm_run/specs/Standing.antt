@@ -50,8 +50,8 @@ pub record StandingGoesOn (before now : Standing) : Type 0 where
 pub record KnowsListed (b : State) (groups : List Group) (failed : List Line) : Type 0 where
   -- an order opened the line's call
   pub opened : (c : ℕ) (s : Side) → is_listed failed c s ≡ true → opened_now b c ≡ true
-  -- an incoming line ended its call
-  pub ended : (c : ℕ) (s : Side) → IsIncoming s → is_listed failed c s ≡ true → is_over b c ≡ true
+  -- an incoming line ended its call, and that was told
+  pub ended : (c : ℕ) (s : Side) → IsIncoming s → is_listed failed c s ≡ true → gone_in b c ≡ true
   -- an open call knows which of its outgoing lines are listed
   pub calls : (c : ℕ) (x : Call) → call_in groups c ≡ Some x → (x.down_failed ≡ is_listed failed c Down) × (x.out_failed ≡ is_listed failed c Out)
 

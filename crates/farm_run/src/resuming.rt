@@ -49,7 +49,7 @@ pub fn resume<R: Threads + Wait + Sync, T: Trunk, G: Gate + Sync>(
     ensures resumes { IfOk result (λ resumed. Resumes orders pace.now mark.now (T.lines trunk.old) (T.lines trunk.new) resumed) }
 
     // Where there was no memory, the run stopped at one period: of each outgoing line that didn't fail exactly the octets of the
-    // periods from the mark's on and before that one are there, of one that failed a proper front of these. Each is as it was where
+    // periods from the mark's on and before that one are there, of one that failed a proper prefix of these. Each is as it was where
     // the mark isn't the run's.
     ensures cut { OnErr result (IsResumeCutShort orders (max mark.now.period pace.now.periods) mark.now (T.lines trunk.old) (T.lines trunk.new)) }
 

@@ -33,7 +33,7 @@ pub fn run<R: Threads + Wait + Sync, T: Trunk, G: Gate + Sync>(
     ensures runs { IfOk result (λ report. Runs orders pace.now (T.lines trunk.old) (T.lines trunk.new) report) }
 
     // Where there was no memory, the run stopped at one period: of each outgoing line that didn't fail exactly the octets of the
-    // periods before it are there, of one that failed a proper front of these.
+    // periods before it are there, of one that failed a proper prefix of these.
     ensures cut { OnErr result (IsCutShort orders pace.now.periods (T.lines trunk.old) (T.lines trunk.new)) }
 
     // Incoming lines are only read and outgoing ones only written, also where there was no memory.

@@ -52,7 +52,7 @@ pub fn save<R: Threads + Wait + Sync, T: Trunk, G: Gate + Sync>(
     ensures saves { IfOk result (λ saved. Saves orders pace.now (T.lines trunk.old) (T.lines trunk.new) saved) }
 
     // Where there was no memory, the run stopped at one period: of each outgoing line that didn't fail exactly the octets of the
-    // periods before it are there, of one that failed a proper front of these.
+    // periods before it are there, of one that failed a proper prefix of these.
     ensures cut { OnErr result (IsCutShort orders pace.now.periods (T.lines trunk.old) (T.lines trunk.new)) }
 
     // Incoming lines are only read and outgoing ones only written, also where there was no memory.

@@ -45,8 +45,8 @@ cut_whole marked s before now desk desk' status are ran =
       clock = max from s.periods;
       within = omega arith;
       stops = λ r over. subst (λ (n : ℕ). StopsFrom r from n (is_listed report.failed) before now) over.same_periods
-          (stops_all_from r (subst (λ (os : List Order). AreOrders os) (sym over.same_orders) are) (is_listed report.failed) before now from
-          (ran.resumes.leaves r over));
+          (stops_all_from r (subst (λ (os : List Order). AreOrders os) (sym over.same_orders) are) s.batch (is_listed report.failed) before now
+          (ran.resumes.short r over) from (ran.resumes.leaves r over));
       opened = ran.resumes.opened;
     }
 

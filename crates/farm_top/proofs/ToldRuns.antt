@@ -115,6 +115,7 @@ cut_whole text_of orders s before now read desk' status are ran = record {
   clock = s.periods;
   within = omega arith;
   stops = λ r over. subst (λ (n : ℕ). StopsAt r n (is_listed ran.failed) before now) over.same_periods
-      (stops_all r (subst (λ (os : List Order). AreOrders os) (sym over.same_orders) are) (is_listed ran.failed) before now (ran.leaves r over));
+      (stops_all r (subst (λ (os : List Order). AreOrders os) (sym over.same_orders) are) s.batch (is_listed ran.failed) before now (ran.short r over)
+      (ran.leaves r over));
   opened = ran.opened;
 }

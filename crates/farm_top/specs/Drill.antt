@@ -11,8 +11,8 @@ use Rattle.farm_top.specs.Farm.{AllStay, LacksMemory, TellsDue, TextOut}
 use Rattle.farm_top.specs.FarmEnded.{GainsFront}
 use Rattle.farm_top.specs.Headline.{Headline}
 
--- A drill has this text, and there are lines on which its run leaves what it gives them, none of them failed, and has the headline.
--- Which lines were worked it doesn't say.
+-- A drill has this text, and there are lines on which its run leaves what it gives them, none of which failed, and the headline holds
+-- of them. Which lines were worked it doesn't say.
 pub record HasDrilled (seed calls periods : ℕ) (text : List ℕ) : Type 0 where
   pub drilled : IsDrilled seed calls periods text
   pub headline : Headline (drilled_run seed calls periods) none_fails drilled.before drilled.now
@@ -43,7 +43,7 @@ pub record DrillEnds (seed calls periods : ℕ) (before now : ℕ → Side → L
   pub text : status ≡ 0 → Appends desk.written desk'.written (text_with_sums (drilled_run seed calls periods))
   pub front : status ≡ 4 → GainsFront desk.written desk'.written (text_with_sums (drilled_run seed calls periods))
   pub no_memory : status ≡ 5 → TextOut desk desk' (codes "no memory\n")
-  -- with both the drill's run is one over lines that hold what its own do
+  -- With 0 and 4 there are lines that hold what the drill's do, on which its run leaves what it gives them.
   pub ran : (status ≡ 0) ⊎ (status ≡ 4) → HasDrilled seed calls periods (text_with_sums (drilled_run seed calls periods))
   -- 4 comes only where the desk's writing count rose, and always where it became greater; it yields to 5, want of memory
   pub desk_failed : status ≡ 4 → Rose desk.write_faults desk'.write_faults

@@ -338,7 +338,7 @@ pub fn farm_top<R: Threads + Wait + Sync, T: Trunk, D: Desk, G: Gate + Sync>(
         RunEnded orders s (T.lines trunk.old) (T.lines trunk.new) (D.desk desk.old) (D.desk desk.new) result }
 
     // Where there was no memory, the run stopped at one period: each outgoing line that didn't fail holds exactly the octets of the
-    // periods before it, one that failed a proper front of these, and the lines of calls that it doesn't open are as they were.
+    // periods before it, one that failed a proper prefix of these, and the lines of calls that it doesn't open are as they were.
     ensures run_cut_short { (s : Settings) → AsksForRun (spelled words.now) s →
         (orders : List Order) → TellsOrders orders (D.desk desk.old) → result ≡ 5 →
         IsCutShort orders s.periods (T.lines trunk.old) (T.lines trunk.new) }

@@ -24,7 +24,7 @@ use Rattle.farm_run.proofs.Lines.Being.{there_is}
 use Rattle.farm_run.proofs.Clocks.First.{tells_none, lines_at_first, written_first}
 use Rattle.farm_run.proofs.Clocks.Last.{all_out, all_down}
 use Rattle.farm_run.proofs.Lines.Sides.{sides_none}
-use Rattle.farm_run.proofs.Lines.Stopping.{only_opened, stops_at, stops_from, stops_before}
+use Rattle.farm_run.proofs.Lines.Stopping.{FailBefore, only_opened, stops_at, stops_from, stops_before}
 use Rattle.farm_run.proofs.Lines.Gaining.{out_front, down_front, out_front_from, down_front_from}
 
 -- what holds whatever came out holds of an error
@@ -57,8 +57,9 @@ pub cut_at : (os : List Order) (periods t : ℕ) (b : State) (groups : List Grou
     t ≤ periods → KnowsListed b groups failed → TellsFailed first now failed → KeepsSides first now → ReadsOn first now →
     ((r : Run) → IsRunOver os r.periods (is_listed failed) first now r → periods ≤ r.periods → IsAtClock r t b groups (standing b failed now) first now) →
     ((r : Run) → IsRunOver os r.periods (is_listed failed) first now r → periods ≤ r.periods → WrittenFrom r 0 t (is_listed failed) first now) →
+    ((r : Run) → IsRunOver os r.periods (is_listed failed) first now r → periods ≤ r.periods → FailBefore r t (is_listed failed)) →
     IsCutShort os periods first now
-cut_at os periods t b groups failed first now within knows tells sides reads goes wrote = record {
+cut_at os periods t b groups failed first now within knows tells sides reads goes wrote fail = record {
   fails = is_listed failed;
   told = tells.failures;
   sides = sides;
@@ -73,7 +74,7 @@ cut_at os periods t b groups failed first now within knows tells sides reads goe
       let e = run.same_periods in
       let is = subst (λ (p : ℕ). IsRunOver os p (is_listed failed) first now r) (sym e) run in
       let here = goes r is (omega (arith, e)) in
-      stops_at r t (standing b failed now) first now here.lines (wrote r is (omega (arith, e)));
+      stops_at r t (standing b failed now) first now here.lines (fail r is (omega (arith, e))) (wrote r is (omega (arith, e)));
   opened = λ r run.
       let e = run.same_periods in
       let is = subst (λ (p : ℕ). IsRunOver os p (is_listed failed) first now r) (sym e) run in
@@ -102,7 +103,7 @@ cut_first os periods lines = record {
   };
   clock = 0;
   within = omega arith;
-  stops = λ r run. stops_at r 0 (none_yet lines) lines lines (lines_at_first r os periods lines (none_yet lines) run) (written_first r 0 lines);
+  stops = λ r run. stops_at r 0 (none_yet lines) lines lines (lines_at_first r os periods lines (none_yet lines) run) (λ c s i l. cc) (written_first r 0 lines);
   opened = λ r run c s l. cc;
 }
 
@@ -115,8 +116,9 @@ pub cut_before : (os : List Order) (periods t : ℕ) (mark : MarkView) (over : �
     ((r : Run) → IsRunOver os periods (is_listed failed) first now r → OnlyOpenedFail r (is_listed failed)) →
     ((r : Run) → IsRunOver os periods (is_listed failed) first now r →
     LinesAt r t (record { over = over; listed = is_listed failed; lines = now }) first now) →
+    ((r : Run) → IsRunOver os periods (is_listed failed) first now r → FailBefore r t (is_listed failed)) →
     IsResumeCutShort os periods mark first now
-cut_before os periods t mark over failed first now within early tells sides reads back opened at = record {
+cut_before os periods t mark over failed first now within early tells sides reads back opened at fail = record {
   fails = is_listed failed;
   told = tells.failures;
   sides = sides;
@@ -128,7 +130,7 @@ cut_before os periods t mark over failed first now within early tells sides read
   };
   clock = t;
   within = within;
-  stops = λ r run. stops_before r t (record { over = over; listed = is_listed failed; lines = now }) first now (at r run) mark.period early back;
+  stops = λ r run. stops_before r t (record { over = over; listed = is_listed failed; lines = now }) first now (at r run) (fail r run) mark.period early back;
   opened = opened;
   held = λ r run differs. back.lines;
   there = λ are told n. there_is os n (is_listed failed) first now are
@@ -147,8 +149,9 @@ pub cut_behind : (os : List Order) (periods : ℕ) (mark : MarkView) (t : ℕ) (
     ((r : Run) → IsRunOver os mark.period (is_listed failed) first now r → marked_calls r ≡ mark.calls) →
     ((r : Run) → IsRunOver os r.periods (is_listed failed) first now r → periods ≤ r.periods → IsAtClock r t b groups (standing b failed now) first now) →
     ((r : Run) → IsRunOver os r.periods (is_listed failed) first now r → periods ≤ r.periods → WrittenFrom r mark.period t (is_listed failed) first now) →
+    ((r : Run) → IsRunOver os r.periods (is_listed failed) first now r → periods ≤ r.periods → FailBefore r t (is_listed failed)) →
     IsResumeCutShort os periods mark first now
-cut_behind os periods mark t b groups failed first now behind within knows tells sides reads same goes wrote = record {
+cut_behind os periods mark t b groups failed first now behind within knows tells sides reads same goes wrote fail = record {
   fails = is_listed failed;
   told = tells.failures;
   sides = sides;
@@ -173,7 +176,7 @@ cut_behind os periods mark t b groups failed first now behind within knows tells
       let e = run.same_periods in
       let is = subst (λ (p : ℕ). IsRunOver os p (is_listed failed) first now r) (sym e) run in
       let here = goes r is (omega (arith, e)) in
-      stops_from r t (standing b failed now) first now here.lines mark.period (wrote r is (omega (arith, e)));
+      stops_from r t (standing b failed now) first now here.lines (fail r is (omega (arith, e))) mark.period (wrote r is (omega (arith, e)));
   opened = λ r run.
       let e = run.same_periods in
       let is = subst (λ (p : ℕ). IsRunOver os p (is_listed failed) first now r) (sym e) run in

@@ -1,7 +1,7 @@
 -- A run that stops at a period, before its end or there.
-use Rattle.std.proofs.Common.{◌≡◌, refl, sym, ap, ◌∙◌, subst, ℕ, ◌+◌, ◌-◌, ◌*◌, ◌≤◌, Bool, true, false, Option, Some, None, List, [], length, take, drop}
+use Rattle.std.proofs.Common.{◌≡◌, refl, sym, ap, ◌∙◌, subst, ℕ, ◌+◌, ◌-◌, ◌*◌, ◌<◌, ◌≤◌, Bool, true, false, Option, Some, None, List, [], length, take, drop}
 use Rattle.std.proofs.Common.{inl, inr, arith}
-use Rattle.std.specs.Prelude.{min, is_some, nat_le, if◌then◌else◌}
+use Rattle.std.specs.Prelude.{min, is_some, nat_le, if◌then◌else◌, IfSome}
 use Rattle.std.specs.Io.KnownBytes.{Appends}
 use Rattle.std.proofs.KnownBytes.{Appends-nil}
 use Rattle.std.proofs.lemmas.Bool.{leb-false, true≢false}
@@ -13,9 +13,10 @@ use Rattle.trau_io.specs.declared.line.Side.{Side}
 use Rattle.trau_io.specs.declared.line.Side.TheVariants.{Up, Pcm, Down, Out}
 use Rattle.trau_io.specs.Lines.{LineState}
 use Rattle.trau_orders.specs.Lists.{AreOrders}
+use Rattle.round_lines.specs.Rounds.{IsIncoming}
 use Rattle.switchboard.specs.Calls.{opened_at, closed_at}
 use Rattle.switchboard.specs.Ends.{start_of, lack_of}
-use Rattle.switchboard.specs.State.{State}
+use Rattle.switchboard.specs.State.{State, EndBefore, gone_in, told_in}
 use Rattle.switchboard.proofs.Whole.{end_by}
 use Rattle.farm_rounds.specs.declared.call.Group.{Group}
 use Rattle.run_spec.specs.Run.{Run, given_in, whole_in, done_in, end_in, periods_to, IsOpened, cause_in, worked_to}
@@ -24,9 +25,10 @@ use Rattle.run_spec.specs.Now.{IsSoFar}
 use Rattle.run_spec.proofs.Going.{opened_run}
 use Rattle.run_spec.proofs.LongerLines.{length-periods_to}
 use Rattle.run_spec.proofs.SoFar.{so_far_at_first}
-use Rattle.farm_run.specs.Runs.{HasWritten, IsCutOff, IsReadTo, IsReadWhole, Leaves, OnlyOpenedFail, is_listed}
+use Rattle.farm_run.specs.Runs.{HasWritten, IsCutOff, IsReadTo, IsReadWhole, Leaves, OnlyOpenedFail, FailedShort, is_listed}
 use Rattle.farm_run.specs.Fronts.{StopsAt}
 use Rattle.farm_run.specs.Resuming.{LeavesFrom, StopsFrom}
+use Rattle.farm_run.specs.Noted.{TellsTruly}
 use Rattle.farm_run.specs.Stages.{HoldsBack}
 use Rattle.farm_run.specs.Standing.{Standing, KnowsListed}
 use Rattle.farm_run.specs.Clock.{LinesAt, WrittenFrom}
@@ -43,6 +45,22 @@ only_opened r t b groups failed so knows = λ c side l. by c (opened_at c b.done
     by c (Some s) e o = ap is_some (opened_run r t b.done b.left c s so e)
     by c None e o = absurd (true≢false (sym o ∙ ap is_some e))
 
+-- each incoming line that failed ended its call before t
+abbrev pub FailBefore : Run → ℕ → (ℕ → Side → Bool) → Type 0
+FailBefore r t fails = (c : ℕ) (side : Side) → IsIncoming side → fails c side ≡ true → end_in r c < t
+
+-- **So did each that is listed: the end was told, and it is the run's.**
+pub fail_before : (r : Run) (t : ℕ) (b : State) (groups : List Group) (failed : List Line) → EndBefore t b → TellsTruly r b → KnowsListed b groups failed →
+    FailBefore r t (is_listed failed)
+fail_before r t b groups failed before truly knows = λ c side i l. by c (told_in b c) refl (knows.ended c side i l)
+  where
+    by : (c : ℕ) (v : Option ℕ) → told_in b c ≡ v → gone_in b c ≡ true → end_in r c < t
+    by c (Some at) e g =
+        let is = truly c at e in
+        let l = subst (λ (o : Option ℕ). IfSome o (λ at. at < t)) e (before c) in
+        omega (arith, is, l)
+    by c None e g = absurd (true≢false (sym g ∙ ap is_some e))
+
 -- a call has had no more periods than it has
 fewer : (r : Run) (t c : ℕ) → worked_to r t c ≤ end_in r c - start_of (done_in r) c
 fewer r t c = by (end_in r c) (start_of (done_in r) c)
@@ -52,7 +70,8 @@ fewer r t c = by (end_in r c) (start_of (done_in r) c)
 
 -- ---- at a clock
 
-module _ (r : Run) (t : ℕ) (last : Standing) (first now : ℕ → Side → LineState) (at : LinesAt r t last first now) where
+module _ (r : Run) (t : ℕ) (last : Standing) (first now : ℕ → Side → LineState) (at : LinesAt r t last first now)
+    (fail : FailBefore r t last.listed) where
   -- exactly the octets of the periods before it were read
   up_to : (c : ℕ) → IsOpened r c → last.listed c Up ≡ false → IsReadWhole r t c → IsReadTo (now c Up) (40 * worked_to r t c) (r.lines c).up
   up_to c i f q = rest_of (last.listed c Up) (now c Up) (last.lines c Up) (40 * worked_to r t c) (r.lines c).up f (at.up_read c i q)
@@ -69,6 +88,7 @@ module _ (r : Run) (t : ℕ) (last : Standing) (first now : ℕ → Side → Lin
         (down_taken r c (worked_to r t c) (end_in r c - start_of (done_in r) c) (fewer r t c)) (all_down r t c last.listed first now wrote i);
     up_read = up_to;
     pcm_read = pcm_to;
+    over = fail;
   }
 
   -- **and so does one that wrote only what lies behind an earlier period,**
@@ -80,6 +100,7 @@ module _ (r : Run) (t : ℕ) (last : Standing) (first now : ℕ → Side → Lin
         (down_taken r c (worked_to r t c) (end_in r c - start_of (done_in r) c) (fewer r t c)) (wrote.down c i);
     up_read = up_to;
     pcm_read = pcm_to;
+    over = fail;
   }
 
   -- **and one that hasn't come past that period, and wrote nothing.**
@@ -91,6 +112,7 @@ module _ (r : Run) (t : ℕ) (last : Standing) (first now : ℕ → Side → Lin
         (nothing (40 * worked_to r from c) (40 * worked_to r t c) (down_of_call r c) (omega (arith, sooner c)));
     up_read = up_to;
     pcm_read = pcm_to;
+    over = fail;
   }
     where
       sooner : (c : ℕ) → worked_to r t c ≤ worked_to r from c
@@ -154,7 +176,14 @@ module _ (r : Run) (are : AreOrders r.orders) where
       by None q = subst (λ (v : Option ℕ). IsLimited r (end_by (given_in r) r.periods c (start_of (done_in r) c) v)) (sym q)
           (there (start_of (done_in r) c) _ refl)
 
-  module _ (fails : ℕ → Side → Bool) (first now : ℕ → Side → LineState) where
+  module _ (batch : ℕ) (fails : ℕ → Side → Bool) (first now : ℕ → Side → LineState) (short : FailedShort r batch fails) where
+    -- each incoming line that failed did so before it
+    failed_in : FailBefore r r.periods fails
+    failed_in c Up i e = let f = short.up c e in let here = f.3 in omega (arith, here.over, here.within)
+    failed_in c Pcm i e = let f = short.pcm c e in let here = f.3 in omega (arith, here.over, here.within)
+    failed_in c Down i e = absurd i
+    failed_in c Out i e = absurd i
+
     -- **A run that left all that it gives stopped at its end,**
     pub stops_all : Leaves r fails first now → StopsAt r r.periods fails first now
     stops_all left = record {
@@ -162,6 +191,7 @@ module _ (r : Run) (are : AreOrders r.orders) where
       down = λ c i. subst (HasWritten (fails c Down) (first c Down) (now c Down)) (down_all c) (left.down c i);
       up_read = λ c i f q. subst (λ (k : ℕ). IsReadTo (now c Up) (40 * k) (r.lines c).up) (long c) (left.up_read c i f (cut_off c q));
       pcm_read = λ c i f q. subst (λ (k : ℕ). IsReadTo (now c Pcm) (160 * k) (r.lines c).pcm) (long c) (left.pcm_read c i f (cut_off c q));
+      over = failed_in;
     }
 
     -- **and one that left all from a period on.**
@@ -172,4 +202,5 @@ module _ (r : Run) (are : AreOrders r.orders) where
           (left.down c i);
       up_read = λ c i f q. subst (λ (k : ℕ). IsReadTo (now c Up) (40 * k) (r.lines c).up) (long c) (left.up_read c i f (cut_off c q));
       pcm_read = λ c i f q. subst (λ (k : ℕ). IsReadTo (now c Pcm) (160 * k) (r.lines c).pcm) (long c) (left.pcm_read c i f (cut_off c q));
+      over = failed_in;
     }

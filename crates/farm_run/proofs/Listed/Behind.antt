@@ -1,5 +1,5 @@
 -- What is known of the listed lines behind a round, and how a run goes on in it, whatever fails.
-use Rattle.std.proofs.Common.{◌≡◌, refl, sym, ap, ◌∙◌, ℕ, ◌<◌, true, false, not, ◌&&◌, Option, Some, None, List, length, drop, inl, inr, ◌⊎◌, arith}
+use Rattle.std.proofs.Common.{◌≡◌, refl, sym, ap, ◌∙◌, subst, ℕ, ◌<◌, true, false, not, ◌&&◌, Option, Some, None, List, length, drop, inl, inr, ◌⊎◌, arith}
 use Rattle.std.specs.Prelude.{is_some, slice_index}
 use Rattle.std.specs.Io.KnownBytes.{Consumes}
 use Rattle.std.proofs.lemmas.Bool.{and_parts}
@@ -14,7 +14,7 @@ use Rattle.round_lines.specs.Places.{fails_in}
 use Rattle.round_lines.specs.Seats.{SeatMemory}
 use Rattle.round_lines.specs.Rounds.{Rising, IsIncoming, seat_at}
 use Rattle.switchboard.specs.Calls.{Done, opened_at}
-use Rattle.switchboard.specs.State.{State}
+use Rattle.switchboard.specs.State.{State, gone_in}
 use Rattle.switchboard.specs.Open.{opened_now, open_now}
 use Rattle.farm_rounds.specs.declared.call.Call.{Call}
 use Rattle.farm_rounds.specs.Calls.{call_in}
@@ -27,7 +27,7 @@ use Rattle.farm_run.specs.Going.{told_after, is_told}
 use Rattle.farm_run.specs.Match.{AtClock}
 use Rattle.farm_run.specs.Runs.{is_listed, ReadsOn}
 use Rattle.farm_run.specs.Standing.{Standing, standing, is_over, StandingGoesOn, KnowsListed, HasFlags, MeetsRun}
-use Rattle.farm_run.proofs.Listed.Boards.{over_shut, open_opened}
+use Rattle.farm_run.proofs.Listed.Boards.{over_shut, open_opened, open_gone, gone_told}
 use Rattle.farm_run.proofs.Listed.Counts.{Lists, seat_cases}
 use Rattle.farm_run.proofs.Worked.Round.{WorkedRound, among_place}
 use Rattle.farm_run.proofs.Worked.Facts.{lines_kept, incoming_after}
@@ -114,10 +114,13 @@ module _ (t n : ℕ) (b : State) (farm after : FarmMemory) (before now : ℕ →
         | inr m ↦ let p = marked c side m in let z = seated m.k c p.0 p.1 in open_opened b c z.is_open
       ]
 
-      ended : (c : ℕ) (side : Side) → IsIncoming side → is_listed after.failed c side ≡ true → is_over b' c ≡ true
+      ended : (c : ℕ) (side : Side) → IsIncoming side → is_listed after.failed c side ≡ true → gone_in b' c ≡ true
       ended c side i q = elim (listed_cases c side q) [
-        | inl m ↦ over_on c (knows.ended c side i m)
-        | inr m ↦ let p = marked c side m in lacks m.k c p.0 p.1 (failed_short m.k c side p.0 p.1 i (sym (marks_kept m.k c side p.0 p.1 i) ∙ p.2))
+        | inl m ↦ subst (λ (s : State). gone_in s c ≡ true) (sym told) (gone_told b ends c (knows.ended c side i m))
+        | inr m ↦
+            let p = marked c side m in
+            let z = seated m.k c p.0 p.1 in
+            open_gone b b' c done_is z.is_open (lacks m.k c p.0 p.1 (failed_short m.k c side p.0 p.1 i (sym (marks_kept m.k c side p.0 p.1 i) ∙ p.2)))
       ]
 
       calls : (c : ℕ) (x : Call) → call_in after.groups c ≡ Some x → (x.down_failed ≡ is_listed after.failed c Down)

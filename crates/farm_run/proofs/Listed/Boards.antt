@@ -39,6 +39,24 @@ not_over_by false q g e = cc
 pub not_over : (b : State) (c : ℕ) → open_now b c ≡ true → is_over b c ≡ false
 not_over b c o = not_over_by (is_some (opened_at c b.done)) (is_some (closed_at c b.done)) (gone_in b c) o
 
+-- a call that is gone is over
+pub gone_over : (b : State) (c : ℕ) → gone_in b c ≡ true → is_over b c ≡ true
+gone_over b c g = or_first (gone_in b c) (is_some (closed_at c b.done)) g
+
+-- **An open call that is over where no order was executed is gone.**
+pub open_gone : (b n : State) (c : ℕ) → n.done ≡ b.done → open_now b c ≡ true → is_over n c ≡ true → gone_in n c ≡ true
+open_gone b n c same o h =
+    by (is_some (opened_at c b.done)) (is_some (closed_at c b.done)) (gone_in b c) (is_some (closed_at c n.done)) (gone_in n c) o
+    (ap (λ (ds : List Done). is_some (closed_at c ds)) same) h
+  where
+    by : (p q g q' g' : Bool) → (p && not q && not g) ≡ true → q' ≡ q → (g' || q') ≡ true → g' ≡ true
+    by true false false false true o e h = refl
+    by true false false false false o e h = cc
+    by true false false true g' o e h = cc
+    by true false true q' g' o e h = cc
+    by true true g q' g' o e h = cc
+    by false q g q' g' o e h = cc
+
 -- nor is a call open that is over
 pub over_shut : (b : State) (c : ℕ) → is_over b c ≡ true → open_now b c ≡ false
 over_shut b c e = is_false (open_now b c) (λ o. true≢false (sym e ∙ not_over b c o))
@@ -71,7 +89,7 @@ gone_one s call at c e = elim (cases_Bool (c == call)) [
     set_past (x ∷ xs) (suc i) l = ap (λ (ys : List (Option ℕ)). x ∷ ys) (set_past xs i (omega arith))
 
 -- and when several are
-gone_told : (s : State) (ends : List CallEnd) (c : ℕ) → gone_in s c ≡ true → gone_in (told_after s ends) c ≡ true
+pub gone_told : (s : State) (ends : List CallEnd) (c : ℕ) → gone_in s c ≡ true → gone_in (told_after s ends) c ≡ true
 gone_told s [] c e = e
 gone_told s (d ∷ ends) c e = gone_told (told_more s d.call d.at) ends c (gone_one s d.call d.at c e)
 
@@ -101,6 +119,14 @@ over_turned s n o e c h = subst (λ (m : State). is_over m c ≡ true) (sym e) (
       | inr q ↦ or_second (gone_in s c) (is_some (closed_at c (after_turn s (Some x)).done))
           (ap is_some (closed-append c s.done _) ∙ some_more (closed_at c s.done) _ q)
     ]
+
+-- a call that is gone stays so
+gone_turned : (s n : State) (o : Option Order) → n ≡ after_turn s o → (c : ℕ) → gone_in s c ≡ true → gone_in n c ≡ true
+gone_turned s n o e c h = subst (λ (m : State). gone_in m c ≡ true) (sym e) (by o)
+  where
+    by : (o : Option Order) → gone_in (after_turn s o) c ≡ true
+    by None = h
+    by (Some x) = h
 
 -- a call that was opened was so after one more order
 opened_turned : (s n : State) (o : Option Order) → n ≡ after_turn s o → (c : ℕ) → opened_now s c ≡ true → opened_now n c ≡ true
@@ -178,7 +204,7 @@ pub knows_more : (s n : State) (o : Option Order) (groups after : List Group) (f
     ((c : ℕ) → call_in after c ≡ calls_after a (call_in groups) c) → KnowsListed s groups failed → KnowsListed n after failed
 knows_more s n o groups after failed a e finds calls k = record {
   opened = λ c side l. opened_turned s n o e c (k.opened c side l);
-  ended = λ c side i l. over_turned s n o e c (k.ended c side i l);
+  ended = λ c side i l. gone_turned s n o e c (k.ended c side i l);
   calls = λ c x q. known failed c x (calls_after a (call_in groups) c)
       (after_knows failed a (call_in groups) (new a finds) (λ d. each failed d (call_in groups d) (k.calls d)) c) (sym (calls c) ∙ q);
 }
@@ -196,6 +222,6 @@ pub knows_same : (s n : State) (o : Option Order) (groups : List Group) (failed 
     KnowsListed n groups failed
 knows_same s n o groups failed e k = record {
   opened = λ c side l. opened_turned s n o e c (k.opened c side l);
-  ended = λ c side i l. over_turned s n o e c (k.ended c side i l);
+  ended = λ c side i l. gone_turned s n o e c (k.ended c side i l);
   calls = k.calls;
 }

@@ -23,6 +23,7 @@ use Rattle.farm_run.specs.Outgoing.{PassesOn}
 use Rattle.farm_run.specs.Match.{AtClock}
 use Rattle.farm_run.specs.Runs.{is_listed}
 use Rattle.farm_run.specs.Standing.{KnowsListed}
+use Rattle.farm_run.proofs.Listed.Boards.{gone_over}
 use Rattle.farm_run.proofs.Listed.Tests.{listed_name, name_listed, or_cases, or_first, or_second, same_test, is_false}
 use Rattle.farm_run.proofs.Listed.Once.{line_place, listed_once}
 use Rattle.farm_run.proofs.Listed.Counts.{Lists, names, seat_listed, listed_seat, listed_before, listed_after, seat_cases}
@@ -144,7 +145,8 @@ module _ (t n : ℕ) (b : State) (farm after : FarmMemory) (before now : ℕ →
 
   -- an incoming line of an open call isn't listed before the round
   not_listed : (k c : ℕ) (side : Side) → k < length farm.live → slice_index farm.live k ≡ c → IsIncoming side → is_listed farm.failed c side ≡ false
-  not_listed k c side l e i = is_false (is_listed farm.failed c side) (λ q. let s = seated k c l e in true≢false (sym (knows.ended c side i q) ∙ s.not_yet))
+  not_listed k c side l e i = is_false (is_listed farm.failed c side)
+      (λ q. let s = seated k c l e in true≢false (sym (gone_over b c (knows.ended c side i q)) ∙ s.not_yet))
 
   -- so an open call's incoming line is listed where it failed in the round
   pub listed_incoming : (k c : ℕ) (side : Side) → k < length farm.live → slice_index farm.live k ≡ c → IsIncoming side →

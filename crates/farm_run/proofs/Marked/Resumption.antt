@@ -33,7 +33,7 @@ use Rattle.farm_run.specs.Clock.{IsAtClock, WrittenFrom}
 use Rattle.farm_run.proofs.Clocks.First.{tells_none, flags_of, lines_at_first}
 use Rattle.farm_run.proofs.Clocks.Last.{up_rest, pcm_rest, leaves_from}
 use Rattle.farm_run.proofs.Lines.Cutting.{cut_at, cut_before, cut_behind, none_yet}
-use Rattle.farm_run.proofs.Lines.Stopping.{only_opened}
+use Rattle.farm_run.proofs.Lines.Stopping.{FailBefore, only_opened, fail_before}
 use Rattle.farm_run.proofs.Lines.Gaining.{none_out, none_down}
 use Rattle.farm_run.proofs.Marked.Calls.{entries_are}
 use Rattle.farm_run.proofs.Clocks.Meeting.{stays, further}
@@ -49,12 +49,19 @@ module _ (os : List Order) (batch periods : ℕ) (first now : ℕ → Side → L
       IsAtClock r u.clock u.board u.farm.groups (standing u.board u.farm.failed now) first now
   at_here r run least = g.at r (standing u.board u.farm.failed now) run (omega (arith, l, least)) (stays (standing u.board u.farm.failed now))
 
+  -- each incoming line that failed ended its call before it
+  fail_here : (r : Run) → IsRunOver os r.periods (is_listed u.farm.failed) first now r → periods ≤ r.periods → FailBefore r u.clock (is_listed u.farm.failed)
+  fail_here r run least =
+      let known = g.known r (standing u.board u.farm.failed now) run (omega (arith, l, least)) (stays (standing u.board u.farm.failed now)) in
+      let s = g.stage in
+      fail_before r u.clock u.board u.farm.groups u.farm.failed s.clock.ends known.truly s.knows
+
   -- **At a clock a run is cut short.**
   pub cut_here : ((r : Run) (z : Standing) → IsRunOver os r.periods z.listed first z.lines r → u.clock ≤ r.periods →
       StandingGoesOn (standing u.board u.farm.failed now) z → WrittenFrom r 0 u.clock (is_listed u.farm.failed) first now) →
       IsCutShort os periods first now
   cut_here wrote = cut_at os periods u.clock u.board u.farm.groups u.farm.failed first now l (let s = g.stage in s.knows) g.tells g.sides g.reads at_here
-      (λ r run least. wrote r (standing u.board u.farm.failed now) run (omega (arith, l, least)) (stays (standing u.board u.farm.failed now)))
+      (λ r run least. wrote r (standing u.board u.farm.failed now) run (omega (arith, l, least)) (stays (standing u.board u.farm.failed now))) fail_here
 
   -- the run to there is at this clock
   at_last : (r : Run) → IsRunOver os periods (is_listed u.farm.failed) first now r →
@@ -72,6 +79,8 @@ module _ (os : List Order) (batch periods : ℕ) (first now : ℕ → Side → L
       let knows = (let s = g.stage in s.knows) in
       only_opened r u.clock u.board u.farm.groups u.farm.failed here.follows.so_far knows)
       (λ r run. (at_last r run).lines)
+      (λ r run. let e = run.same_periods in
+      fail_here r (subst (λ (p : ℕ). IsRunOver os p (is_listed u.farm.failed) first now r) (sym e) run) (omega (arith, e)))
 
   -- **and one that wrote what lies behind the mark's period, where the mark is the run's.**
   pub cut_written : (mark : MarkView) → mark.period ≤ u.clock →
@@ -82,7 +91,7 @@ module _ (os : List Order) (batch periods : ℕ) (first now : ℕ → Side → L
   cut_written mark behind same wrote =
       cut_behind os periods mark u.clock u.board u.farm.groups u.farm.failed first now behind l (let s = g.stage in s.knows) g.tells g.sides g.reads same
       at_here
-      (λ r run least. wrote r (standing u.board u.farm.failed now) run (omega (arith, l, least)) (stays (standing u.board u.farm.failed now)))
+      (λ r run least. wrote r (standing u.board u.farm.failed now) run (omega (arith, l, least)) (stays (standing u.board u.farm.failed now))) fail_here
 
 -- **A run that came to a clock is cut short there.**
 pub stretch_cut : (os : List Order) (batch periods : ℕ) (o : Outgoing) (s : Stage) (first now : ℕ → Side → LineState) →
@@ -110,6 +119,7 @@ pub unbegun_cut : (os : List Order) (periods : ℕ) (mark : MarkView) (lines : �
 unbegun_cut os periods mark lines =
     cut_before os periods 0 mark (λ c. false) [] lines lines (omega arith) (omega arith) (tells_none lines) (sides_none lines) (λ c s octets i e. (0, e))
     (record { lines = λ c s o. refl; listed = λ c s o. refl }) (λ r run c s l. cc) (λ r run. lines_at_first r os periods lines (none_yet lines) run)
+    (λ r run c s i l. cc)
 
 -- ---- where the mark is compared
 
