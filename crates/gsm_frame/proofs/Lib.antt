@@ -1,0 +1,4 @@
+mod Fit
+mod OneFrame
+mod OneNumber
+mod PairBits

@@ -1,0 +1,16 @@
+//! The octets that carry full rate frames outside TRAU frames: 33 for a frame (RTP, files of libgsm), and 65 for two (WAV49).
+//!
+//! Stands on `trau_params` and `trau_bits`; used by the C library. `frame` packs and unpacks 33 octets, `pair` the 65 of WAV49,
+//! `block` a quarter of a frame, `octets` numbers of octets, `laws` the laws.
+//! Definitions: `specs/Packed.antt` (33 octets), `specs/Pair.antt` (65 octets).
+#![tactic(auto)]
+
+mod block;
+mod frame;
+mod laws;
+mod octets;
+mod pair;
+
+pub use frame::{MAGIC, pack, unpack};
+pub use laws::{one_frame, one_packing, packed_unpacks_again, unpacked_packs_again};
+pub use pair::{pack_pair, unpack_pair};
