@@ -366,8 +366,9 @@ def with_fault(
     fault = source.choice(("lines", "lines", "lines", "stdin", "stdout", "size", "size"))
     changed = dict(files)
     if fault == "lines":
+        numbers = sorted({name.split(".")[0] for name in files if name.endswith((".up", ".pcm"))})
         for _ in range(source.choice((1, 1, 2))):
-            spoil_line(source, changed)
+            spoil_line(source, changed, numbers)
     if fault == "size":
         limit = source.choice((0, source.randrange(200), source.randrange(3_000), source.randrange(20_000)))
         return changed, [step._replace(most_octets=limit) for step in steps]
@@ -376,15 +377,13 @@ def with_fault(
     return changed, [*steps[:-1], last]
 
 
-def spoil_line(source: random.Random, files: Dict[str, Entry]) -> None:
-    """Puts something else into the place of a line's file."""
-    incoming = sorted(name for name in files if name.endswith((".up", ".pcm")))
-    name = source.choice(incoming)
+def spoil_line(source: random.Random, files: Dict[str, Entry], numbers: Sequence[str]) -> None:
+    """Puts something else into the place of a line's file, or nothing; `numbers` are those of the calls."""
+    call, other = source.choice(numbers), source.choice(numbers)
+    incoming, outgoing = f"{call}.{source.choice(('up', 'pcm'))}", f"{call}.{source.choice(('down', 'out'))}"
     if source.random() < 0.5:
-        files[name] = source.choice((b"", Folder(), Link("nowhere"), Link(name), Link(source.choice(incoming))))
-        if source.random() < 0.4:
-            del files[name]
-    else:
-        numbers = {int(one.split(".")[0]) for one in incoming}
-        outgoing = f"{source.choice(sorted(numbers))}.{source.choice(('down', 'out'))}"
         files[outgoing] = source.choice((Folder(), Link(FULL_DEVICE), Link("no/where"), Link(outgoing)))
+    elif source.random() < 0.4:
+        files.pop(incoming, None)
+    else:
+        files[incoming] = source.choice((b"", Folder(), Link("nowhere"), Link(incoming), Link(f"{other}.up")))
