@@ -35,7 +35,7 @@ DISK_OF_THE_PROGRAM = 300_000_000
 MEMORY_OF_A_CHECK = 2_500_000_000
 
 # How long it takes from nothing (docs/INSTALL.md).
-TIME = "some 15 minutes on four processors, and 20 on two"
+TIME = "20 to 40 minutes on four processors, by machine"
 
 KILLED = re.compile(r"failed \(-9\)")
 UNPROVED = re.compile(r"^\w+ \S+: (not proved|no proof)|^error")

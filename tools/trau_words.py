@@ -65,90 +65,90 @@ COMMANDS = (
     Command(
         "run",
         "[OPTIONS] <ORDERS",
-        "reads orders from standard input, works the calls that they open on their lines, writes their outgoing"
-        " lines, and tells the report",
+        "reads orders from standard input, processes the calls that they open, writes their outgoing"
+        " lines, and prints the report",
         (0, 1, 2, 3, 4, 5, 6, 7),
     ),
     Command(
         "save",
         "[OPTIONS] <ORDERS",
-        "runs as run does to the period of --periods, which must be there, and tells a mark in place of the"
+        "runs as run does up to the period of --periods, which is required, and prints a mark instead of the"
         " report: the open calls with sums of what went out",
         (0, 1, 2, 3, 4, 5, 6, 7),
     ),
     Command(
         "resume",
         "[OPTIONS] <MARKED",
-        "reads a mark and the orders behind it, works the same lines from the start, writes what follows the"
-        " mark's period, and tells the whole run's report",
+        "reads a mark and the orders after it, processes the same lines from the start, writes what follows the"
+        " mark's period, and prints the whole run's report",
         (0, 1, 2, 3, 4, 5, 6, 7, 9),
     ),
     Command(
         "drill",
         "[OPTIONS]",
-        "draws lines and orders from a number, works them in memory as run does, and tells the report, with sums"
-        " of what goes out; it uses no file",
+        "draws lines and orders from a number, processes them in memory as run does, and prints the report, with"
+        " sums of what goes out; it uses no file",
         (0, 1, 4, 5),
     ),
     Command(
         "live",
         "[OPTIONS]",
-        "has callers on threads of their own post periods, drawn from a number, to calls and work them, and tells"
+        "starts callers on threads, which post periods, drawn from a number, to calls and process them; prints"
         " sums of what goes out; it uses no file",
         (0, 1, 4, 5),
     ),
     Command(
         "relay",
         CALL,
-        "takes C.up, and writes its good speech frames to C.down with the same 260 data bits",
+        "reads C.up, and writes its good speech frames to C.down with the same 260 data bits",
         (0, 1, 4, 5, 6, 8),
     ),
     Command(
         "decode",
         CALL,
-        "takes C.up, and writes the A-law of its good speech frames to C.out",
+        "reads C.up, and writes the A-law of its good speech frames to C.out",
         (0, 1, 4, 5, 6, 8),
     ),
     Command(
         "encode",
         CALL,
-        "takes C.pcm, and writes its speech frames to C.down",
+        "reads C.pcm, and writes its speech frames to C.down",
         (0, 1, 4, 5, 6),
     ),
     Command(
         "frames",
         CALL,
-        "searches C.up for frames at any bit, and tells a line of text for each; it writes no line",
+        "searches C.up for frames at any bit, and prints a line of text for each; it writes no file",
         (0, 1, 4, 5, 6),
     ),
     Command(
         "split",
         CALL,
-        "takes the time slot C.pcm, and writes its four channels to the Down lines of calls C to C + 3",
-        (0, 1, 4, 6),
+        "reads the time slot C.pcm, and writes its four channels to the Down lines of calls C to C + 3",
+        (0, 1, 4, 5, 6),
         4093,
     ),
     Command(
         "merge",
         CALL,
-        "takes C.up and the Up lines of the next three calls as four channels, and writes the time slot C.out",
-        (0, 1, 4, 6),
+        "reads C.up and the Up lines of the next three calls as four channels, and writes the time slot C.out",
+        (0, 1, 4, 5, 6),
         4093,
     ),
     Command(
         "follow",
         "C W",
-        "takes C.up as a downlink, tells a line of text for each frame that a base station finds on it, and"
+        "reads C.up as a downlink, prints a line of text for each frame that a base station finds on it, and"
         " writes to C.down what it sends up, asking for frames at W modulo 320, 0 to 316 and a multiple of 4",
-        (0, 1, 4, 6),
+        (0, 1, 4, 5, 6),
     ),
 )
 
 OPTIONS = (
-    Option("--workers", 1, 64, 4, "the threads that work the calls"),
-    Option("--batch", 1, 250, 50, "the most periods that are read, worked and written at a time"),
-    Option("--slice", 1, 250, 5, "the periods of a call that are worked in one go"),
-    Option("--periods", 1, 4294967295, 4294967295, "the period at which the run ends; resume goes to its mark's where that is greater"),
+    Option("--workers", 1, 64, 4, "the threads that process the calls"),
+    Option("--batch", 1, 250, 50, "the most periods that are read, processed and written at a time"),
+    Option("--slice", 1, 250, 5, "the periods of a call that are processed in one go"),
+    Option("--periods", 1, 4294967295, 4294967295, "the period at which the run ends; resume goes on to its mark's if that is greater"),
 )
 
 DRILL_OPTIONS = (
@@ -182,12 +182,12 @@ ORDERS = (
 )
 
 STATUSES = (
-    Status(0, "the command was carried to its end, and no line failed", "the command's text; of run, resume and drill, the report"),
+    Status(0, "the command ran to its end, and no line failed", "the command's text; of run, resume and drill, the report"),
     Status(1, "these words are no command", "usage"),
     Status(2, "line N of the orders or of the mark isn't in the grammar", "orders line N, save line N"),
     Status(3, "standard input failed while the orders were read", "orders unread"),
     Status(4, "standard output failed while the command's text went out", "the beginning of the text"),
-    Status(5, "want of memory", "no memory"),
+    Status(5, "out of memory", "no memory"),
     Status(6, "a line failed", "line C up failed, with the line's side; the report, which names the lines"),
     Status(
         7,
@@ -210,7 +210,7 @@ NOTE_ON_FILES = (
     "Lines are files of the current folder. C is a call's number, 1 to 4,096, in decimal digits without leading zeros. The"
     " commands of one call write the same files as run does."
 )
-NOTE_ON_OPTIONS = "A value is the next word, or stands behind an equals sign. Each option stands once at most."
+NOTE_ON_OPTIONS = "A value is the next word, or follows an equals sign. Each option is given once at most."
 NOTE_ON_ORDERS = "An order is a line of words with one space between. S is the period at whose start it takes effect."
 NOTE_ON_HELP = (
     "help and --help print a help, help COMMAND and COMMAND --help the page of a command, and --version says what is installed."

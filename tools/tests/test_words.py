@@ -91,7 +91,7 @@ class ManPage(InFolder):
         text = " ".join(ended.stdout.decode().split())
         self.assertIn("TRAU(1)", text)
         self.assertIn("trau run [--workers N] [--batch N] [--slice N] [--periods N] <ORDERS", text)
-        run_ends = "The period at which the run ends; resume goes to its mark's where that is greater"
+        run_ends = "The period at which the run ends; resume goes on to its mark's if that is greater"
         self.assertIn(f"{run_ends} (1 to 4,294,967,295, else 4,294,967,295).", text)
         self.assertIn("2 Line N of the orders or of the mark isn't in the grammar: orders line N, save line N.", text)
 

@@ -1,4 +1,4 @@
-use Rattle.std.proofs.Common.{◌≡◌, ◌*◌, ◌≤◌, take, length, sym, ap, subst, ◌∙◌, arith, rules, refl}
+use Rattle.std.proofs.Common.{◌≡◌, ◌*◌, length, sym, ap, subst, ◌∙◌, arith, rules, refl}
 use Rattle.std.proofs.lemmas.List.{take_all}
 use Rattle.trau_bits.specs.Bits.{AreBits}
 use Rattle.gsm_frame.specs.Pair.{bits_of_pair}

@@ -1,4 +1,4 @@
-use Rattle.std.proofs.Common.{◌≡◌, ◌*◌, take, length, sym, ap, ◌∙◌, arith, rules, refl}
+use Rattle.std.proofs.Common.{◌≡◌, ◌*◌, length, sym, ap, ◌∙◌, arith, rules, refl}
 use Rattle.std.proofs.lemmas.List.{take_all}
 use Rattle.gsm_frame.specs.Pair.{bits_of_pair}
 use Rattle.gsm_frame.proofs.PairBits.{read}
