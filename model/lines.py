@@ -1,27 +1,55 @@
 """The outside: lines as files of the current folder, and the standard streams (docs/FILES.md).
 
-Everything that fails here fails in the system: a missing file, a folder in a file's place, a full device, a limit on file sizes.
+Everything that fails here fails in the system: a missing file, a folder in a file's place, a full device, a limit on file sizes. But
+a line whose file is another line's fails here. Incoming lines are read before any outgoing one is written, so where an incoming
+line leads to a file that this run writes, the model names the outgoing line also where a run of rounds names the incoming one.
 """
 
 from __future__ import annotations
 
 import os
+import stat
+import sys
+from pathlib import Path
 from typing import Callable, Dict, Optional, Tuple
 
+from . import profile
 from .outside import Given, Side
 
 # So much is read at a time; lines are read to the end where nobody says how far.
 MOST_AT_ONCE = 1 << 20
 
+Why = Callable[[OSError], None]  # is told why a read or a write failed
+Identity = Tuple[int, int]  # a file's device and inode
 
-def read_all(read: Callable[[int], bytes], most: Optional[int]) -> Given:
+
+class SharedFile(OSError):
+    """The file is that of another line, and one of both is written (docs/FILES.md, "A file that is written is one line's")."""
+
+    def __init__(self, name: str) -> None:
+        super().__init__(name)
+        self.name = name
+
+
+def reason(fault: OSError) -> str:
+    """What is said of a failure (docs/FILES.md)."""
+    return f"this is the file of {fault.name}" if isinstance(fault, SharedFile) else f"{fault.strerror} (os error {fault.errno})"
+
+
+def say_why(name: str, fault: OSError) -> None:
+    """Says on standard error why a line or a stream failed (docs/FILES.md)."""
+    print(f"trau: {name}: {reason(fault)}", file=sys.stderr, flush=True)
+
+
+def read_all(read: Callable[[int], bytes], most: Optional[int], why: Why) -> Given:
     """What reads give up to `most` octets, the end or the first failure (docs/FILES.md)."""
     parts = []
     left = most
     while left is None or left > 0:
         try:
             part = read(MOST_AT_ONCE if left is None else min(left, MOST_AT_ONCE))
-        except OSError:
+        except OSError as fault:
+            why(fault)
             return Given(b"".join(parts), True)
         if not part:
             break
@@ -30,13 +58,14 @@ def read_all(read: Callable[[int], bytes], most: Optional[int]) -> Given:
     return Given(b"".join(parts), False)
 
 
-def write_all(descriptor: int, octets: bytes) -> int:
+def write_all(descriptor: int, octets: bytes, why: Why) -> int:
     """How many octets a descriptor took: all, or a proper prefix where a write failed or took none (docs/FILES.md)."""
     done = 0
     while done < len(octets):
         try:
             taken = os.write(descriptor, octets[done:])
-        except OSError:
+        except OSError as fault:
+            why(fault)
             break
         if taken == 0:
             break
@@ -44,22 +73,44 @@ def write_all(descriptor: int, octets: bytes) -> int:
     return done
 
 
+def identity_of(found: os.stat_result) -> Identity:
+    """A file's device and inode, which are the same by whatever name it is opened (docs/FILES.md)."""
+    return found.st_dev, found.st_ino
+
+
+def recording_at(identity: Identity) -> Optional[str]:
+    """The incoming line of the current folder that has this file, or None (docs/FILES.md)."""
+    for call in range(1, profile.MOST_CALL + 1):
+        for side in (Side.UP, Side.PCM):
+            name = f"{call}.{side.value}"
+            if os.path.exists(name) and identity_of(os.stat(name)) == identity:
+                return name
+    return None
+
+
 class Folder:
-    """The lines of the current folder: file `7.up` is the Up line of call 7. Keeps how far each line was read and written."""
+    """The lines of the current folder: file `7.up` is the Up line of call 7. Keeps how far each line was read and written, and which
+    line has which file of a disk."""
 
     def __init__(self) -> None:
         self._moved: Dict[Tuple[int, Side], int] = {}
+        self._files: Dict[Identity, Dict[str, bool]] = {}  # the lines that have the file, and whether each is written
+        self._said = 0
 
     def read(self, call: int, side: Side, most: Optional[int] = None) -> Given:
         """The next octets of a line, `most` at most; the file is opened for it, so a missing one fails here (docs/FILES.md)."""
+        name = f"{call}.{side.value}"
         try:
-            descriptor = os.open(f"{call}.{side.value}", os.O_RDONLY)
-        except OSError:
+            descriptor = os.open(name, os.O_RDONLY)
+        except OSError as fault:
+            self._why(name, fault)
             return Given(b"", True)
         try:
+            self._claim(descriptor, name, is_written=False)
             os.lseek(descriptor, self._moved.get((call, side), 0), os.SEEK_SET)
-            given = read_all(lambda size: os.read(descriptor, size), most)
-        except OSError:
+            given = read_all(lambda size: os.read(descriptor, size), most, lambda fault: self._why(name, fault))
+        except OSError as fault:
+            self._why(name, fault)
             return Given(b"", True)
         finally:
             os.close(descriptor)
@@ -70,20 +121,52 @@ class Folder:
         """Appends octets to what this program wrote of the line; the first write makes its file, or empties an older one
         (docs/FILES.md).
         """
-        before = self._moved.get((call, side), 0)
+        name, before = f"{call}.{side.value}", self._moved.get((call, side), 0)
         try:
-            descriptor = os.open(f"{call}.{side.value}", os.O_WRONLY | (0 if before else os.O_CREAT | os.O_TRUNC), 0o666)
-        except OSError:
+            descriptor = os.open(name, os.O_WRONLY | (0 if before else os.O_CREAT), 0o666)
+        except OSError as fault:
+            self._why(name, fault)
             return False
         try:
+            self._claim(descriptor, name, is_written=True)
+            if before == 0:
+                self._empty(descriptor, name)
             os.lseek(descriptor, before, os.SEEK_SET)
-            done = write_all(descriptor, octets)
-        except OSError:
+            done = write_all(descriptor, octets, lambda fault: self._why(name, fault))
+        except OSError as fault:
+            self._why(name, fault)
             return False
         finally:
             os.close(descriptor)
         self._moved[call, side] = before + done
         return done == len(octets)
+
+    def _claim(self, descriptor: int, name: str, is_written: bool) -> None:
+        """Has the file be the line's, unless it is another line's and one of both is written (docs/FILES.md)."""
+        found = os.fstat(descriptor)
+        if not stat.S_ISREG(found.st_mode):
+            return
+        lines = self._files.setdefault(identity_of(found), {})
+        for other, other_is_written in lines.items():
+            if other != name and (is_written or other_is_written):
+                raise SharedFile(other)
+        lines[name] = lines.get(name, False) or is_written
+
+    def _empty(self, descriptor: int, name: str) -> None:
+        """Empties an older file, unless it is a recording of this folder by another name (docs/FILES.md)."""
+        found = os.fstat(descriptor)
+        if not stat.S_ISREG(found.st_mode):
+            return
+        recording = recording_at(identity_of(found)) if Path(name).is_symlink() or found.st_nlink > 1 else None
+        if recording is not None:
+            raise SharedFile(recording)
+        os.ftruncate(descriptor, 0)
+
+    def _why(self, name: str, fault: OSError) -> None:
+        """Says why a line failed, of twenty lines at most (docs/FILES.md)."""
+        self._said += 1
+        if self._said <= profile.MOST_REASONS:
+            say_why(name, fault)
 
 
 class Streams:
@@ -94,9 +177,9 @@ class Streams:
 
     def read(self, most: int) -> Given:
         """The next octets of standard input, `most` at most (docs/FILES.md)."""
-        return read_all(lambda size: os.read(self._reads, size), most)
+        return read_all(lambda size: os.read(self._reads, size), most, lambda fault: say_why("standard input", fault))
 
     def write(self, text: str) -> bool:
         """Writes a text to standard output; False where a proper prefix of it went out, and the output failed (docs/FILES.md)."""
         octets = text.encode("ascii")
-        return write_all(self._writes, octets) == len(octets)
+        return write_all(self._writes, octets, lambda fault: say_why("standard output", fault)) == len(octets)

@@ -29,8 +29,8 @@ from trau_frames import Refusal
 TOP = Path(__file__).resolve().parents[1]
 PROGRAM = "trau_program"
 
-# Measured: what all crates below the program keep is 4 GB, and the check of one crate takes up to 2.5 GB of memory.
-DISK_OF_A_CRATE = 100_000_000
+# Measured: a first start takes 6.2 GB of disk, and the check of one crate up to 2.5 GB of memory.
+DISK_OF_A_CRATE = 118_000_000
 DISK_OF_THE_PROGRAM = 300_000_000
 MEMORY_OF_A_CHECK = 2_500_000_000
 

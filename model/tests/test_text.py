@@ -63,7 +63,7 @@ class Text(unittest.TestCase):
                     self.assertIn(heading, headings(name), "%s in %s" % (name, path.name))
 
     def test_the_standard_library_alone(self) -> None:
-        names = {"argparse", "bisect", "contextlib", "ctypes", "enum", "itertools", "operator", "os", "pathlib", "random", "re", "resource",
+        names = {"argparse", "bisect", "contextlib", "ctypes", "enum", "itertools", "operator", "os", "pathlib", "random", "re", "resource", "stat",
                  "shutil", "signal", "subprocess", "sys", "tempfile", "time", "typing", "__future__", "concurrent", "threading", "model"}
         for path in MODULES:
             for node in ast.walk(ast.parse(path.read_text())):

@@ -132,7 +132,7 @@ class TheFirstStart(Started):
         self.assertEqual((status, out), (0, "the program: run --workers 2\n"))
         said = re.sub(r"\d+:\d\d minutes|[\d.]+ GB that are free", "..", err).splitlines()
         self.assertIn("a source changed: its 4 crates are proved, 2 at a time, and then it is built", said[0])
-        self.assertIn("0.7 GB of disk, of ..", said[1])
+        self.assertIn("0.8 GB of disk, of ..", said[1])
         self.assertEqual(
             said[3:],
             [
@@ -233,7 +233,7 @@ class TheFirstStart(Started):
             return types.SimpleNamespace(free=5 * 10**8)
 
         with mock.patch.object(shutil, "disk_usage", usage):
-            with self.assertRaisesRegex(trau_frames.Refusal, r"too little disk: this needs 0\.7 GB, and .* has 0\.5 GB left"):
+            with self.assertRaisesRegex(trau_frames.Refusal, r"too little disk: this needs 0\.8 GB, and .* has 0\.5 GB left"):
                 build.check_disk(self.top, build.needed(self.top, "trau_program"))
         with mock.patch.dict(os.environ, self.surroundings), mock.patch.object(shutil, "disk_usage", usage):
             status, out, err = self.run_tool(build.main, "--top", self.top)
@@ -246,7 +246,7 @@ class TheFirstStart(Started):
         crates = set(build.crates_of(TOP))
         self.assertEqual(
             crates - set(build.needed(TOP, build.PROGRAM)),
-            {"call_heard", "call_tests", "codec_tests", "codec_vectors", "farm_tests", "line_tests", "pool_core"},
+            {"call_heard", "call_tests", "codec_tests", "codec_vectors", "farm_tests", "gsm_frame", "line_tests", "pool_core", "trau_c"},
         )
         self.assert_refused(build.main, ["--top", self.top, "--program", "gone"], "has no line of gone")
         self.assert_refused(build.main, ["now"], "unrecognized")

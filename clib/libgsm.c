@@ -1,0 +1,229 @@
+/* libgsm's interface over libtrau_fr, in integer arithmetic: built as libgsm.so.1, programs of libgsm run on it as they are.
+ *
+ * Encoder, decoder, packings and their tests are the library's. Here are memory, options, and the two halves of WAV49. A handle
+ * serves one thread at a time, as libgsm's does.
+ *
+ * The options do what they do in libgsm as it is mostly built: GSM_OPT_VERBOSE is kept and given back, and GSM_OPT_FAST and
+ * GSM_OPT_LTP_CUT, of an encoder that isn't exact, are options that this build hasn't.
+ */
+#include <stdio.h>
+#include <stdlib.h>
+#include <string.h>
+
+#include "trau_fr.h"
+
+#define PUBLIC __attribute__((visibility("default")))
+
+enum gsm_option_name {
+    GSM_OPT_VERBOSE = 1,
+    GSM_OPT_FAST = 2,
+    GSM_OPT_LTP_CUT = 3,
+    GSM_OPT_WAV49 = 4,
+    GSM_OPT_FRAME_INDEX = 5,
+    GSM_OPT_FRAME_CHAIN = 6
+};
+
+/* Octets of the first half of a pair that are its own; the next one it shares with the second half. */
+#define SHARED 32
+
+/* In a pair each frame is the first (index 1) or the second (index 0); chain has the four bits of the first frame that stand in
+ * the shared octet. */
+typedef struct gsm_state {
+    struct trau_fr_encoder encoder;
+    struct trau_fr_decoder decoder;
+    struct trau_fr_params frame;
+    unsigned char wav49;
+    unsigned char frame_index;
+    unsigned char frame_chain;
+    signed char verbose;
+} *gsm;
+typedef short gsm_signal;
+typedef unsigned char gsm_byte;
+
+/* Values of gsm_explode and gsm_implode: 8 ratios, and 17 of each block. */
+#define VALUES (8 + 4 * 17)
+
+PUBLIC gsm gsm_create(void)
+{
+    gsm state = calloc(1, sizeof *state);
+
+    if (state) {
+        state->encoder = trau_fr_encoder_home();
+        state->decoder = trau_fr_decoder_home();
+    }
+    return state;
+}
+
+PUBLIC void gsm_destroy(gsm state)
+{
+    free(state);
+}
+
+/* Sets an option where value isn't null. Returns what it was, or -1 where this build hasn't the option. */
+PUBLIC int gsm_option(gsm state, int option, int *value)
+{
+    int was = -1;
+
+    switch (option) {
+    case GSM_OPT_VERBOSE:
+        was = state->verbose;
+        if (value)
+            state->verbose = (signed char)*value;
+        break;
+    case GSM_OPT_WAV49:
+        was = state->wav49;
+        if (value)
+            state->wav49 = !!*value;
+        break;
+    case GSM_OPT_FRAME_INDEX:
+        was = state->frame_index;
+        if (value)
+            state->frame_index = (unsigned char)*value;
+        break;
+    case GSM_OPT_FRAME_CHAIN:
+        was = state->frame_chain;
+        if (value)
+            state->frame_chain = (unsigned char)*value;
+        break;
+    }
+    return was;
+}
+
+/* The first half of a pair has 32 octets and one of which only the low four bits count; the second has 33, of which the first
+ * begins with those four bits. */
+static void write_half(gsm state, gsm_byte *octets)
+{
+    static const struct trau_fr_params none;
+    gsm_byte pair[TRAU_FR_PAIR_OCTETS];
+
+    if (state->frame_index == 1) {
+        trau_fr_pack_pair(&state->frame, &none, pair);
+        memcpy(octets, pair, SHARED + 1);
+        state->frame_chain = pair[SHARED];
+    } else {
+        trau_fr_pack_pair(&none, &state->frame, pair);
+        memcpy(octets, pair + SHARED, SHARED + 1);
+        octets[0] |= state->frame_chain & 0x0F;
+    }
+}
+
+/* The first half is read from 33 octets, the second from the 32 that come after them. */
+static void read_half(gsm state, const gsm_byte *octets)
+{
+    struct trau_fr_params other = {0};
+    gsm_byte pair[TRAU_FR_PAIR_OCTETS] = {0};
+
+    if (state->frame_index == 1) {
+        memcpy(pair, octets, SHARED + 1);
+        trau_fr_unpack_pair(pair, &state->frame, &other);
+        state->frame_chain = pair[SHARED] >> 4;
+    } else {
+        pair[SHARED] = (gsm_byte)(state->frame_chain << 4);
+        memcpy(pair + SHARED + 1, octets, SHARED);
+        trau_fr_unpack_pair(pair, &other, &state->frame);
+    }
+}
+
+static void write_frame(gsm state, gsm_byte *octets)
+{
+    if (state->wav49)
+        write_half(state, octets);
+    else
+        trau_fr_pack(&state->frame, octets);
+}
+
+/* 0, or -1 where the octets begin with another four bits than 1101. */
+static int read_frame(gsm state, const gsm_byte *octets)
+{
+    if (!state->wav49)
+        return trau_fr_unpack(octets, &state->frame) ? 0 : -1;
+    read_half(state, octets);
+    return 0;
+}
+
+/* Encoding and decoding go on to the other half; gsm_explode and gsm_implode leave that to GSM_OPT_FRAME_INDEX. */
+static void next_half(gsm state)
+{
+    if (state->wav49)
+        state->frame_index = !state->frame_index;
+}
+
+PUBLIC void gsm_encode(gsm state, gsm_signal *samples, gsm_byte *octets)
+{
+    trau_fr_encode(&state->encoder, samples, &state->frame);
+    next_half(state);
+    write_frame(state, octets);
+}
+
+PUBLIC int gsm_decode(gsm state, gsm_byte *octets, gsm_signal *samples)
+{
+    next_half(state);
+    if (read_frame(state, octets))
+        return -1;
+    trau_fr_decode(&state->decoder, &state->frame, samples);
+    return 0;
+}
+
+/* The parameters as one list: LARc, and of each block Nc, bc, Mc, xmaxc and xMc. */
+static void values_of(const struct trau_fr_params *frame, gsm_signal *values)
+{
+    for (int i = 0; i < 8; i++)
+        *values++ = frame->larc[i];
+    for (int j = 0; j < 4; j++) {
+        *values++ = frame->nc[j];
+        *values++ = frame->bc[j];
+        *values++ = frame->mc[j];
+        *values++ = frame->xmaxc[j];
+        for (int i = 0; i < 13; i++)
+            *values++ = frame->xmc[j][i];
+    }
+}
+
+PUBLIC int gsm_explode(gsm state, gsm_byte *octets, gsm_signal *values)
+{
+    if (read_frame(state, octets))
+        return -1;
+    values_of(&state->frame, values);
+    return 0;
+}
+
+/* The other way: of each value its low bits, as many as its field has. */
+PUBLIC void gsm_implode(gsm state, gsm_signal *values, gsm_byte *octets)
+{
+    static const int ratios[8] = {0x3F, 0x3F, 0x1F, 0x1F, 0x0F, 0x0F, 0x07, 0x07};
+    struct trau_fr_params *frame = &state->frame;
+
+    for (int i = 0; i < 8; i++)
+        frame->larc[i] = (uint8_t)(*values++ & ratios[i]);
+    for (int j = 0; j < 4; j++) {
+        frame->nc[j] = *values++ & 0x7F;
+        frame->bc[j] = *values++ & 0x03;
+        frame->mc[j] = *values++ & 0x03;
+        frame->xmaxc[j] = *values++ & 0x3F;
+        for (int i = 0; i < 13; i++)
+            frame->xmc[j][i] = *values++ & 0x07;
+    }
+    write_frame(state, octets);
+}
+
+/* Prints a frame of 33 octets, whatever the options are. */
+PUBLIC int gsm_print(FILE *file, gsm state, gsm_byte *octets)
+{
+    struct trau_fr_params frame = {0};
+    gsm_signal values[VALUES];
+    const gsm_signal *next = values + 8;
+
+    (void)state;
+    if (!trau_fr_unpack(octets, &frame))
+        return -1;
+    values_of(&frame, values);
+    fprintf(file, "LARc:\t");
+    for (int i = 0; i < 8; i++)
+        fprintf(file, "%2.2d%s", values[i], i < 7 ? "  " : "\n");
+    for (int j = 1; j <= 4; j++, next += 17) {
+        fprintf(file, "#%d: \tNc %4.4d    bc %d    Mc %d    xmaxc %d\n\t", j, next[0], next[1], next[2], next[3]);
+        for (int i = 4; i < 17; i++)
+            fprintf(file, "%.2d%s", next[i], i < 16 ? " " : "\n");
+    }
+    return 0;
+}
