@@ -3,18 +3,22 @@ the orders above, and their words below."""
 
 from __future__ import annotations
 
+import math
 import xml.etree.ElementTree as ElementTree
 from dataclasses import dataclass
+from enum import Enum
 from itertools import groupby
-from typing import Callable, Dict, List, Optional, Sequence, Tuple
+from typing import Callable, Dict, List, Optional, Sequence, Tuple, Type
 
-import levels
+import call_lines
 import looks
+import outcomes
 import run_lines
-import trau_frames
+from call_lines import LOWEST_LEVEL, QUARTERS
 from looks import DOWN_LOSSES, LOSSES, DownLook, Look
 from run_lines import Answered, Call, Run
 from run_texts import Bridge
+from side_by_side import ALONE, Workers
 from trau_frames import PERIODS_A_SECOND
 
 # Lengths are in pixels.
@@ -27,10 +31,9 @@ LEAST_WIDTH = 900
 LEAST_COLUMN = 1.5
 LIST_ROW = 15
 MOST_LISTED = 3000
-BRIDGE_COLOURS = ("#3B3B98", "#8A4F1D", "#48606E", "#7B2D8B")
+BRIDGE_COLOUR = "#3B3B98"
 INK, PALE, GRID, ALARM = "#222222", "#F4F4F4", "#DDDDDD", "#B00020"
-OUT_COLOUR, PCM_COLOUR = "#0072B2", "#D55E00"
-LOWEST_LEVEL = -60
+OUT_COLOUR, PCM_COLOUR = "#117733", "#A6761D"
 
 STYLE = """
 text { font-family: 'DejaVu Sans', Verdana, Arial, sans-serif; font-size: 12px; fill: #222222 }
@@ -94,7 +97,12 @@ class Picture:
     """A picture of a run from a period on to another, which is drawn from the back to the front."""
 
     def __init__(
-        self, run: Run, width: int, shape: Shape, first: Optional[int] = None, last: Optional[int] = None
+        self,
+        run: Run,
+        width: int,
+        shape: Shape,
+        first: Optional[int] = None,
+        last: Optional[int] = None,
     ) -> None:
         self.run = run
         self.shape = shape
@@ -102,9 +110,12 @@ class Picture:
         self.last = max(self.first + 1, run.end() if last is None else last)
         self.scale = min(TICK_ROOM, width / (self.last - self.first))
         self.column = max(1, round(LEAST_COLUMN / self.scale)) if self.scale < LEAST_COLUMN else 1
+        self.lines: Dict[int, call_lines.Lines] = {}
         self.plot_right = self.x(self.last)
-        ends = [self.x(call.span.end) + 8 + text_width(self.end_words(call), 12) for call in run.calls]
-        self.width = max([LEAST_WIDTH, self.plot_right + 12, *ends]) + RIGHT
+        self.outcomes = {call.number: outcomes.outcome_of(call) for call in run.calls}
+        words = [self.row_words(call) for call in run.calls]
+        longest = max(text_width(each, 12) for each in [*words, self.missing_words()])
+        self.width = math.ceil(max(LEAST_WIDTH, self.plot_right + 12 + longest)) + RIGHT
         self.place_rows()
         self.root = ElementTree.Element(
             "svg",
@@ -126,7 +137,7 @@ class Picture:
         self.legend_top = TOP + (46 if self.column > 1 else 34)
         self.orders_top = self.legend_top + self.legend_rows * LEGEND_ROW + 16
         self.rows_top = self.orders_top + ORDERS
-        rows = looks.order_of_rows([call.number for call in self.run.calls], [each.calls for each in self.run.bridges])
+        rows = [call.number for call in self.run.calls]
         self.rows: Dict[int, float] = {
             number: self.rows_top + self.shape.height() * place for place, number in enumerate(rows)
         }
@@ -204,8 +215,14 @@ class Picture:
 
     # Layers
 
-    def draw(self) -> bytes:
+    def read_lines(self, column: int, workers: Workers) -> Dict[int, call_lines.Lines]:
+        """What the calls' lines have, by columns of so many periods."""
+        asked = call_lines.Asked(self.first, self.last, column, bool(self.shape.level))
+        return call_lines.read_lines(self.run, asked, workers)
+
+    def draw(self, workers: Workers = ALONE) -> bytes:
         """The picture's file."""
+        self.lines = self.read_lines(self.column, workers)
         self.add("title", text="The periods of a run's calls")
         self.add("style", text=STYLE)
         self.draw_hatching()
@@ -213,17 +230,13 @@ class Picture:
         self.draw_head()
         self.draw_legend()
         self.draw_axis()
-        bridges = [
-            (bridge, BRIDGE_COLOURS[number % len(BRIDGE_COLOURS)])
-            for number, bridge in enumerate(self.run.bridges)
-            if bridge.start < self.last and bridge.end >= self.first
-        ]
-        for bridge, colour in bridges:
-            self.draw_link(bridge, colour)
+        bridges = [bridge for bridge in self.run.bridges if bridge.start < self.last and bridge.end >= self.first]
+        for bridge in bridges:
+            self.draw_link(bridge)
         for call in self.run.calls:
             self.draw_call(call)
-        for bridge, colour in bridges:
-            self.draw_bridge(bridge, colour)
+        for bridge in bridges:
+            self.draw_bridge(bridge)
         self.draw_orders()
         self.draw_list()
         ElementTree.indent(self.root, " ")
@@ -241,7 +254,7 @@ class Picture:
         calls, bridges = counted(len(self.run.calls), "call"), counted(len(self.run.bridges), "bridge")
         self.text(LEFT, TOP + 10, f"{calls}, {bridges}, periods {span(self.first, self.last)}", "head")
         if self.column > 1:
-            told = f"a column is {counted(self.column, 'period')}, and shows each loss in it, or else what most are"
+            told = f"a column is {counted(self.column, 'period')}: each loss has its part of the height, above it is what most others are"
             self.text(LEFT, TOP + 28, told, "small")
 
     def legend(self) -> List[Tuple[str, Callable[[float, float], None]]]:
@@ -251,7 +264,7 @@ class Picture:
             return lambda x, y: self.box(x - 13, y - height / 2, 26, height, look.colour, stroke=INK, stroke_width=0.75)
 
         def bridge(x: float, y: float) -> None:
-            self.box(x - 13, y - 6, 26, 12, BRIDGE_COLOURS[0])
+            self.box(x - 13, y - 6, 26, 12, BRIDGE_COLOUR)
 
         def shift(x: float, y: float) -> None:
             self.triangle(x - 9, y + 4)
@@ -267,9 +280,9 @@ class Picture:
         def level(colour: str) -> Callable[[float, float], None]:
             return lambda x, y: self.line(x - 13, y, x + 13, y, colour, 2)
 
-        entries = [(look.words, swatch(look, 14)) for look in Look] + [
-            (look.words, swatch(look, 8)) for look in DownLook
-        ]
+        shown = [look for look in Look if look is not Look.PAUSE]
+        shown.insert(shown.index(Look.SID) + 1, Look.PAUSE)
+        entries = [(look.words, swatch(look, 14)) for look in shown] + [(DownLook.HANDED.words, swatch(DownLook.HANDED, 8))]
         if self.shape.level:
             entries += [("level of Out", level(OUT_COLOUR)), ("level of Pcm", level(PCM_COLOUR))]
         return entries + [
@@ -313,19 +326,19 @@ class Picture:
 
     # Bridges
 
-    def draw_link(self, bridge: Bridge, colour: str) -> None:
+    def draw_link(self, bridge: Bridge) -> None:
         """What ties the rows of a bridge's calls, behind the rows between them."""
         if not all(call in self.rows for call in bridge.calls):
             return
         upper, lower = sorted(self.bridge_top(number) for number in bridge.calls)
         left, right = self.x(bridge.start), self.x(bridge.end)
         self.box(
-            left, upper + self.shape.bridge, right - left, lower - upper - self.shape.bridge, colour, fill_opacity=0.045
+            left, upper + self.shape.bridge, right - left, lower - upper - self.shape.bridge, BRIDGE_COLOUR, fill_opacity=0.045
         )
         for x in (left, right):
-            self.line(x, upper, x, lower, colour, 1.5)
+            self.line(x, upper, x, lower, BRIDGE_COLOUR, 1.5)
 
-    def draw_bridge(self, bridge: Bridge, colour: str) -> None:
+    def draw_bridge(self, bridge: Bridge) -> None:
         """The bar of a bridge in the rows of its calls."""
         left, right = self.x(bridge.start), self.x(bridge.end)
         a, b = bridge.calls
@@ -337,7 +350,7 @@ class Picture:
             if number not in self.rows:
                 continue
             top = self.bridge_top(number)
-            self.box(left, top, max(right - left, 2), self.shape.bridge - 3, colour, title)
+            self.box(left, top, max(right - left, 2), self.shape.bridge - 3, BRIDGE_COLOUR, title)
             if self.shape is not COMPACT:
                 fitting = (f"bridge with call {partner}", f"with {partner}", str(partner), "")
                 words = next(words for words in fitting if text_width(words, 10) + 6 <= right - left or not words)
@@ -351,6 +364,10 @@ class Picture:
             return ""
         return ", ".join([call.span.cause, *(f"{side} failed" for side in call.failed)])
 
+    def row_words(self, call: Call) -> str:
+        """What stands at the end of a call's row: the part of its speech that was lost, the longest gap, and why it ended."""
+        return ", ".join(words for words in (self.outcomes[call.number].short(), self.end_words(call)) if words)
+
     def draw_call(self, call: Call) -> None:
         """The row of a call."""
         top = self.band_top(call.number)
@@ -360,7 +377,8 @@ class Picture:
         else:
             self.text(LEFT - 34, top + 11, f"call {call.number}", "name", "end")
             self.text(LEFT - 34, top + 26, f"{call.span.start} to {call.span.end}", "small", "end")
-        self.draw_band(call, list(looks.looks(call.sorts())), LOSSES, top, self.shape.band, "")
+        shown = slice(max(0, self.first - call.span.start), max(0, self.last - call.span.start))
+        self.draw_band(call, looks.looks(call.sorts)[shown], Look, LOSSES, top, self.shape.band, "")
         self.draw_downlink(call)
         if self.shape.level:
             self.draw_levels(call)
@@ -373,64 +391,55 @@ class Picture:
         for period, title in ((call.span.start, opening), (call.span.end, ending)):
             if self.first <= period <= self.last:
                 self.line(self.x(period), top - 2, self.x(period), top + self.shape.band + 2, INK, 2, title)
-        if self.end_words(call):
-            size = "tiny halo" if self.shape is COMPACT else "halo"
-            self.add(
-                "text", ending, self.end_words(call), x=right + 8, y=top + self.shape.band / 2 + 4, **{"class": size}
-            )
+        size = "tiny" if self.shape is COMPACT else "plain"
+        told = f"call {call.number}: {self.outcomes[call.number].told()}\n{ending}"
+        self.add("text", told, self.row_words(call), x=self.plot_right + 12, y=top + self.shape.band / 2 + 4, **{"class": size})
         self.draw_shifts(call, top)
 
-    def draw_band(self, call: Call, values: Sequence, losses: Sequence, top: float, height: float, what: str) -> None:
-        """The periods of a call by their looks."""
+    def draw_band(
+        self, call: Call, values: bytes, kind: Type[Enum], losses: Sequence[Enum], top: float, height: float, what: str
+    ) -> None:
+        """The periods of a call by the codes of their looks, from the first that is shown on."""
         start = max(call.span.start, self.first)
-        shown = values[start - call.span.start : max(0, self.last - call.span.start)]
-        for stretch in looks.columns(shown, losses, self.column):
+        for stretch in looks.columns(values, kind, losses, self.column, round(height)):
             left, right = start + stretch.start, start + stretch.end
             title = f"call {call.number} {what}{span(left, right)}: {stretch.said()}"
-            high = height / len(stretch.shown)
-            for number, look in enumerate(stretch.shown):
-                place = {"x": self.x(left), "y": top + high * number, "width": self.x(right) - self.x(left), "height": high}
+            y = top
+            for look, steps in stretch.parts:
+                high = height * steps / round(height)
+                place = {"x": self.x(left), "y": y, "width": self.x(right) - self.x(left), "height": high}
                 self.box(**place, fill=look.colour, title=title, shape_rendering="crispEdges")
+                y += high
 
     def draw_downlink(self, call: Call) -> None:
         """The strip of a call's downlink, where there is the line."""
-        octets = self.octets(call, "down")
-        if octets:
-            values = looks.down_looks(call, trau_frames.bits_of(octets))
-            top = self.down_top(call.number)
-            self.draw_band(call, values, DOWN_LOSSES, top, self.shape.down - 3, "downlink ")
-
-    def octets(self, call: Call, side: str) -> bytes:
-        """The octets of a line, none where there is no such file."""
-        if not (self.run.folder / f"{call.number}.{side}").is_file():
-            return b""
-        return call.octets(self.run.folder, side)
+        codes = self.lines[call.number].down
+        self.draw_band(call, codes, DownLook, DOWN_LOSSES, self.down_top(call.number), self.shape.down - 3, "downlink ")
 
     def draw_levels(self, call: Call) -> None:
         """The levels of a call's Pcm and Out line."""
         top, height = self.level_top(call.number), self.shape.level - 4
-        drawn = [(side, colour, self.octets(call, side)) for side, colour in (("pcm", PCM_COLOUR), ("out", OUT_COLOUR))]
-        if not any(octets for _, _, octets in drawn):
+        drawn = self.lines[call.number].levels
+        if not any(drawn.values()):
             return
         for level in (0, LOWEST_LEVEL):
             y = top + height * level / LOWEST_LEVEL
             self.line(LEFT, y, self.plot_right, y, GRID, 0.75)
             self.text(LEFT - 4, y + 4, f"{level} dBm0".replace("-", "\u2212"), "tiny", "end")
-        for side, colour, octets in drawn:
-            steps = self.level_steps(call, levels.levels(octets, call.law), top, height)
-            if steps:
+        for side, colour in (("pcm", PCM_COLOUR), ("out", OUT_COLOUR)):
+            if drawn[side]:
                 title = f"call {call.number}: level of {side.capitalize()}"
+                steps = self.level_steps(call, drawn[side], top, height)
                 self.add("path", title, d=steps, fill="none", stroke=colour, stroke_width=1.1)
 
-    def level_steps(self, call: Call, values: Sequence[float], top: float, height: float) -> str:
-        """The path of a line's levels, of each column the loudest period's."""
+    def level_steps(self, call: Call, values: bytes, top: float, height: float) -> str:
+        """The path of a line's levels, of which there is one for each column."""
         start = max(call.span.start, self.first)
-        shown = values[start - call.span.start : max(0, self.last - call.span.start)]
+        end = min(call.span.end, self.last)
         steps: List[str] = []
-        for place, head in enumerate(range(0, len(shown), self.column)):
-            level = min(0, max(LOWEST_LEVEL, *shown[head : head + self.column]))
-            y = top + height * level / LOWEST_LEVEL
-            left, right = self.x(start + head), self.x(start + min(head + self.column, len(shown)))
+        for place, value in enumerate(values):
+            y = top + height * (1 + value / QUARTERS / LOWEST_LEVEL)
+            left, right = self.x(start + place * self.column), self.x(min(start + (place + 1) * self.column, end))
             steps.append(f"M{left:.1f} {y:.1f}H{right:.1f}" if place == 0 else f"V{y:.1f}H{right:.1f}")
         return "".join(steps)
 
@@ -443,7 +452,7 @@ class Picture:
                 f" in a bridge asked for {asked.octets:+d} octets, which waits until after it"
             )
             self.triangle(self.mark_of(asked.period), top - 3, title, filled=False)
-        shifts = [(call.span.start + made.period(), made.shift) for made in call.made if made.shift]
+        shifts = list(call.shifts())
         marks = sorted(
             {self.mark_of(period) for period, _ in shifts} | {self.mark_of(asked.period) for asked in waiting}
         )
@@ -479,6 +488,11 @@ class Picture:
         """The orders within the picture, those at its end included."""
         return [each for each in self.run.orders if self.first <= each.order.stamp <= self.last]
 
+    def missing_words(self) -> str:
+        """How many orders aren't in the picture, in words."""
+        missing = len(self.run.orders) - len(self.shown_orders())
+        return f"and {missing} at other times" if missing else ""
+
     def draw_orders(self) -> None:
         """A mark at each period that has orders."""
         label = LEFT - 14 if self.shape is COMPACT else LEFT - 34
@@ -489,9 +503,8 @@ class Picture:
             told = "\n".join([f"period {stamp} ({seconds(stamp)})", *(each.told() for each in orders)])
             mark = self.tick if all(each.reply.refusal is None for each in orders) else self.cross
             mark(self.x(stamp), self.orders_top + 8, told)
-        missing = len(self.run.orders) - len(shown)
-        if missing:
-            self.text(self.plot_right + 10, self.orders_top + 12, f"and {missing} at other times", "small")
+        if self.missing_words():
+            self.text(self.plot_right + 12, self.orders_top + 12, self.missing_words(), "small")
 
     def listed_orders(self) -> List[Tuple[str, str]]:
         """The words of the orders, as they stand below the picture, and how they are written."""

@@ -1,6 +1,27 @@
-"""A page of HTML with a picture that zooms: one file, which asks no other for anything."""
+"""A page of HTML of a run: its totals, failed lines and worst calls, and below them a picture that is drawn anew as one zooms, whose axis and
+names stay as one moves. It is one file, which asks no other for anything."""
 
 from __future__ import annotations
+
+import base64
+import json
+import zlib
+from enum import Enum
+from html import escape
+from pathlib import Path
+from typing import Any, Dict, Iterator, List, Sequence, Type
+
+import call_lines
+import looks
+import outcomes
+import run_lines
+from looks import DOWN_LOSSES, LOSSES, DownLook, Look
+from picture import ALARM, BRIDGE_COLOUR, OUT_COLOUR, PCM_COLOUR, Picture
+from run_lines import Call
+from trau_frames import PERIODS_A_SECOND
+
+MOST_WORST = 10
+SCRIPT = Path(__file__).with_name("picture_page.js")
 
 HEAD = """<!DOCTYPE html>
 <html lang="en">
@@ -8,116 +29,128 @@ HEAD = """<!DOCTYPE html>
 <meta charset="utf-8">
 <title>The periods of a run's calls</title>
 <style>
-html, body { margin: 0; height: 100%; overflow: hidden; background: #FFFFFF }
-body > svg { display: block; width: 100%; height: 100%; cursor: grab; touch-action: none }
-nav { position: fixed; right: 10px; top: 8px; font: 13px sans-serif; color: #555555 }
-nav button { font: 15px sans-serif; min-width: 34px; height: 30px }
+html, body { margin: 0; height: 100%; font: 13px 'DejaVu Sans', Verdana, Arial, sans-serif; color: #222222 }
+body { display: flex; flex-direction: column }
+header { display: flex; flex-wrap: wrap; gap: 6px 40px; padding: 8px 14px; max-height: 44vh; overflow: auto }
+h1 { font-size: 16px; margin: 0 0 6px }
+p { margin: 2px 0 }
+table { border-collapse: collapse }
+th, td { text-align: right; padding: 1px 10px 1px 0; font-weight: normal }
+th { color: #555555 }
+td:last-child, th:last-child { text-align: left }
+.alarm { color: #B00020 }
+.legend { max-width: 620px; line-height: 20px }
+.legend span { display: inline-block; margin-right: 14px; white-space: nowrap }
+.legend i { display: inline-block; width: 20px; height: 11px; border: 1px solid #222222; margin-right: 5px }
+nav { padding: 0 14px 4px; color: #555555 }
+#note { height: 18px; padding: 0 14px; white-space: nowrap; overflow: hidden; text-overflow: ellipsis }
+canvas { flex: 1; min-height: 200px; width: 100%; touch-action: none; cursor: grab }
 </style>
 </head>
 <body>
-<nav>wheel or + and - zoom, a drag or the arrow keys move
-<button id="in" title="nearer">+</button> <button id="out" title="farther">&#8722;</button>
-<button id="width" title="the whole width">width</button> <button id="whole" title="the whole picture">whole</button></nav>
 """
-
-# The part of the picture that is seen is its view box, so that what is near stays sharp.
-TAIL = """<script>
-"use strict";
-const picture = document.querySelector("body > svg");
-const whole = picture.viewBox.baseVal;
-const size = { width: whole.width, height: whole.height };
-picture.setAttribute("preserveAspectRatio", "xMidYMin meet");
-picture.removeAttribute("width");
-picture.removeAttribute("height");
-let seen = { x: 0, y: 0, width: size.width, height: size.height };
-
-function show() {
-  picture.setAttribute("viewBox", [seen.x, seen.y, seen.width, seen.height].join(" "));
-}
-
-function fitWidth() {
-  const height = size.width * picture.clientHeight / picture.clientWidth;
-  seen = { x: 0, y: 0, width: size.width, height: height };
-  show();
-}
-
-function fitWhole() {
-  seen = { x: 0, y: 0, width: size.width, height: size.height };
-  show();
-}
-
-// Where a point of the window is in the picture.
-function place(event) {
-  const point = new DOMPoint(event.clientX, event.clientY);
-  return point.matrixTransform(picture.getScreenCTM().inverse());
-}
-
-function zoom(times, at) {
-  const width = Math.min(8 * size.width, Math.max(size.width / 400, seen.width / times));
-  const ratio = width / seen.width;
-  seen = {
-    x: at.x - (at.x - seen.x) * ratio,
-    y: at.y - (at.y - seen.y) * ratio,
-    width: width,
-    height: seen.height * ratio,
-  };
-  show();
-}
-
-function move(x, y) {
-  seen.x += x;
-  seen.y += y;
-  show();
-}
-
-function middle() {
-  return { x: seen.x + seen.width / 2, y: seen.y + seen.height / 2 };
-}
-
-picture.addEventListener("wheel", (event) => {
-  event.preventDefault();
-  zoom(event.deltaY < 0 ? 1.25 : 0.8, place(event));
-}, { passive: false });
-
-let held = null;
-picture.addEventListener("pointerdown", (event) => {
-  held = place(event);
-  picture.setPointerCapture(event.pointerId);
-});
-picture.addEventListener("pointermove", (event) => {
-  if (held) {
-    const now = place(event);
-    move(held.x - now.x, held.y - now.y);
-  }
-});
-picture.addEventListener("pointerup", () => { held = null; });
-
-const keys = {
-  "+": () => zoom(1.5, middle()),
-  "-": () => zoom(1 / 1.5, middle()),
-  ArrowLeft: () => move(-seen.width / 8, 0),
-  ArrowRight: () => move(seen.width / 8, 0),
-  ArrowUp: () => move(0, -seen.height / 8),
-  ArrowDown: () => move(0, seen.height / 8),
-  Home: fitWhole,
-};
-document.addEventListener("keydown", (event) => {
-  if (keys[event.key]) {
-    event.preventDefault();
-    keys[event.key]();
-  }
-});
-document.getElementById("in").addEventListener("click", keys["+"]);
-document.getElementById("out").addEventListener("click", keys["-"]);
-document.getElementById("width").addEventListener("click", fitWidth);
-document.getElementById("whole").addEventListener("click", fitWhole);
-fitWidth();
-</script>
-</body>
-</html>
+NAV = """<nav><button id="in" title="nearer">+</button> <button id="out" title="farther">&#8722;</button>
+<button id="whole" title="the whole run">whole</button>
++ and &#8722; or Ctrl and the wheel zoom; the wheel, a drag and the arrow keys move</nav>
+<div id="note">&nbsp;</div>
+<canvas id="view"></canvas>
 """
 
 
-def page_of(picture: bytes) -> bytes:
-    """The page of a picture."""
-    return HEAD.encode() + picture + TAIL.encode()
+def packed(octets: bytes) -> str:
+    """Octets as the page has them."""
+    return base64.b64encode(zlib.compress(octets, 9)).decode()
+
+
+def looks_of(kind: Type[Enum], losses: Sequence[Enum]) -> List[Dict[str, Any]]:
+    """The looks, by their codes."""
+    return [{"words": look.words, "colour": look.colour, "loss": look in losses} for look in kind]
+
+
+def data_of_call(picture: Picture, call: Call, lines: call_lines.Lines) -> Dict[str, Any]:
+    """What the page has of a call, in the periods that are shown."""
+    start, end = max(call.span.start, picture.first), min(call.span.end, picture.last)
+    shown = slice(start - call.span.start, max(start, end) - call.span.start)
+    bridges = run_lines.bridges_of(call, picture.run.bridges)
+    return {
+        "number": call.number,
+        "start": start,
+        "words": picture.row_words(call),
+        "told": picture.outcomes[call.number].told(),
+        "up": packed(looks.looks(call.sorts)[shown]),
+        "down": packed(lines.down),
+        **{side: packed(lines.levels.get(side, b"")) for side in call_lines.LEVEL_SIDES},
+        "shifts": [list(shift) for shift in call.shifts() if picture.shows(shift.period)],
+        "waiting": [list(asked) for asked in run_lines.asked_while_frozen(call, bridges) if picture.shows(asked.period)],
+        "bridges": [
+            {"start": bridge.start, "end": bridge.end, "partner": sum(bridge.calls) - call.number} for bridge in bridges
+        ],
+    }
+
+
+def data_of(picture: Picture, lines: Dict[int, call_lines.Lines]) -> Dict[str, Any]:
+    """What the page's script draws."""
+    return {
+        "first": picture.first,
+        "last": picture.last,
+        "shape": vars(picture.shape),
+        "colours": {"out": OUT_COLOUR, "pcm": PCM_COLOUR, "bridge": BRIDGE_COLOUR, "alarm": ALARM},
+        "looks": looks_of(Look, LOSSES),
+        "downLooks": looks_of(DownLook, DOWN_LOSSES),
+        "calls": [data_of_call(picture, call, lines[call.number]) for call in picture.run.calls],
+        "orders": [
+            {"period": each.order.stamp, "words": each.told(), "refused": each.reply.refusal is not None}
+            for each in picture.shown_orders()
+        ],
+    }
+
+
+def totals(picture: Picture) -> Iterator[str]:
+    """What became of the run as a whole: its calls, what was lost, orders that were refused, and lines that failed."""
+    run, found = picture.run, picture.outcomes.values()
+    speech, lost = sum(each.speech for each in found), sum(each.lost for each in found)
+    rate = f"{100 * lost / (speech + lost):.2f} %" if speech + lost else "none"
+    refused = sum(each.reply.refusal is not None for each in run.orders)
+    yield f"<h1>{len(run.calls)} calls, periods {picture.first} to {picture.last}</h1>"
+    yield f"<p>call periods {sum(call.periods() for call in run.calls)}, of them speech {speech}, speech lost {lost} ({rate})</p>"
+    yield f"<p>calls with losses {sum(each.lost > 0 for each in found)}, bridges {len(run.bridges)}</p>"
+    yield f"<p>orders {len(run.orders)}, refused {refused}</p>"
+    failed = [f"{call.number}.{side}" for call in run.calls for side in call.failed]
+    yield f"<p class='alarm'>lines that failed: {escape(' '.join(failed))}</p>" if failed else "<p>no line failed</p>"
+
+
+def worst(picture: Picture) -> Iterator[str]:
+    """The worst calls, in a table."""
+    yield "<table><tr><th>worst calls</th><th>lost</th><th>periods</th><th>longest gap</th><th>at</th><th>end</th></tr>"
+    for call in outcomes.worst_first(picture.run.calls)[:MOST_WORST]:
+        outcome = picture.outcomes[call.number]
+        cells = (f"{100 * outcome.rate():.2f} %", outcome.lost, f"{outcome.longest / PERIODS_A_SECOND:.2f} s")
+        place = "" if outcome.start is None else f"period {call.span.start + outcome.start}"
+        end = escape(", ".join([call.span.cause, *(f"{side} failed" for side in call.failed)]))
+        row = "".join(f"<td>{cell}</td>" for cell in (*cells, place, end))
+        yield f"<tr><td><button data-call='{call.number}'>call {call.number}</button></td>{row}</tr>"
+    yield "</table>"
+
+
+def legend() -> Iterator[str]:
+    """The colours."""
+    entries = {look.words: look.colour for look in (*Look, *DownLook)}
+    entries["bridge"] = BRIDGE_COLOUR
+    entries.update({"level of Out": OUT_COLOUR, "level of Pcm": PCM_COLOUR})
+    hatched = "repeating-linear-gradient(135deg, #777777 0 1px, #FFFFFF 1px 4px)"
+    for words, colour in entries.items():
+        yield f"<span><i style='background: {hatched if colour.startswith('url') else colour}'></i>{escape(words)}</span>"
+
+
+def page_of(picture: Picture, lines: Dict[int, call_lines.Lines]) -> bytes:
+    """The page of a picture, with the lines of its calls by single periods."""
+    text = json.dumps(data_of(picture, lines), separators=(",", ":")).replace("<", "\\u003c")
+    parts = (
+        HEAD,
+        f"<header><div>{''.join(totals(picture))}</div><div>{''.join(worst(picture))}</div>",
+        f"<div class='legend'>{''.join(legend())}</div></header>\n",
+        NAV,
+        f'<script id="data" type="application/json">{text}</script>\n',
+        f"<script>\n{SCRIPT.read_text()}</script>\n</body>\n</html>\n",
+    )
+    return "".join(parts).encode()

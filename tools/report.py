@@ -12,9 +12,8 @@ import argparse
 import csv
 import io
 import json
+import re
 import sys
-from collections import Counter
-from itertools import groupby
 from pathlib import Path
 from typing import Any, Callable, Dict, Iterator, List, NamedTuple, Optional, Sequence, Tuple
 
@@ -22,8 +21,9 @@ import run_lines
 import run_texts
 import sync_losses
 import trau_frames
-from run_lines import Call, Heard, Sent
+from run_lines import HEARDS, Call, Heard, Sent
 from run_texts import SIDES, Report
+from side_by_side import Workers, add_processes
 from tool_ends import tool
 from trau_frames import FRAME_BITS, FRAME_OCTETS, PCM_OCTETS, PERIODS_A_SECOND, Refusal
 
@@ -95,15 +95,10 @@ CALL_COLUMNS = (
 )
 
 
-def stretches(values: Sequence[Heard], wanted: Heard) -> List[Tuple[int, int]]:
-    """How long each stretch of a value is, and where it begins."""
-    found, place = [], 0
-    for value, run in groupby(values):
-        length = sum(1 for _ in run)
-        if value is wanted:
-            found.append((length, place))
-        place += length
-    return found
+def stretches(values: bytes, wanted: Heard) -> List[Tuple[int, int]]:
+    """How long each stretch of a value's code is, and where it begins."""
+    code = re.escape(bytes([HEARDS.index(wanted)]))
+    return [(len(found.group()), found.start()) for found in re.finditer(code + b"+", values)]
 
 
 def longest_of(found: Sequence[Tuple[int, int]], start: int) -> Tuple[int, Optional[int]]:
@@ -120,16 +115,23 @@ def unused_periods(folder: Path, call: Call, side: str) -> Optional[int]:
     return name.stat().st_size // OCTETS_OF_SIDE[side] - call.periods() if name.is_file() else None
 
 
-def row_of_call(folder: Path, call: Call) -> Row:
+def frames_of_downlink(folder: Path, call: Call) -> Dict[Sent, int]:
+    """How many frames of which kind a call's downlink has."""
+    octets = call.octets(folder, "down")
+    codes = b"".join(run_lines.sent(made, octets) for made in call.made)
+    return {sent: codes.count(code) for code, sent in enumerate(run_lines.SENTS)}
+
+
+def row_of_call(folder: Path, call: Call, bridges: Sequence[run_texts.Bridge]) -> Row:
     """What a call's uplink and downlink say of losses and pauses."""
-    values = list(run_lines.heard(call.sorts()))
-    counts = Counter(values)
+    call.search(folder, bridges)
+    values = call.heard()
+    counts = {heard: values.count(code) for code, heard in enumerate(HEARDS)}
     speech, lost = counts[Heard.SPEECH], counts[Heard.LOST]
     pauses = stretches(values, Heard.NOISE)
     longest, start = longest_of(stretches(values, Heard.LOST), call.span.start)
     longest_pause, pause_start = longest_of(pauses, call.span.start)
-    bits = trau_frames.bits_of(call.octets(folder, "down"))
-    down = Counter(run_lines.sent(made, bits) for made in call.made)
+    down = frames_of_downlink(folder, call)
     return {
         "call": call.number,
         "periods": call.periods(),
@@ -144,7 +146,7 @@ def row_of_call(folder: Path, call: Call) -> Row:
         "pause_from": pause_start,
         "descriptors": call.span.counts["sid"],
         "quiet": counts[Heard.QUIET],
-        "down_frames": sum(down.values()) - down[None],
+        "down_frames": sum(down.values()),
         "down_speech": down[Sent.SPEECH],
         "down_descriptors": down[Sent.SILENCE],
         "down_idle": down[Sent.IDLE],
@@ -156,8 +158,14 @@ def row_of_call(folder: Path, call: Call) -> Row:
 
 def calls(words: argparse.Namespace) -> Told:
     """The calls of a run by their lines."""
-    report = run_texts.read_report(words.report or words.folder / "report.txt")
-    rows = [row_of_call(words.folder, call) for call in run_lines.read_calls(words.folder, report).values()]
+    name = words.report or words.folder / "report.txt"
+    report = run_texts.read_report(name)
+    run_texts.hold_numbers(name, report, words.calls)
+    pieces = [
+        (words.folder, call, run_lines.bridges_of(call, report.bridges)) for call in run_lines.calls_of(report, words.calls)
+    ]
+    octets = 2 * FRAME_OCTETS * sum(call.periods() for _, call, _ in pieces)
+    rows = list(Workers(words.processes).each("reading lines", row_of_call, pieces, octets))
     return Told(CALL_COLUMNS, rows, rows)
 
 
@@ -364,6 +372,10 @@ def parser() -> argparse.ArgumentParser:
     )
     added.add_argument("folder", type=Path, metavar="FOLDER", help="the folder of the run")
     added.add_argument("--report", type=Path, metavar="FILE", help="the report of the run (default FOLDER/report.txt)")
+    added.add_argument(
+        "--calls", type=run_texts.calls_named, metavar="CALLS", help="these calls alone: parts A and A-B with commas"
+    )
+    add_processes(added)
     added = command(
         compare,
         "what differs between two runs",

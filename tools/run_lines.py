@@ -4,15 +4,18 @@ the downlink. Where the lines don't give what the report says, they are of anoth
 from __future__ import annotations
 
 import enum
-from collections import Counter
+import math
 from dataclasses import dataclass, field
 from pathlib import Path
 from typing import Dict, Iterator, List, NamedTuple, Optional, Sequence
 
 import run_texts
 import trau_frames
+from octet_columns import Frames, joined, table
 from run_texts import Bridge, Span
+from side_by_side import ALONE, Workers
 from trau_frames import FRAME_BITS, FRAME_OCTETS, PCM_OCTETS, Law, Refusal, Sort, Yield
+from uplink_periods import GOOD, IDLE, SID, SORTS, Asking, by_what_came_before, searched
 
 # The uplink
 
@@ -54,55 +57,85 @@ def heard(sorts: Sequence[Sort]) -> Iterator[Heard]:
         yield state
 
 
+HEARDS = tuple(Heard)
+SPEECH_HEARD, LOST_HEARD, NOISE_HEARD, QUIET_HEARD = range(len(HEARDS))  # codes: the places in their order
+CHANGED = 0x80
+HEARD_ITSELF = {GOOD: SPEECH_HEARD, SID: NOISE_HEARD, IDLE: QUIET_HEARD}
+HEARD_OF_CODE = table(lambda code: code & 3 if code & CHANGED else HEARD_ITSELF.get(code, QUIET_HEARD))
+HEARD_BEHIND = [table(lambda _, code=code: CHANGED | code) for code in (LOST_HEARD, NOISE_HEARD, QUIET_HEARD)]
+
+
+def heard_codes(sorts: bytes) -> bytes:
+    """The codes of what each period gives, by the codes of the sorts."""
+    return by_what_came_before(sorts, *HEARD_BEHIND).translate(HEARD_OF_CODE)
+
+
 # The downlink
 
 
-def shift_of(field_asked: int) -> int:
-    """The shift, in octets of the Pcm line, that an alignment field asks for; 0 for none."""
-    return {62: 2, 63: -2}.get(field_asked, 4 * field_asked if field_asked < 40 else 0)
-
-
-def asked_by(each: Optional[Yield]) -> int:
-    """The shift that a period's frame asks for; 0 for none."""
-    if each is None or each.frame is None or each.sort() is Sort.OTHER:
-        return 0
-    return shift_of(trau_frames.SpeechControl.read(trau_frames.control_of(each.frame)).align)
-
-
 class Made(NamedTuple):
-    """A frame made for a downlink: the octet of the Pcm line at which it begins, whether a bridge handed it over, and the
-    shift, in octets, that it adopts."""
+    """Frames in a row made for a downlink: the octet of the Pcm line at which the first begins, how many there are, each 160 octets behind
+    the one before, whether a bridge handed them over, and the shift, in octets, that the last one adopts."""
 
     octet: int
+    count: int
     handed: bool
     shift: int
 
     def period(self) -> int:
-        """The period, counted from the call's opening, that brings its last octet."""
+        """The period, counted from the call's opening, that brings the first frame's last octet."""
         return (self.octet + PCM_OCTETS - 1) // PCM_OCTETS
 
     def place(self) -> int:
-        """Its first bit on the Down line, which begins with 320 ones; an octet of the Pcm line is two bits."""
+        """The first frame's first bit on the Down line, which begins with 320 ones; an octet of the Pcm line is two bits."""
         return FRAME_BITS + 2 * self.octet
 
+    def behind(self) -> int:
+        """The octet of the Pcm line at which the next frame begins."""
+        return self.octet + PCM_OCTETS * self.count + self.shift
 
-def frames_made(call: int, start: int, yields: Sequence[Optional[Yield]], bridges: Sequence[Bridge]) -> List[Made]:
+
+class Handing:
+    """The frames of a call that bridges still have to hand over."""
+
+    def __init__(self, call: int, start: int, bridges: Sequence[Bridge]) -> None:
+        mine = [bridge for bridge in bridges if call in bridge.calls]
+        self.starts = [bridge.start - start for bridge in mine]
+        self.left = [bridge.end - bridge.start for bridge in mine]
+
+    def bridge_at(self, period: int) -> Optional[int]:
+        """The bridge that hands over the frame of a period, if any."""
+        return next((at for at, start in enumerate(self.starts) if period >= start and self.left[at] > 0), None)
+
+    def next_start(self, period: int) -> float:
+        """The first period behind this one at which a bridge begins."""
+        return min((start for start in self.starts if start > period), default=math.inf)
+
+
+def frames_made(
+    call: int, start: int, periods: int, asking: Sequence[Asking], bridges: Sequence[Bridge]
+) -> Iterator[Made]:
     """The frames that are made for a call's downlink. Frames handed over in a bridge adopt no shift."""
-    spans = [[bridge.start - start, bridge.end - bridge.start] for bridge in bridges if call in bridge.calls]
+    handing = Handing(call, start, bridges)
+    waiting = iter([*asking, Asking(periods, 0)])
+    ask = next(waiting)
     octet, asked = 0, 0
-    made: List[Made] = []
-    for period, each in enumerate(yields):
-        asked = asked_by(each) or asked
-        while octet + PCM_OCTETS <= PCM_OCTETS * (period + 1):
-            waiting = next((span for span in spans if period >= span[0] and span[1] > 0), None)
-            shift = 0
-            if waiting:
-                waiting[1] -= 1
-            else:
-                shift, asked = asked, 0
-            made.append(Made(octet, waiting is not None, shift))
-            octet += PCM_OCTETS + shift
-    return made
+    while octet + PCM_OCTETS <= PCM_OCTETS * periods:
+        period = (octet + PCM_OCTETS - 1) // PCM_OCTETS
+        while ask.period <= period:
+            asked, ask = ask.octets, next(waiting)
+        count = int(min(periods, handing.next_start(period))) - period
+        bridge = handing.bridge_at(period)
+        if bridge is not None:
+            count = min(count, handing.left[bridge])
+            handing.left[bridge] -= count
+            made = Made(octet, count, True, 0)
+        elif asked:
+            made, asked = Made(octet, 1, False, asked), 0
+        else:
+            made = Made(octet, min(count, ask.period - period), False, 0)
+        yield made
+        octet = made.behind()
 
 
 class Sent(enum.Enum):
@@ -115,19 +148,30 @@ class Sent(enum.Enum):
     OTHER = "another frame"
 
 
-def sent(made: Made, bits: str) -> Optional[Sent]:
-    """What a frame on a Down line is, or None where the line ends before its control bits."""
-    frame = bits[made.place() : made.place() + FRAME_BITS]
-    if len(frame) < trau_frames.FRAME_BITS - 4:
-        return None
-    control = trau_frames.control_of(frame)
-    if control.startswith(trau_frames.IDLE_DOWN):
-        return Sent.IDLE
-    if not control.startswith(trau_frames.SPEECH_DOWN):
-        return Sent.OTHER
-    if made.handed:
-        return Sent.HANDED
-    return Sent.SPEECH if control[15] == "1" else Sent.SILENCE
+SENTS = tuple(Sent)
+NOTHING_SENT = len(SENTS)  # the code of a period in which no frame begins; those of others are their places in their order
+FRAME_WITHOUT_TIME = FRAME_BITS - 4
+
+# A downlink's frame has C1 to C5 in its octet 2, and C16 (SP) in its octet 38.
+DOWN_KINDS = {int(trau_frames.IDLE_DOWN, 2): Sent.IDLE, int(trau_frames.SPEECH_DOWN, 2): Sent.SPEECH}
+DOWN_KIND = table(lambda octet: SENTS.index(DOWN_KINDS.get(octet >> 2 & 31, Sent.OTHER)))
+DOWN_SPEECH = table(lambda octet: 0 if octet & 2 else 0x10)
+DOWN_CODE = table(
+    lambda marks: SENTS.index(Sent.SILENCE) if marks == 0x10 | SENTS.index(Sent.SPEECH) else min(marks & 7, NOTHING_SENT)
+)
+HANDED_CODE = table(
+    lambda code: SENTS.index(Sent.HANDED) if code in (SENTS.index(Sent.SPEECH), SENTS.index(Sent.SILENCE)) else code
+)
+
+
+def sent(made: Made, octets: bytes) -> bytes:
+    """The codes of frames on a Down line, of those whose control bits it has."""
+    room = (8 * len(octets) - made.place() - FRAME_WITHOUT_TIME) // FRAME_BITS + 1
+    frames = Frames(octets, made.place(), min(made.count, room))
+    if frames.count <= 0:
+        return b""
+    codes = joined(frames.column(2).translate(DOWN_KIND), frames.column(38).translate(DOWN_SPEECH)).translate(DOWN_CODE)
+    return codes.translate(HANDED_CODE) if made.handed else codes
 
 
 # A run
@@ -141,23 +185,31 @@ class Call:
     span: Span
     law: Law = Law.A
     failed: List[str] = field(default_factory=list)
-    yields: List[Optional[Yield]] = field(default_factory=list)
+    sorts: bytes = b""  # the code of what each period yielded
+    asking: List[Asking] = field(default_factory=list)
     made: List[Made] = field(default_factory=list)
 
     def periods(self) -> int:
         """How many periods it has."""
         return self.span.end - self.span.start
 
-    def sorts(self) -> List[Sort]:
-        """What each period yielded."""
-        return [sort_of(each) for each in self.yields]
-
-    def octets(self, folder: Path, side: str) -> bytes:
-        """The octets of a line of this call, those of its periods at most."""
-        period = FRAME_OCTETS if side in ("up", "down") else PCM_OCTETS
-        if not self.periods():
+    def octets(self, folder: Path, side: str, first: int = 0, last: Optional[int] = None) -> bytes:
+        """The octets of a line of this call, from a period of the call on to another, those of its own periods at most."""
+        last = self.periods() if last is None else min(last, self.periods())
+        octets = FRAME_OCTETS if side in ("up", "down") else PCM_OCTETS
+        if last <= first:
             return b""
-        return trau_frames.read_file(folder / f"{self.number}.{side}")[: self.periods() * period]
+        return trau_frames.read_part(folder / f"{self.number}.{side}", first * octets, (last - first) * octets)
+
+    def counts(self) -> Dict[str, int]:
+        """How many periods yielded what, and how many frames were made, by the report's words."""
+        yielded = {sort.value: self.sorts.count(code) for code, sort in enumerate(SORTS)}
+        return {**yielded, "made": sum(made.count for made in self.made)}
+
+    def take(self, octets: bytes, bridges: Sequence[Bridge]) -> None:
+        """Takes the octets of the uplink over the call's periods."""
+        self.sorts, self.asking = searched(octets)
+        self.made = list(frames_made(self.number, self.span.start, self.periods(), self.asking, bridges))
 
     def search(self, folder: Path, bridges: Sequence[Bridge]) -> None:
         """Searches the uplink over the call's periods, and holds the report to it."""
@@ -165,26 +217,52 @@ class Call:
         octets = self.octets(folder, "up")
         if len(octets) < self.periods() * FRAME_OCTETS:
             raise Refusal(f"{name}: has {len(octets)} octets, fewer than {self.periods()} periods need")
-        self.yields = yields_of(octets)
-        self.made = frames_made(self.number, self.span.start, self.yields, bridges)
-        sorts = Counter(self.sorts())
-        counts = {**{sort.value: sorts[sort] for sort in Sort}, "made": len(self.made)}
-        for what, count in counts.items():
+        self.take(octets, bridges)
+        for what, count in self.counts().items():
             if self.span.counts[what] != count:
                 raise Refusal(
                     f"{name}: gives {what} {count}, and the report has {self.span.counts[what]}: it is of another run"
                 )
 
+    def shifts(self) -> Iterator[Asking]:
+        """The periods of the run in which the downlink's timing shifts, and by how many octets."""
+        return (Asking(self.span.start + made.period(), made.shift) for made in self.made if made.shift)
 
-def read_calls(folder: Path, report: run_texts.Report, numbers: Optional[Sequence[int]] = None) -> Dict[int, Call]:
-    """The calls of a report, or those of them with these numbers, and what their uplinks in a folder give."""
-    calls = {}
+    def heard(self) -> bytes:
+        """The codes of what each period gives to be heard."""
+        return heard_codes(self.sorts)
+
+
+def calls_of(report: run_texts.Report, numbers: Optional[Sequence[int]] = None) -> Iterator[Call]:
+    """The calls of a report, or those of them with these numbers, whose uplinks aren't searched yet."""
     for number, span in report.calls.items():
         if numbers is None or number in numbers:
             sides = [run_texts.SIDES[failed.side] for failed in report.failed if failed.call == number]
-            calls[number] = Call(number, span, failed=sides)
-            calls[number].search(folder, report.bridges)
-    return calls
+            yield Call(number, span, failed=sides)
+
+
+def searched_call(folder: Path, call: Call, bridges: Sequence[Bridge]) -> Call:
+    """A call whose uplink has been searched."""
+    call.search(folder, bridges)
+    return call
+
+
+def bridges_of(call: Call, bridges: Sequence[Bridge]) -> List[Bridge]:
+    """The bridges of a call."""
+    return [bridge for bridge in bridges if call.number in bridge.calls]
+
+
+def read_calls(
+    folder: Path,
+    report: run_texts.Report,
+    numbers: Optional[Sequence[int]] = None,
+    workers: Workers = ALONE,
+) -> Dict[int, Call]:
+    """The calls of a report, or those of them with these numbers, and what their uplinks in a folder give."""
+    calls = list(calls_of(report, numbers))
+    works = [(folder, call, bridges_of(call, report.bridges)) for call in calls]
+    weight = FRAME_OCTETS * sum(call.periods() for call in calls)
+    return {call.number: call for call in workers.each("searching uplinks", searched_call, works, weight)}
 
 
 class Asked(NamedTuple):
@@ -199,13 +277,15 @@ def asked_while_frozen(call: Call, bridges: Sequence[Bridge]) -> List[Asked]:
     """The shifts of a call's downlink that are asked for in its bridges."""
     spans = [range(bridge.start, bridge.end) for bridge in bridges if call.number in bridge.calls]
     found: List[Asked] = []
-    for period, each in enumerate(call.yields, call.span.start):
-        octets = asked_by(each) if any(period in span for span in spans) else 0
+    for asking in call.asking:
+        period = call.span.start + asking.period
+        if not any(period in span for span in spans):
+            continue
         last = found[-1] if found else None
-        if octets and last and (last.octets, last.period + last.times) == (octets, period):
+        if last and (last.octets, last.period + last.times) == (asking.octets, period):
             found[-1] = last._replace(times=last.times + 1)
-        elif octets:
-            found.append(Asked(period, octets, 1))
+        else:
+            found.append(Asked(period, asking.octets, 1))
     return found
 
 
@@ -235,17 +315,21 @@ class Run:
     folder: Path
 
     @staticmethod
-    def read(folder: Path, orders: Path, report_name: Path, numbers: Optional[Sequence[int]] = None) -> Run:
+    def read(
+        folder: Path,
+        orders: Path,
+        report_name: Path,
+        numbers: Optional[Sequence[int]] = None,
+        workers: Workers = ALONE,
+    ) -> Run:
         """Reads a run, and holds its report to its orders, and its uplinks to its report."""
         report = run_texts.read_report(report_name)
         if not report.calls:
             raise Refusal(f"{report_name}: is of a run without calls")
         given = run_texts.read_orders(orders)
         run_texts.hold_to_orders(report_name, report, given, run_texts.periods_told(report, given))
-        absent = sorted(set(numbers or ()) - report.calls.keys())
-        if absent:
-            raise Refusal(f"{report_name}: has no call {absent[0]}")
-        calls = list(read_calls(folder, report, numbers).values())
+        run_texts.hold_numbers(report_name, report, numbers)
+        calls = list(read_calls(folder, report, numbers, workers).values())
         shown = {call.number for call in calls}
         answered = [Answered(order, reply) for order, reply in zip(given, report.replies)]
         laws = run_texts.laws_of(report, given)

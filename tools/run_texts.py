@@ -6,6 +6,7 @@ the program writes.
 
 from __future__ import annotations
 
+import argparse
 import re
 from dataclasses import dataclass, field
 from pathlib import Path
@@ -39,6 +40,18 @@ REFUSALS_WITH_PARTNER = (3, 6)
 def is_whole_number(word: str) -> bool:
     """Whether a word is decimal digits without leading zeros."""
     return re.fullmatch("0|[1-9][0-9]{0,9}", word) is not None
+
+
+def calls_named(word: str) -> List[int]:
+    """The calls that a word names: parts `A` and `A-B` with commas between."""
+    calls: List[int] = []
+    for part in word.split(","):
+        found = re.fullmatch(r"(\d{1,4})(?:-(\d{1,4}))?", part, re.ASCII)
+        first, last = (int(found[1]), int(found[2] or found[1])) if found else (0, 0)
+        if not 1 <= first <= last <= MOST_CALLS:
+            raise argparse.ArgumentTypeError(f"'{part}' isn't a call A or calls A-B")
+        calls += range(first, last + 1)
+    return sorted(set(calls))
 
 
 # Orders
@@ -327,6 +340,13 @@ def report_of(name: Path, content: bytes) -> Report:
 def read_report(name: Path) -> Report:
     """Reads the file of a report."""
     return report_of(name, trau_frames.read_file(name))
+
+
+def hold_numbers(name: Path, report: Report, numbers: Optional[Sequence[int]]) -> None:
+    """Refuses numbers, if there are any, of calls that a report doesn't have."""
+    absent = sorted(set(numbers or ()) - report.calls.keys())
+    if absent:
+        raise Refusal(f"{name}: has no call {absent[0]}")
 
 
 def hold_to_orders(name: Path, report: Report, orders: Sequence[Order], periods: int) -> None:

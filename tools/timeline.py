@@ -10,34 +10,23 @@ status 2 and writes nothing.
 from __future__ import annotations
 
 import argparse
-import re
 import sys
 from pathlib import Path
 from typing import List, Sequence
 
+import outcomes
 import picture_page
 import run_texts
 import trau_frames
 from picture import COMPACT, FULL, WITHOUT_LEVELS, Picture, Shape
 from run_lines import Run
-from run_texts import MOST_CALLS, MOST_PERIODS
+from run_texts import MOST_PERIODS
+from side_by_side import Workers, add_processes
 from tool_ends import tool
 from trau_frames import Refusal
 
 MOST_FULL_ROWS = 40
 PICTURES = (".svg", ".html")  # how the names of pictures end
-
-
-def calls_named(word: str) -> List[int]:
-    """The calls that a word names: parts `A` and `A-B` with commas between."""
-    calls: List[int] = []
-    for part in word.split(","):
-        found = re.fullmatch(r"(\d{1,4})(?:-(\d{1,4}))?", part, re.ASCII)
-        first, last = (int(found[1]), int(found[2] or found[1])) if found else (0, 0)
-        if not 1 <= first <= last <= MOST_CALLS:
-            raise argparse.ArgumentTypeError(f"'{part}' isn't a call A or calls A-B")
-        calls += range(first, last + 1)
-    return sorted(set(calls))
 
 
 def period_named(word: str) -> int:
@@ -72,7 +61,7 @@ def parser() -> argparse.ArgumentParser:
         "--width", type=int, default=1300, metavar="PIXELS", help="the width of all periods (default 1300)"
     )
     words.add_argument(
-        "--calls", type=calls_named, metavar="CALLS", help="these calls alone: parts A and A-B with commas"
+        "--calls", type=run_texts.calls_named, metavar="CALLS", help="these calls alone: parts A and A-B with commas"
     )
     words.add_argument(
         "--from", type=period_named, dest="first", metavar="PERIOD", help="the first period that is drawn"
@@ -87,6 +76,14 @@ def parser() -> argparse.ArgumentParser:
         help="full: with the levels of Out and Pcm; plain: without them; compact: narrow; auto: full up to"
         f" {MOST_FULL_ROWS} calls, compact for more",
     )
+    words.add_argument(
+        "--sort",
+        choices=("number", "worst"),
+        default="number",
+        help="number: by the calls' numbers, partners of bridges next to each other; worst: failed lines first, then by the part of"
+        " the speech that was lost and by the longest gap",
+    )
+    add_processes(words)
     return words
 
 
@@ -100,16 +97,21 @@ def draw(asked: argparse.Namespace) -> Run:
     """Draws the picture, and gives the run."""
     if asked.picture.suffix not in PICTURES:
         raise Refusal(f"{asked.picture}: a picture's name ends with {' or '.join(PICTURES)}")
-    run = Run.read(asked.folder, asked.orders, asked.report, asked.calls)
+    workers = Workers(asked.processes)
+    run = Run.read(asked.folder, asked.orders, asked.report, asked.calls, workers)
     first = run.start() if asked.first is None else asked.first
     last = max(first + 1, run.end()) if asked.last is None else asked.last
     if first >= last:
         raise Refusal(f"there are no periods from {first} to {last}")
     run.calls = [call for call in run.calls if call.span.start <= last and call.span.end >= first]
+    run.calls = outcomes.worst_first(run.calls) if asked.sort == "worst" else outcomes.by_number(run.calls, run.bridges)
     if not run.calls:
         raise Refusal(f"no call is open from {first} to {last}")
-    drawn = Picture(run, asked.width, shape_of(asked.rows, len(run.calls)), first, last).draw()
-    content = picture_page.page_of(drawn) if asked.picture.suffix == ".html" else drawn
+    drawn = Picture(run, asked.width, shape_of(asked.rows, len(run.calls)), first, last)
+    if asked.picture.suffix == ".html":
+        content = picture_page.page_of(drawn, drawn.read_lines(1, workers))
+    else:
+        content = drawn.draw(workers)
     trau_frames.write_file(asked.picture, content, inputs_of(asked, run))
     return run
 
@@ -124,7 +126,7 @@ def main(words: Sequence[str]) -> int:
     asked.orders = asked.orders or asked.folder / "orders.txt"
     asked.report = asked.report or asked.folder / "report.txt"
     run = draw(asked)
-    shifts = sum(made.shift != 0 for call in run.calls for made in call.made)
+    shifts = sum(1 for call in run.calls for _ in call.shifts())
     refused = sum(each.reply.refusal is not None for each in run.orders)
     print(
         f"timeline calls {len(run.calls)} from {run.start()} to {run.end()} bridges {len(run.bridges)}"

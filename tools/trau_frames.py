@@ -359,6 +359,16 @@ def read_file(path: Path) -> bytes:
         raise Refusal(f"{path}: {failure.strerror}") from None
 
 
+def read_part(path: Path, start: int, octets: int) -> bytes:
+    """At most so many octets of a file, from one of them on."""
+    try:
+        with open(path, "rb") as file:
+            file.seek(start)
+            return file.read(octets)
+    except OSError as failure:
+        raise Refusal(f"{path}: {failure.strerror}") from None
+
+
 def write_file(path: Path, content: bytes, inputs: Iterable[Path]) -> None:
     """Writes a file as a whole or not at all, and never over one of the inputs; or writes to standard output."""
     try:

@@ -3,6 +3,7 @@
 import os
 import resource
 import shlex
+import signal
 import subprocess
 import sys
 import unittest
@@ -133,7 +134,13 @@ class Ends(InFolder):
 
     def test_an_interrupt(self):
         self.path("report.txt", b"")
-        watching = subprocess.Popen(self.words("watch.py {} --plain"), stdout=subprocess.PIPE, stderr=subprocess.PIPE)
+        # A shell without job control starts what it puts into the background with interrupts left aside.
+        watching = subprocess.Popen(
+            self.words("watch.py {} --plain"),
+            stdout=subprocess.PIPE,
+            stderr=subprocess.PIPE,
+            preexec_fn=lambda: signal.signal(signal.SIGINT, signal.SIG_DFL),
+        )
         watching.stdout.readline()
         watching.send_signal(2)
         self.assertEqual((watching.wait(), watching.stderr.read()), (130, b""))

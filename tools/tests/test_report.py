@@ -91,7 +91,7 @@ class Calls(Told):
         for call in run_lines.read_calls(folder, read).values():
             spans = [bridge for bridge in read.bridges if call.number in bridge.calls]
             octets = call.octets(folder, "out")
-            for number, value in enumerate(run_lines.heard(call.sorts())):
+            for number, value in enumerate(run_lines.HEARDS[code] for code in call.heard()):
                 period = call.span.start + number
                 if not any(bridge.start <= period < bridge.end for bridge in spans):
                     idle = octets[number * PCM_OCTETS : (number + 1) * PCM_OCTETS] == bytes([Law.A.idle()]) * PCM_OCTETS
@@ -107,10 +107,11 @@ class Calls(Told):
             read = run_texts.read_report(folder / "report.txt")
             for call in run_lines.read_calls(folder, read).values():
                 bits = trau_frames.bits_of(call.octets(folder, "down"))
-                kinds = Counter(run_lines.sent(made, bits) for made in call.made)
+                octets = call.octets(folder, "down")
+                kinds = Counter(run_lines.SENTS[code] for made in call.made for code in run_lines.sent(made, octets))
                 self.assertEqual(kinds[Sent.OTHER], 0)
                 found = list(trau_frames.frames_of_downlink(bits))
-                self.assertLessEqual(sum(kinds.values()) - kinds[None] - len(found), 0)
+                self.assertLessEqual(sum(kinds.values()) - len(found), 0)
                 speech = sum(frame[17:22] == trau_frames.SPEECH_DOWN for frame in found)
                 whole = kinds[Sent.SPEECH] + kinds[Sent.SILENCE] + kinds[Sent.HANDED]
                 self.assertIn(speech - whole, (0, 1))

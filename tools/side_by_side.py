@@ -1,0 +1,118 @@
+"""Pieces of work side by side, in as many processes as there are processors, with the progress on standard error."""
+
+from __future__ import annotations
+
+import argparse
+import os
+import signal
+import sys
+import time
+from concurrent.futures import Future, ProcessPoolExecutor
+from concurrent.futures.process import BrokenProcessPool
+from typing import Any, Callable, Iterator, List, Sequence, Tuple, TypeVar
+
+from trau_frames import Refusal
+
+MOST_PROCESSES = 64
+LEAST_OCTETS = 8_000_000  # less isn't worth the start of processes
+QUIET_SECONDS = 3  # work that takes no longer tells no progress
+SECONDS_BETWEEN_LINES = 10  # where standard error isn't a terminal
+
+Result = TypeVar("Result")
+
+
+def processors() -> int:
+    """How many processors this process may use."""
+    if hasattr(os, "sched_getaffinity"):
+        return len(os.sched_getaffinity(0))
+    return os.cpu_count() or 1
+
+
+def leave_interrupts() -> None:
+    """Leaves an interrupt to the process that started this one, which ends it."""
+    signal.signal(signal.SIGINT, signal.SIG_IGN)
+
+
+class Progress:
+    """How many pieces of work are done, on standard error: at a terminal in one line, else in a line now and then."""
+
+    def __init__(self, what: str, pieces: int) -> None:
+        self.what, self.pieces, self.done = what, pieces, 0
+        self.terminal = sys.stderr.isatty()
+        self.next = time.monotonic() + QUIET_SECONDS
+        self.shown = False
+
+    def step(self) -> None:
+        """Counts a piece, and tells how many there are if it is time to."""
+        self.done += 1
+        now = time.monotonic()
+        if now >= self.next and self.done < self.pieces:
+            self.next = now + (0.2 if self.terminal else SECONDS_BETWEEN_LINES)
+            self.shown = True
+            end = "\r" if self.terminal else "\n"
+            print(f"{self.what}: {self.done} of {self.pieces} calls", end=end, file=sys.stderr, flush=True)
+
+    def end(self) -> None:
+        """Takes the line away from a terminal."""
+        if self.shown and self.terminal:
+            print("\x1b[K", end="", file=sys.stderr, flush=True)
+
+
+class Workers:
+    """Processes for pieces of work, of which each is a function's arguments."""
+
+    def __init__(self, processes: int) -> None:
+        self.processes = processes
+
+    def each(
+        self, what: str, function: Callable[..., Result], pieces: Sequence[Tuple[Any, ...]], octets: int
+    ) -> Iterator[Result]:
+        """What a function gives of each piece, in their order; together they read so many octets. What one of them raises is raised."""
+        progress = Progress(what, len(pieces))
+        alone = self.processes == 1 or len(pieces) < 2 or octets < LEAST_OCTETS
+        results = (function(*piece) for piece in pieces) if alone else self.results(function, pieces)
+        try:
+            for result in results:
+                progress.step()
+                yield result
+        finally:
+            progress.end()
+
+    def results(self, function: Callable[..., Result], pieces: Sequence[Tuple[Any, ...]]) -> Iterator[Result]:
+        """What processes give of each piece, of which at most four a process wait."""
+        with ProcessPoolExecutor(min(self.processes, len(pieces)), initializer=leave_interrupts) as pool:
+            waiting: List[Future] = []
+            rest = iter(pieces)
+            try:
+                for piece in rest:
+                    waiting.append(pool.submit(function, *piece))
+                    if len(waiting) == 4 * self.processes:
+                        yield waiting.pop(0).result()
+                while waiting:
+                    yield waiting.pop(0).result()
+            except BrokenProcessPool:
+                raise Refusal("a process ended early; was there enough memory?") from None
+            finally:
+                for future in waiting:
+                    future.cancel()
+
+
+ALONE = Workers(1)
+
+
+def processes_named(word: str) -> int:
+    """The number of processes that a word names."""
+    if not word.isdecimal() or not 1 <= int(word) <= MOST_PROCESSES:
+        raise argparse.ArgumentTypeError(f"{word} isn't 1 to {MOST_PROCESSES}")
+    return int(word)
+
+
+def add_processes(words: argparse.ArgumentParser) -> None:
+    """Adds the option --processes."""
+    words.add_argument(
+        "--processes",
+        type=processes_named,
+        default=min(MOST_PROCESSES, processors()),
+        metavar="N",
+        help="how many processes work side by side (default: as many as there are processors)",
+    )

@@ -1,0 +1,219 @@
+"""Tests of what the tools read by columns of octets: it is what goes bit by bit, period by period and frame by frame."""
+
+import os
+import random
+import subprocess
+import sys
+import unittest
+from unittest import mock
+
+from support import EXAMPLES, TOOLS, InFolder
+
+import levels
+import report
+import run_lines
+import side_by_side
+import timeline
+import trau_frames
+import uplink_periods
+from run_lines import Sent
+from run_texts import Bridge
+from test_timeline import lay
+from trau_frames import PCM_OCTETS, Law, Refusal, Sort
+from uplink_periods import SORTS
+
+SPEECH = trau_frames.bits_of((EXAMPLES / "7.up").read_bytes())
+
+
+def damaged(source, frames):
+    """An uplink at any bit, with frames of all sorts, broken sync bits, bits left out and bits put in."""
+    bits = ["1" * source.randrange(330) if source.random() < 0.5 else "".join(source.choices("01", k=source.randrange(700)))]
+    for number in range(frames):
+        frame = list(SPEECH[320 * number : 320 * number + 320])
+        chance = source.random()
+        if chance < 0.3:
+            frame[17:33] = source.choices("01", k=16)
+        elif chance < 0.5:
+            frame[17:22] = source.choice((trau_frames.IDLE_UP, trau_frames.SPEECH_UP))
+            frame[22:32] = source.choices("01", k=10)
+        elif chance < 0.6:
+            place = source.choice((*range(16), *range(16, 320, 16)))
+            frame[place] = "10"[int(frame[place])]
+        elif chance < 0.64:
+            frame = frame[source.randrange(1, 9) :]
+        elif chance < 0.68:
+            frame += source.choices("01", k=source.randrange(1, 9))
+        elif chance < 0.7:
+            frame = source.choices("0001", k=source.randrange(2000))
+        bits.append("".join(frame))
+    whole = "".join(bits)
+    return trau_frames.octets_of(whole[: len(whole) // 8 * 8])
+
+
+def made_one_by_one(call, start, octets, bridges):
+    """The frames made for a downlink: their octets, whether they are handed over, and their shifts, period by period."""
+    spans = [[bridge.start - start, bridge.end - bridge.start] for bridge in bridges if call in bridge.calls]
+    octet, asked = 0, 0
+    for period, each in enumerate(run_lines.yields_of(octets)):
+        asked = asked_by(each) or asked
+        while octet + PCM_OCTETS <= PCM_OCTETS * (period + 1):
+            waiting = next((span for span in spans if period >= span[0] and span[1] > 0), None)
+            shift = 0
+            if waiting:
+                waiting[1] -= 1
+            else:
+                shift, asked = asked, 0
+            yield octet, waiting is not None, shift
+            octet += PCM_OCTETS + shift
+
+
+def asked_by(each):
+    """The shift that a period's frame asks for."""
+    if each is None or each.frame is None or each.sort() is Sort.OTHER:
+        return 0
+    return uplink_periods.shift_of(trau_frames.SpeechControl.read(trau_frames.control_of(each.frame)).align)
+
+
+def sent_one_by_one(octet, handed, bits):
+    """What a frame of a downlink is, by its bits."""
+    frame = bits[320 + 2 * octet : 640 + 2 * octet]
+    if len(frame) < 316:
+        return None
+    control = trau_frames.control_of(frame)
+    if control.startswith(trau_frames.IDLE_DOWN):
+        return Sent.IDLE
+    if not control.startswith(trau_frames.SPEECH_DOWN):
+        return Sent.OTHER
+    if handed:
+        return Sent.HANDED
+    return Sent.SPEECH if control[15] == "1" else Sent.SILENCE
+
+
+class Uplinks(unittest.TestCase):
+    def lines(self):
+        source = random.Random(1)
+        yield from (b"", bytes(39), bytes(400), b"\xff" * 4000, source.randbytes(4000), bytes(20) + b"\xff" + bytes(399))
+        for frames in (*range(12), *(300 for _ in range(40))):
+            yield damaged(source, frames)
+
+    def test_the_search(self):
+        seen = set()
+        for octets in self.lines():
+            sorts = [run_lines.sort_of(each) for each in run_lines.yields_of(octets)]
+            self.assertEqual([SORTS[code] for code in uplink_periods.searched(octets).sorts], sorts)
+            wanted = [(period, asked_by(each)) for period, each in enumerate(run_lines.yields_of(octets)) if asked_by(each)]
+            self.assertEqual(uplink_periods.searched(octets).asking, wanted)
+            heard = [run_lines.HEARDS[code] for code in run_lines.heard_codes(bytes(SORTS.index(sort) for sort in sorts))]
+            self.assertEqual(heard, list(run_lines.heard(sorts)))
+            seen.update(sorts)
+        self.assertEqual(seen, set(Sort))
+
+    def test_the_hunt(self):
+        frame = SPEECH[:320]
+        for bits in (f"{before}{frame}{behind}" for before in ("", "1" * 3, "0" * 9, "1" * 77) for behind in ("", "1" * 50)):
+            octets = trau_frames.octets_of(bits[: len(bits) // 8 * 8])
+            text = trau_frames.bits_of(octets)
+            for place in range(0, len(text), 5):
+                found = trau_frames.FRAME.search(text, place)
+                self.assertEqual(uplink_periods.hunt(octets, place), found and found.start(), (len(bits), place))
+
+    def test_frames_made(self):
+        source = random.Random(2)
+        for number in range(60):
+            octets = damaged(source, 200)[: 40 * 150]
+            cuts = sorted(source.sample(range(10, 170), 6))
+            bridges = [Bridge((7, 8), a, b, (b - a, b - a), (0, 0)) for a, b in zip(cuts[::2], cuts[1::2])]
+            if number % 3 == 0:
+                bridges = [Bridge((7, 8), 20, 40, (20, 20), (0, 0)), Bridge((9, 7), 40, 41, (1, 1), (0, 0))]
+            wanted = list(made_one_by_one(7, 10, octets, bridges))
+            asking = uplink_periods.searched(octets).asking
+            made = list(run_lines.frames_made(7, 10, len(octets) // 40, asking, bridges))
+            got = [
+                (each.octet + PCM_OCTETS * at, each.handed, each.shift if at == each.count - 1 else 0)
+                for each in made
+                for at in range(each.count)
+            ]
+            self.assertEqual(got, wanted)
+            down = trau_frames.octets_of("1" * 320 + damaged_downlink(source, len(octets) - 40))
+            codes = [code for each in made for code in run_lines.sent(each, down)]
+            kinds = [sent_one_by_one(octet, handed, trau_frames.bits_of(down)) for octet, handed, _ in wanted]
+            self.assertEqual([run_lines.SENTS[code] for code in codes], [kind for kind in kinds if kind])
+
+
+def damaged_downlink(source, octets):
+    """Bits of a downlink, of which each octet 2 of a frame mostly says speech or idle."""
+    rows = []
+    for _ in range(octets // 40):
+        frame = source.choices("01", k=320)
+        frame[17:22] = source.choice((trau_frames.SPEECH_DOWN, trau_frames.IDLE_DOWN, "00000"))
+        rows.append("".join(frame))
+    return "".join(rows)
+
+
+class Levels(unittest.TestCase):
+    def test_sums(self):
+        octets = random.Random(3).randbytes(160 * 20 + 7) + bytes([0x2A, 0x80]) * 160
+        for law in Law:
+            whole = [octets[place : place + 160] for place in range(0, len(octets) - 159, 160)]
+            wanted = [sum((law.expand(octet) // levels.UNITS[law]) ** 2 for octet in period) for period in whole]
+            self.assertEqual(levels.sums_plain(octets, law), wanted)
+            self.assertTrue(all(law.expand(octet) % levels.UNITS[law] == 0 for octet in range(256)))
+            self.assertEqual(levels.sums_plain(b"", law), [])
+
+    @unittest.skipUnless(levels.numpy, "no library numpy")
+    def test_numpy_gives_the_same(self):
+        octets = random.Random(4).randbytes(160 * 300 + 7)
+        for law in Law:
+            for part in (octets, b"", octets[:100], octets[:160]):
+                self.assertEqual(levels.sums_by_numpy(part, law), levels.sums_plain(part, law))
+            with mock.patch.object(levels, "numpy", None):
+                plain = levels.levels(octets, law)
+            self.assertEqual(levels.levels(octets, law), plain)
+
+
+def doubled(number):
+    """A piece of work; of 5 there is none."""
+    if number == 5:
+        raise Refusal("no 5")
+    return 2 * number
+
+
+class SideBySide(InFolder):
+    def test_order_and_refusals(self):
+        workers = side_by_side.Workers(3)
+        pieces = [(number,) for number in (*range(5), *range(6, 40))]
+        got = list(workers.each("doubling", doubled, pieces, 10**9))
+        self.assertEqual(got, [2 * number for (number,) in pieces])
+        with self.assertRaisesRegex(Refusal, "no 5"):
+            list(workers.each("doubling", doubled, [(number,) for number in range(40)], 10**9))
+
+    def test_a_process_that_is_killed(self):
+        with self.assertRaisesRegex(Refusal, "a process ended early; was there enough memory?"):
+            list(side_by_side.Workers(2).each("ending", os._exit, [(1,), (2,), (3,)], 10**9))
+
+    def test_progress(self):
+        words = "import side_by_side as s; s.QUIET_SECONDS = -1; s.SECONDS_BETWEEN_LINES = 0;"
+        words += "print(sum(s.ALONE.each('adding', int, [(n,) for n in range(4)], 0)))"
+        ran = subprocess.run([sys.executable, "-c", words], cwd=TOOLS, capture_output=True, text=True)
+        told = "".join(f"adding: {number} of 4 calls\n" for number in (1, 2, 3))
+        self.assertEqual((ran.stdout, ran.stderr), ("6\n", told))
+
+    def test_the_tools_give_the_same(self):
+        lay("mixed", self.folder)
+        told = []
+        for processes in ("1", "3"):
+            with mock.patch.object(side_by_side, "LEAST_OCTETS", 0):
+                ran = [
+                    self.run_tool(report.main, "calls", self.folder, "--processes", processes),
+                    self.run_tool(timeline.main, self.folder, self.folder / "run.svg", "--processes", processes),
+                ]
+            self.assertEqual([(status, err) for status, _, err in ran], [(0, ""), (0, "")])
+            told.append([*ran, (self.folder / "run.svg").read_bytes()])
+        self.assertEqual(*told)
+        for wrong in ("0", "65", "x"):
+            self.assert_refused(report.main, ["calls", self.folder, "--processes", wrong], "isn't 1 to 64")
+        self.assert_refused(report.main, ["calls", self.folder, "--calls", "9"], "has no call 9")
+
+
+if __name__ == "__main__":
+    unittest.main()
