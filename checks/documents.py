@@ -1,8 +1,9 @@
 """Runs the commands that the documents show, and compares what they print.
 
-Usage: documents.py TOP WORK [--write] [DOCUMENT..]
+Usage: documents.py TOP WORK [--write] [--no-reasons] [DOCUMENT..]
 
-Where documents are named, by their paths from TOP on, only these are looked at.
+Where documents are named, by their paths from TOP on, only these are looked at. With --no-reasons lines `trau: ..`, which say
+on standard error why something failed, are left out of the comparison: another program has other reasons.
 
 A block of lines that are indented by four spaces, the first of which begins with `$ `, is one session of a shell: lines
 that begin with `$ ` are its commands (a line `> ` goes on with the one above), all other lines their output, standard
@@ -26,11 +27,12 @@ import sys
 
 if {"-h", "--help"} & set(sys.argv[1:]):
     sys.exit(print(__doc__.strip()))
-if len(sys.argv) < 3 or any(word.startswith("-") and word != "--write" for word in sys.argv[3:]):
-    sys.exit("usage: documents.sh [--write] [DOCUMENT..]")
+if len(sys.argv) < 3 or any(word.startswith("-") and word not in ("--write", "--no-reasons") for word in sys.argv[3:]):
+    sys.exit("usage: documents.sh [--write] [--no-reasons] [DOCUMENT..]")
 TOP, WORK = (pathlib.Path(word) for word in sys.argv[1:3])
 WRITE = "--write" in sys.argv[3:]
-NAMED = {TOP / word for word in sys.argv[3:]} - {TOP / "--write"}
+REASONS = "--no-reasons" not in sys.argv[3:]
+NAMED = {TOP / word for word in sys.argv[3:] if not word.startswith("-")}
 # Made by the examples themselves, and by no clone.
 MADE = shutil.ignore_patterns("*.down", "*.out", "7.pcm", "__pycache__")
 INDENT = "    "
@@ -179,6 +181,11 @@ def conflicts(lines):
     return [f"line {number + 1} is left of a merge: {lines[number]}" for number in left]
 
 
+def compared(printed):
+    """What is compared of the lines that a session prints."""
+    return [line for line in printed if REASONS or not line.startswith("trau: ")]
+
+
 def main():
     failed = False
     for path in documents():
@@ -191,7 +198,7 @@ def main():
         for number, (start, end, session) in enumerate(shown):
             got = run(session, WORK / f"{number}")
             new.append((start, end, got))
-            if got != session:
+            if compared(got) != compared(session):
                 differences += difflib.unified_diff(
                     session, got, f"{name}, line {start + 1}", "what the commands print", lineterm=""
                 )

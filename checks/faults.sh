@@ -29,7 +29,7 @@ recorded() {
         esac
     done
     status=0
-    (cd "$work/run" && "$top/trau" run <orders.txt >report.txt) || status=$?
+    (cd "$work/run" && "$top/trau" run <orders.txt >report.txt 2>/dev/null) || status=$?
     echo "$status" >"$work/run/status"
     if diff -r "$top/checks/faults/$1" "$work/run" >"$work/differences"; then
         echo "ok recorded: $1"
@@ -96,7 +96,7 @@ for words in '--batch 1' '--batch 7' '--batch 250'; do
                 ulimit -f "$limit"
                 cd "$work/run"
                 told=0
-                "$top/trau" run $words <"$top/examples/farm/orders.txt" || told=$?
+                "$top/trau" run $words <"$top/examples/farm/orders.txt" 2>/dev/null || told=$?
                 echo "status $told"
             ) | cat
         } >"$work/told"
@@ -113,7 +113,7 @@ lay "$work/run"
 ln -s /dev/full "$work/run/1.out"
 ln -s /dev/full "$work/run/4.down"
 status=0
-(cd "$work/run" && "$top/trau" run <"$top/examples/farm/orders.txt") >"$work/text" || status=$?
+(cd "$work/run" && "$top/trau" run <"$top/examples/farm/orders.txt") >"$work/text" 2>/dev/null || status=$?
 fronts "two full devices" "$work/run"
 
 # A small device that fills up.
@@ -126,7 +126,7 @@ for size in 8k 32k 56k; do
     mounted=yes
     lay "$work/small"
     status=0
-    (cd "$work/small" && "$top/trau" run --batch 7 <"$top/examples/farm/orders.txt") >"$work/text" || status=$?
+    (cd "$work/small" && "$top/trau" run --batch 7 <"$top/examples/farm/orders.txt") >"$work/text" 2>/dev/null || status=$?
     fronts "a device of $size" "$work/small"
     umount "$work/small"
     mounted=

@@ -153,8 +153,8 @@ end period 3 calls 1 left 1
 TEXT
 size "an end before the orders'" 3.out 480
 
-# Words. (To --help the script says a help on standard error.)
-for words in '--workers 0' '--batch 2 --batch 3' '--slice 251' '--periods' '--workers 1 x' '--help'; do
+# Words. (The script answers --help.)
+for words in '--workers 0' '--batch 2 --batch 3' '--slice 251' '--periods' '--workers 1 x'; do
     # shellcheck disable=SC2086
     run '0 open 1' $words 2>/dev/null
     expect "words $words" 1 <<'TEXT'

@@ -9,7 +9,6 @@ from __future__ import annotations
 
 import os
 import stat
-import sys
 from pathlib import Path
 from typing import Callable, Dict, Optional, Tuple
 
@@ -19,37 +18,21 @@ from .outside import Given, Side
 # So much is read at a time; lines are read to the end where nobody says how far.
 MOST_AT_ONCE = 1 << 20
 
-Why = Callable[[OSError], None]  # is told why a read or a write failed
 Identity = Tuple[int, int]  # a file's device and inode
 
 
 class SharedFile(OSError):
     """The file is that of another line, and one of both is written (docs/FILES.md, "A file that is written is one line's")."""
 
-    def __init__(self, name: str) -> None:
-        super().__init__(name)
-        self.name = name
 
-
-def reason(fault: OSError) -> str:
-    """What is said of a failure (docs/FILES.md)."""
-    return f"this is the file of {fault.name}" if isinstance(fault, SharedFile) else f"{fault.strerror} (os error {fault.errno})"
-
-
-def say_why(name: str, fault: OSError) -> None:
-    """Says on standard error why a line or a stream failed (docs/FILES.md)."""
-    print(f"trau: {name}: {reason(fault)}", file=sys.stderr, flush=True)
-
-
-def read_all(read: Callable[[int], bytes], most: Optional[int], why: Why) -> Given:
+def read_all(read: Callable[[int], bytes], most: Optional[int]) -> Given:
     """What reads give up to `most` octets, the end or the first failure (docs/FILES.md)."""
     parts = []
     left = most
     while left is None or left > 0:
         try:
             part = read(MOST_AT_ONCE if left is None else min(left, MOST_AT_ONCE))
-        except OSError as fault:
-            why(fault)
+        except OSError:
             return Given(b"".join(parts), True)
         if not part:
             break
@@ -58,14 +41,13 @@ def read_all(read: Callable[[int], bytes], most: Optional[int], why: Why) -> Giv
     return Given(b"".join(parts), False)
 
 
-def write_all(descriptor: int, octets: bytes, why: Why) -> int:
+def write_all(descriptor: int, octets: bytes) -> int:
     """How many octets a descriptor took: all, or a proper prefix where a write failed or took none (docs/FILES.md)."""
     done = 0
     while done < len(octets):
         try:
             taken = os.write(descriptor, octets[done:])
-        except OSError as fault:
-            why(fault)
+        except OSError:
             break
         if taken == 0:
             break
@@ -78,14 +60,10 @@ def identity_of(found: os.stat_result) -> Identity:
     return found.st_dev, found.st_ino
 
 
-def recording_at(identity: Identity) -> Optional[str]:
-    """The incoming line of the current folder that has this file, or None (docs/FILES.md)."""
-    for call in range(1, profile.MOST_CALL + 1):
-        for side in (Side.UP, Side.PCM):
-            name = f"{call}.{side.value}"
-            if os.path.exists(name) and identity_of(os.stat(name)) == identity:
-                return name
-    return None
+def is_recording(identity: Identity) -> bool:
+    """Whether an incoming line of the current folder has this file (docs/FILES.md)."""
+    names = [f"{call}.{side.value}" for call in range(1, profile.MOST_CALL + 1) for side in (Side.UP, Side.PCM)]
+    return any(os.path.exists(name) and identity_of(os.stat(name)) == identity for name in names)
 
 
 class Folder:
@@ -95,22 +73,19 @@ class Folder:
     def __init__(self) -> None:
         self._moved: Dict[Tuple[int, Side], int] = {}
         self._files: Dict[Identity, Dict[str, bool]] = {}  # the lines that have the file, and whether each is written
-        self._said = 0
 
     def read(self, call: int, side: Side, most: Optional[int] = None) -> Given:
         """The next octets of a line, `most` at most; the file is opened for it, so a missing one fails here (docs/FILES.md)."""
         name = f"{call}.{side.value}"
         try:
             descriptor = os.open(name, os.O_RDONLY)
-        except OSError as fault:
-            self._why(name, fault)
+        except OSError:
             return Given(b"", True)
         try:
             self._claim(descriptor, name, is_written=False)
             os.lseek(descriptor, self._moved.get((call, side), 0), os.SEEK_SET)
-            given = read_all(lambda size: os.read(descriptor, size), most, lambda fault: self._why(name, fault))
-        except OSError as fault:
-            self._why(name, fault)
+            given = read_all(lambda size: os.read(descriptor, size), most)
+        except OSError:
             return Given(b"", True)
         finally:
             os.close(descriptor)
@@ -124,17 +99,15 @@ class Folder:
         name, before = f"{call}.{side.value}", self._moved.get((call, side), 0)
         try:
             descriptor = os.open(name, os.O_WRONLY | (0 if before else os.O_CREAT), 0o666)
-        except OSError as fault:
-            self._why(name, fault)
+        except OSError:
             return False
         try:
             self._claim(descriptor, name, is_written=True)
             if before == 0:
                 self._empty(descriptor, name)
             os.lseek(descriptor, before, os.SEEK_SET)
-            done = write_all(descriptor, octets, lambda fault: self._why(name, fault))
-        except OSError as fault:
-            self._why(name, fault)
+            done = write_all(descriptor, octets)
+        except OSError:
             return False
         finally:
             os.close(descriptor)
@@ -157,16 +130,9 @@ class Folder:
         found = os.fstat(descriptor)
         if not stat.S_ISREG(found.st_mode):
             return
-        recording = recording_at(identity_of(found)) if Path(name).is_symlink() or found.st_nlink > 1 else None
-        if recording is not None:
-            raise SharedFile(recording)
+        if (Path(name).is_symlink() or found.st_nlink > 1) and is_recording(identity_of(found)):
+            raise SharedFile(name)
         os.ftruncate(descriptor, 0)
-
-    def _why(self, name: str, fault: OSError) -> None:
-        """Says why a line failed, of twenty lines at most (docs/FILES.md)."""
-        self._said += 1
-        if self._said <= profile.MOST_REASONS:
-            say_why(name, fault)
 
 
 class Streams:
@@ -177,9 +143,9 @@ class Streams:
 
     def read(self, most: int) -> Given:
         """The next octets of standard input, `most` at most (docs/FILES.md)."""
-        return read_all(lambda size: os.read(self._reads, size), most, lambda fault: say_why("standard input", fault))
+        return read_all(lambda size: os.read(self._reads, size), most)
 
     def write(self, text: str) -> bool:
         """Writes a text to standard output; False where a proper prefix of it went out, and the output failed (docs/FILES.md)."""
         octets = text.encode("ascii")
-        return write_all(self._writes, octets, lambda fault: say_why("standard output", fault)) == len(octets)
+        return write_all(self._writes, octets) == len(octets)

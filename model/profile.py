@@ -75,7 +75,6 @@ FRAMES_OF_A_WAIT = 8  # frames after which a request that wasn't met is made aga
 MOST_ORDER_OCTETS = 1_048_576
 MOST_ORDER_LINES = 65_536
 MOST_MARKED_OCTETS = 1_310_720  # a mark and its orders together
-MOST_REASONS = 20  # lines of which standard error says why they failed
 SUM_MODULUS = 1 << 32  # of the sums of octets in a mark, a drill and a live drill
 
 # Options of the commands: the least value, the greatest, and the value without the option (None: it has to be there).

@@ -3,6 +3,7 @@
 import os
 import pty
 import re
+import resource
 import select
 import shutil
 import signal
@@ -343,6 +344,20 @@ class WrongWords(Started):
         self.built()
         for words in [*self.WRONG, *self.RIGHT]:
             self.assertEqual(self.trau(*words.split()), (0, f"the program: {words}\n", ""), words)
+
+    def test_where_standard_output_may_not_grow(self):
+        self.built()
+        for words in (["frames"], ["frames", "7"]):
+            with open(self.folder / "said", "wb") as said:
+                ended = subprocess.run(
+                    [self.top / "trau", *words],
+                    stdout=said,
+                    stderr=subprocess.PIPE,
+                    env=self.surroundings,
+                    cwd=self.folder,
+                    preexec_fn=lambda: resource.setrlimit(resource.RLIMIT_FSIZE, (0, resource.RLIM_INFINITY)),
+                )
+            self.assertNotIn(ended.returncode, (-signal.SIGXFSZ, 128 + signal.SIGXFSZ), words)
 
 
 @unittest.skipUnless(shutil.which("flock"), "there is no flock")
