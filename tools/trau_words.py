@@ -277,7 +277,7 @@ def help_text() -> str:
     lines += ["", "Statuses:", ""]
     lines += table((str(status.number), status.means) for status in STATUSES)
     lines += ["", *folded(NOTE_ON_LOCK, "")]
-    lines += ["", "trau help COMMAND tells of one command; demo, beside this script, runs an", "example; docs/ tells the rest."]
+    lines += ["", "trau help COMMAND tells of one command; demo, beside this script, runs an", "example; docs/ has the rest."]
     return "\n".join(lines) + "\n"
 
 
@@ -301,7 +301,7 @@ def page(command: Command) -> str:
     lines += ["", "Statuses, and what standard output has:", ""]
     of_it = (status for status in STATUSES if status.number in command.statuses)
     lines += table((str(status.number), f"{status.means}: {status.text}") for status in of_it)
-    return "\n".join([*lines, "", f"docs/commands/{command.name}.md tells the rest."]) + "\n"
+    return "\n".join([*lines, "", f"docs/commands/{command.name}.md has the rest."]) + "\n"
 
 
 def pages_text() -> str:
