@@ -18,3 +18,6 @@ pub mod OrderLaws
 pub mod LineLaws
 pub mod HalfLaws
 pub mod HalfSteps
+pub mod Reloaded
+pub mod Noted
+pub mod NotedRuns

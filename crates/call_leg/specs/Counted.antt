@@ -27,15 +27,15 @@ counted Nothing n = record n { none = n.none + 1 }
 counted Missed n = record n { miss = n.miss + 1 }
 counted (Framed w) n = counted_frame w.kind w.class n
 
--- what all periods bring
+-- the counts over all periods
 abbrev pub sightings_counted : List CallPeriod → Counts
 sightings_counted [] = no_counts
 sightings_counted (t ∷ past) = counted (sighting_after past t.up) (sightings_counted past)
 
--- the periods that are counted: each once
+-- the number of periods that were counted, each once
 abbrev pub sighted_in : Counts → ℕ
 sighted_in n = n.good + n.sid + n.invalid + n.bad + n.idle + n.other + n.miss + n.none
 
--- all that is counted of a call: beside its periods, its made frames
+-- all counts of a call: those over its periods, and the number of its made frames
 abbrev pub call_counts : List CallPeriod → Counts
 call_counts ts = record (sightings_counted ts) { made = length (frames_of ts) }

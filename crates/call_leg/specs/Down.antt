@@ -1,5 +1,5 @@
--- The Down line of a call: handed frames, idle frames and coded frames (GSM 06.10 and GSM 08.60; which of them is sent
--- when is this project's profile). Lists have the newest period and the newest frame first.
+-- The Down line of a call: handed frames, idle frames and coded frames (GSM 06.10 and GSM 08.60; when each of them is sent is this
+-- project's profile). Lists have the newest period and the newest frame first.
 use Rattle.std.specs.Prelude.{ℕ, ℤ, Bool, true, not, if◌then◌else◌, ◌&&◌, ◌==◌, Some, None, is_none, is_some, List, [], ◌∷◌, ◌++◌, map, take, drop}
 use Rattle.trau_alaw.specs.declared.Law.{Law}
 use Rattle.trau_alaw.specs.Period.{expanded}
@@ -30,11 +30,11 @@ CallFrame = MadeFrame (List CallPeriod)
 abbrev pub frames_of : List CallPeriod → List CallFrame
 frames_of ts = made_frames (down_periods ts)
 
--- neither carries a handed frame nor was made in a quiet period
+-- the frame carries no handed frame and wasn't made in a quiet period
 abbrev pub is_coded : ℕ → CallFrame → Bool
 is_coded call f = is_none f.carries && not (quiet_now call f.load)
 
--- the newest frames that are coded, back to the start of the latest of `epoch` bridges
+-- the coded frames after the last frame that isn't one, and since the start of the latest bridge; `epoch` bridges have started
 abbrev pub coded_stretch : ℕ → ℕ → List CallFrame → List CallFrame
 coded_stretch call epoch [] = []
 coded_stretch call epoch (f ∷ fs) = if is_coded call f && f.epoch == epoch then f ∷ coded_stretch call epoch fs else []
@@ -47,7 +47,7 @@ samples_of law f = expanded law (take 160 (drop f.start (pcm_of f.load)))
 abbrev pub coded_as : Encoded → ℤ → Bool → Coded
 coded_as e level on = record { fields = e.fields; measures = record { lar = e.lar; xmax = e.xmax }; peak = e.peak; level = level; dtx = on }
 
--- a frame after the coded frames of its stretch, encoded from home over the stretch
+-- a frame, encoded from the reset state after the coded frames of its stretch
 abbrev pub coded_after : Law → CallFrame → List CallFrame → Coded
 coded_after law f before = coded_as (encoding_of (samples_of law f) (map (samples_of law) before)) (level_now f.load) (dtx_now f.load)
 
@@ -60,8 +60,8 @@ coded_frames law (f ∷ before) = coded_after law f before ∷ coded_frames law 
 abbrev pub speech : Sent → DownFrame
 speech s = down.Speech (bits260 s.fields) s.sp
 
--- What the newest frame is: the handed bits where it carries some, with SP 1; else idle where its period is quiet; else
--- what is sent of it after the coded frames of its stretch.
+-- The newest frame: its handed bits with SP 1, if it carries some; else idle, if its period is quiet; else what is sent for it after the
+-- coded frames of its stretch.
 abbrev pub frame_now : Who → List CallFrame → DownFrame
 frame_now who [] = down.Idle
 frame_now who (f ∷ fs) = elim f.carries [
@@ -73,7 +73,7 @@ frame_now who (f ∷ fs) = elim f.carries [
 abbrev pub bits_now : Who → List CallFrame → List ℕ
 bits_now who fs = frames.down_bits (frame_now who fs)
 
--- the downlink as far as it is made
+-- the downlink that is made so far
 abbrev pub down_made : Who → List CallFrame → List ℕ
 down_made who fs = downlink_of (bits_now who) fs
 

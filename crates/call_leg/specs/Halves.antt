@@ -1,5 +1,5 @@
--- The two halves of a leg, apart: the uplink half tells the downlink half what it heard. Lists have the newest first.
-use Rattle.std.specs.Prelude.{◌≡◌, ℕ, Bool, false, not, Option, Some, None, option_map, unwrap_or, List, ◌∷◌}
+-- The two halves of a leg apart; a note goes from the uplink half to the downlink half. Lists have the newest first.
+use Rattle.std.specs.Prelude.{◌≡◌, ℕ, Bool, true, false, not, Option, Some, None, option_map, unwrap_or, List, ◌∷◌}
 use Rattle.trau_alaw.specs.declared.Law.{Law}
 use Rattle.trau_frame.specs.declared.frames.Kind.{Kind}
 use Rattle.trau_frame.specs.declared.frames.Kind.TheVariants as kinds
@@ -17,6 +17,7 @@ use Rattle.rx_handler.specs.Memory.{RxMemory}
 use Rattle.rx_handler.specs.Step.{received}
 use Rattle.fr_decoder.specs.Stands as decoder
 use Rattle.fr_decoder.specs.Memory.{DecoderMemory}
+use Rattle.fr_decoder.specs.Memory as decoders
 use Rattle.time_align.specs.Step as align
 use Rattle.call_leg.specs.Who.{Who}
 use Rattle.call_leg.specs.Uplink.{Sighting, Nothing, Missed, Framed, sighting_in, heard_as, field_of, is_quiet, handed_fields}
@@ -27,9 +28,9 @@ use Rattle.call_leg.specs.Out.{plain_stretch}
 use Rattle.call_leg.specs.Memory.{DownMemory, LegMemory}
 use Rattle.call_leg.specs.Step.{played, after_handing, down_worked}
 
--- ---- what they keep
+-- ---- their memories
 
--- the uplink half: what a leg keeps beside its downlink side, and whether a bridge is on
+-- the uplink half: a leg's memory without its downlink side, and whether a bridge is on
 pub record UpMemory : Type 0 where
   pub law : Law
   pub search : SyncMemory
@@ -38,16 +39,17 @@ pub record UpMemory : Type 0 where
   pub counts : Counts
   pub bridged : Bool
 
--- the uplink half of a leg, and the leg of two halves; the downlink half is the leg's downlink side
+-- the uplink half of a leg; the downlink half is the leg's downlink side
 abbrev pub up_of : LegMemory → UpMemory
 up_of m = record { law = m.law; search = m.search; rx = m.rx; decoder = m.decoder; counts = m.counts; bridged = m.down.bridged }
 
+-- the leg of two halves
 abbrev pub joined : UpMemory → DownMemory → LegMemory
 joined u d = record { law = u.law; search = u.search; rx = u.rx; decoder = u.decoder; counts = u.counts; down = d }
 
--- ---- what a period of the uplink tells the downlink
+-- ---- the note of a period
 
--- its effective frame; the field of a frame of speech or idle, else 0, which asks for nothing; DTXd of a speech frame
+-- the period's effective frame; the field of a speech or idle frame, else 0, which asks for nothing; DTXd of a speech frame
 pub record Note : Type 0 where
   pub eff : EffectiveFields
   pub ask : ℕ
@@ -72,7 +74,7 @@ note_in call ts up = note_of (sighting_after ts up) (effective_of call (heard_as
 
 -- ---- a period of each half
 
--- the note, the octets of the Out line, and the memory after them
+-- a period of the uplink: the note, the octets of the Out line, and the memory after it
 unfoldable pub up_turned : UpMemory → List ℕ → Note × List ℕ × UpMemory
 up_turned u up =
     let found = next_period u.search up in
@@ -83,35 +85,39 @@ up_turned u up =
       record { law = u.law; search = found.1; rx = heard.1; decoder = out.1; counts = counted (sighting_in found.0) u.counts; bridged = u.bridged },
     )
 
--- a note is heard
+-- after a note
 abbrev pub noted : DownMemory → Note → DownMemory
 noted d n = record d { align = align.after_ask d.align n.ask; dtxd = unwrap_or n.dtx d.dtxd; quiet = is_quiet n.eff }
 
--- the partner's effective frame is handed over, if there is one
+-- after the partner's effective frame is handed over, if there is one
 abbrev pub with_handed : DownMemory → Option EffectiveFields → DownMemory
 with_handed d None = d
 with_handed d (Some e) = after_handing d e
 
--- the bits of the Down line, and the memory after them
+-- a period of the downlink: the bits of the Down line, and the memory after it
 unfoldable pub down_turned : DownMemory → Note → Option EffectiveFields → List ℕ → List ℕ × DownMemory
 down_turned d n item pcm = down_worked (with_handed (noted d n) item) pcm
 
--- the bridge of an uplink half is off
+-- the uplink half when a bridge begins: the decoder is reset
+abbrev pub up_bridged : UpMemory → UpMemory
+up_bridged u = record u { decoder = decoders.home_memory; bridged = true }
+
+-- the uplink half when its bridge ends
 abbrev pub up_unbridged : UpMemory → UpMemory
 up_unbridged u = record u { bridged = false }
 
--- an effective frame of the code, by its fields, if there is one
+-- the fields of an effective frame of the code, if there is one
 abbrev pub item_of : Option Effective → Option EffectiveFields
 item_of item = option_map (λ e. effective_fields e) item
 
--- the bits that are handed over of an effective frame
+-- the bits that an effective frame hands over
 abbrev pub handed_bits : Option EffectiveFields → Option (List ℕ)
 handed_bits item = option_map (λ e. bits260 (handed_fields e)) item
 
--- ---- what a half stands for
+-- ---- the memory after a history
 
--- Between periods: the uplink half is that of a call that had these periods, with the settings `now` for the next one.
--- It tells nothing of the Pcm line and of what was handed over. A downlink half stands for its call by `Between`.
+-- Between periods: the uplink half of a call after these periods, with the settings `now` for the next one. It depends neither on the
+-- octets of the Pcm line nor on the handed bits. For a downlink half this is `Between`.
 pub record UpStands (who : Who) (ts : List CallPeriod) (now : Settings) (u : UpMemory) : Type 0 where
   pub law : u.law ≡ who.law
   pub search : search.Stands (ups_of ts) u.search
@@ -120,6 +126,6 @@ pub record UpStands (who : Who) (ts : List CallPeriod) (now : Settings) (u : UpM
   pub counts : u.counts ≡ sightings_counted ts
   pub bridged : u.bridged ≡ now.bridged
 
--- P holds of whatever call the half stands for, the periods that it had, and the settings for its next one
+-- P holds for every call, periods and next settings that this uplink half can stand for
 abbrev pub OfItsUp : UpMemory → (Who → List CallPeriod → Settings → Type 0) → Type 0
 OfItsUp u P = (who : Who) (ts : List CallPeriod) (now : Settings) → UpStands who ts now u → P who ts now

@@ -12,4 +12,5 @@ pub mod Places
 pub mod Stands
 pub mod Step
 pub mod Halves
+pub mod Noted
 pub mod Runs

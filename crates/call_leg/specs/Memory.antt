@@ -1,4 +1,4 @@
--- What a leg keeps.
+-- The memory of a leg.
 use Rattle.std.specs.Prelude.{ℕ, ℤ, pos, Bool, true, false, List, []}
 use Rattle.trau_alaw.specs.declared.Law.{Law}
 use Rattle.trau_orders.specs.declared.order.DtxMode.{DtxMode}
@@ -16,18 +16,18 @@ use Rattle.call_leg.specs.Counted.{no_counts}
 use Rattle.call_leg.specs.declared.coder.Coder.{Coder}
 use Rattle.call_leg.specs.declared.down_side.DownSide.{DownSide}
 
--- the encoder, and what sends its frames
+-- the encoder and the transmit side
 pub record CoderMemory : Type 0 where
   pub encoder : encoder.EncoderMemory
   pub tx : tx.TxMemory
 
--- both at home
+-- both in their reset state
 abbrev pub home_coder : CoderMemory
 home_coder = record { encoder = encoder.home_memory; tx = tx.home_memory }
 
--- the downlink side: the call's law, the bits in store and the octets held, the shift that was asked for, the handed
--- frames that wait, the coder, the settings, DTXd of the last speech frame, whether this period is quiet and lies in a
--- bridge, how many handed frames of the latest bridge were sent, and how many frames were made
+-- the downlink side: the call's law, the framer (bits in store, octets held), the shift that was asked for, the handed frames that wait,
+-- the coder, the settings, DTXd of the last speech frame, whether this period is quiet and whether it lies in a bridge, how many handed
+-- frames of the latest bridge were sent, and how many frames were made
 pub record DownMemory : Type 0 where
   pub law : Law
   pub framer : framer.FramerMemory
@@ -42,7 +42,7 @@ pub record DownMemory : Type 0 where
   pub sent : ℕ
   pub made : ℕ
 
--- that of a new call, whose octets are of this law
+-- the downlink side of a new call with this law
 abbrev pub home_down : Law → DownMemory
 home_down law = record {
   law = law;
@@ -59,7 +59,7 @@ home_down law = record {
   made = 0;
 }
 
--- a leg: the call's law, what the way up keeps, and the downlink side
+-- a leg: the call's law, the memory of the uplink, and the downlink side
 pub record LegMemory : Type 0 where
   pub law : Law
   pub search : search.SyncMemory
@@ -68,7 +68,7 @@ pub record LegMemory : Type 0 where
   pub counts : Counts
   pub down : DownMemory
 
--- that of a new call
+-- the memory of a new call's leg
 abbrev pub home_memory : Who → LegMemory
 home_memory who = record {
   law = who.law;
@@ -83,7 +83,7 @@ home_memory who = record {
 abbrev pub periods_of_leg : LegMemory → ℕ
 periods_of_leg m = m.search.periods
 
--- of the code's structs
+-- the memories of the code's structs
 abbrev pub coder_memory : Coder → CoderMemory
 coder_memory s = record { encoder = s.encoder; tx = s.tx }
 

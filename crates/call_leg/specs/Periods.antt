@@ -8,8 +8,8 @@ use Rattle.rx_handler.specs.Origin.{EffectiveFields}
 use Rattle.rx_handler.specs.Past.{effective_of}
 use Rattle.call_leg.specs.Uplink.{Sighting, sighting_in, heard_as, dtxd_after, is_quiet}
 
--- A period of a call: its 40 octets of the Up line and its 160 of the Pcm line, the level and the DTX mode in force,
--- whether a bridge starts at it, and within a bridge the 260 bits that are handed over in it.
+-- A period of a call: its 40 octets of the Up line and its 160 of the Pcm line, the level and the DTX mode in force, whether a bridge
+-- starts at it, and if it lies in a bridge, the 260 bits that are handed over in it.
 pub record CallPeriod : Type 0 where
   pub up : List ℕ
   pub pcm : List ℕ
@@ -41,10 +41,11 @@ heard_of (t ∷ past) = heard_as (sighting_after past t.up) ∷ heard_of past
 abbrev pub effective_now : ℕ → List CallPeriod → EffectiveFields
 effective_now call ts = effective_of call (heard_of ts)
 
+-- whether the newest period is quiet
 abbrev pub quiet_now : ℕ → List CallPeriod → Bool
 quiet_now call ts = is_quiet (effective_now call ts)
 
--- how many bridges started
+-- how many bridges have started
 abbrev pub bridges_begun : List CallPeriod → ℕ
 bridges_begun ts = length (filter (λ t. t.starts) ts)
 
@@ -55,7 +56,7 @@ handed_in h (t ∷ past) = if h == length past then unwrap_or t.handed [] else h
 
 -- ---- settings
 
--- DTXd of the last speech frame so far, and 0 before any
+-- DTXd of the last speech frame so far; false before the first one
 abbrev pub dtxd_of : List CallPeriod → Bool
 dtxd_of [] = false
 dtxd_of (t ∷ past) = dtxd_after (sighting_after past t.up) (dtxd_of past)
@@ -66,11 +67,12 @@ dtx_in On asked = true
 dtx_in Off asked = false
 dtx_in Uplink asked = asked
 
--- whether it is on in the newest period, and the level in force
+-- whether DTX is on in the newest period
 abbrev pub dtx_now : List CallPeriod → Bool
 dtx_now [] = false
 dtx_now (t ∷ past) = dtx_in t.mode (dtxd_of (t ∷ past))
 
+-- the level in force in the newest period; 256 before the first one
 abbrev pub level_now : List CallPeriod → ℤ
 level_now [] = pos 256
 level_now (t ∷ past) = t.level

@@ -1,4 +1,4 @@
--- The law of places: what the downlink side of a leg stands for, by the periods so far. Lists have the newest first.
+-- The memory of a leg's downlink side after the periods so far. Lists have the newest first.
 use Rattle.std.specs.Prelude.{◌≡◌, ℕ, ◌+◌, ◌*◌, ◌<◌, ◌≤◌, true, not, ◌&&◌, ◌||◌, ◌==◌, if◌then◌else◌, Bool, Option, None, is_some, List, [], ◌∷◌, ◌++◌, length}
 use Rattle.std.specs.Prelude.{map, All, option_to_list, suc, min}
 use Rattle.trau_alaw.specs.declared.Law.{Law}
@@ -22,46 +22,45 @@ abbrev pub carried : ℕ → List CallFrame → ℕ
 carried epoch [] = 0
 carried epoch (f ∷ fs) = if is_some f.carries && f.epoch == epoch then suc (carried epoch fs) else carried epoch fs
 
--- the handed frames that were sent in the latest bridge
+-- how many handed frames of the latest bridge were sent
 abbrev pub sent_now : List CallPeriod → Settings → ℕ
 sent_now ts now = carried (epoch_now ts now) (frames_of ts)
 
--- a handed frame waits after the bridge
+-- a handed frame waits while no bridge is on
 abbrev pub is_draining : List CallPeriod → Settings → Bool
 is_draining ts now = not now.bridged && is_some (handed_due (down_periods ts) (frames_of ts))
 
--- counts end where their types do
+-- counts stop at the last value of their type
 abbrev pub in_u32 : ℕ → ℕ
 in_u32 n = min n 4294967295
 
 abbrev pub in_u64 : ℕ → ℕ
 in_u64 n = min n 18446744073709551615
 
--- the encoder, and what sends its frames, ran from home over the coded frames of a stretch, whose octets are of this law
+-- the encoder and the transmit side, run from the reset state over the coded frames of a stretch with this law
 pub record CoderStands (law : Law) (stretch : List CallFrame) (m : CoderMemory) : Type 0 where
   pub encoder : encoder.Stands (map (samples_of law) stretch) m.encoder
   pub tx : tx.Stands (coded_frames law stretch) m.tx
 
--- What the downlink side holds between periods, after all these, with the settings `now` for the next one, and still holds
--- when that one's octets of the Up line were heard.
+-- What holds of the downlink side after the periods `ts`, between periods and midway in the next one, whose settings are `now`.
 pub record DownStands (who : Who) (ts : List CallPeriod) (now : Settings) (d : DownMemory) : Type 0 where
   pub law : d.law ≡ who.law
   -- each period has 160 octets of the Pcm line
   pub pcms : All (λ t. length t.pcm ≡ 160) ts
   pub history : IsHistory (down_periods ts)
-  -- held are the octets of the Pcm line from the next frame's start on, or so many are to be skipped as it lies past
-  -- the line; in store is what is made of the downlink and not yet out
+  -- held are the octets of the Pcm line from the next frame's start on, or, if that start lies past the line, the number of octets to skip;
+  -- in store is the downlink that is made and hasn't gone out
   pub places : Holds (pcm_of ts) (down_made who (frames_of ts)) (320 * length (down_periods ts)) (next_start (frames_of ts)) d.framer
-  -- shifts are frozen within a bridge, and as long as a frame waits
+  -- shifts are frozen within a bridge and while a handed frame waits
   pub frozen : d.align.frozen ≡ (now.bridged || is_some (handed_due (down_periods ts) (frames_of ts)))
-  -- the coder ran over the stretch that the next frame goes on with
+  -- the coder ran over the stretch that the next frame continues
   pub coded : CoderStands who.law (coded_stretch who.number (epoch_now ts now) (frames_of ts)) d.coder
   pub sent : d.sent ≡ in_u32 (sent_now ts now)
   pub made : d.made ≡ in_u64 (length (frames_of ts))
   pub level : d.level ≡ now.level
   pub mode : d.mode ≡ now.mode
   pub bridged : d.bridged ≡ now.bridged
-  -- a bridge starts only where no frame waits, and goes on without a gap
+  -- a bridge starts only while no handed frame waits, and goes on without a gap
   pub alone : now.starts ≡ true → handed_due (down_periods ts) (frames_of ts) ≡ None
   pub goes_on : now.bridged ≡ true → (now.starts || in_bridge (down_periods ts)) ≡ true
 
@@ -69,19 +68,19 @@ pub record DownStands (who : Who) (ts : List CallPeriod) (now : Settings) (d : D
 pub record Between (who : Who) (ts : List CallPeriod) (now : Settings) (d : DownMemory) : Type 0 where
   pub held : DownStands who ts now d
   pub open held use *
-  -- as many frames are made as the least number of a frame whose 160 octets haven't all come: the next one's haven't ..
+  -- the 160 octets of the next frame haven't all come ..
   pub ahead : 160 * length ts < next_start (frames_of ts) + 160
   -- .. and those of each made frame have
   pub come : All (λ f. f.start + 160 ≤ 160 * length ts) (frames_of ts)
   -- the downlink made so far: 320 bits, and two for each octet before the next frame
   pub line : length (down_made who (frames_of ts)) ≡ 320 + 2 * next_start (frames_of ts)
-  -- what was handed over in the latest bridge and no frame has carried yet
+  -- the frames that were handed over in the latest bridge and haven't gone out
   pub waits : Waits ts (frames_of ts) d.waiting
   -- the shift asked for last since the last frame that carried nothing
   pub kept : d.align.kept ≡ latest_ask (counted_fields (down_periods ts) (frames_of ts))
   pub dtxd : d.dtxd ≡ dtxd_of ts
 
--- between the halves of a period: its octets of the Up line are heard, and `handed` is handed over
+-- between the halves of a period: its octets of the Up line were processed, and `handed` was handed over
 pub record Halfway (who : Who) (ts : List CallPeriod) (now : Settings) (up : List ℕ) (handed : Option (List ℕ)) (d : DownMemory) : Type 0 where
   pub held : DownStands who ts now d
   pub open held use *

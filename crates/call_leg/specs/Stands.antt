@@ -1,4 +1,4 @@
--- What a leg stands for.
+-- The memory of a leg after the periods of a call.
 use Rattle.std.specs.Prelude.{◌≡◌, ℕ, not, Option, List, ◌∷◌}
 use Rattle.frame_sync.specs.Stands as search
 use Rattle.rx_handler.specs.Stands as rx
@@ -13,7 +13,7 @@ use Rattle.call_leg.specs.Out.{plain_with, plain_stretch}
 use Rattle.call_leg.specs.Memory.{LegMemory}
 use Rattle.call_leg.specs.Places.{Between, Halfway}
 
--- Between periods: the leg is that of a call that had these periods, with the settings `now` for the next one.
+-- Between periods: the leg of a call after these periods, with the settings `now` for the next one.
 pub record Stands (who : Who) (ts : List CallPeriod) (now : Settings) (m : LegMemory) : Type 0 where
   pub law : m.law ≡ who.law
   pub search : search.Stands (ups_of ts) m.search
@@ -22,11 +22,11 @@ pub record Stands (who : Who) (ts : List CallPeriod) (now : Settings) (m : LegMe
   pub counts : m.counts ≡ sightings_counted ts
   pub down : Between who ts now m.down
 
--- P holds of whatever call the leg stands for, the periods that it had, and the settings for its next one
+-- P holds for every call, periods and next settings that this memory can stand for.
 abbrev pub OfItsCall : LegMemory → (Who → List CallPeriod → Settings → Type 0) → Type 0
 OfItsCall m P = (who : Who) (ts : List CallPeriod) (now : Settings) → Stands who ts now m → P who ts now
 
--- Between the halves of a period: the octets of the Up line were worked, and `handed` was handed over.
+-- Between the halves of a period: its octets of the Up line were processed, and `handed` was handed over.
 pub record Midway (who : Who) (ts : List CallPeriod) (now : Settings) (up : List ℕ) (handed : Option (List ℕ)) (m : LegMemory) : Type 0 where
   pub law : m.law ≡ who.law
   pub search : search.Stands (up ∷ ups_of ts) m.search

@@ -1,4 +1,4 @@
--- What each operation of a leg makes of its memory.
+-- How each operation of a leg changes its memory.
 use Rattle.std.specs.Prelude.{ℕ, ◌+◌, ℤ, Bool, true, false, not, ◌||◌, ◌==◌, nat_le, if◌then◌else◌, Option, Some, None, List, [], ◌∷◌, ◌++◌, length, take, drop}
 use Rattle.circular_buffer.specs.Buffer.{keep_last}
 use Rattle.trau_alaw.specs.declared.Law.{Law}
@@ -30,22 +30,24 @@ use Rattle.call_leg.specs.Places.{in_u32, in_u64}
 
 -- ---- the uplink half
 
--- a field is asked, if there is one
+-- the shift of a field is asked for, if there is one
 abbrev pub after_asking : align.AlignMemory → Option ℕ → align.AlignMemory
 after_asking m None = m
 after_asking m (Some field) = after_ask m field
 
--- what the downlink side takes from the uplink
+-- the downlink side after a period of the uplink
 abbrev pub after_sighting : DownMemory → Sighting → Bool → DownMemory
 after_sighting d s quiet = record d { align = after_asking d.align (field_of s); dtxd = dtxd_after s d.dtxd; quiet = quiet }
 
--- the octets of a frame that is decoded, and of a period in which none is
+-- a frame is decoded: its octets, and the decoder after it
 abbrev pub played_frame : Law → decoder.DecoderMemory → Fields → List ℕ × decoder.DecoderMemory
 played_frame law m p = let decoded = decoded_frame m p in (compressed law decoded.0, decoded.1)
 
+-- no frame is decoded: idle octets, and the decoder is reset
 abbrev pub played_none : Law → List ℕ × decoder.DecoderMemory
 played_none law = (idle_octets law, decoder.home_memory)
 
+-- a period: its effective frame is decoded if the leg is alone and the period isn't quiet
 abbrev pub played : Law → decoder.DecoderMemory → EffectiveFields → Bool → List ℕ × decoder.DecoderMemory
 played law m Quiet alone = played_none law
 played law m (Speech p) alone = if alone then played_frame law m p else played_none law
@@ -74,14 +76,15 @@ up_worked m up =
 abbrev pub with_down : LegMemory → DownMemory → LegMemory
 with_down m d = record m { down = d }
 
--- the level and the DTX mode are set
+-- the level is set
 abbrev pub set_level : ℤ → DownMemory → DownMemory
 set_level level d = record d { level = level }
 
+-- the DTX mode is set
 abbrev pub set_mode : DtxMode → DownMemory → DownMemory
 set_mode mode d = record d { mode = mode }
 
--- shifts thaw where no bridge is on and no handed frame waits
+-- shifts thaw if no bridge is on and no handed frame waits
 abbrev pub thawed : align.AlignMemory → Bool → List (List ℕ) → align.AlignMemory
 thawed m bridged waiting = if bridged || not (length waiting == 0) then m else after_thaw m
 
@@ -94,28 +97,29 @@ begin_bridge m = record m { decoder = decoder.home_memory; down = bridge_begun m
 abbrev pub bridge_over : DownMemory → DownMemory
 bridge_over d = record d { align = thawed d.align false d.waiting; bridged = false }
 
--- at most two handed frames wait
+-- the frame waits; if more than two would wait, only the last two do
 abbrev pub after_handing : DownMemory → EffectiveFields → DownMemory
 after_handing d e = record d { waiting = keep_last 2 (d.waiting ++ bits260 (handed_fields e) ∷ []) }
 
 -- ---- the downlink half
 
--- the speech frame in which 160 octets are sent
+-- the speech frame that is sent for 160 octets
 abbrev pub coded_next : Law → CoderMemory → List ℕ → ℤ → Bool → DownFrame × CoderMemory
 coded_next law m octets level on =
     let encoded = encoder.encoded_frame m.encoder (expanded law octets) in
     let sent = tx.next_sent m.tx (coded_as encoded.0 level on) in
     (speech sent.0, record { encoder = encoded.1; tx = sent.1 })
 
--- the next frame where none waits, and where these do
+-- the next frame if no handed one waits: idle in a quiet period, else the next 160 octets, coded
 abbrev pub own_next : Law → CoderMemory → List ℕ → Bool → ℤ → Bool → DownFrame × CoderMemory
 own_next law m held quiet level on = if quiet then (frame.Idle, home_coder) else coded_next law m (take 160 held) level on
 
+-- the next frame: the handed one that has waited longest, or else the leg's own
 abbrev pub next_by : Law → List (List ℕ) → CoderMemory → List ℕ → Bool → ℤ → Bool → DownFrame × CoderMemory
 next_by law [] m held quiet level on = own_next law m held quiet level on
 next_by law (x ∷ more) m held quiet level on = (frame.Speech x true, home_coder)
 
--- a frame is made, with the coder after it, the shift that it adopts, and the shifts after it
+-- after a frame was made: `next` is the frame with the coder after it, `shift` is its shift with the alignment after it
 abbrev pub after_made : DownMemory → DownFrame × CoderMemory → ℤ × align.AlignMemory → DownMemory
 after_made d next shift = record {
   law = d.law;

@@ -1,4 +1,4 @@
--- What the uplink of a call tells, one period at a time (the frames of GSM 08.60; what they ask is this project's profile).
+-- What each period of a call's uplink brings (the frames of GSM 08.60; what they ask for is this project's profile).
 use Rattle.std.specs.Prelude.{ℕ, Bool, true, false, Option, Some, None}
 use Rattle.trau_frame.specs.declared.frames.Kind.{Kind}
 use Rattle.trau_frame.specs.declared.frames.Kind.TheVariants as kinds
@@ -22,7 +22,7 @@ sighting_in None = Nothing
 sighting_in (Some (yields.Miss p)) = Missed
 sighting_in (Some (yields.Frame p bits)) = Framed (words_in bits)
 
--- the same of what the code finds
+-- the same for what the code finds
 abbrev pub sighting_of : Found → Sighting
 sighting_of found.Nothing = Nothing
 sighting_of found.Missed = Missed
@@ -63,7 +63,7 @@ is_quiet Quiet = true
 is_quiet (Speech p) = false
 is_quiet (Made p) = false
 
--- what an effective frame hands to the partner of a bridge: silence where the call is quiet
+-- the fields that an effective frame hands to the partner of a bridge: silence if the call is quiet
 abbrev pub handed_fields : EffectiveFields → Fields
 handed_fields Quiet = silent_fields
 handed_fields (Speech p) = p

@@ -14,7 +14,7 @@ use trau_frame::DownFrame;
 use trau_orders::DtxMode;
 use tx_dtx::Tx;
 
-/// The encoder, and what sends its frames.
+/// The encoder, and the transmit side (`tx_dtx`) of its frames.
 #[derive(Drop)]
 pub(crate) struct Coder {
     pub(crate) encoder: Encoder,
@@ -33,7 +33,7 @@ pub(crate) fn dtx_on(mode: DtxMode, asked: bool) -> bool
 }
 
 impl Coder {
-    /// Both at home.
+    /// Both in their reset state.
     pub(crate) fn home() -> Coder
         ensures encoder { result.encoder ≡ encoder.home_memory }
         ensures tx { result.tx ≡ tx.home_memory }
@@ -44,7 +44,7 @@ impl Coder {
         }
     }
 
-    /// The frame in which 160 octets of a Pcm line with this law are sent.
+    /// Encodes 160 octets of a Pcm line with this law, and returns the speech frame that is sent for them.
     pub(crate) fn code(&mut self, law: Law, octets: &[u8; 160], level: i16, on: bool) -> DownFrame
         ensures bits { HasBits result }
         ensures step { coded_next law (coder_memory self.old) octets.now level on ≡ (result, coder_memory self.new) }

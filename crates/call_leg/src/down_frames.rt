@@ -1,4 +1,4 @@
-//! How the downlink side of a leg makes its frames: handed ones, idle ones and coded ones.
+//! How the downlink side of a leg makes its frames: handed, idle and coded ones.
 
 ghost use Rattle.std.specs.Prelude.{◌≡◌, ◌≤◌, ◌<◌, ◌+◌, All, length, drop, if◌then◌else◌, ◌||◌};
 ghost use Rattle.trau_bits.specs.Bits.{bits_of, AreBits};
@@ -17,7 +17,7 @@ use time_align::Align;
 use trau_alaw::Law;
 use trau_frame::{DownFrame, write_down};
 
-// The next frame, where none waits: idle in a quiet period, else the frame of the next 160 octets.
+// The next frame if no handed one waits: idle in a quiet period, else the next 160 octets, encoded.
 fn own_frame(
     coder: &mut Coder,
     framer: &Framer,
@@ -39,7 +39,7 @@ fn own_frame(
     coder.code(law, &octets, level, on)
 }
 
-// The next frame: the handed one that waits longest, or else the leg's own.
+// The next frame: the handed one that has waited longest, or else the leg's own.
 fn next_frame(
     waiting: &mut HeapCircularBuffer<[u8; 260]>,
     coder: &mut Coder,
@@ -63,20 +63,21 @@ fn next_frame(
     own_frame(coder, framer, law, quiet, level, on)
 }
 
-// One more than a count, where there is one more.
+// Adds one to a count, if `one` is true. The count stops at the last value of its type.
 fn counted(count: u32, one: bool) -> u32
     ensures { result ≡ (if one then in_u32 (count + 1) else count) }
 {
     if one { count.saturating_add(1) } else { count }
 }
 
+// Adds one to the count of made frames, which stops at the last value of its type.
 fn one_made(count: u64) -> u64
     ensures { result ≡ in_u64 (count + 1) }
 {
     count.saturating_add(1)
 }
 
-/// Thaws the shifts where no bridge is on and no frame waits.
+/// Thaws the shifts if no bridge is on and no handed frame waits.
 pub(crate) fn thaw_at_end(align: &mut Align, bridged: bool, waits: bool)
     ensures { align.new ≡ (if bridged || waits then align.old else after_thaw align.old) }
 {
@@ -86,7 +87,8 @@ pub(crate) fn thaw_at_end(align: &mut Align, bridged: bool, waits: bool)
 }
 
 impl DownSide {
-    // Makes the next frame.
+    // Makes the next frame from the octets held. It uses 160 and as many more as its shift says, which is at least -2:
+    // so at least 158.
     fn make_frame(&mut self)
         requires ready { 160 ≤ length self.old.framer.held }
         ensures within { IsWithinPeriod self.new.framer }
@@ -114,7 +116,7 @@ impl DownSide {
         thaw_at_end(&mut self.align, self.bridged, waits);
     }
 
-    // Makes the next frame, if its last octet has come.
+    // Makes the next frame, if its 160 octets have come.
     fn try_frame(&mut self)
         requires within { IsWithinPeriod self.old.framer }
         ensures within { IsWithinPeriod self.new.framer }
@@ -127,7 +129,7 @@ impl DownSide {
         }
     }
 
-    /// The downlink half of a period, which makes no frame, one or two.
+    /// The downlink half of a period. It makes at most two frames.
     pub(crate) fn half(&mut self, pcm: &[u8; 160], down: &mut [u8; 40])
         requires between { IsBetweenPeriods self.old.framer }
         ensures between { IsBetweenPeriods self.new.framer }

@@ -1,4 +1,4 @@
-//! What the downlink side of a leg keeps.
+//! The state of a leg's downlink side.
 
 ghost use Rattle.std.specs.Prelude.{◌≡◌, All};
 ghost use Rattle.trau_bits.specs.Bits.{AreBits};
@@ -17,7 +17,7 @@ pub(crate) struct DownSide {
     pub(crate) law: Law,
     pub(crate) framer: Framer,
     pub(crate) align: Align,
-    // The 260 bits of each handed frame that no frame has carried yet.
+    // The 260 bits of each handed frame that hasn't gone out yet.
     pub(crate) waiting: HeapCircularBuffer<[u8; 260]>,
     pub(crate) coder: Coder,
     pub(crate) level: i16,
@@ -27,9 +27,9 @@ pub(crate) struct DownSide {
     // Whether the period's effective frame is quiet.
     pub(crate) quiet: bool,
     pub(crate) bridged: bool,
-    // Handed frames of the latest bridge that went out.
+    // How many handed frames of the latest bridge went out.
     pub(crate) sent: u32,
-    // Frames made.
+    // How many frames were made.
     pub(crate) made: u64,
     pub(crate) ghost are_bits: { All (λ d. AreBits d) waiting.items },
     pub(crate) ghost room: { waiting.capacity ≡ 2 },

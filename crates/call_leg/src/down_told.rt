@@ -1,4 +1,4 @@
-//! What the downlink side of a leg is told: of the uplink, of the partner's frames, and of bridges.
+//! The inputs of a leg's downlink side: what the uplink brings, the partner's frames, and bridges.
 
 ghost use Rattle.std.specs.Prelude.{◌≡◌, ◌<◌, not, ◌&&◌, ◌==◌, length, IfOk, IfSome, option_copied};
 ghost use Rattle.down_framer.specs.Memory.{IsBetweenPeriods};
@@ -33,7 +33,7 @@ fn ask(align: &mut Align, field: Option<u8>)
 }
 
 impl DownSide {
-    /// The downlink side of a new call whose octets are of this law.
+    /// The downlink side of a new call with this law.
     pub(crate) fn new(alloc: Global, law: Law) -> Result<DownSide, AllocError>
         ensures between { IfOk result (λ d. IsBetweenPeriods d.framer) }
         ensures value { IfOk result (λ d. down_memory d ≡ home_down law) }
@@ -56,7 +56,7 @@ impl DownSide {
         })
     }
 
-    /// Hears what a period of the uplink brings, and whether the period is quiet.
+    /// Takes over what a period of the uplink brings, and whether the period is quiet.
     pub(crate) fn hear(&mut self, found: &Found, quiet: bool)
         ensures framer { self.new.framer ≡ self.old.framer }
         ensures step { down_memory self.new ≡ after_sighting (down_memory self.old) (sighting_of found.now) quiet }
@@ -66,7 +66,7 @@ impl DownSide {
         self.quiet = quiet;
     }
 
-    /// Hears what a note of the uplink tells.
+    /// Takes over a note of the uplink.
     pub(crate) fn note(&mut self, note: &UpNote)
         ensures framer { self.new.framer ≡ self.old.framer }
         ensures step { down_memory self.new ≡ noted (down_memory self.old) note.now }
@@ -98,7 +98,7 @@ impl DownSide {
         }
     }
 
-    /// A bridge is on from the next period on.
+    /// Starts a bridge with the next period.
     pub(crate) fn bridge_on(&mut self)
         ensures framer { self.new.framer ≡ self.old.framer }
         ensures step { down_memory self.new ≡ bridge_begun (down_memory self.old) }
@@ -109,7 +109,7 @@ impl DownSide {
         self.sent = 0;
     }
 
-    /// The bridge is off from the next period on.
+    /// Ends the bridge: the next period is the first without it.
     pub(crate) fn bridge_off(&mut self)
         ensures framer { self.new.framer ≡ self.old.framer }
         ensures step { down_memory self.new ≡ bridge_over (down_memory self.old) }
@@ -119,7 +119,7 @@ impl DownSide {
         self.bridged = false;
     }
 
-    /// Whether no bridge is on and a handed frame waits.
+    /// Whether a handed frame waits while no bridge is on.
     pub(crate) fn draining(&self) -> bool
         ensures { result ≡ (not self.now.bridged && not (length self.now.waiting.items == 0)) }
     {

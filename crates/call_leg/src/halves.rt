@@ -1,4 +1,4 @@
-//! The halves of a leg, apart, and what one tells the other.
+//! The two halves of a leg as separate values, and the note that goes from one to the other.
 
 use crate::down_side::DownSide;
 use fr_decoder::Decoder;
@@ -8,14 +8,14 @@ use std::marker::Model;
 use trau_alaw::Law;
 use trau_io::Counts;
 
-/// What a period of the uplink tells the downlink.
+/// What the downlink needs to know about a period of the uplink.
 #[derive(Drop)]
 pub struct UpNote {
     /// The effective frame of the period.
     pub eff: Effective,
-    /// The alignment field of a frame of speech or idle, of 6 bits; 0, which asks for nothing, where none came.
+    /// The 6-bit alignment field of a speech or idle frame; 0, which asks for nothing, if none came.
     pub ask: u8,
-    /// DTXd of a speech frame, where one came.
+    /// DTXd of a speech frame, if one came.
     pub dtx: Option<bool>,
 }
 

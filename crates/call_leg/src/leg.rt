@@ -1,4 +1,4 @@
-//! The leg of a call: what it keeps, and its operations (the halves of a period, bridges, settings, and what it tells).
+//! The leg of a call: its state and its operations (the halves of a period, bridges, settings, counts).
 
 ghost use Rattle.std.specs.Prelude.{◌≡◌, ◌≤◌, ◌<◌, ◌+◌, ℕ, ℤ, pos, ◌≤ℤ◌, true, false, not, ◌&&◌, ◌==◌, Option, Some, None, is_some, List, [], ◌∷◌, length};
 ghost use Rattle.std.specs.Prelude.{IfOk};
@@ -31,13 +31,13 @@ use trau_alaw::Law;
 use trau_io::{Counts, NO_COUNTS};
 use trau_orders::DtxMode;
 
-/// The leg of one call. It is alone, bridged or draining: within a bridge its partner's frames go out on its downlink,
-/// and it drains where one of them still waits after the bridge.
+/// The leg of one call. It is alone, bridged or draining. Within a bridge its partner's frames go out on its
+/// downlink; it is draining while one of them still waits after the bridge.
 ///
-/// A period is `up_half`, within a bridge `hand` with the partner's effective frame, and `down_half`; of a leg that
-/// isn't bridged, `period` is both halves. Level, DTX and bridges are set between periods, and a bridge begins only
-/// while no handed frame waits (`draining` is false). In another order its functions are safe too and do their one step
-/// (`step`); the clauses on a call's history then say nothing.
+/// A period is `up_half`, then within a bridge `hand` with the partner's effective frame, then `down_half`. For a
+/// leg that isn't bridged, `period` is both halves. Level, DTX and bridges are set between periods, and a bridge
+/// begins only while no handed frame waits (`draining` is false). Called in another order, the functions are still
+/// safe and still meet `step`; only the clauses on a call's history then say nothing.
 #[derive(Drop)]
 pub struct Leg {
     // The law of the call's octets from and to the exchange. The downlink side has it too.
@@ -63,8 +63,8 @@ impl Model for Leg {
 }
 
 impl Leg {
-    /// The leg of a call with this number, 1 to 4,096, whose octets from and to the exchange are of this law, before its
-    /// first period: alone, with level 256 and DTX as the uplink asks.
+    /// The leg of a call before its first period: alone, with level 256 and DTX as the uplink asks. `call` is its
+    /// number, 1 to 4,096, and `law` that of its octets from and to the exchange.
     pub fn new(alloc: Global, call: u32, law: Law) -> Result<Leg, AllocError>
         requires { IsCallNumber call }
         ensures value { IfOk result (λ leg. leg ≡ home_memory (record { number = call; law = law })) }
@@ -82,17 +82,18 @@ impl Leg {
         })
     }
 
-    /// The uplink half of a period: takes its 40 octets of the Up line, gives its 160 of the Out line, and answers its
-    /// effective frame. A call has at most 4,294,967,295 periods.
+    /// The uplink half of a period: reads its 40 octets of the Up line, writes its 160 of the Out line, and returns
+    /// its effective frame. A call has at most 4,294,967,295 periods.
     pub fn up_half(&mut self, up: &[u8; 40], out: &mut [u8; 160]) -> Effective
         requires { periods_of_leg self.old < 4294967295 }
         ensures step { up_worked self.old up.now ≡ (effective_fields result, out.new, self.new) }
         ensures periods { periods_of_leg self.new ≡ periods_of_leg self.old + 1 }
 
-        // After the periods of any call, the next one's uplink half is worked ..
+        // If the leg stands for the periods of a call (`Stands`), it is now midway in the next one (`Midway`) ..
         ensures history { OfItsCall self.old (λ who ts now. Midway who ts now up.now None self.new) }
 
-        // .. and its effective frame and octets are those of the call.
+        // .. and its effective frame and octets are the call's, whatever that period has on Pcm and is handed. For `out`,
+        // a frame is handed over exactly if the period lies in a bridge.
         ensures effective { (pcm : List ℕ) (handed : Option (List ℕ)) → OfItsCall self.old (λ who ts now.
             effective_fields result ≡ effective_now who.number (period_with now up.now pcm handed ∷ ts)) }
         ensures out { (pcm : List ℕ) (handed : Option (List ℕ)) → OfItsCall self.old (λ who ts now.
@@ -117,13 +118,14 @@ impl Leg {
         self.down.hand(&e);
     }
 
-    /// The downlink half of a period: takes its 160 octets of the Pcm line, and gives its 40 of the Down line.
+    /// The downlink half of a period: reads its 160 octets of the Pcm line, and writes its 40 of the Down line.
     pub fn down_half(&mut self, pcm: &[u8; 160], down: &mut [u8; 40])
         ensures step { self.new ≡ with_down self.old self.new.down }
         ensures bits { down_worked self.old.down pcm.now ≡ (bits_of down.new, self.new.down) }
         ensures periods { periods_of_leg self.new ≡ periods_of_leg self.old }
 
-        // After the uplink half of a call's next period, and within a bridge the handing over, the period is worked ..
+        // If the leg is midway in a call's next period, and a frame was handed over exactly if that period lies in a
+        // bridge, the period is now complete ..
         ensures history { (who : Who) (ts : List CallPeriod) (now : Settings) (up : List ℕ) (handed : Option (List ℕ)) →
             is_some handed ≡ now.bridged → Midway who ts now up handed self.old →
             Stands who (period_with now up pcm.now handed ∷ ts) (settings_later now) self.new }
@@ -158,7 +160,7 @@ impl Leg {
         self.down_half(pcm, down);
     }
 
-    /// A bridge is on from the next period on. No handed frame may wait.
+    /// Starts a bridge with the next period. While a handed frame waits, `history` says nothing.
     pub fn bridge_on(&mut self)
         ensures periods { periods_of_leg self.new ≡ periods_of_leg self.old }
         ensures step { self.new ≡ begin_bridge self.old }
@@ -169,7 +171,7 @@ impl Leg {
         self.down.bridge_on();
     }
 
-    /// The bridge is off from the next period on.
+    /// Ends the bridge: the next period is the first without it.
     pub fn bridge_off(&mut self)
         ensures periods { periods_of_leg self.new ≡ periods_of_leg self.old }
         ensures step { self.new ≡ with_down self.old (bridge_over self.old.down) }
@@ -178,7 +180,7 @@ impl Leg {
         self.down.bridge_off();
     }
 
-    /// Whether it isn't bridged and a handed frame waits. Between periods at most one waits.
+    /// Whether a handed frame waits while the leg isn't bridged. Between periods at most one waits.
     pub fn draining(&self) -> bool
         ensures memory { result ≡ (not self.now.down.bridged && not (length self.now.down.waiting == 0)) }
         ensures value { OfItsCall self.now (λ who ts now. result ≡ is_draining ts now) }
@@ -206,7 +208,7 @@ impl Leg {
         self.down.mode = mode;
     }
 
-    /// How many handed frames were sent in the latest bridge.
+    /// How many handed frames of the latest bridge were sent.
     pub fn sent(&self) -> u32
         ensures memory { result ≡ self.now.down.sent }
         ensures history { OfItsCall self.now (λ who ts now. result ≡ sent_now ts now) }
@@ -214,7 +216,7 @@ impl Leg {
         self.down.sent
     }
 
-    /// What was counted of the call's periods.
+    /// What was counted over the call's periods.
     pub fn counts(&self) -> Counts
         ensures memory { result ≡ record self.now.counts { made = self.now.down.made } }
         ensures history { OfItsCall self.now (λ who ts now. result ≡ call_counts ts) }

@@ -1,6 +1,6 @@
-//! What the halves of a leg do: they are split and joined, work periods, and their bridges end.
+//! Operations of a leg's halves: splitting and joining, periods, and what orders set between periods.
 
-ghost use Rattle.std.specs.Prelude.{◌≡◌, ◌≤◌, ◌<◌, ◌+◌, ℕ, true, is_some, Option, List, ◌∷◌, option_copied};
+ghost use Rattle.std.specs.Prelude.{◌≡◌, ◌≤◌, ◌<◌, ◌+◌, ℕ, pos, ◌≤ℤ◌, true, is_some, Option, List, ◌∷◌, option_copied};
 ghost use Rattle.trau_bits.specs.Bits.{bits_of};
 ghost use Rattle.call_leg.specs.Who.{Who};
 ghost use Rattle.call_leg.specs.Periods.{CallPeriod};
@@ -9,17 +9,20 @@ ghost use Rattle.call_leg.specs.Out.{out_of};
 ghost use Rattle.call_leg.specs.Down.{down_now};
 ghost use Rattle.call_leg.specs.Places.{Between};
 ghost use Rattle.call_leg.specs.Stands.{Stands, OfItsCall};
-ghost use Rattle.call_leg.specs.Step.{bridge_over};
-ghost use Rattle.call_leg.specs.Halves.{up_of, joined, up_turned, down_turned, up_unbridged, item_of, handed_bits, note_in, UpStands, OfItsUp};
+ghost use Rattle.call_leg.specs.Step.{bridge_begun, bridge_over, set_level, set_mode};
+ghost use Rattle.call_leg.specs.Halves.{up_of, joined, up_turned, down_turned, up_bridged, up_unbridged, item_of, handed_bits, note_in, UpStands, OfItsUp};
 
 use crate::halves::{DownLeg, UpLeg, UpNote};
 use crate::leg::Leg;
 use crate::up::{hear, play};
 use crate::uplink::{asked, count, dtx_told, read};
+use fr_decoder::Decoder;
 use rx_handler::Effective;
+use trau_io::Counts;
+use trau_orders::DtxMode;
 
 impl Leg {
-    /// The halves of a leg, between periods.
+    /// Splits a leg, between periods, into its halves.
     pub fn split(self) -> (UpLeg, DownLeg)
         ensures up { result.0 ≡ up_of self }
         ensures down { result.1 ≡ self.down }
@@ -44,7 +47,7 @@ impl Leg {
         (up, DownLeg { side: down })
     }
 
-    /// The leg of two halves of one call that had the same periods.
+    /// Joins two halves. If both stand for the same call, periods and next settings, so does the leg (`history`).
     pub fn join(up: UpLeg, down: DownLeg) -> Leg
         ensures step { result ≡ joined up down }
         ensures history { (who : Who) (ts : List CallPeriod) (now : Settings) → UpStands who ts now up → Between who ts now down → Stands who ts now result }
@@ -77,20 +80,20 @@ impl UpLeg {
         self.bridged
     }
 
-    /// A period of the uplink: takes its 40 octets of the Up line, gives its 160 of the Out line, and answers what it
-    /// tells the downlink. A call has at most 4,294,967,295 periods.
+    /// A period of the uplink: reads its 40 octets of the Up line, writes its 160 of the Out line, and returns the
+    /// note for the downlink. A call has at most 4,294,967,295 periods.
     pub fn turn(&mut self, up: &[u8; 40], out: &mut [u8; 160]) -> UpNote
         requires { self.old.search.periods < 4294967295 }
         ensures step { up_turned self.old up.now ≡ (result, out.new, self.new) }
         ensures periods { self.new.search.periods ≡ self.old.search.periods + 1 }
         ensures bridged { self.new.bridged ≡ self.old.bridged }
 
-        // After the periods of any call, whatever octets of the Pcm line and whatever handed bits its next one has, the
-        // half stands for the call with that period more ..
+        // If the half stands for the periods of a call, it now stands for these and one more, whatever that one has on
+        // Pcm and is handed (something exactly if it lies in a bridge) ..
         ensures history { (pcm : List ℕ) (handed : Option (List ℕ)) → OfItsUp self.old (λ who ts now. is_some handed ≡ now.bridged →
             UpStands who (period_with now up.now pcm handed ∷ ts) (settings_later now) self.new) }
 
-        // .. and its note and its octets are those of the call.
+        // .. and its note and octets are those of the call.
         ensures note { OfItsUp self.old (λ who ts now. result ≡ note_in who.number ts up.now) }
         ensures out { (pcm : List ℕ) (handed : Option (List ℕ)) → OfItsUp self.old (λ who ts now. is_some handed ≡ now.bridged →
             out.new ≡ out_of who (period_with now up.now pcm handed ∷ ts)) }
@@ -107,7 +110,30 @@ impl UpLeg {
         }
     }
 
-    /// Has a bridge from now on exactly where the downlink half has one, as in the leg of both.
+    /// Starts a bridge with the next period.
+    pub fn bridge_on(&mut self)
+        ensures periods { self.new.search.periods ≡ self.old.search.periods }
+        ensures step { self.new ≡ up_bridged self.old }
+    {
+        self.decoder = Decoder::home();
+        self.bridged = true;
+    }
+
+    /// What was counted over the call's periods, without the number of frames made.
+    pub fn counts(&self) -> Counts
+        ensures { result ≡ self.now.counts }
+    {
+        self.counts
+    }
+
+    /// For the prover only: it has had at most 4,294,967,295 periods.
+    pub fn periods_are_few(&self)
+        ensures { self.now.search.periods ≤ 4294967295 }
+    {
+        let _ = &self.search;
+    }
+
+    /// Takes over from the downlink half whether a bridge is on.
     pub fn agree(&mut self, down: &DownLeg)
         ensures step { self.new ≡ up_of (joined self.old down.now) }
         ensures periods { self.new.search.periods ≤ 4294967295 }
@@ -115,7 +141,7 @@ impl UpLeg {
         self.bridged = down.bridged();
     }
 
-    /// The bridge is off from the next period on.
+    /// Ends the bridge: the next period is the first without it.
     pub fn bridge_off(&mut self)
         requires { self.old.bridged ≡ true }
         ensures periods { self.new.search.periods ≡ self.old.search.periods }
@@ -134,8 +160,9 @@ impl DownLeg {
         self.side.bridged
     }
 
-    /// A period of the downlink, after that of the uplink whose note is given: takes within a bridge the partner's
-    /// effective frame of the period, and its 160 octets of the Pcm line, and gives its 40 of the Down line.
+    /// A period of the downlink, after the period of the uplink that gave the note. It reads its 160 octets of the
+    /// Pcm line and writes its 40 of the Down line. Within a bridge, `item` is the partner's effective frame of the
+    /// period.
     pub fn turn(
         &mut self,
         note: &UpNote,
@@ -146,8 +173,8 @@ impl DownLeg {
         ensures step { down_turned self.old note.now (item_of (option_copied item.entry)) pcm.now ≡ (bits_of down.new, self.new) }
         ensures bridged { self.new.bridged ≡ self.old.bridged }
 
-        // After the periods of any call, with the note of its next one, and an effective frame where it lies in a bridge,
-        // the half stands for the call with that period more ..
+        // If the half stands for the periods of a call, `note` is that of the next period, and `item` is given exactly if
+        // that period lies in a bridge, the half now stands for the periods with that one ..
         ensures history { (who : Who) (ts : List CallPeriod) (now : Settings) (up : List ℕ) → Between who ts now self.old →
             note.now ≡ note_in who.number ts up →
             is_some item.entry ≡ now.bridged →
@@ -163,7 +190,43 @@ impl DownLeg {
         self.side.half(pcm, down);
     }
 
-    /// The bridge is off from the next period on.
+    /// Starts a bridge with the next period. That no handed frame waits is a premise of the leg's law (`orders_stand`).
+    pub fn bridge_on(&mut self)
+        ensures { self.new ≡ bridge_begun self.old }
+    {
+        self.side.bridge_on();
+    }
+
+    /// Sets the level below which a frame's peak counts as silence, from the next period on.
+    pub fn set_level(&mut self, level: i16)
+        requires { pos 0 ≤ℤ level }
+        ensures { self.new ≡ set_level level self.old }
+    {
+        self.side.level = level;
+    }
+
+    /// Sets when DTX is on, from the next period on.
+    pub fn set_dtx(&mut self, mode: DtxMode)
+        ensures { self.new ≡ set_mode mode self.old }
+    {
+        self.side.mode = mode;
+    }
+
+    /// How many handed frames of the latest bridge were sent.
+    pub fn sent(&self) -> u32
+        ensures { result ≡ self.now.sent }
+    {
+        self.side.sent
+    }
+
+    /// How many frames were made.
+    pub fn made(&self) -> u64
+        ensures { result ≡ self.now.made }
+    {
+        self.side.made
+    }
+
+    /// Ends the bridge: the next period is the first without it.
     pub fn bridge_off(&mut self)
         requires { self.old.bridged ≡ true }
         ensures step { self.new ≡ bridge_over self.old }

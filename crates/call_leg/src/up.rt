@@ -1,4 +1,4 @@
-//! The way up: what is heard, and what is played out.
+//! The uplink: from what is found to the octets of the Out line.
 
 ghost use Rattle.std.specs.Prelude.{◌≡◌};
 ghost use Rattle.trau_params.specs.Fields.{fields_of};
@@ -13,7 +13,7 @@ use rx_handler::{Effective, Rx};
 use trau_alaw::{Law, compress_all, idle_octet};
 use trau_params::{Params, silence};
 
-/// The effective frame of a period.
+/// Processes a period on the receive side, and returns its effective frame.
 pub(crate) fn hear(rx: &mut Rx, found: &Found) -> Effective
     ensures { received rx.old (heard_as (sighting_of found.now)) ≡ (effective_fields result, rx.new) }
 {
@@ -43,7 +43,7 @@ pub(crate) fn handed(e: &Effective) -> Params
     }
 }
 
-// The octets of the next frame of a plain stretch.
+// Decodes the next frame of a plain stretch.
 fn decode(decoder: &mut Decoder, law: Law, p: &Params, octets: &mut [u8; 160])
     ensures { played_frame law decoder.old (fields_of p.now) ≡ (octets.new, decoder.new) }
 {
@@ -52,7 +52,8 @@ fn decode(decoder: &mut Decoder, law: Law, p: &Params, octets: &mut [u8; 160])
     compress_all(law, &x, octets);
 }
 
-/// The octets of a period on a line with this law: decoded where it is plain, else those of a line that is idle.
+/// The octets of a period: its effective frame, decoded, if the leg is alone and the period isn't quiet; else idle octets,
+/// and the decoder is reset.
 pub(crate) fn play(
     decoder: &mut Decoder,
     law: Law,

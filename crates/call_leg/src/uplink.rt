@@ -36,7 +36,7 @@ pub(crate) fn field(found: &Found) -> Option<u8>
     }
 }
 
-/// The same, and 0 where there is none.
+/// The alignment field of a frame of speech or idle; 0 if there is none.
 pub(crate) fn asked(found: &Found) -> u8
     ensures value { result ≡ unwrap_or (field_of (sighting_of found.now)) 0 }
     ensures within { result ≤ 63 }
@@ -47,7 +47,7 @@ pub(crate) fn asked(found: &Found) -> u8
     }
 }
 
-/// DTXd of a speech frame, where one came.
+/// DTXd of a speech frame, if one came.
 pub(crate) fn dtx_told(found: &Found) -> Option<bool>
     ensures { result ≡ dtx_told (sighting_of found.now) }
 {
@@ -60,7 +60,7 @@ pub(crate) fn dtx_told(found: &Found) -> Option<bool>
     }
 }
 
-/// DTXd of the last speech frame, after one more period.
+/// DTXd of the last speech frame up to this period; `before`: up to the one before.
 pub(crate) fn dtxd(found: &Found, before: bool) -> bool
     ensures { result ≡ dtxd_after (sighting_of found.now) before }
 {
@@ -73,7 +73,7 @@ pub(crate) fn dtxd(found: &Found, before: bool) -> bool
     }
 }
 
-// Counts a frame.
+// Counts a frame: a speech frame by its class, any other by its kind.
 fn count_frame(counts: &mut Counts, kind: Kind, class: Class)
     requires { sighted_in counts.old < 4294967295 }
     ensures value { counts.new ≡ counted_frame kind class counts.old }

@@ -14,8 +14,9 @@ use Rattle.call_leg.specs.Places.{Between}
 use Rattle.call_leg.specs.Halves.{note_in, down_turned, handed_bits}
 use Rattle.call_leg.specs.Runs.{EndsAt, AreNotes, UpRun, DownRun, periods_run, downs_run, handed_run}
 use Rattle.call_leg.proofs.HalfLaws.{down_turn-stands, down_off-stands}
+use Rattle.call_leg.proofs.NotedRuns.{run-downs}
 use Rattle.call_pair.specs.Memory.{IoMemory, HalfMemory}
-use Rattle.call_pair.specs.Places.{pcm_at, written}
+use Rattle.call_pair.specs.Periods.{pcm_at, written}
 use Rattle.call_pair.specs.History.{Start, who_of, settings_past, Begins}
 use Rattle.call_pair.specs.Phases.{CallMemory, down_before, item_if, effective_in, first_phase, second_phase, half_run}
 use Rattle.call_pair.specs.Told.{Speaks, HalfRuns, history_of, ups_in, pcms_in}
@@ -24,7 +25,7 @@ use Rattle.call_pair.proofs.Octets.{written-seam}
 use Rattle.call_pair.proofs.Places.{length-pcm_at, not_below}
 use Rattle.call_pair.proofs.Runs.{set-past}
 use Rattle.call_pair.proofs.Sequences.{told, outs, made_from, downs, lines}
-use Rattle.call_pair.proofs.Phased.{notes, note-is, taken, second_after, second-finished, run-is}
+use Rattle.call_pair.proofs.Phased.{notes, length-notes, note-is, taken, second_after, second-finished, run-is}
 use Rattle.call_pair.proofs.BridgeEnd.{set_for, set-flag, set-next, set-period, ready}
 use Rattle.call_pair.proofs.UplinkRuns.{outs_told, note-told, given-is, none-done, up-run, outs-line, first-is}
 
@@ -140,12 +141,19 @@ module _ (s : Start) (h : HalfMemory) (m : ℕ) (b : Begins s h) where
     own-notes : (k : ℕ) → k < s.io.given → (told m h k).0 ≡ note_in s.io.call (periods_run (history_of s) (ups_in s) (pcms_in s) given_to k) (ups_in s k)
     own-notes k l = note-told s h m b (pcms_in s) given_to items-end k l
 
+    own-are : AreNotes (history_of s) (ups_in s) (pcms_in s) frames s.io.given (notes m h h.io.given)
+    own-are k none l = note-is m h h.io.given k none (omega (arith, l, (given-is s h m b))) ∙ own-notes k l
+
     other-notes : (heard : ℕ → List ℕ) → AreNotes (history_of s) heard (pcms_in s) frames s.io.given (notes m h h.io.given) →
         (k : ℕ) → k < s.io.given → (told m h k).0 ≡ note_in s.io.call (periods_run (history_of s) heard (pcms_in s) given_to k) (heard k)
     other-notes heard a k l = sym (note-is m h h.io.given k (told m h k).0 (omega (arith, l, (given-is s h m b)))) ∙ a k (told m h k).0 l
 
     down-run : DownRun (history_of s) (notes m h h.io.given) frames (pcms_in s) s.io.given (downs_said m (taken frames) h s.io.given)
-    down-run = record { down = λ heard a. downs-run heard (other-notes heard a) s.io.given (omega arith) }
+    down-run = record {
+      all = length-notes m h h.io.given ∙ given-is s h m b;
+      down = downs-run (ups_in s) own-notes s.io.given (omega arith)
+          ∙ sym (run-downs (history_of s) (ups_in s) (pcms_in s) frames s.io.given (notes m h h.io.given) own-are s.io.given (omega arith));
+    }
 
     lines-line : lines m (taken frames) h h.io.given ≡ downs_said m (taken frames) h s.io.given ++ drop (40 * s.io.given) s.io.down
     lines-line = ap (λ (i : ℕ). lines m (taken frames) h i) (given-is s h m b) ∙ lines-said (ups_in s) own-notes s.io.given (omega arith)

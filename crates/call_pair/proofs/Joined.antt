@@ -7,7 +7,7 @@ use Rattle.call_leg.specs.Step.{up_worked, with_down, after_handing, bridge_over
 use Rattle.call_leg.specs.Halves.{UpMemory, joined, up_turned, noted, with_handed, down_turned, up_unbridged}
 use Rattle.call_leg.proofs.HalfLaws.{halves-worked}
 use Rattle.call_pair.specs.Memory.{IoMemory, HalfMemory}
-use Rattle.call_pair.specs.Places.{up_at, pcm_at, with_out, with_place}
+use Rattle.call_pair.specs.Periods.{up_at, pcm_at, with_out, with_period}
 use Rattle.call_pair.specs.Turn.{unbridged, leg_at, effective, place_worked, half_turned}
 use Rattle.call_pair.specs.Phases.{up_before, down_before, item_if}
 
@@ -63,13 +63,13 @@ item-handed false d e = refl
 worked-joined : (e : EffectiveFields) (u : UpMemory) (d : DownMemory) (io : IoMemory) → u.bridged ≡ d.bridged →
     let t = up_turned u (up_at io.done io) in
     let w = down_turned d t.0 (item_if d.bridged e) (pcm_at io.done io) in
-    place_worked e (joined u d) io ≡ record { leg = joined t.2 w.1; io = with_place (with_out io t.1) (octets_of w.0) }
+    place_worked e (joined u d) io ≡ record { leg = joined t.2 w.1; io = with_period (with_out io t.1) (octets_of w.0) }
 unfolding down_turned
 worked-joined e u d io flag =
     let t = up_turned u (up_at io.done io) in
     let rest : EffectiveFields × List ℕ × LegMemory → DownMemory → HalfMemory = λ first down.
     let last = down_worked down (pcm_at io.done io) in
-    record { leg = with_down first.2 last.1; io = with_place (with_out io first.1) (octets_of last.0) } in
+    record { leg = with_down first.2 last.1; io = with_period (with_out io first.1) (octets_of last.0) } in
     ap (λ (f : EffectiveFields × List ℕ × LegMemory). rest f (if d.bridged then after_handing f.2.down e else f.2.down))
     (joined-worked u d (up_at io.done io) flag)
     ∙ ap (rest (t.0.eff, t.1, joined t.2 (noted d t.0))) (item-handed d.bridged (noted d t.0) e)
@@ -79,7 +79,7 @@ pub turned-joined : (m : ℕ) (e : EffectiveFields) (u : UpMemory) (d : DownMemo
     let t = up_turned (up_before m io.done u) (up_at io.done io) in
     let c = down_before m io.done d in
     let w = down_turned c t.0 (item_if c.bridged e) (pcm_at io.done io) in
-    half_turned m e (record { leg = joined u d; io = io }) ≡ record { leg = joined t.2 w.1; io = with_place (with_out io t.1) (octets_of w.0) }
+    half_turned m e (record { leg = joined u d; io = io }) ≡ record { leg = joined t.2 w.1; io = with_period (with_out io t.1) (octets_of w.0) }
 turned-joined m e u d io flag =
     ap (λ (l : LegMemory). place_worked e l io) (leg-before m u d io flag)
     ∙ worked-joined e (up_before m io.done u) (down_before m io.done d) io (before-flag m io.done u d flag)

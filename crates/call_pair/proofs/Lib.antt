@@ -13,3 +13,4 @@ pub mod UplinkRuns
 pub mod DownlinkRuns
 pub mod Telling
 pub mod Lent
+pub mod Rounded

@@ -8,9 +8,8 @@ use Rattle.std.proofs.Math.Seq.{get_or-append_seam}
 use Rattle.trau_bits.specs.Bits.{octets_of}
 use Rattle.rx_handler.specs.Origin.{EffectiveFields, Quiet}
 use Rattle.call_leg.specs.Halves.{Note, down_turned}
-use Rattle.call_pair.specs.Memory.{HalfMemory}
-use Rattle.call_pair.specs.declared.job.Job.TheVariants.{One, Two}
-use Rattle.call_pair.specs.Places.{pcm_at, with_place, has_place}
+use Rattle.call_pair.specs.Memory.{HalfMemory, One, Two}
+use Rattle.call_pair.specs.Periods.{pcm_at, with_period, has_period}
 use Rattle.call_pair.specs.Turn.{effective, half_turned_if}
 use Rattle.call_pair.specs.Jobs.{job_left, after_turns, finished}
 use Rattle.call_pair.specs.Phases.{CallMemory, down_before, item_if, effective_in, call_turned, after_call_turns, periods_left, call_finished, turned_down}
@@ -98,7 +97,7 @@ second-step m frames h k l =
     turned_is (second_after m frames h k) true (is_below k h.io.given l)
     ∙ ap (λ (note : Note).
     let w = down_turned c note (item_if c.bridged (effective_in k frames)) (pcm_at k h.io) in
-    record (second_after m frames h k) { down = w.1; io = with_place (io_from h (outs m h h.io.given) (lines m (taken frames) h k) k) (octets_of w.0) })
+    record (second_after m frames h k) { down = w.1; io = with_period (io_from h (outs m h h.io.given) (lines m (taken frames) h k) k) (octets_of w.0) })
     (note-is m h h.io.given k (record { eff = Quiet; ask = 0; dtx = None }) l)
     ∙ ap (λ (n : ℕ). record (second_after m frames h (suc k)) { io = io_from h (outs m h h.io.given) (lines m (taken frames) h (suc k)) n }) next
 
@@ -173,7 +172,7 @@ two-run p q g h ep eq (suc n) k e =
     let told-a = λ (l : k < m).
     let here : min k g.io.given ≡ k = omega arith in
     ap (λ (i : ℕ). effective m (half_after m p g i)) here ∙ effective-at m p g k ∙ sym (eq k l) in
-    ap (λ (x : HalfMemory). after_turns n (Two x (half_turned_if (has_place b.io) m (effective m a) b))) (step m p g k (effective m b) told-b)
+    ap (λ (x : HalfMemory). after_turns n (Two x (half_turned_if (has_period b.io) m (effective m a) b))) (step m p g k (effective m b) told-b)
     ∙ ap (λ (x : HalfMemory). after_turns n (Two (half_after m p g (min (suc k) g.io.given)) x)) (step m q h k (effective m a) told-a)
     ∙ two-run p q g h ep eq n (suc k) (omega arith)
 

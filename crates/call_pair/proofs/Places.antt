@@ -5,7 +5,7 @@ use Rattle.std.proofs.lemmas.List.{drop-drop, with_items_is}
 use Rattle.std.specs.Vec.{with_items}
 use borrow.Rule.Slice.PartMut.{put_mid, mid_of, same_len_mid}
 use Rattle.call_pair.specs.Memory.{IoMemory, IsIo}
-use Rattle.call_pair.specs.Places.{up_at, pcm_at, written}
+use Rattle.call_pair.specs.Periods.{up_at, pcm_at, written}
 use Rattle.call_pair.proofs.Lengths.{length-taken}
 
 pub length-up_at : (io : IoMemory) (k : ℕ) → IsIo io → k < io.given → length (up_at k io) ≡ 40

@@ -7,10 +7,8 @@ use Rattle.rx_handler.specs.Origin.{EffectiveFields}
 use Rattle.call_leg.specs.Uplink.{handed_fields}
 use Rattle.call_leg.specs.Periods.{CallPeriod, effective_now}
 use Rattle.call_leg.specs.Settings.{Settings, without_bridge, settings_at}
-use Rattle.call_pair.specs.Memory.{IoMemory, HalfMemory, IsIo, places_left}
-use Rattle.call_pair.specs.declared.job.Job.{Job}
-use Rattle.call_pair.specs.declared.job.Job.TheVariants.{Two}
-use Rattle.call_pair.specs.Places.{has_place}
+use Rattle.call_pair.specs.Memory.{IoMemory, HalfMemory, IsIo, places_left, Job, Two}
+use Rattle.call_pair.specs.Periods.{has_period}
 use Rattle.call_pair.specs.Turn.{effective, half_turned, half_turned_if, turned}
 use Rattle.call_pair.specs.Jobs.{job_left, after_turns, finished}
 use Rattle.call_pair.specs.History.{Start, period_at, handed_at, bridged_periods, settings_past, Begins, HasWorked}
@@ -23,11 +21,11 @@ use Rattle.call_pair.proofs.RunsAlone.{placed, given-is, begun, begun-left, stil
 -- ---- two calls
 
 -- by whether each has a place
-turned-two : (g h : HalfMemory) (x y : Bool) (m : ℕ) → has_place g.io ≡ x → has_place h.io ≡ y → min g.io.given h.io.given ≡ m →
+turned-two : (g h : HalfMemory) (x y : Bool) (m : ℕ) → has_period g.io ≡ x → has_period h.io ≡ y → min g.io.given h.io.given ≡ m →
     turned (Two g h) ≡ Two (half_turned_if x m (effective m h) g) (half_turned_if y m (effective m g) h)
 turned-two g h x y m e f l =
-    ap (λ (n : ℕ). Two (half_turned_if (has_place g.io) n (effective n h) g) (half_turned_if (has_place h.io) n (effective n g) h)) l
-    ∙ ap (λ (b : Bool). Two (half_turned_if b m (effective m h) g) (half_turned_if (has_place h.io) m (effective m g) h)) e
+    ap (λ (n : ℕ). Two (half_turned_if (has_period g.io) n (effective n h) g) (half_turned_if (has_period h.io) n (effective n g) h)) l
+    ∙ ap (λ (b : Bool). Two (half_turned_if b m (effective m h) g) (half_turned_if (has_period h.io) m (effective m g) h)) e
     ∙ ap (λ (b : Bool). Two (half_turned_if x m (effective m h) g) (half_turned_if b m (effective m g) h)) f
 
 -- after k places of a call whose partner had fewer or as many

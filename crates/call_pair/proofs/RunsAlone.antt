@@ -3,10 +3,8 @@ use Rattle.std.proofs.Common.{◌≡◌, ℕ, zero, suc, ◌+◌, ◌<◌, ◌�
 use Rattle.rx_handler.specs.Origin.{Quiet}
 use Rattle.call_leg.specs.Periods.{CallPeriod}
 use Rattle.call_leg.specs.Settings.{Settings, settings_at}
-use Rattle.call_pair.specs.Memory.{IoMemory, HalfMemory, IsIo, places_left}
-use Rattle.call_pair.specs.declared.job.Job.{Job}
-use Rattle.call_pair.specs.declared.job.Job.TheVariants.{One}
-use Rattle.call_pair.specs.Places.{has_place}
+use Rattle.call_pair.specs.Memory.{IoMemory, HalfMemory, IsIo, places_left, Job, One}
+use Rattle.call_pair.specs.Periods.{has_period}
 use Rattle.call_pair.specs.Turn.{half_turned_if, turned}
 use Rattle.call_pair.specs.Jobs.{after_turns, finished}
 use Rattle.call_pair.specs.History.{Start, alone_periods, bridged_periods, Begins, HasWorked}
@@ -17,8 +15,8 @@ use Rattle.call_pair.proofs.Steps.{alone, turned-alone, alone-worked}
 -- ---- what a half tells of its places
 
 -- a half that has worked k places has one left where the round has more
-pub placed : (s : Start) (k : ℕ) (ts : List CallPeriod) (now : Settings) (h : HalfMemory) → HasWorked s k ts now h → has_place h.io ≡ ltb k s.io.given
-placed s k ts now h w = ap has_place w.io
+pub placed : (s : Start) (k : ℕ) (ts : List CallPeriod) (now : Settings) (h : HalfMemory) → HasWorked s k ts now h → has_period h.io ≡ ltb k s.io.given
+placed s k ts now h w = ap has_period w.io
 
 -- it has the round's places ..
 pub given-is : (s : Start) (k : ℕ) (ts : List CallPeriod) (now : Settings) (h : HalfMemory) → HasWorked s k ts now h → h.io.given ≡ s.io.given
@@ -53,7 +51,7 @@ many-bridged (suc k) a b = omega (arith, many-bridged k a b)
 -- ---- one call
 
 -- the turn of a job of one call that lies in no bridge
-turned-one : (h : HalfMemory) → has_place h.io ≡ true → h.leg.down.bridged ≡ false → turned (One h) ≡ One (alone h)
+turned-one : (h : HalfMemory) → has_period h.io ≡ true → h.leg.down.bridged ≡ false → turned (One h) ≡ One (alone h)
 turned-one h e off = ap (λ (b : Bool). One (half_turned_if b 0 Quiet h)) e ∙ ap One (turned-alone 0 Quiet h off)
 
 -- such a job, n turns long

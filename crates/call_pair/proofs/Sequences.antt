@@ -8,7 +8,7 @@ use Rattle.call_leg.specs.Memory.{DownMemory}
 use Rattle.call_leg.specs.Halves.{UpMemory, up_of, joined, Note, up_turned, down_turned}
 use Rattle.call_leg.proofs.HalfSteps.{up-keeps, down-keeps}
 use Rattle.call_pair.specs.Memory.{IoMemory, HalfMemory}
-use Rattle.call_pair.specs.Places.{up_at, pcm_at, written, with_out, with_place}
+use Rattle.call_pair.specs.Periods.{up_at, pcm_at, written, with_out, with_period}
 use Rattle.call_pair.specs.Turn.{effective, half_turned, half_turned_if}
 use Rattle.call_pair.specs.Phases.{up_before, down_before, item_if}
 use Rattle.call_pair.proofs.Places.{is_below, not_below}
@@ -108,7 +108,7 @@ half-step m items h k e same =
     turned-joined m e (ups m h k) (downs m items h k) io (same-flag m items h k)
     ∙ ap (λ (i : Option EffectiveFields).
     let w = down_turned (down_before m k (downs m items h k)) t.0 i (pcm_at k h.io) in
-    record { leg = joined t.2 w.1; io = with_place (with_out io t.1) (octets_of w.0) }) same
+    record { leg = joined t.2 w.1; io = with_period (with_out io t.1) (octets_of w.0) }) same
     ∙ ap (λ (n : ℕ). record { leg = joined (ups m h (suc k)) (downs m items h (suc k)); io = io_from h (outs m h (suc k)) (lines m items h (suc k)) n }) next
 
 -- the effective frame that is told at place k

@@ -12,7 +12,7 @@ use Rattle.call_leg.proofs.UpLaws.{up-stands, up-effective, up-plays}
 use Rattle.call_leg.proofs.DownLaws.{handing-stands, down-stands}
 use Rattle.call_leg.proofs.OrderLaws.{end-stands}
 use Rattle.call_pair.specs.Memory.{IoMemory, HalfMemory, IsIo}
-use Rattle.call_pair.specs.Places.{up_at, pcm_at, with_out, with_place}
+use Rattle.call_pair.specs.Periods.{up_at, pcm_at, with_out, with_period}
 use Rattle.call_pair.specs.Turn.{unbridged, leg_at, effective, place_worked, half_turned}
 use Rattle.call_pair.specs.History.{Start, who_of, HasWorked}
 use Rattle.call_pair.proofs.Octets.{io_more}
@@ -24,7 +24,7 @@ use Rattle.call_pair.proofs.Places.{length-up_at, length-pcm_at, is_same, is_pas
 abbrev pub alone : HalfMemory → HalfMemory
 alone h =
     let worked = period_worked h.leg (up_at h.io.done h.io) (pcm_at h.io.done h.io) in
-    record { leg = worked.2; io = with_place (with_out h.io worked.0) (octets_of worked.1) }
+    record { leg = worked.2; io = with_period (with_out h.io worked.0) (octets_of worked.1) }
 
 -- the effective frame of the next place
 abbrev pub tells : HalfMemory → EffectiveFields
@@ -35,7 +35,7 @@ abbrev pub bridged : HalfMemory → EffectiveFields → HalfMemory
 bridged h handed =
     let first = up_worked h.leg (up_at h.io.done h.io) in
     let last = down_worked (after_handing first.2.down handed) (pcm_at h.io.done h.io) in
-    record { leg = with_down first.2 last.1; io = with_place (with_out h.io first.1) (octets_of last.0) }
+    record { leg = with_down first.2 last.1; io = with_period (with_out h.io first.1) (octets_of last.0) }
 
 -- a period of a half whose partner, with so many places, has none left
 abbrev pub left_alone : HalfMemory → ℕ → HalfMemory
@@ -46,7 +46,7 @@ by_flag b partner leg io =
     let first = up_worked leg (up_at io.done io) in
     let down = if b then after_handing first.2.down partner else first.2.down in
     let last = down_worked down (pcm_at io.done io) in
-    record { leg = with_down first.2 last.1; io = with_place (with_out io first.1) (octets_of last.0) }
+    record { leg = with_down first.2 last.1; io = with_period (with_out io first.1) (octets_of last.0) }
 
 -- the turn of a half that lies in no bridge
 pub turned-alone : (m : ℕ) (e : EffectiveFields) (h : HalfMemory) → h.leg.down.bridged ≡ false → half_turned m e h ≡ alone h

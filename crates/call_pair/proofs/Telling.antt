@@ -7,9 +7,8 @@ use Rattle.call_leg.specs.Periods.{CallPeriod}
 use Rattle.call_leg.specs.Settings.{settings_at, period_with}
 use Rattle.call_leg.specs.Halves.{Note, note_in}
 use Rattle.call_leg.specs.Runs.{EndsAt, periods_run}
-use Rattle.call_pair.specs.Memory.{IoMemory, HalfMemory}
-use Rattle.call_pair.specs.Places.{up_at, pcm_at}
-use Rattle.call_pair.specs.declared.job.Job.TheVariants.{One, Two}
+use Rattle.call_pair.specs.Memory.{IoMemory, HalfMemory, One, Two}
+use Rattle.call_pair.specs.Periods.{up_at, pcm_at}
 use Rattle.call_pair.specs.Jobs.{finished}
 use Rattle.call_pair.specs.History.{Start, handed_at, bridged_periods, Begins}
 use Rattle.call_pair.specs.Phases.{effective_in, first_phase, second_phase, half_run, frames_in, effs}

@@ -3,10 +3,8 @@ use Rattle.std.proofs.Common.{◌≡◌, ℕ, zero, suc, ◌+◌, ◌-◌, ◌<�
 use Rattle.std.specs.Prelude.{◌==◌, ◌||◌}
 use Rattle.std.proofs.lemmas.Bool.Decides.{nat_tests}
 use Rattle.rx_handler.specs.Origin.{EffectiveFields}
-use Rattle.call_pair.specs.Memory.{HalfMemory}
-use Rattle.call_pair.specs.declared.job.Job.{Job}
-use Rattle.call_pair.specs.declared.job.Job.TheVariants.{One, Two}
-use Rattle.call_pair.specs.Places.{has_place}
+use Rattle.call_pair.specs.Memory.{HalfMemory, Job, One, Two}
+use Rattle.call_pair.specs.Periods.{has_period}
 use Rattle.call_pair.specs.Turn.{effective, half_turned_if, turned}
 use Rattle.call_pair.specs.Jobs.{after_turns, has_call}
 use Rattle.call_pair.specs.Phases.{CallMemory, phase_place, call_turned, after_call_turns, periods_left, call_finished}
@@ -22,12 +20,12 @@ half_call false m e h = refl
 
 -- .. and those of a job
 turn_keeps : (job : Job) (call : ℕ) → has_call (turned job) call ≡ has_call job call
-turn_keeps (One h) call = ap (λ n. n == call) (half_call (has_place h.io) 0 _ h)
+turn_keeps (One h) call = ap (λ n. n == call) (half_call (has_period h.io) 0 _ h)
 turn_keeps (Two a b) call =
     let m = min a.io.given b.io.given in
-    let g = half_turned_if (has_place b.io) m (effective m a) b in
-    ap (λ n. n == call || g.io.call == call) (half_call (has_place a.io) m (effective m b) a) ∙ ap (λ n. a.io.call == call || n == call)
-    (half_call (has_place b.io) m (effective m a) b)
+    let g = half_turned_if (has_period b.io) m (effective m a) b in
+    ap (λ n. n == call || g.io.call == call) (half_call (has_period a.io) m (effective m b) a) ∙ ap (λ n. a.io.call == call || n == call)
+    (half_call (has_period b.io) m (effective m a) b)
 
 -- turns keep the calls of a job
 pub turns_keep : (n : ℕ) (job : Job) (call : ℕ) → has_call (after_turns n job) call ≡ has_call job call
@@ -45,7 +43,7 @@ pub none_left : (done given : ℕ) → ltb done given ≡ false → given - done
 none_left done given e = grind (arith, nat_tests)
 
 -- after a place there is one less left
-place_left : (p : Phase) (j : CallMemory) → has_place j.io ≡ true → periods_left (phase_place p j) + 1 ≡ periods_left j
+place_left : (p : Phase) (j : CallMemory) → has_period j.io ≡ true → periods_left (phase_place p j) + 1 ≡ periods_left j
 place_left First j e = one_fewer j.io.done j.io.given e
 place_left Second j e = one_fewer j.io.done j.io.given e
 
@@ -54,20 +52,20 @@ place_call First j = refl
 place_call Second j = refl
 
 -- a turn works a place if there is one
-pub turned_is : (j : CallMemory) (b : Bool) → has_place j.io ≡ b → call_turned j ≡ (if b then phase_place j.phase j else j)
+pub turned_is : (j : CallMemory) (b : Bool) → has_period j.io ≡ b → call_turned j ≡ (if b then phase_place j.phase j else j)
 turned_is j b e = ap (λ (x : Bool). if x then phase_place j.phase j else j) e
 
 pub call_turn_left : (j : CallMemory) → 0 < periods_left j → periods_left (call_turned j) + 1 ≡ periods_left j
-call_turn_left j some = go (has_place j.io) refl
+call_turn_left j some = go (has_period j.io) refl
   where
-    go : (b : Bool) → has_place j.io ≡ b → periods_left (call_turned j) + 1 ≡ periods_left j
+    go : (b : Bool) → has_period j.io ≡ b → periods_left (call_turned j) + 1 ≡ periods_left j
     go true e = ap (λ m. periods_left m + 1) (turned_is j true e) ∙ place_left j.phase j e
     go false e = absurd (omega (arith, none_left j.io.done j.io.given e))
 
 pub call_turn_call : (j : CallMemory) → (call_turned j).io.call ≡ j.io.call
-call_turn_call j = go (has_place j.io) refl
+call_turn_call j = go (has_period j.io) refl
   where
-    go : (b : Bool) → has_place j.io ≡ b → (call_turned j).io.call ≡ j.io.call
+    go : (b : Bool) → has_period j.io ≡ b → (call_turned j).io.call ≡ j.io.call
     go true e = ap (λ (m : CallMemory). m.io.call) (turned_is j true e) ∙ place_call j.phase j
     go false e = ap (λ (m : CallMemory). m.io.call) (turned_is j false e)
 

@@ -9,7 +9,7 @@ use Rattle.call_leg.specs.Runs.{EndsAt, UpRun, periods_run, outs_run}
 use Rattle.call_leg.proofs.HalfLaws.{split-stands, turn-stands, turn-note, turn-plays, up_off-stands}
 use Rattle.call_leg.proofs.LineLaws.{length-out_of}
 use Rattle.call_pair.specs.Memory.{IoMemory, HalfMemory}
-use Rattle.call_pair.specs.Places.{up_at, written}
+use Rattle.call_pair.specs.Periods.{up_at, written}
 use Rattle.call_pair.specs.History.{Start, who_of, settings_past, Begins}
 use Rattle.call_pair.specs.Phases.{CallMemory, up_before, first_phase}
 use Rattle.call_pair.specs.Told.{Hears, history_of, ups_in, pcms_in}

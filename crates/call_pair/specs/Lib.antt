@@ -1,5 +1,5 @@
 pub mod Memory
-pub mod Places
+pub mod Periods
 pub mod Turn
 pub mod Jobs
 pub mod Phases

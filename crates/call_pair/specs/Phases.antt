@@ -2,16 +2,16 @@
 use Rattle.std.specs.Prelude.{ℕ, zero, suc, ◌+◌, Bool, true, false, ◌&&◌, ◌==◌, if◌then◌else◌, Option, Some, None, List, [], ◌∷◌, ◌++◌, map, take, get_or}
 use Rattle.trau_bits.specs.Bits.{octets_of}
 use Rattle.rx_handler.specs.Origin.{EffectiveFields, Quiet}
-use Rattle.call_leg.specs.Memory.{DownMemory}
+use Rattle.call_leg.specs.Memory.{DownMemory, LegMemory}
 use Rattle.call_leg.specs.Step.{bridge_over}
 use Rattle.call_leg.specs.Halves.{UpMemory, up_of, joined, Note, up_turned, down_turned, up_unbridged}
-use Rattle.call_pair.specs.Memory.{IoMemory, HalfMemory, places_left}
-use Rattle.call_pair.specs.Places.{up_at, pcm_at, with_out, with_place, has_place}
+use Rattle.call_pair.specs.Memory.{IoMemory, HalfMemory, places_left, io_at_rest, io_planned}
+use Rattle.call_pair.specs.Periods.{up_at, pcm_at, with_out, with_period, has_period}
 use Rattle.call_pair.specs.declared.call_job.Phase.{Phase}
 use Rattle.call_pair.specs.declared.call_job.Phase.TheVariants.{First, Second}
 
--- What the job of a call keeps: the halves of its leg, its octets, of which those of the present phase are done; the notes
--- of the places of the first phase; the partner's effective frames, by place; and the place at which a bridge ends.
+-- The memory of a call's job: the halves of its leg; its octets, with the number of places done in the present phase; the notes of the
+-- first phase; the partner's effective frames, by place; and the place at which a bridge ends.
 pub record CallMemory : Type 0 where
   pub up : UpMemory
   pub down : DownMemory
@@ -23,19 +23,19 @@ pub record CallMemory : Type 0 where
 
 -- ---- a place of each phase
 
--- a half before its place k, where a bridge that it has ends at place m
+-- a half before its place k; if it has a bridge, that ends at place m
 abbrev pub up_before : ℕ → ℕ → UpMemory → UpMemory
 up_before m k u = if u.bridged && k == m then up_unbridged u else u
 
 abbrev pub down_before : ℕ → ℕ → DownMemory → DownMemory
 down_before m k d = if d.bridged && k == m then bridge_over d else d
 
--- the frame that is handed over to a half, if it is bridged
+-- the frame that is handed to a half, if it is bridged
 abbrev pub item_if : Bool → EffectiveFields → Option EffectiveFields
 item_if true e = Some e
 item_if false e = None
 
--- the note of place k, and the partner's frame; where there is none, what is never looked at
+-- the note of place k, and the partner's frame; the values past the lists are never used
 abbrev pub note_at : ℕ → List Note → Note
 note_at k notes = get_or notes k (record { eff = Quiet; ask = 0; dtx = None })
 
@@ -55,7 +55,7 @@ abbrev pub down_place : CallMemory → CallMemory
 down_place j =
     let d = down_before j.bridge_end j.io.done j.down in
     let t = down_turned d (note_at j.io.done j.notes) (item_if d.bridged (effective_in j.io.done j.partner)) (pcm_at j.io.done j.io) in
-    record j { down = t.1; io = with_place j.io (octets_of t.0) }
+    record j { down = t.1; io = with_period j.io (octets_of t.0) }
 
 abbrev pub phase_place : Phase → CallMemory → CallMemory
 phase_place First j = up_place j
@@ -63,16 +63,16 @@ phase_place Second j = down_place j
 
 -- ---- a job from its start to its end
 
--- the next place of its phase, if there is one
+-- after the next place of its phase, if there is one
 abbrev pub call_turned : CallMemory → CallMemory
-call_turned j = if has_place j.io then phase_place j.phase j else j
+call_turned j = if has_period j.io then phase_place j.phase j else j
 
 -- the job after n turns
 abbrev pub after_call_turns : ℕ → CallMemory → CallMemory
 after_call_turns zero j = j
 after_call_turns (suc n) j = after_call_turns n (call_turned j)
 
--- the phase at its end
+-- the remaining places of the phase, and the job at the phase's end
 abbrev pub periods_left : CallMemory → ℕ
 periods_left j = places_left j.io
 
@@ -85,7 +85,7 @@ turned_down j = record j { io = record j.io { done = 0 }; phase = Second }
 
 -- ---- a half as the job of a call
 
--- the first phase of a half begins, where a bridge that it has ends at place m
+-- a half at the start of its first phase; if it has a bridge, that ends at place m
 abbrev pub starting : ℕ → HalfMemory → CallMemory
 starting m h = record { up = up_of h.leg; down = h.leg.down; io = h.io; notes = []; partner = []; bridge_end = m; phase = First }
 
@@ -95,12 +95,37 @@ with_partner frames j = record j { partner = frames }
 abbrev pub half_in : CallMemory → HalfMemory
 half_in j = record { leg = joined j.up j.down; io = j.io }
 
+abbrev pub leg_in : CallMemory → LegMemory
+leg_in j = joined j.up j.down
+
+abbrev pub with_leg : LegMemory → CallMemory → CallMemory
+with_leg m j = record j { up = up_of m; down = m.down }
+
+-- ---- between the rounds
+
+-- at its start, without any place
+abbrev pub at_rest : CallMemory → CallMemory
+at_rest j = starting 0 (record { leg = leg_in j; io = io_at_rest j.io })
+
+-- with room for n places, all of them given, and for a bridged call for as many frames of its partner
+abbrev pub planned : ℕ → Bool → CallMemory → CallMemory
+planned n bridged j = starting (if bridged then n else 0) (record { leg = leg_in j; io = io_planned j.io.call n })
+
+-- with this number of places given, and a bridge's end at place m
+abbrev pub begun : ℕ → ℕ → CallMemory → CallMemory
+begun given m j = record j { io = record j.io { given = given }; bridge_end = m }
+
+-- ---- between the phases
+
 -- the effective frames of the notes
 abbrev pub frames_in : List Note → List EffectiveFields
 frames_in notes = map (λ (n : Note). n.eff) notes
 
--- the first phase of a half at its end, where a bridge that it has ends at place m, and the second with these frames of
--- its partner
+-- a call takes over its partner's frames of the places before the bridge's end, and its second phase begins
+abbrev pub heard_from : CallMemory → CallMemory → CallMemory
+heard_from p j = turned_down (with_partner (take j.bridge_end (frames_in p.notes)) j)
+
+-- a half at the end of its first phase, where a bridge that it has ends at place m, and at the end of the second, with these frames of its partner
 abbrev pub first_phase : ℕ → HalfMemory → CallMemory
 first_phase m h = call_finished (starting m h)
 
@@ -114,3 +139,12 @@ effs m h = take m (frames_in (first_phase m h).notes)
 -- a half after both phases, with these frames of its partner
 abbrev pub half_run : ℕ → List EffectiveFields → HalfMemory → HalfMemory
 half_run m frames h = half_in (second_phase m frames h)
+
+-- ---- a round of a call: both phases, and the partner's frames between them
+
+abbrev pub round_alone : HalfMemory → CallMemory
+round_alone h = call_finished (turned_down (first_phase 0 h))
+
+-- .. of a call whose partner is h and whose bridge ends at place m
+abbrev pub round_beside : ℕ → HalfMemory → HalfMemory → CallMemory
+round_beside m g h = call_finished (heard_from (first_phase m h) (first_phase m g))

@@ -1,13 +1,11 @@
--- What the two phases of a round give, by the history of their call: the runs of its leg's halves.
+-- The results of a round's two phases, by the history of their call: the runs of its leg's halves.
 use Rattle.std.specs.Prelude.{◌≡◌, ℕ, ◌*◌, Option, List, [], ◌++◌, length, drop, take, min}
 use Rattle.rx_handler.specs.Origin.{EffectiveFields}
 use Rattle.call_leg.specs.Places.{Between}
 use Rattle.call_leg.specs.Halves.{Note, UpStands}
 use Rattle.call_leg.specs.Runs.{LegHistory, UpRun, DownRun, EndsAt, AreNotes, periods_run, handed_run}
-use Rattle.call_pair.specs.Memory.{IoMemory, HalfMemory}
-use Rattle.call_pair.specs.declared.job.Job.{Job}
-use Rattle.call_pair.specs.declared.job.Job.TheVariants.{One, Two}
-use Rattle.call_pair.specs.Places.{up_at, pcm_at}
+use Rattle.call_pair.specs.Memory.{IoMemory, HalfMemory, Job, One, Two}
+use Rattle.call_pair.specs.Periods.{up_at, pcm_at}
 use Rattle.call_pair.specs.History.{Start, who_of, settings_past}
 use Rattle.call_pair.specs.Phases.{CallMemory, frames_in}
 
@@ -23,8 +21,8 @@ pcms_in s k = pcm_at k s.io
 
 -- ---- the phases
 
--- The first phase gives the run of the uplink half: its notes, and its octets at the front of Out. Then the half stands for
--- the call with the round's periods. A bridge ends at place m.
+-- The first phase gives the run of the uplink half: its notes, and its octets at the start of Out. The half then has the memory after the
+-- round's periods. A bridge ends at place m.
 pub record Hears (s : Start) (m : ℕ) (j : CallMemory) : Type 0 where
   pub octets : List ℕ
   pub run : UpRun (history_of s) (ups_in s) m s.io.given j.notes octets
@@ -32,8 +30,8 @@ pub record Hears (s : Start) (m : ℕ) (j : CallMemory) : Type 0 where
   pub up : (pcms : ℕ → List ℕ) (handed : ℕ → Option (List ℕ)) → EndsAt (history_of s) m s.io.given handed →
       UpStands (who_of s) (periods_run (history_of s) (ups_in s) pcms handed s.io.given) (settings_past s.io.given m s.now) j.up
 
--- The second phase gives the run of the downlink half, with these frames of the partner: its octets at the front of Down.
--- Then the half stands for the call with the round's periods, whichever octets of Up told the notes.
+-- The second phase gives the run of the downlink half, with these frames of the partner: its octets at the start of Down. The half then has
+-- the memory after the round's periods, whatever octets of Up gave the notes.
 pub record Speaks (s : Start) (items : List EffectiveFields) (j : CallMemory) : Type 0 where
   pub octets : List ℕ
   pub run : DownRun (history_of s) j.notes items (pcms_in s) s.io.given octets
@@ -56,8 +54,7 @@ io_with io outs downs = record {
   done = io.given;
 }
 
--- A half's octets are those of the run of its uplink half, which tells these notes, followed by that of its downlink half
--- with these items.
+-- A half's octets are those of the run of its uplink half, which gives these notes, and of the run of its downlink half with these items.
 pub record HalfRuns (s : Start) (m : ℕ) (notes : List Note) (items : List EffectiveFields) (h : HalfMemory) : Type 0 where
   pub outs : List ℕ
   pub downs : List ℕ
@@ -72,7 +69,7 @@ pub record OneRuns (s : Start) (job : Job) : Type 0 where
   pub is_one : job ≡ One half
   pub run : HalfRuns s 0 notes [] half
 
--- The job of two: the items of each are the effective frames of the other, of the places that both have.
+-- The job of two calls: the items of each are the other's effective frames of the places that both have.
 pub record TwoRun (a b : Start) (job : Job) : Type 0 where
   pub first : HalfMemory
   pub second : HalfMemory

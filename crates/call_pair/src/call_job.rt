@@ -1,12 +1,14 @@
 //! The job of one call, in two phases.
 
-ghost use Rattle.std.specs.Prelude.{◌≡◌, ◌+◌, ◌<◌, ◌≤◌, [], length, map, take, true, vec_capacity};
+ghost use Rattle.std.specs.Prelude.{◌≡◌, ◌+◌, ◌<◌, ◌≤◌, pos, ◌≤ℤ◌, [], length, map, take, true, vec_capacity, IfOk};
+ghost use Rattle.call_number.specs.CallNumber.{IsCallNumber};
 ghost use Rattle.rx_handler.specs.State.{effective_fields};
-ghost use Rattle.call_leg.specs.Memory.{periods_of_leg};
-ghost use Rattle.call_pair.specs.Memory.{places_left};
-ghost use Rattle.call_pair.specs.Places.{has_place};
-ghost use Rattle.call_pair.specs.Phases.{note_at, up_place, down_place, call_turned, periods_left, turned_down, starting, with_partner, half_in, frames_in};
-ghost use Rattle.call_pair.specs.Jobs.{half_with};
+ghost use Rattle.call_leg.specs.Memory.{home_memory, periods_of_leg};
+ghost use Rattle.call_leg.specs.Step.{with_down, begin_bridge, bridge_over, set_level, set_mode};
+ghost use Rattle.call_pair.specs.Memory.{no_octets};
+ghost use Rattle.call_pair.specs.Periods.{has_period};
+ghost use Rattle.call_pair.specs.Phases.{note_at, up_place, down_place, call_turned, periods_left, turned_down, starting, frames_in};
+ghost use Rattle.call_pair.specs.Phases.{leg_in, with_leg, at_rest, planned, begun, heard_from};
 ghost use Rattle.call_pair.specs.declared.call_job.Phase.TheVariants.{First, Second};
 
 use crate::io::LegIo;
@@ -14,8 +16,11 @@ use crate::turn::{work_down, work_up};
 use call_leg::{DownLeg, Leg, UpLeg, UpNote};
 use pool_run::Work;
 use rx_handler::Effective;
+use std::alloc::{AllocError, Global};
 use std::marker::Model;
-use std::mem;
+use trau_alaw::Law;
+use trau_io::Counts;
+use trau_orders::DtxMode;
 
 /// The phases of a round.
 #[derive(Clone, Copy)]
@@ -27,17 +32,17 @@ pub enum Phase {
 }
 
 /// What a round does for one call: its uplink halves place by place, then its downlink halves. `io.done` counts the
-/// places of the present phase.
+/// finished places of the present phase.
 #[derive(Drop)]
 pub struct CallJob {
     pub up: UpLeg,
     pub down: DownLeg,
     pub io: LegIo,
-    /// What the uplink told in each finished place of the first phase.
+    /// The uplink's note of each finished place of the first phase.
     pub notes: Vec<UpNote>,
     /// The partner's effective frames, by place.
     pub partner: Vec<Effective>,
-    /// The place at which a bridge ends: the lesser `given` of the two calls, and 0 without a bridge.
+    /// The place at which a bridge ends: the lesser `given` of the two calls; 0 without a bridge.
     pub bridge_end: u32,
     pub phase: Phase,
 }
@@ -68,83 +73,133 @@ impl Model for CallJob {
       partner = map effective_fields j.partner.items;
       bridge_end = j.bridge_end;
       phase = j.phase;
-    }) (vec_capacity j.notes) };
+    }) (vec_capacity j.notes) (vec_capacity j.partner) };
 }
 
 impl CallJob {
-    /// The job of a call before its first place, with room for the notes of all places. A bridge that the leg has ends
-    /// at place `bridge_end`.
-    pub fn new(
-        leg: Leg,
-        io: LegIo,
-        notes: Vec<UpNote>,
-        partner: Vec<Effective>,
-        bridge_end: u32,
-    ) -> CallJob
-        requires periods { periods_of_leg leg + places_left io ≤ 4294967295 }
-        requires none_done { io.done ≡ 0 }
-        requires empty { notes.items ≡ [] }
-        requires room { io.given ≤ vec_capacity notes }
-        ensures { result ≡ with_partner (map effective_fields partner.items) (starting bridge_end (record { leg = leg; io = io })) }
+    /// The job of a new call with this number and law, at rest.
+    pub fn new(alloc: Global, call: u32, law: Law) -> Result<CallJob, AllocError>
+        requires { IsCallNumber call }
+        ensures { IfOk result (λ j. j ≡ starting 0 (record { leg = home_memory (record { number = call; law = law }); io = no_octets call })) }
     {
-        let (up, down) = leg.split();
-        CallJob {
+        let (up, down) = Leg::new(alloc, call, law)?.split();
+        Ok(CallJob {
             up,
             down,
-            io,
-            notes,
-            partner,
-            bridge_end,
+            io: LegIo::none(alloc, call),
+            notes: Vec::new(alloc),
+            partner: Vec::new(alloc),
+            bridge_end: 0,
             phase: Phase::First,
-        }
+        })
     }
 
-    /// Puts octets in place of those that were there, and gives these: the job is at its start, without a bridge's end.
-    /// `notes` has room for the notes of all places.
-    pub(crate) fn swap_io(&mut self, io: LegIo, notes: Vec<UpNote>) -> LegIo
-        requires periods { periods_of_leg (half_in self.old).leg + places_left io ≤ 4294967295 }
-        requires none_done { io.done ≡ 0 }
-        requires empty { notes.items ≡ [] }
-        requires room { io.given ≤ vec_capacity notes }
-        ensures job { self.new ≡ starting 0 (half_with (half_in self.old) io) }
-        ensures io { result ≡ self.old.io }
+    /// Puts the job at its start, without any place. Its buffers stay.
+    pub fn rest(&mut self)
+        ensures { self.new ≡ at_rest self.old }
     {
         self.up.agree(&self.down);
-        self.phase = Phase::First;
-        self.bridge_end = 0;
-        self.partner.clear();
-        self.notes = notes;
-        mem::replace(&mut self.io, io)
-    }
-
-    /// A job without any place is at its start.
-    pub(crate) fn rest(&mut self)
-        requires given { self.old.io.given ≡ 0 }
-        requires done { self.old.io.done ≡ 0 }
-        ensures { self.new ≡ starting 0 (half_in self.old) }
-    {
-        self.up.agree(&self.down);
+        self.io.rest();
         self.phase = Phase::First;
         self.bridge_end = 0;
         self.partner.clear();
         self.notes.clear();
     }
 
-    /// Says where a bridge ends that the leg has, before the first place.
-    pub(crate) fn end_bridge_at(&mut self, place: u32)
-        requires { self.old.phase ≡ First }
-        ensures { self.new ≡ record self.old { bridge_end = place } }
+    /// Takes the memory for `periods` places, and for a bridged call also for as many frames of its partner. The
+    /// job is at its start then, with all these places given.
+    pub fn plan(&mut self, periods: u32, bridged: bool) -> Result<(), AllocError>
+        requires { periods_of_leg (leg_in self.old) + periods ≤ 4294967295 }
+        ensures { IfOk result (λ u. self.new ≡ planned periods bridged self.old) }
     {
-        self.bridge_end = place;
+        self.rest();
+        let heard = if bridged { periods } else { 0 };
+        self.notes.reserve(periods as usize)?;
+        self.partner.reserve(heard as usize)?;
+        self.io.plan(periods)?;
+        self.bridge_end = heard;
+        Ok(())
     }
 
-    /// Puts frames of the partner in place of those that were there, and gives these, between the phases.
-    pub fn swap_partner(&mut self, frames: Vec<Effective>) -> Vec<Effective>
-        requires { self.old.phase ≡ First }
-        ensures job { self.new ≡ with_partner (map effective_fields frames.items) self.old }
-        ensures frames { map effective_fields result.items ≡ self.old.partner }
+    /// Sets how many places are given and where a bridge ends, both at most as planned.
+    pub fn begin(&mut self, given: u32, bridge_end: u32)
+        requires first { self.old.phase ≡ First }
+        requires none { self.old.io.done ≡ 0 }
+        requires given { given ≤ self.old.io.given }
+        requires end { bridge_end ≤ self.old.bridge_end }
+        ensures { self.new ≡ begun given bridge_end self.old }
     {
-        mem::replace(&mut self.partner, frames)
+        self.io.give(given);
+        self.bridge_end = bridge_end;
+    }
+
+    /// Between the phases, when the first is finished: takes over the partner's frames of the places before the
+    /// bridge's end, and begins the second phase.
+    pub fn hear_from(&mut self, partner: &CallJob)
+        requires first { self.old.phase ≡ First }
+        requires finished { periods_left self.old ≡ 0 }
+        requires told { self.old.bridge_end ≤ length partner.now.notes }
+        requires none { self.old.partner ≡ [] }
+        ensures { self.new ≡ heard_from partner.now self.old }
+    {
+        partner.write_frames(self.bridge_end, &mut self.partner);
+        self.turn_down();
+    }
+
+    /// A bridge is on from the next period on. No handed frame may wait.
+    pub fn bridge_on(&mut self)
+        requires { self.old.phase ≡ First }
+        ensures { self.new ≡ with_leg (begin_bridge (leg_in self.old)) self.old }
+    {
+        self.up.bridge_on();
+        self.down.bridge_on();
+    }
+
+    /// The bridge that both halves have is off from the next period on.
+    pub fn bridge_off(&mut self)
+        requires first { self.old.phase ≡ First }
+        requires up { self.old.up.bridged ≡ true }
+        requires down { self.old.down.bridged ≡ true }
+        ensures { self.new ≡ with_leg (with_down (leg_in self.old) (bridge_over self.old.down)) self.old }
+    {
+        self.up.bridge_off();
+        self.down.bridge_off();
+    }
+
+    /// Sets the level below which a frame's peak counts as silence, from the next period on.
+    pub fn set_level(&mut self, level: i16)
+        requires { pos 0 ≤ℤ level }
+        ensures { self.new ≡ record self.old { down = set_level level self.old.down } }
+    {
+        self.down.set_level(level);
+    }
+
+    /// Sets when DTX is on, from the next period on.
+    pub fn set_dtx(&mut self, mode: DtxMode)
+        ensures { self.new ≡ record self.old { down = set_mode mode self.old.down } }
+    {
+        self.down.set_dtx(mode);
+    }
+
+    /// What was counted over the call's periods.
+    pub fn counts(&self) -> Counts
+        ensures memory { result ≡ record self.now.up.counts { made = self.now.down.made } }
+        ensures periods { self.now.up.search.periods ≤ 4294967295 }
+    {
+        self.up.periods_are_few();
+        Counts {
+            made: self.down.made(),
+            ..self.up.counts()
+        }
+    }
+
+    /// How many handed frames of the latest bridge were sent.
+    pub fn sent(&self) -> u32
+        ensures memory { result ≡ self.now.down.sent }
+        ensures periods { self.now.up.search.periods ≤ 4294967295 }
+    {
+        self.up.periods_are_few();
+        self.down.sent()
     }
 
     /// The effective frame of place k.
@@ -155,20 +210,20 @@ impl CallJob {
         self.notes[k].eff
     }
 
-    /// Writes the effective frames of the first `places` places into a list that is empty and has room for them.
+    /// Appends the effective frames of the first `places` places to an empty list that has room for them.
     pub fn write_frames(&self, places: u32, frames: &mut Vec<Effective>)
         requires told { places ≤ length self.now.notes }
         requires empty { frames.old.items ≡ [] }
         requires room { places ≤ vec_capacity frames.old }
-        ensures { map effective_fields frames.new.items ≡ take places (frames_in self.now.notes) }
+        ensures frames { map effective_fields frames.new.items ≡ take places (frames_in self.now.notes) }
+        ensures capacity { vec_capacity frames.new ≡ vec_capacity frames.old }
     {
         for k in 0..places as usize {
             frames.push_reserved(self.frame(k));
         }
     }
 
-    /// Starts the second phase. The first is finished, and the partner's frames of all places before the bridge's end are
-    /// there.
+    /// Starts the second phase. The first is finished, and `partner` has the frames of all places before the bridge's end.
     pub fn turn_down(&mut self)
         requires first { self.old.phase ≡ First }
         requires finished { periods_left self.old ≡ 0 }
@@ -179,9 +234,9 @@ impl CallJob {
         self.phase = Phase::Second;
     }
 
-    // The next place of the first phase ..
+    // Processes the next place of the first phase ..
     fn turn_up(&mut self)
-        requires place { has_place self.old.io ≡ true }
+        requires place { has_period self.old.io ≡ true }
         requires first { self.old.phase ≡ First }
         ensures { self.new ≡ up_place self.old }
     {
@@ -191,7 +246,7 @@ impl CallJob {
 
     // .. and of the second.
     fn turn_back(&mut self)
-        requires place { has_place self.old.io ≡ true }
+        requires place { has_period self.old.io ≡ true }
         requires second { self.old.phase ≡ Second }
         ensures { self.new ≡ down_place self.old }
     {
@@ -204,11 +259,11 @@ impl CallJob {
         );
     }
 
-    // The next place of its phase, if there is one.
+    // Processes the next place of its phase, if there is one.
     fn turn(&mut self)
         ensures { self.new ≡ call_turned self.old }
     {
-        if self.io.has_place() {
+        if self.io.has_period() {
             match self.phase {
                 Phase::First => self.turn_up(),
                 Phase::Second => self.turn_back(),
@@ -235,7 +290,7 @@ impl Work for CallJob {
 
     fn slice(&mut self, q: u32) {
         for _ in 0..q {
-            if !self.io.has_place() {
+            if !self.io.has_period() {
                 break;
             }
             self.turn();
@@ -243,6 +298,6 @@ impl Work for CallJob {
     }
 
     fn finished(&self) -> bool {
-        !self.io.has_place()
+        !self.io.has_period()
     }
 }

@@ -1,18 +1,17 @@
 //! The octets of a call in a round.
 
-ghost use Rattle.std.specs.Prelude.{◌≡◌, ◌<◌, ◌≤◌, [], IsTrue, true};
+ghost use Rattle.std.specs.Prelude.{◌≡◌, ◌<◌, ◌≤◌, [], true, IfOk, IfErr, replicate, vec_capacity};
 ghost use Rattle.trau_bits.specs.Bits.{bits_of, octets_of};
 ghost use Rattle.call_number.specs.CallNumber.{IsCallNumber};
-ghost use Rattle.call_pair.specs.Memory.{HaveRoom};
-ghost use Rattle.call_pair.specs.Places.{up_at, pcm_at, with_out, with_place, has_place};
+ghost use Rattle.call_pair.specs.Memory.{io_at_rest, io_planned};
+ghost use Rattle.call_pair.specs.Periods.{up_at, pcm_at, with_out, with_period, has_period};
 ghost use Rattle.call_pair.specs.Phases.{one_done};
 
-use std::alloc::Global;
+use std::alloc::{AllocError, Global};
 use std::marker::Model;
-use trau_io::Buffers;
 
-/// The octets of a call in a round: what its Up and Pcm lines gave for so many periods, and its Out and Down lines get.
-/// The octets of period k of the round are at place k, from 40 k or 160 k on.
+/// The octets of a call in a round: those of its Up and Pcm lines, and those for its Out and Down lines. Place k
+/// has the octets of the round's period k, from 40 k or 160 k on.
 #[derive(Drop)]
 pub struct LegIo {
     pub call: u32,
@@ -52,8 +51,26 @@ impl Model for LegIo {
     }) };
 }
 
+// Makes room for `most` octets. The contents stay.
+fn make_room(octets: &mut Vec<u8>, most: usize) -> Result<(), AllocError>
+    ensures same { octets.new.items ≡ octets.old.items }
+    ensures room { IfOk result (λ u. most ≤ vec_capacity octets.new) }
+{
+    octets.reserve(most.saturating_sub(octets.len()))?;
+    Ok(())
+}
+
+// Replaces the contents by `number` zeros, for which there is room.
+fn put_zeros(octets: &mut Vec<u8>, number: usize)
+    requires { number ≤ vec_capacity octets.old }
+    ensures { octets.new.items ≡ replicate number 0 }
+{
+    octets.clear();
+    let _ = octets.resize(number, 0);
+}
+
 impl LegIo {
-    /// No period of the call with this number, 1 to 4,096. Takes no memory.
+    /// No period of the call with this number, 1 to 4,096. It takes no memory.
     pub fn none(alloc: Global, call: u32) -> LegIo
         requires { IsCallNumber call }
         ensures { result ≡ record { call = call; up = []; pcm = []; out = []; down = []; given = 0; done = 0 } }
@@ -69,62 +86,52 @@ impl LegIo {
         }
     }
 
-    /// So many periods of the call with this number, 1 to 4,096, none of them done. The buffers have room for them.
-    pub fn new(call: u32, buffers: Buffers, given: u32) -> LegIo
-        requires call { IsCallNumber call }
-        requires room { HaveRoom buffers.up.items buffers.pcm.items buffers.out.items buffers.down.items given }
-        ensures { result ≡ record {
-          call = call;
-          up = buffers.up.items;
-          pcm = buffers.pcm.items;
-          out = buffers.out.items;
-          down = buffers.down.items;
-          given = given;
-          done = 0;
-        } }
+    /// No period, none done. The buffers stay.
+    pub(crate) fn rest(&mut self)
+        ensures { self.new ≡ io_at_rest self.old }
     {
-        let Buffers { up, pcm, out, down } = buffers;
-        LegIo {
-            call,
-            up,
-            pcm,
-            out,
-            down,
-            given,
-            done: 0,
-        }
+        self.given = 0;
+        self.done = 0;
     }
 
-    /// The buffers, whose Out and Down are to be written.
-    pub fn into_buffers(self) -> Buffers
-        ensures up { result.up.items ≡ self.up }
-        ensures pcm { result.pcm.items ≡ self.pcm }
-        ensures out { result.out.items ≡ self.out }
-        ensures down { result.down.items ≡ self.down }
-        ensures room { HaveRoom self.up self.pcm self.out self.down self.given }
+    /// Makes room for `periods` periods, all of them given and none done, with octets of 0. On an error no period is given.
+    pub(crate) fn plan(&mut self, periods: u32) -> Result<(), AllocError>
+        ensures planned { IfOk result (λ u. self.new ≡ io_planned self.old.call periods) }
+        ensures refused { IfErr result (λ e. (self.new.given ≡ 0) × (self.new.done ≡ 0)) }
     {
-        let LegIo {
-            call: _,
-            up,
-            pcm,
-            out,
-            down,
-            given: _,
-            done: _,
-        } = self;
-        Buffers { up, pcm, out, down }
+        self.rest();
+        let (frames, samples) = (40 * periods as usize, 160 * periods as usize);
+        make_room(&mut self.up, frames)?;
+        make_room(&mut self.pcm, samples)?;
+        make_room(&mut self.out, samples)?;
+        make_room(&mut self.down, frames)?;
+        put_zeros(&mut self.up, frames);
+        put_zeros(&mut self.pcm, samples);
+        put_zeros(&mut self.out, samples);
+        put_zeros(&mut self.down, frames);
+        self.given = periods;
+        Ok(())
     }
 
-    /// Whether a place is left.
-    pub(crate) fn has_place(&self) -> bool
-        ensures { result ≡ has_place self.now }
+    /// Lowers the number of given periods, none of which is done.
+    pub(crate) fn give(&mut self, given: u32)
+        requires fewer { given ≤ self.old.given }
+        requires none { self.old.done ≡ 0 }
+        ensures { self.new ≡ record self.old { given = given } }
+    {
+        self.given = given;
+    }
+
+    /// Whether a place remains.
+    pub(crate) fn has_period(&self) -> bool
+        ensures { result ≡ has_period self.now }
     {
         self.done < self.given
     }
 
     /// The octets of the next place of the Up line ..
     pub(crate) fn up_next(&self) -> &[u8; 40]
-        requires { has_place self.now ≡ true }
+        requires { has_period self.now ≡ true }
         ensures { result.now ≡ up_at self.now.done self.now }
     {
         self.up[40 * self.done as usize..].first_chunk().unwrap()
@@ -132,7 +139,7 @@ impl LegIo {
 
     /// .. and of the Pcm line.
     pub(crate) fn pcm_next(&self) -> &[u8; 160]
-        requires { has_place self.now ≡ true }
+        requires { has_period self.now ≡ true }
         ensures { result.now ≡ pcm_at self.now.done self.now }
     {
         self.pcm[160 * self.done as usize..].first_chunk().unwrap()
@@ -140,17 +147,17 @@ impl LegIo {
 
     /// Writes the octets of the next place of the Out line ..
     pub(crate) fn put_out(&mut self, octets: &[u8; 160])
-        requires { has_place self.old ≡ true }
+        requires { has_period self.old ≡ true }
         ensures { self.new ≡ with_out self.old octets.now }
     {
         let start = 160 * self.done as usize;
         self.out[start..start + 160].copy_from_slice(octets);
     }
 
-    /// .. and of the Down line, with which the place is done.
+    /// .. and of the Down line, which completes the place.
     pub(crate) fn put_down(&mut self, octets: &[u8; 40])
-        requires { has_place self.old ≡ true }
-        ensures io { self.new ≡ with_place self.old octets.now }
+        requires { has_period self.old ≡ true }
+        ensures io { self.new ≡ with_period self.old octets.now }
         ensures packed { octets_of (bits_of octets.now) ≡ octets.now }
     {
         let start = 40 * self.done as usize;
@@ -158,15 +165,15 @@ impl LegIo {
         self.done += 1;
     }
 
-    /// One place of the uplink is done.
+    /// Counts a place of the uplink as done.
     pub(crate) fn count_place(&mut self)
-        requires { has_place self.old ≡ true }
+        requires { has_period self.old ≡ true }
         ensures { self.new ≡ one_done self.old }
     {
         self.done += 1;
     }
 
-    /// No place is done from now on.
+    /// Sets the number of finished places to 0.
     pub(crate) fn start_again(&mut self)
         ensures io { self.new ≡ record self.old { done = 0 } }
         ensures within { self.old.done ≤ self.old.given }

@@ -5,14 +5,14 @@ ghost use Rattle.trau_bits.specs.Bits.{octets_of};
 ghost use Rattle.rx_handler.specs.State.{effective_fields};
 ghost use Rattle.call_leg.specs.Step.{bridge_over};
 ghost use Rattle.call_leg.specs.Halves.{up_turned, down_turned, up_unbridged, item_of};
-ghost use Rattle.call_pair.specs.Places.{up_at, pcm_at, with_out, with_place, has_place};
+ghost use Rattle.call_pair.specs.Periods.{up_at, pcm_at, with_out, with_period, has_period};
 ghost use Rattle.call_pair.specs.Phases.{up_before, down_before, item_if, note_at, effective_in, one_done};
 
 use crate::io::LegIo;
 use call_leg::{DownLeg, UpLeg, UpNote};
 use rx_handler::Effective;
 
-// A bridge that the half has goes off, if it ends here.
+// Ends the half's bridge, if it has one and `ends` is true.
 fn end_up(up: &mut UpLeg, ends: bool)
     ensures up { up.new ≡ (if up.old.bridged && ends then up_unbridged up.old else up.old) }
     ensures periods { up.new.search.periods ≡ up.old.search.periods }
@@ -30,7 +30,7 @@ fn end_down(down: &mut DownLeg, ends: bool)
     }
 }
 
-// The frame of place k, if the half is bridged.
+// The partner's frame of place k, if the half is bridged.
 fn item_at(partner: &[Effective], k: usize, on: bool) -> Option<&Effective>
     requires { on ≡ true → k < length partner.now }
     ensures { item_of (option_copied result) ≡ item_if on (effective_in k (map effective_fields partner.now)) }
@@ -38,9 +38,9 @@ fn item_at(partner: &[Effective], k: usize, on: bool) -> Option<&Effective>
     if on { Some(&partner[k]) } else { None }
 }
 
-/// The next place of the uplink half, with which it is done.
+/// Processes the next place of the uplink half.
 pub(crate) fn work_up(up: &mut UpLeg, io: &mut LegIo, bridge_end: u32) -> UpNote
-    requires place { has_place io.old ≡ true }
+    requires place { has_period io.old ≡ true }
     requires periods { up.old.search.periods < 4294967295 }
     ensures note { result ≡ (up_turned (up_before bridge_end io.old.done up.old) (up_at io.old.done io.old)).0 }
     ensures io { io.new ≡ one_done (with_out io.old (up_turned (up_before bridge_end io.old.done up.old) (up_at io.old.done io.old)).1) }
@@ -55,7 +55,7 @@ pub(crate) fn work_up(up: &mut UpLeg, io: &mut LegIo, bridge_end: u32) -> UpNote
     note
 }
 
-/// The next place of the downlink half, with which it is done.
+/// Processes the next place of the downlink half.
 pub(crate) fn work_down(
     down: &mut DownLeg,
     io: &mut LegIo,
@@ -63,11 +63,11 @@ pub(crate) fn work_down(
     partner: &[Effective],
     bridge_end: u32,
 )
-    requires place { has_place io.old ≡ true }
+    requires place { has_period io.old ≡ true }
     requires notes { io.old.done < length notes.now }
     requires partner { (down_before bridge_end io.old.done down.old).bridged ≡ true → io.old.done < length partner.now }
     ensures io { let c = down_before bridge_end io.old.done down.old in
-        io.new ≡ with_place io.old (octets_of (down_turned c (note_at io.old.done notes.now)
+        io.new ≡ with_period io.old (octets_of (down_turned c (note_at io.old.done notes.now)
         (item_if c.bridged (effective_in io.old.done (map effective_fields partner.now))) (pcm_at io.old.done io.old)).0) }
     ensures down { let c = down_before bridge_end io.old.done down.old in
         down.new ≡ (down_turned c (note_at io.old.done notes.now) (item_if c.bridged (effective_in io.old.done (map effective_fields partner.now)))

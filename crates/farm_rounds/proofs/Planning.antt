@@ -1,154 +1,142 @@
--- The jobs of a round that is planned.
-use Rattle.std.proofs.Common.{◌≡◌, refl, sym, ap, ◌∙◌, subst, ℕ, ◌<◌, ◌≤◌, Bool, true, false, Option, Some, None, List, [], ◌∷◌, ◌++◌, length, length-append}
-use Rattle.std.proofs.Common.{append_assoc, arith, inl, inr, ◌⊎◌}
-use Rattle.std.specs.Prelude.{if◌then◌else◌, is_some, map, reverse, slice_index}
-use Rattle.std.specs.Option.{option_or, option_map}
-use Rattle.std.specs.List.{All, count_by}
-use Rattle.std.proofs.lemmas.List.Elements.{All-head}
-use Rattle.std.proofs.lemmas.Bool.{cases_Bool, false≢true}
-use Rattle.std.proofs.lemmas.List.{reverse-append, map-append, append-nil, get_or_append_left, get_or_push}
-use Rattle.std.proofs.lemmas.List.Folds.{find-append}
-use Rattle.std.proofs.lemmas.List.Sorted.{IsPermutation-middle}
-use Rattle.call_pair.specs.declared.job.Job.{Job}
-use Rattle.call_pair.specs.Jobs.{has_call}
-use Rattle.farm_rounds.specs.declared.call.Call.{Call}
-use Rattle.farm_rounds.specs.declared.call.Group.{Group}
-use Rattle.farm_rounds.specs.declared.call.Group.TheVariants.{One, Two}
-use Rattle.farm_rounds.specs.declared.entry.Entry.{Entry}
-use Rattle.farm_rounds.specs.Calls.{holds, group_in, call_in, call_of}
-use Rattle.farm_rounds.specs.Groups.{IsGroup}
-use Rattle.farm_rounds.proofs.Finding.{found_moved}
-use Rattle.farm_rounds.proofs.Exchanging.{All-second}
-use Rattle.farm_rounds.specs.Rounds.{no_job, job_at, HasJob, entry_at, job_made, entry_for, HaveEntries, BringCalls}
+-- A round that is planned: its calls are those of the farm.
+use Rattle.std.proofs.Common.{◌≡◌, refl, sym, ap, ◌∙◌, subst, ℕ, ◌+◌, ◌*◌, ◌<◌, ◌≤◌, Bool, true, false, Some, List, [], ◌∷◌, length, get_or, arith}
+use Rattle.std.specs.Prelude.{map, slice_index}
+use Rattle.std.specs.Option.{option_map}
+use Rattle.std.specs.List.{All}
+use Rattle.std.proofs.lemmas.List.{get_or-map, length-map, length-replicate}
+use Rattle.std.proofs.lemmas.Simd.{map-map}
+use Rattle.std.proofs.lemmas.List.Elements.{All-map, All-weaker, All-get_or}
+use Rattle.call_number.specs.CallNumber.{IsCallNumber}
+use Rattle.round_lines.specs.Transfer.{has_failed}
+use Rattle.round_lines.specs.Memory.{outlet_before}
+use Rattle.round_lines.specs.Rounds.{no_seat, seat_at}
+use Rattle.farm_rounds.specs.declared.open.OpenCall.{OpenCall}
+use Rattle.farm_rounds.specs.Calls.{Kept, call_in}
+use Rattle.farm_rounds.specs.Numbers.{IsRising}
+use Rattle.farm_rounds.specs.Opens.{IsOpenCall, AreOpen, AreMutual, kept_of, seat_of_open, open_planned}
+use Rattle.farm_rounds.specs.Opened.{no_open}
+use Rattle.farm_rounds.specs.RoundHistories.{seat_for}
+use Rattle.farm_rounds.specs.Working.{IsInRound, IsRound}
+use Rattle.farm_rounds.proofs.Found.{number_of, find_at, kept_by}
+use Rattle.farm_rounds.proofs.Rising.{rising_far}
 
--- a new job has the calls of its group
-pub made_has : (g : Group) (c : ℕ) → has_call (job_made g) c ≡ holds c g
-made_has (One x) c = refl
-made_has (Two x y) c = refl
+-- ---- the numbers of open calls
 
--- of two one is there
-some_or : (o p : Option Group) → is_some o ≡ true → is_some (option_or o p) ≡ true
-some_or None p e = absurd (false≢true e)
-some_or (Some x) p e = refl
+number_at : (os : List OpenCall) (k : ℕ) → k < length os → get_or (map number_of os) k 0 ≡ (get_or os k no_open).job.io.call
+number_at os k l = get_or-map number_of os k no_open 0 l
 
-some_of_none : (o : Option Group) → is_some (option_or o None) ≡ true → is_some o ≡ true
-some_of_none None e = e
-some_of_none (Some x) e = refl
+pub live_number : (most : ℕ) (live : List ℕ) (os : List OpenCall) → AreOpen most live os → (k : ℕ) → k < length live → IsCallNumber (slice_index live k)
+live_number most live os a k l =
+    let lk : k < length os = omega (arith, l, ap length a.listed, length-map os number_of) in
+    subst IsCallNumber (sym (ap (λ (ns : List ℕ). get_or ns k 0) a.listed ∙ number_at os k lk))
+    (All-get_or (IsOpenCall most) os k no_open lk a.each).number
 
-none_or : (o p : Option Group) → is_some p ≡ true → is_some (option_or o p) ≡ true
-none_or None p e = e
-none_or (Some x) p e = refl
+-- no more calls are open than there are numbers
+pub few_live : (most : ℕ) (live : List ℕ) (os : List OpenCall) → AreOpen most live os → length live ≤ 4096
+few_live most [] os a = omega arith
+few_live most (x ∷ xs) os a =
+    let first = live_number most (x ∷ xs) os a 0 (omega arith) in
+    let last = live_number most (x ∷ xs) os a (length xs) (omega arith) in
+    let far = rising_far (x ∷ xs) (length xs) a.rising first.0 (omega arith) in
+    omega (arith, far, last.1)
 
--- an entry says what a call brings into the round
-abbrev Brings : List Group → Entry → ℕ → Type 0
-Brings groups e c = option_map (entry_for e.job) (call_in groups c) ≡ Some e
+-- as many calls as numbers
+pub live_long : (most : ℕ) (live : List ℕ) (os : List OpenCall) → AreOpen most live os → length live ≡ length os
+live_long most live os a = ap length a.listed ∙ length-map os number_of
 
--- the call of a group in the middle
-its_call : (next rest : List Group) (g : Group) (c : ℕ) → count_by (holds c) (next ++ g ∷ rest) ≤ 1 → holds c g ≡ true →
-    call_in (next ++ g ∷ rest) c ≡ Some (call_of c g)
-its_call next rest g c few t =
-    let front : group_in (g ∷ (next ++ rest)) c ≡ Some g = rw t refl in
-    ap (λ (o : Option Group). option_map (call_of c) o)
-    (sym (found_moved (holds c) (next ++ g ∷ rest) (g ∷ (next ++ rest)) (IsPermutation-middle next g rest) few) ∙ front)
+-- ---- a call
 
--- some groups have become jobs
-pub record Made (old : List Group) (live : List ℕ) (groups : List Group) (jobs : List Job) (entries : List Entry) : Type 0 where
-  pub rest : List Group
-  pub split : old ≡ groups ++ rest
-  pub made : jobs ≡ map job_made (reverse rest)
-  pub each : (k : ℕ) → k < length live →
-      (is_some (group_in groups (slice_index live k)) ≡ true)
-      ⊎ (HasJob jobs (entry_at entries k).job (slice_index live k) × Brings old (entry_at entries k) (slice_index live k))
-  pub long : length entries ≡ length live
+-- whether an outgoing line has failed stays known
+marks : (b : Bool) → has_failed (outlet_before b) ≡ b
+marks true = refl
+marks false = refl
 
--- before the first group no job is made
-pub made_none : (old : List Group) (live : List ℕ) (jobs : List Job) (entries : List Entry) → jobs ≡ [] → length entries ≡ length live →
-    ((k : ℕ) → k < length live → is_some (group_in old (slice_index live k)) ≡ true) → Made old live old jobs entries
-made_none old live jobs entries e long found = record { rest = []; split = sym (append-nil old); made = e; each = λ k l. inl (found k l); long = long }
+kept_planned : (n : ℕ) (o : OpenCall) → kept_of (open_planned n o) ≡ kept_of o
+kept_planned n o =
+    ap (λ (b : Bool). record {
+      call = record {
+        number = o.job.io.call;
+        leg = (kept_of o).call.leg;
+        down_failed = b;
+        out_failed = has_failed
+            (outlet_before (has_failed o.lines.out));
+      };
+      partner = o.partner;
+    }) (marks (has_failed o.lines.down))
+    ∙ ap (λ (b : Bool). record {
+      call = record { number = o.job.io.call; leg = (kept_of o).call.leg; down_failed = has_failed o.lines.down; out_failed = b };
+      partner = o.partner;
+    }) (marks (has_failed o.lines.out))
 
--- the calls of the last group
-pub last_present : (old : List Group) (live : List ℕ) (groups next : List Group) (g : Group) (jobs : List Job) (entries : List Entry) →
-    Made old live groups jobs entries → groups ≡ next ++ g ∷ [] → (c : ℕ) → holds c g ≡ true → is_some (group_in old c) ≡ true
-last_present old live groups next g jobs entries m e c t =
-    let last : group_in groups c ≡ option_or (group_in next c) (Some g) =
-    ap (λ (gs : List Group). group_in gs c) e ∙ find-append (holds c) next (g ∷ [])
-    ∙ ap (λ (b : Bool). option_or (group_in next c) (if b then Some g else None)) t in
-    let all : group_in old c ≡ option_or (group_in groups c) (group_in m.rest c) =
-    ap (λ (gs : List Group). group_in gs c) m.split ∙ find-append (holds c) groups m.rest in
-    let some : is_some (group_in groups c) ≡ true = rw last (none_or (group_in next c) (Some g) refl) in
-    rw all (some_or (group_in groups c) (group_in m.rest c) some)
-
--- the last group that is left is one of the farm's, with its calls' entries still to be written
-pub last_each : (most : ℕ) (old : List Group) (live : List ℕ) (groups next : List Group) (g : Group) (jobs : List Job) (entries : List Entry) →
-    Made old live groups jobs entries → groups ≡ next ++ g ∷ [] → All (IsGroup most) old → IsGroup most g
-last_each most old live groups next g jobs entries m e all =
-    let whole : old ≡ next ++ g ∷ m.rest = m.split ∙ ap (λ (gs : List Group). gs ++ m.rest) e ∙ append_assoc next (g ∷ []) m.rest in
-    All-head (IsGroup most) g m.rest (All-second (IsGroup most) next (g ∷ m.rest) (subst (λ (gs : List Group). All (IsGroup most) gs) whole all))
-
--- the jobs with one more
-pub job_pushed : (jobs after : List Job) (j : Job) (g : Group) → after ≡ jobs ++ j ∷ [] → j ≡ job_made g → after ≡ jobs ++ job_made g ∷ []
-job_pushed jobs after j g e ej = e ∙ ap (λ (x : Job). jobs ++ x ∷ []) ej
-
--- one group more has its job
-pub made_more : (old : List Group) (live : List ℕ) (groups next : List Group) (g : Group) (jobs after : List Job) (entries entered : List Entry) →
-    Made old live groups jobs entries → groups ≡ next ++ g ∷ [] → after ≡ jobs ++ job_made g ∷ [] → length entered ≡ length entries →
-    ((k : ℕ) → k < length live → holds (slice_index live k) g ≡ true → entry_at entered k ≡ entry_for (length jobs) (call_of (slice_index live k) g)) →
-    ((k : ℕ) → k < length live → holds (slice_index live k) g ≡ false → entry_at entered k ≡ entry_at entries k) → ((c : ℕ) → count_by (holds c) old ≤ 1) →
-    Made old live next after entered
-made_more old live groups next g jobs after entries entered m e ej el at others apart = record {
-  rest = g ∷ m.rest;
-  split = split;
-  made =
-      ej ∙ ap (λ (js : List Job). js ++ job_made g ∷ []) m.made ∙ sym (map-append job_made (reverse m.rest) (g ∷ []))
-      ∙ ap (λ (gs : List Group). map job_made gs) (sym (reverse-append (g ∷ []) m.rest));
-  each = λ k l. elim (cases_Bool (holds (slice_index live k) g)) [
-    | inl t ↦
-        let c = slice_index live k in
-        let its : call_in old c ≡ Some (call_of c g) =
-        ap (λ (gs : List Group). call_in gs c) split ∙ its_call next m.rest g c (subst (λ (gs : List Group). count_by (holds c) gs ≤ 1) split (apart c)) t in
-        inr (
-          (
-            omega (arith, ap length ej, length-append jobs (job_made g ∷ []), ap (λ (x : Entry). x.job) (at k l t)),
-            ap (λ (n : ℕ). has_call (job_at after n) c) (ap (λ (x : Entry). x.job) (at k l t)) ∙ ap (λ (js : List Job). has_call (job_at js (length jobs)) c) ej
-                ∙ ap (λ (x : Job). has_call x c) (get_or_push jobs (job_made g) no_job (length jobs) refl) ∙ made_has g c ∙ t,
-          ),
-          subst (λ (x : Entry). Brings old x c) (sym (at k l t)) (ap (λ (o : Option Call). option_map (entry_for (length jobs)) o) its),
-        )
-    | inr f ↦ elim (m.each k l) [
-      | inl s ↦
-          let last : group_in groups (slice_index live k) ≡ option_or (group_in next (slice_index live k)) None =
-          ap (λ (gs : List Group). group_in gs (slice_index live k)) e ∙ find-append (holds (slice_index live k)) next (g ∷ [])
-          ∙ ap (λ (b : Bool). option_or (group_in next (slice_index live k)) (if b then Some g else None)) f in
-          inl (some_of_none (group_in next (slice_index live k)) (sym (ap is_some last) ∙ s))
-      | inr h ↦
-          let same = ap (λ (x : Entry). x.job) (others k l f) in
-          inr (
-            (
-              omega (arith, ap length ej, length-append jobs (job_made g ∷ []), same, h.0.0),
-              ap (λ (n : ℕ). has_call (job_at after n) (slice_index live k)) same
-                  ∙ ap (λ (js : List Job). has_call (job_at js (entry_at entries k).job) (slice_index live k)) ej
-                  ∙ ap (λ (x : Job). has_call x (slice_index live k)) (get_or_append_left jobs (job_made g ∷ []) no_job (entry_at entries k).job h.0.0) ∙ h.0.1,
-            ),
-            subst (λ (x : Entry). Brings old x (slice_index live k)) (sym (others k l f)) h.1,
-          )
-    ]
-  ];
-  long = el ∙ m.long;
+planned_call : (before start n : ℕ) → before ≤ start → (o : OpenCall) → IsOpenCall before o → IsInRound start (start + n) (open_planned n o)
+planned_call before start n later o h = record {
+  call = record { number = h.number; lines = h.lines; worked = omega (arith, h.worked, later); first = refl; none = refl; up = h.down; down = h.down };
+  periods = refl;
+  given = refl;
+  fresh = refl;
+  alone = refl;
+  agrees = refl;
+  bridge = refl;
+  fits = record {
+    up = length-replicate (40 * n) 0;
+    pcm = length-replicate (160 * n) 0;
+    down = length-replicate (40 * n) 0;
+    out = length-replicate (160 * n) 0;
+  };
 }
-  where
-    split : old ≡ next ++ g ∷ m.rest
-    split = m.split ∙ ap (λ (gs : List Group). gs ++ m.rest) e ∙ append_assoc next (g ∷ []) m.rest
 
--- no group is left: each has its job
-pub made_all : (old : List Group) (live : List ℕ) (groups : List Group) (jobs : List Job) (entries : List Entry) → Made old live groups jobs entries →
-    groups ≡ [] → (jobs ≡ map job_made (reverse old)) × HaveEntries jobs entries live × BringCalls old entries live
-made_all old live groups jobs entries m e =
-    let each : (k : ℕ) → k < length live → HasJob jobs (entry_at entries k).job (slice_index live k) × Brings old (entry_at entries k)
-    (slice_index live k) = λ k l. elim (m.each k l) [
-      | inl s ↦ absurd (false≢true (sym (ap (λ (gs : List Group). is_some (group_in gs (slice_index live k))) e) ∙ s))
-      | inr h ↦ h
-    ] in (
-      m.made ∙ ap (λ (gs : List Group). map job_made (reverse gs)) (sym (m.split ∙ ap (λ (gs : List Group). gs ++ m.rest) e)),
-      λ k l. (each k l).0,
-      λ k l. (each k l).1,
-    )
+-- ---- all calls
+
+pub kept_all : (n : ℕ) (os : List OpenCall) → map kept_of (map (open_planned n) os) ≡ map kept_of os
+kept_all n [] = refl
+kept_all n (o ∷ os) =
+    ap (λ (k : Kept). k ∷ map kept_of (map (open_planned n) os)) (kept_planned n o) ∙ ap (λ (ks : List Kept). kept_of o ∷ ks) (kept_all n os)
+
+numbers_all : (n : ℕ) (os : List OpenCall) → map number_of (map (open_planned n) os) ≡ map number_of os
+numbers_all n [] = refl
+numbers_all n (o ∷ os) = ap (λ (ns : List ℕ). o.job.io.call ∷ ns) (numbers_all n os)
+
+-- the calls of a planned round stand in rising order of their numbers
+pub rising_kept : (n most : ℕ) (live : List ℕ) (os : List OpenCall) → AreOpen most live os →
+    IsRising (map (λ k. k.call.number) (map kept_of (map (open_planned n) os)))
+rising_kept n most live os a =
+    subst IsRising (a.listed ∙ sym (numbers_all n os) ∙ sym (map-map (λ (k : Kept). k.call.number) kept_of (map (open_planned n) os))) a.rising
+
+-- those that have worked no more than before the round can be planned
+pub timely : (before most : ℕ) (os : List OpenCall) → before ≤ most → All (IsOpenCall before) os → All (IsOpenCall most) os
+timely before most os l a = All-weaker (IsOpenCall before) (IsOpenCall most)
+    (λ o h. record { number = h.number; lines = h.lines; worked = omega (arith, h.worked, l); first = h.first; none = h.none; up = h.up; down = h.down }) os a
+
+pub planned : (before start n : ℕ) (live : List ℕ) (os : List OpenCall) → before ≤ start → start + n ≤ 4294967295 → AreOpen before live os →
+    IsRound start (start + n) live (map (open_planned n) os)
+planned before start n live os later last a =
+    let each : All (IsInRound start (start + n)) (map (open_planned n) os) = All-map (IsInRound start (start + n)) (open_planned n) os
+    (All-weaker (IsOpenCall before) (λ o. IsInRound start (start + n) (open_planned n o)) (planned_call before start n later) os a.each) in
+    record {
+      opened = record {
+        listed = a.listed ∙ sym (numbers_all n os);
+        rising = a.rising;
+        each = All-weaker (IsInRound start (start + n)) (IsOpenCall start) (λ o h. h.call) (map (open_planned n) os) each;
+        both = subst AreMutual (sym (kept_all n os)) a.both;
+      };
+      each = each;
+      last = last;
+    }
+
+-- the seat of each call
+pub planned_seat : (before n : ℕ) (live : List ℕ) (os : List OpenCall) (k : ℕ) → AreOpen before live os → k < length live →
+    let c = slice_index live k in seat_at (map seat_of_open (map (open_planned n) os)) k ≡ seat_for n c (call_in (map kept_of os) c)
+planned_seat before n live os k a l =
+    let lk : k < length os = omega (arith, l, live_long before live os a) in
+    let lm : k < length (map (open_planned n) os) = omega (arith, lk, length-map os (open_planned n)) in
+    let o = get_or os k no_open in
+    let is : slice_index live k ≡ o.job.io.call = ap (λ (ns : List ℕ). get_or ns k 0) a.listed ∙ number_at os k lk in
+    let found : call_in (map kept_of os) o.job.io.call ≡ Some (kept_of o).call =
+    ap (λ x. option_map (λ (y : Kept). y.call) x) (kept_by os o.job.io.call)
+    ∙ ap (λ x. option_map (λ (y : Kept). y.call) (option_map kept_of x)) (find_at os k (subst IsRising a.listed a.rising) lk) in
+    let place : o.lines.call ≡ o.job.io.call = (All-get_or (IsOpenCall before) os k no_open lk a.each).lines in
+    get_or-map seat_of_open (map (open_planned n) os) k no_open no_seat lm
+    ∙ ap seat_of_open (get_or-map (open_planned n) os k no_open no_open lk)
+    ∙ ap (λ (m : ℕ). seat_for n m (Some (kept_of o).call)) place
+    ∙ ap (λ x. seat_for n o.job.io.call x) (sym found)
+    ∙ ap (λ (m : ℕ). seat_for n m (call_in (map kept_of os) m)) (sym is)

@@ -1,8 +1,8 @@
 -- What acts make of the histories of the calls.
-use Rattle.std.proofs.Common.{◌≡◌, ◌≢◌, refl, sym, ap, ◌∙◌, subst, ℕ, ℤ, true, false, Option, Some, None, List, [], inl, inr, arith}
+use Rattle.std.proofs.Common.{◌≡◌, ◌≢◌, refl, sym, ap, ◌∙◌, subst, ℕ, ℤ, true, false, Option, Some, None, List, [], inl, inr}
 use Rattle.std.specs.Prelude.{◌==◌, is_some}
-use Rattle.std.specs.Option.{option_map, option_and_then}
-use Rattle.std.proofs.lemmas.Bool.{cases_Bool, eqb-true, eq-eqb, ne_eqb, false≢true, or_left, or_right}
+use Rattle.std.specs.Option.{option_map}
+use Rattle.std.proofs.lemmas.Bool.{cases_Bool, eqb-true, eq-eqb, ne_eqb, false≢true}
 use Rattle.trau_alaw.specs.declared.Law.{Law}
 use Rattle.trau_orders.specs.declared.order.DtxMode.{DtxMode}
 use Rattle.switchboard.specs.declared.act.Act.{Act}
@@ -10,16 +10,12 @@ use Rattle.switchboard.specs.declared.act.Act.TheVariants as act
 use Rattle.call_leg.specs.Settings.{new_settings, with_level, with_mode, with_bridge, without_bridge}
 use Rattle.call_leg.specs.Stands.{Stands}
 use Rattle.call_leg.proofs.OrderLaws.{level-stands, mode-stands, begin-stands, end-stands, new-stands}
-use Rattle.farm_rounds.specs.declared.call.Call.{Call}
-use Rattle.farm_rounds.specs.declared.call.Group.{Group}
-use Rattle.farm_rounds.specs.declared.call.Group.TheVariants.{Two}
 use Rattle.farm_rounds.specs.declared.tally.Tally.{Tally}
-use Rattle.farm_rounds.specs.Calls.{holds, call_in, partner_in, partner_of}
-use Rattle.farm_rounds.specs.Groups.{AreGroups}
-use Rattle.farm_rounds.specs.Acts.{new_call, bridged_call, parted, set_by, calls_after, partners_after, IsOpen, ActFits, Stays, Applied}
-use Rattle.farm_rounds.specs.Histories.{CallHistory, whose, CallStands, GroupsStand, NoneWaits, NoneDrains, set_now, histories_after, tally_of, kept_of}
+use Rattle.farm_rounds.specs.Calls.{Call, Kept, call_in, partner_in}
+use Rattle.farm_rounds.specs.Acts.{new_call, bridged_call, parted, set_by, calls_after, partners_after, IsOpen, ActFits, Applied}
+use Rattle.farm_rounds.specs.Histories.{CallHistory, whose, CallStands, CallsStand, NoneWaits, NoneDrains, set_now, histories_after, tally_of, kept_of}
 use Rattle.farm_rounds.specs.Histories.{tallies_after}
-use Rattle.farm_rounds.proofs.Holding.{bridged, found_group, found_other}
+use Rattle.farm_rounds.specs.Opens.{AreMutual}
 
 -- ---- one call
 
@@ -60,42 +56,22 @@ sets_mode c d mode None (Some x) p h = absurd h
 sets_mode c d mode (Some y) None p h = absurd h
 sets_mode c d mode (Some y) (Some x) p h = (h.0, mode-stands (whose c y) y.periods y.now mode x.leg h.1, h.2)
 
--- ---- partners
-
--- a call is its partner's partner, and not its own
-pub partner_back : (most : ℕ) (gs : List Group) (a b : ℕ) → AreGroups most gs → partner_in gs a ≡ Some b → (partner_in gs b ≡ Some a) × (a ≢ b)
-partner_back most gs a b k e =
-    let r = bridged gs a b e in
-    let h = found_group most gs a (Two r.0 r.1) k r.2 in
-    let ne : r.0.number ≢ r.1.number = λ q. absurd (let l = h.0.2 in omega arith) in
-    elim r.3 [
-      | inl q ↦
-          let t : holds b (Two r.0 r.1) ≡ true = or_right (r.0.number == b) (r.1.number == b) (eq-eqb r.1.number b q.1) in
-          let g = found_other most gs a b (Two r.0 r.1) k r.2 t in
-          let f : (r.0.number == b) ≡ false = ne_eqb r.0.number b (λ s. ne (s ∙ sym q.1)) in
-          (ap (option_and_then (partner_of b)) g ∙ simp f (ap Some q.0), λ s. ne (q.0 ∙ s ∙ sym q.1))
-      | inr q ↦
-          let t : (r.0.number == b) ≡ true = eq-eqb r.0.number b q.1 in
-          let g = found_other most gs a b (Two r.0 r.1) k r.2 (or_left (r.0.number == b) (r.1.number == b) t) in
-          (ap (option_and_then (partner_of b)) g ∙ simp t (ap Some q.0), λ s. ne (q.1 ∙ sym s ∙ sym q.0))
-    ]
-
 -- ---- all calls
 
-module _ (h : ℕ → Option CallHistory) (gs : List Group) (most : ℕ) (k : AreGroups most gs) (s : GroupsStand h gs) where
+module _ (h : ℕ → Option CallHistory) (ks : List Kept) (both : AreMutual ks) (s : CallsStand h ks) where
   at : (c d : ℕ) (P : ℕ → Type 0) → (c == d) ≡ true → P c → P d
   at c d P t p = subst P (eqb-true c d t) p
 
   abbrev Goal : Act → ℕ → Type 0
-  Goal a d = CallStands d (histories_after a h d) (calls_after a (call_in gs) d) (partners_after a (partner_in gs) d)
+  Goal a d = CallStands d (histories_after a h d) (calls_after a (call_in ks) d) (partners_after a (partner_in ks) d)
 
-  opened : (c : ℕ) (law : Law) → ActFits gs (act.Opened c law) → (d : ℕ) → Goal (act.Opened c law) d
+  opened : (c : ℕ) (law : Law) → ActFits ks (act.Opened c law) → (d : ℕ) → Goal (act.Opened c law) d
   opened c law fits d = elim (cases_Bool (c == d)) [
     | inl t ↦
         let e = eqb-true c d t in
-        let none : partner_in gs d ≡ None =
-        subst (λ (n : ℕ). partner_in gs n ≡ None) e
-        (closed_partner c (h c) (partner_in gs c) (subst (λ (x : Option Call). CallStands c (h c) x (partner_in gs c)) fits.1 (s c))) in
+        let none : partner_in ks d ≡ None =
+        subst (λ (n : ℕ). partner_in ks n ≡ None) e
+        (closed_partner c (h c) (partner_in ks c) (subst (λ (x : Option Call). CallStands c (h c) x (partner_in ks c)) fits.1 (s c))) in
         simp t (
           e,
           subst (λ (n : ℕ). Stands (record { number = d; law = law }) [] new_settings (new_call n law).leg) (sym e)
@@ -105,57 +81,57 @@ module _ (h : ℕ → Option CallHistory) (gs : List Group) (most : ℕ) (k : Ar
     | inr f ↦ simp f (s d)
   ]
 
-  freed : (c q : ℕ) → partner_in gs c ≡ Some q → (d : ℕ) → (c == d) ≡ false → Goal (act.Closed c (Some q)) d
+  freed : (c q : ℕ) → partner_in ks c ≡ Some q → (d : ℕ) → (c == d) ≡ false → Goal (act.Closed c (Some q)) d
   freed c q e d f = elim (cases_Bool (q == d)) [
     | inl t ↦
-        let back : partner_in gs d ≡ Some c = at q d (λ n. partner_in gs n ≡ Some c) t (partner_back most gs c q k e).0 in
-        simp (f, t) (parts d (h d) (call_in gs d) (partner_in gs d) (ap is_some back) (s d))
+        let back : partner_in ks d ≡ Some c = at q d (λ n. partner_in ks n ≡ Some c) t (both c q e).0 in
+        simp (f, t) (parts d (h d) (call_in ks d) (partner_in ks d) (ap is_some back) (s d))
     | inr g ↦ simp (f, g) (s d)
   ]
 
-  closed : (c : ℕ) (p : Option ℕ) → ActFits gs (act.Closed c p) → (d : ℕ) → Goal (act.Closed c p) d
+  closed : (c : ℕ) (p : Option ℕ) → ActFits ks (act.Closed c p) → (d : ℕ) → Goal (act.Closed c p) d
   closed c None fits d = elim (cases_Bool (c == d)) [ inl t ↦ simp t refl | inr f ↦ simp f (s d) ]
   closed c (Some q) fits d = elim (cases_Bool (c == d)) [ inl t ↦ simp t refl | inr f ↦ freed c q fits.1 d f ]
 
-  joined_two : (a b : ℕ) → ActFits gs (act.Bridged a b) → NoneDrains (act.Bridged a b) h → (d : ℕ) → Goal (act.Bridged a b) d
+  joined_two : (a b : ℕ) → ActFits ks (act.Bridged a b) → NoneDrains (act.Bridged a b) h → (d : ℕ) → Goal (act.Bridged a b) d
   joined_two a b fits w d = elim (cases_Bool (a == d)) [
     | inl t ↦
         let f : (b == d) ≡ false = ne_eqb b d (λ q. fits.0 (eqb-true a d t ∙ sym q)) in
-        simp (t, f) (joins d b (h d) (call_in gs d) (partner_in gs d) (at a d (λ n. NoneWaits (h n)) t w.0) (at a d (λ n. IsOpen gs n) t fits.1) (s d))
+        simp (t, f) (joins d b (h d) (call_in ks d) (partner_in ks d) (at a d (λ n. NoneWaits (h n)) t w.0) (at a d (λ n. IsOpen ks n) t fits.1) (s d))
     | inr f ↦ elim (cases_Bool (b == d)) [
-      | inl t ↦ simp (f, t) (joins d a (h d) (call_in gs d) (partner_in gs d) (at b d (λ n. NoneWaits (h n)) t w.1) (at b d (λ n. IsOpen gs n) t fits.2) (s d))
+      | inl t ↦ simp (f, t) (joins d a (h d) (call_in ks d) (partner_in ks d) (at b d (λ n. NoneWaits (h n)) t w.1) (at b d (λ n. IsOpen ks n) t fits.2) (s d))
       | inr g ↦ simp (f, g) (s d)
     ]
   ]
 
-  parted_two : (a b : ℕ) → ActFits gs (act.Unbridged a b) → (d : ℕ) → Goal (act.Unbridged a b) d
+  parted_two : (a b : ℕ) → ActFits ks (act.Unbridged a b) → (d : ℕ) → Goal (act.Unbridged a b) d
   parted_two a b fits d = elim (cases_Bool (a == d)) [
     | inl t ↦
-        let f : (b == d) ≡ false = ne_eqb b d (λ q. (partner_back most gs a b k fits).1 (eqb-true a d t ∙ sym q)) in
-        simp (t, f) (parts d (h d) (call_in gs d) (partner_in gs d) (ap is_some (at a d (λ n. partner_in gs n ≡ Some b) t fits)) (s d))
+        let f : (b == d) ≡ false = ne_eqb b d (λ q. (both a b fits).1 (eqb-true a d t ∙ sym q)) in
+        simp (t, f) (parts d (h d) (call_in ks d) (partner_in ks d) (ap is_some (at a d (λ n. partner_in ks n ≡ Some b) t fits)) (s d))
     | inr f ↦ elim (cases_Bool (b == d)) [
       | inl t ↦
           simp (f, t)
-          (parts d (h d) (call_in gs d) (partner_in gs d) (ap is_some (at b d (λ n. partner_in gs n ≡ Some a) t (partner_back most gs a b k fits).0)) (s d))
+          (parts d (h d) (call_in ks d) (partner_in ks d) (ap is_some (at b d (λ n. partner_in ks n ≡ Some a) t (both a b fits).0)) (s d))
       | inr g ↦ simp (f, g) (s d)
     ]
   ]
 
-  by_act : (a : Act) → ActFits gs a → NoneDrains a h → (d : ℕ) → Goal a d
+  by_act : (a : Act) → ActFits ks a → NoneDrains a h → (d : ℕ) → Goal a d
   by_act (act.Opened c law) fits w d = opened c law fits d
   by_act (act.Closed c p) fits w d = closed c p fits d
   by_act (act.Bridged a b) fits w d = joined_two a b fits w d
   by_act (act.Unbridged a b) fits w d = parted_two a b fits d
   by_act (act.LevelSet c level) fits w d = elim (cases_Bool (c == d)) [
-    | inl t ↦ simp t (sets_level d c level (h d) (call_in gs d) (partner_in gs d) (s d))
+    | inl t ↦ simp t (sets_level d c level (h d) (call_in ks d) (partner_in ks d) (s d))
     | inr f ↦ simp f (s d)
   ]
   by_act (act.DtxSet c mode) fits w d = elim (cases_Bool (c == d)) [
-    | inl t ↦ simp t (sets_mode d c mode (h d) (call_in gs d) (partner_in gs d) (s d))
+    | inl t ↦ simp t (sets_mode d c mode (h d) (call_in ks d) (partner_in ks d) (s d))
     | inr f ↦ simp f (s d)
   ]
 
-  pub stands_after : (a : Act) (now : List Group) → ActFits gs a → NoneDrains a h → Applied most a gs now → GroupsStand (histories_after a h) now
+  pub stands_after : (a : Act) (now : List Kept) → ActFits ks a → NoneDrains a h → Applied a ks now → CallsStand (histories_after a h) now
   stands_after a now fits w p d = rw (p.calls d, p.partners d) (by_act a fits w d)
 
 -- ---- what is kept
@@ -175,27 +151,28 @@ history_stands c o None p y e h = absurd (rw e at h)
 history_stands c o (Some x) p y e h = let g = rw e at h in (x, refl, g.1)
 
 -- a call that has had periods is open and stands for them
-pub standing : (h : ℕ → Option CallHistory) (gs : List Group) (c : ℕ) (y : CallHistory) → GroupsStand h gs → h c ≡ Some y →
-    (m : Call) × (call_in gs c ≡ Some m) × Stands (whose c y) y.periods y.now m.leg
-standing h gs c y s e = history_stands c (h c) (call_in gs c) (partner_in gs c) y e (s c)
+pub standing : (h : ℕ → Option CallHistory) (ks : List Kept) (c : ℕ) (y : CallHistory) → CallsStand h ks → h c ≡ Some y →
+    (m : Call) × (call_in ks c ≡ Some m) × Stands (whose c y) y.periods y.now m.leg
+standing h ks c y s e = history_stands c (h c) (call_in ks c) (partner_in ks c) y e (s c)
 
 -- the tally of the call that ended
-pub tallied : (h : ℕ → Option CallHistory) (gs : List Group) (c : ℕ) (p : Option ℕ) (kept new : ℕ → Tally) → GroupsStand h gs → IsOpen gs c →
+pub tallied : (h : ℕ → Option CallHistory) (ks : List Kept) (c : ℕ) (p : Option ℕ) (kept new : ℕ → Tally) → CallsStand h ks → IsOpen ks c →
     ((d : ℕ) → d ≢ c → new d ≡ kept d) →
-    ((m : Call) (y : CallHistory) → call_in gs c ≡ Some m → Stands (whose c y) y.periods y.now m.leg → new c ≡ tally_of y.periods y.now) → (d : ℕ) →
+    ((m : Call) (y : CallHistory) → call_in ks c ≡ Some m → Stands (whose c y) y.periods y.now m.leg → new c ≡ tally_of y.periods y.now) → (d : ℕ) →
     new d ≡ tallies_after (act.Closed c p) h kept d
-tallied h gs c p kept new s o others this d = elim (cases_Bool (c == d)) [
+tallied h ks c p kept new s o others this d = elim (cases_Bool (c == d)) [
   | inl t ↦ simp t (subst (λ (n : ℕ). new n ≡ kept_of (h n) (kept n)) (eqb-true c d t)
-      (let r = open_stands c (h c) (call_in gs c) (partner_in gs c) o (s c) in this r.1 r.0 r.3 r.4
+      (let r = open_stands c (h c) (call_in ks c) (partner_in ks c) o (s c) in this r.1 r.0 r.3 r.4
       ∙ sym (ap (λ (x : Option CallHistory). kept_of x (kept c)) r.2)))
   | inr f ↦ simp f (others d (λ q. false≢true (sym f ∙ eq-eqb c d (sym q))))
 ]
 
 -- no other act changes what is kept
-pub same_tallies : (a : Act) (h : ℕ → Option CallHistory) (kept : ℕ → Tally) (d : ℕ) → Stays a → kept d ≡ tallies_after a h kept d
-same_tallies (act.Bridged b c) h kept d s = refl
-same_tallies (act.Unbridged b c) h kept d s = refl
-same_tallies (act.LevelSet c level) h kept d s = refl
-same_tallies (act.DtxSet c mode) h kept d s = refl
-same_tallies (act.Opened c law) h kept d s = absurd s
-same_tallies (act.Closed c p) h kept d s = absurd s
+pub same_tallies : (a : Act) (h : ℕ → Option CallHistory) (kept : ℕ → Tally) (d : ℕ) → ((c : ℕ) (p : Option ℕ) → a ≢ act.Closed c p) →
+    kept d ≡ tallies_after a h kept d
+same_tallies (act.Opened c law) h kept d stays = refl
+same_tallies (act.Closed c p) h kept d stays = absurd (stays c p refl)
+same_tallies (act.Bridged b c) h kept d stays = refl
+same_tallies (act.Unbridged b c) h kept d stays = refl
+same_tallies (act.LevelSet c level) h kept d stays = refl
+same_tallies (act.DtxSet c mode) h kept d stays = refl

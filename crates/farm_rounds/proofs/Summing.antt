@@ -6,7 +6,7 @@ use Rattle.std.proofs.lemmas.Bool.{cases_lt}
 use Rattle.std.proofs.lemmas.List.{get_or_default, get_or-set_same, get_or-set_other}
 use Rattle.trau_io.specs.declared.line.Side.{Side}
 use Rattle.trau_io.specs.declared.line.Side.TheVariants.{Up, Pcm, Down, Out}
-use Rattle.trau_io.specs.Places.{number_of_side, place_of}
+use Rattle.trau_io.specs.Indices.{number_of_side, index_of_line}
 use Rattle.round_lines.specs.Seats.{SeatMemory, down_given, out_given}
 use Rattle.round_lines.specs.Rounds.{Rising, IsOutgoing, seat_at, call_at}
 use Rattle.farm_rounds.specs.Sums.{AddsSeat, Adds, no_sums, sum_in}
@@ -19,10 +19,10 @@ zeros (suc n) (suc i) = zeros n i
 
 -- .. has no sum
 pub no_sum : (n : ℕ) (sums : List ℕ) → sums ≡ replicate n 0 → sum_in sums ≡ no_sums
-no_sum n sums made = λ i. λ c side. (ap (λ (xs : List ℕ). sum_in xs c side) made ∙ zeros n (place_of c side)) i
+no_sum n sums made = λ i. λ c side. (ap (λ (xs : List ℕ). sum_in xs c side) made ∙ zeros n (index_of_line c side)) i
 
 -- octets are added at the place of their line ..
-pub added_here : (sums old octets : List ℕ) (call at n a b : ℕ) (side : Side) → sums ≡ old → at ≡ place_of call side → at < length sums →
+pub added_here : (sums old octets : List ℕ) (call at n a b : ℕ) (side : Side) → sums ≡ old → at ≡ index_of_line call side → at < length sums →
     n ≡ sum octets % 2 ^ 32 → a ≡ get_or sums at a → b ≡ (a + n) % 2 ^ 32 → sum_in (set sums at b) call side ≡ (sum_in old call side + sum octets) % 2 ^ 32
 added_here sums old octets call at n a b side same here within of before new =
     let was : a ≡ get_or sums at 0 = before ∙ get_or_default sums at a 0 within in
@@ -51,10 +51,10 @@ numbered_back Down = refl
 numbered_back Out = refl
 
 -- .. and at no other line's
-pub added_elsewhere : (sums old : List ℕ) (call at b : ℕ) (side : Side) → sums ≡ old → at ≡ place_of call side →
+pub added_elsewhere : (sums old : List ℕ) (call at b : ℕ) (side : Side) → sums ≡ old → at ≡ index_of_line call side →
     (c : ℕ) (s : Side) → (c ≡ call → s ≡ side → ⊥) → sum_in (set sums at b) c s ≡ sum_in old c s
 added_elsewhere sums old call at b side same here c s other =
-    get_or-set_other sums at (place_of c s) b 0
+    get_or-set_other sums at (index_of_line c s) b 0
     (λ e.
     let low = number_small s in
     let less = number_small side in
@@ -63,7 +63,7 @@ added_elsewhere sums old call at b side same here c s other =
     ∙ ap (λ (xs : List ℕ). sum_in xs c s) same
 
 -- both lines of a seat, one after the other
-pub both_added : (seat : SeatMemory) (a b d : ℕ → Side → ℕ) (c : ℕ) → c ≡ seat.place.call →
+pub both_added : (seat : SeatMemory) (a b d : ℕ → Side → ℕ) (c : ℕ) → c ≡ seat.lines.call →
     b c Down ≡ (a c Down + sum (down_given seat)) % 2 ^ 32 → ((e : ℕ) (s : Side) → (e ≡ c → s ≡ Down → ⊥) → b e s ≡ a e s) →
     d c Out ≡ (b c Out + sum (out_given seat)) % 2 ^ 32 → ((e : ℕ) (s : Side) → (e ≡ c → s ≡ Out → ⊥) → d e s ≡ b e s) → AddsSeat seat a d
 both_added seat a b d c is down first out second = record {

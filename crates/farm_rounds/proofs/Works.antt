@@ -1,36 +1,43 @@
--- A round that is worked: the calls stand for the periods that the round adds, and their octets are those of them.
-use Rattle.std.proofs.Common.{◌≡◌, ◌≢◌, refl, sym, ap, ◌∙◌, subst, ℕ, ◌<◌, true, false, Option, Some, None, List, length, arith, inl, inr}
-use Rattle.std.specs.Prelude.{◌==◌, is_some, map}
+-- A round that is worked: its calls stand for the periods that it adds, and their octets are those of them.
+use Rattle.std.proofs.Common.{◌≡◌, ◌≢◌, refl, sym, ap, ◌∙◌, subst, ℕ, ◌*◌, ◌<◌, ◌≤◌, Bool, true, false, Option, Some, None, List, [], ◌∷◌, length, get_or, arith, inl, inr}
+use Rattle.std.specs.Prelude.{◌==◌, ◌&&◌, nat_le, min, if◌then◌else◌, is_some, map}
+use Rattle.std.proofs.lemmas.Bool.{cases_Bool, eqb-true, eq-eqb, false≢true}
+use Rattle.std.proofs.lemmas.Map.Entries.{option_filter}
 use Rattle.std.specs.Option.{option_map, option_and_then}
-use Rattle.std.proofs.lemmas.Bool.{eqb-true, eq-eqb, ne_eqb, or_left, or_right, or_cases}
-use Rattle.std.proofs.lemmas.List.{get_or-map}
-use Rattle.trau_io.specs.declared.ends.CallEnd.{CallEnd}
+use Rattle.std.specs.List.{All}
+use Rattle.std.proofs.lemmas.List.{length-map, get_or-map}
+use Rattle.std.proofs.lemmas.List.Elements.{All-map, All-from_get_or, All-get_or}
+use Rattle.call_number.specs.CallNumber.{IsCallNumber}
 use Rattle.call_leg.specs.Stands.{Stands}
-use Rattle.call_pair.specs.declared.job.Job.{Job}
-use Rattle.call_pair.specs.declared.job.Job.TheVariants.{One, Two}
-use Rattle.call_pair.specs.Memory.{IoMemory, HalfMemory}
+use Rattle.call_pair.specs.Memory.{HalfMemory, IsIo, Job}
 use Rattle.call_pair.specs.History.{io_after}
-use Rattle.call_pair.specs.Jobs.{has_call, half_of, finished}
-use Rattle.round_lines.specs.Places.{PlaceMemory, whole_in}
+use Rattle.call_pair.specs.Jobs.{half_of, finished}
+use Rattle.call_pair.specs.Phases.{half_in, begun}
+use Rattle.round_lines.specs.Memory.{LinesMemory, whole_in}
 use Rattle.round_lines.specs.Seats.{SeatMemory}
-use Rattle.round_lines.specs.Rounds.{seat_at, call_at}
-use Rattle.farm_rounds.specs.declared.call.Call.{Call}
-use Rattle.farm_rounds.specs.declared.call.Group.{Group}
-use Rattle.farm_rounds.specs.Calls.{group_in, call_of, call_in, partner_of, partner_in}
-use Rattle.farm_rounds.specs.Groups.{AreGroups, ListsOpenCalls}
-use Rattle.farm_rounds.specs.Histories.{CallHistory, whose, CallStands, GroupsStand}
-use Rattle.farm_rounds.specs.Rounds.{no_job, job_at, entry_at, io_of, seat_with, call_from, group_from, groups_from, Works}
-use Rattle.farm_rounds.specs.RoundHistories.{worked_histories, history_with, WorkedCall, AreWorked}
-use Rattle.farm_rounds.specs.Ordered.{job_in}
-use Rattle.farm_rounds.specs.Working.{RoundMemory, IsRound, IsWorkedRound}
-use Rattle.farm_rounds.proofs.Finding.{found_there}
-use Rattle.farm_rounds.proofs.Holding.{found_group}
-use Rattle.farm_rounds.proofs.Handing.{its_job}
-use Rattle.farm_rounds.proofs.Partners.{finished_partner}
-use Rattle.farm_rounds.proofs.FinishedJobs.{finished_groups, finished_live}
-use Rattle.farm_rounds.proofs.Finished.{Finished, Pair, first_half, second_half, alone_finished, pair_finished}
-use Rattle.farm_rounds.proofs.Seating.{seat_of_at}
-use Rattle.farm_rounds.proofs.JobSeats.{call_from_job, job_group, finished_job, stays, periods, its_place, worked_rising, seat_job, seated, job_other}
+use Rattle.round_lines.specs.Rounds.{Rising, EndsWithin, seat_at, call_at}
+use Rattle.farm_rounds.specs.declared.open.OpenCall.{OpenCall}
+use Rattle.farm_rounds.specs.Calls.{Call, Kept, call_in, partner_in}
+use Rattle.farm_rounds.specs.Numbers.{IsRising}
+use Rattle.farm_rounds.specs.Opens.{kept_of, seat_of_open, seat_with, goes_on_open, open_finished}
+use Rattle.farm_rounds.specs.Opened.{no_open, met_beside}
+use Rattle.farm_rounds.specs.Histories.{CallHistory, whose, CallStands, CallsStand}
+use Rattle.farm_rounds.specs.Rounds.{io_of}
+use Rattle.farm_rounds.specs.Settling.{goes_on_in}
+use Rattle.farm_rounds.specs.RoundHistories.{seat_of, worked_histories, history_with, WorkedCall, AreWorked}
+use Rattle.farm_rounds.specs.Working.{RoundMemory, IsInRound, IsRound, IsWorkedCall, IsWorkedRound, StaysBridged, that_stays, goes_on_call}
+use Rattle.farm_rounds.specs.Finishing.{half_worked}
+use Rattle.farm_rounds.proofs.Found.{number_of, open_in, is_found, found_all, find_at, kept_by, partner_by, partner_found}
+use Rattle.farm_rounds.proofs.Phased.{half_open, IsDone, done_keeps, done_periods}
+use Rattle.farm_rounds.proofs.Working.{seat_read_at, seats_rising, goes_on_at}
+use Rattle.farm_rounds.proofs.Rounded.{ends, ends_with, told as told_open, all_told, done, all_done, done_found, in_round, beside, seat_found, kept_found, job_alone, job_both, worked_half}
+use Rattle.farm_rounds.proofs.Numbered.{any_map, any_found, found_same, map_same, rise}
+use Rattle.farm_rounds.proofs.Flags.{flag_after, le_is, not_le_is}
+use Rattle.farm_rounds.proofs.Finished.{Seated, Finished, alone_finished, beside_finished}
+
+-- what the types of a call keep true: its octets fit together, and no more periods came than were planned
+abbrev pub IsSound : OpenCall → Type 0
+IsSound o = IsIo o.job.io × (whole_in o.lines ≤ o.lines.periods)
 
 -- what stands for an open call
 record Told (c : ℕ) (o : Option CallHistory) (h : HalfMemory) (partner : Option ℕ) : Type 0 where
@@ -39,10 +46,10 @@ record Told (c : ℕ) (o : Option CallHistory) (h : HalfMemory) (partner : Optio
   leg : Stands (whose c history) history.periods history.now h.leg
   bridged : history.now.bridged ≡ is_some partner
 
--- what a call's half tells, by what the call stands for
-told_of : (c : ℕ) (o : Option CallHistory) (h : HalfMemory) (x : Option Call) (p : Option ℕ) → x ≡ Some (call_from h) → CallStands c o x p → Told c o h p
-told_of c None h x p e s = absurd (subst (λ (y : Option Call). CallStands c None y p) e s)
-told_of c (Some y) h x p e s =
+told_of : (c : ℕ) (o : Option CallHistory) (call : OpenCall) (x : Option Call) (p : Option ℕ) → x ≡ Some (kept_of call).call → CallStands c o x p →
+    Told c o (half_open call) p
+told_of c None call x p e s = absurd (subst (λ (y : Option Call). CallStands c None y p) e s)
+told_of c (Some y) call x p e s =
     let k = subst (λ (z : Option Call). CallStands c (Some y) z p) e s in
     record { history = y; told = refl; leg = k.1; bridged = k.2 }
 
@@ -51,171 +58,349 @@ none_told : (c : ℕ) (o : Option CallHistory) (x : Option Call) (p : Option ℕ
 none_told c None x p e s = (refl, subst (λ (y : Option Call). CallStands c None y p) e s)
 none_told c (Some h) x p e s = absurd (subst (λ (y : Option Call). CallStands c (Some h) y p) e s)
 
-module _ (r : RoundMemory) (after : List Job) (worked : List SeatMemory) (i : IsRound r) (w : Works r.jobs r.entries r.seats after worked) where
+module _ (start ended : ℕ) (live : List ℕ) (os : List OpenCall) (i : IsRound start ended live os) where
+  abbrev Numbers : List OpenCall → Type 0
+  Numbers xs = All (λ o. o.lines.call ≡ o.job.io.call) xs
+
+  keeps : (o : OpenCall) → IsDone o (done os o)
+  keeps o = done_keeps (all_told os) (ends os o) o
+
   -- ---- what a round keeps
 
-  pub worked_partner : (c : ℕ) → partner_in (groups_from after) c ≡ partner_in (groups_from r.jobs) c
-  worked_partner c = ap (λ (gs : List Group). partner_in gs c) w.groups ∙ finished_partner w.handed c ∙ ap (λ (gs : List Group). partner_in gs c) w.same.groups
+  rising : IsRising (map number_of os)
+  rising = subst IsRising i.opened.listed i.opened.rising
 
-  pub worked_round : (ends : List CallEnd) →
-      IsWorkedRound (record { ended = r.ended; live = r.live; tallies = r.tallies; failed = r.failed; jobs = after; seats = worked; ends = ends })
-  worked_round ends = record {
-    numbers = w.number ∙ i.numbers;
-    aligned = λ k l.
-        let lk : k < length r.seats = omega (arith, l, w.number) in
-        ap (λ (p : PlaceMemory). p.call) (its_place r after worked i w k lk) ∙ i.aligned k lk;
-    rising = worked_rising r after worked i w;
-    groups = subst (λ (gs : List Group). AreGroups r.ended gs) (sym w.groups)
-        (finished_groups r.ended w.handed (w.timely r.ended i.timely i.time) (subst (λ (gs : List Group). AreGroups r.ended gs) (sym w.same.groups) i.groups));
-    last = i.last;
-    alive =
-        subst (λ (gs : List Group). ListsOpenCalls r.live gs) (sym w.groups)
-        (finished_live r.live w.handed (subst (λ (gs : List Group). ListsOpenCalls r.live gs) (sym w.same.groups) i.alive));
-    kept = i.kept;
-  }
+  numbers_in : (xs : List OpenCall) → map number_of (map (done os) xs) ≡ map number_of xs
+  numbers_in [] = refl
+  numbers_in (x ∷ xs) =
+      ap (λ (n : ℕ). n ∷ map number_of (map (done os) xs)) (keeps x).call ∙ ap (λ (ns : List ℕ). x.job.io.call ∷ ns) (numbers_in xs)
 
-  -- ---- the calls before and after
+  place_at : (k : ℕ) → k < length os → (get_or os k no_open).lines.call ≡ (get_or os k no_open).job.io.call
+  place_at k l = (All-get_or (IsInRound start ended) os k no_open l i.each).call.lines
 
-  group_before : (c : ℕ) → group_in (groups_from r.jobs) c ≡ option_map group_from (job_in w.handed c)
-  group_before c = ap (λ (gs : List Group). group_in gs c) (sym w.same.groups) ∙ job_group w.handed c
+  placed : Numbers os
+  placed = All-from_get_or (λ o. o.lines.call ≡ o.job.io.call) os no_open place_at
 
-  call_before : (c : ℕ) (job : Job) → job_in w.handed c ≡ Some job → call_in (groups_from r.jobs) c ≡ Some (call_from (half_of job c))
-  call_before c job e =
-      ap (λ (o : Option Group). option_map (call_of c) o) (group_before c ∙ ap (λ (o : Option Job). option_map group_from o) e)
-      ∙ ap (λ (x : Call). Some x) (call_from_job job c)
+  done_place : (o : OpenCall) → o.lines.call ≡ o.job.io.call → (done os o).lines.call ≡ (done os o).job.io.call
+  done_place o e = ap (λ (p : LinesMemory). p.call) (keeps o).lines ∙ e ∙ sym (keeps o).call
 
-  partner_before : (c : ℕ) (job : Job) → job_in w.handed c ≡ Some job → partner_in (groups_from r.jobs) c ≡ partner_of c (group_from job)
-  partner_before c job e = ap (λ (o : Option Group). option_and_then (partner_of c) o) (group_before c ∙ ap (λ (o : Option Job). option_map group_from o) e)
+  placed_done : Numbers (all_done os)
+  placed_done = All-map (λ o. o.lines.call ≡ o.job.io.call) (done os) os
+      (All-from_get_or (λ o. (done os o).lines.call ≡ (done os o).job.io.call) os no_open (λ k l. done_place (get_or os k no_open) (place_at k l)))
 
-  group_after : (c : ℕ) → group_in (groups_from after) c ≡ option_map group_from (option_map finished (job_in w.handed c))
-  group_after c =
-      ap (λ (gs : List Group). group_in gs c) w.groups ∙ job_group (map finished w.handed) c
-      ∙ ap (λ (o : Option Job). option_map group_from o) (finished_job w.handed c)
+  rising_done : IsRising (map number_of (all_done os))
+  rising_done = subst IsRising (sym (numbers_in os)) rising
 
-  call_after : (c : ℕ) (job : Job) → job_in w.handed c ≡ Some job → call_in (groups_from after) c ≡ Some (call_from (half_of (finished job) c))
-  call_after c job e =
-      ap (λ (o : Option Group). option_map (call_of c) o) (group_after c ∙ ap (λ (o : Option Job). option_map group_from (option_map finished o)) e)
-      ∙ ap (λ (x : Call). Some x) (call_from_job (finished job) c)
+  pub seats_done_rising : Rising (map seat_of_open (all_done os))
+  seats_done_rising = seats_rising (all_done os) rising_done placed_done
 
-  -- ---- for all periods that the calls may have had
+  pub seats_number : length (map seat_of_open (all_done os)) ≡ length (map seat_of_open os)
+  seats_number = length-map (all_done os) seat_of_open ∙ length-map os (done os) ∙ sym (length-map os seat_of_open)
 
-  module _ (h : ℕ → Option CallHistory) (stand : GroupsStand h (groups_from r.jobs)) where
-    abbrev Finishes : ℕ → Job → Type 0
-    Finishes c job = Finished r.seats (stays r after worked i w) h (partner_in (groups_from r.jobs)) c job
+  -- the seat at a place, before and after
+  seat_before : (k : ℕ) → k < length os → seat_at (map seat_of_open os) k ≡ seat_of_open (get_or os k no_open)
+  seat_before k l = seat_read_at os k l
 
-    told : (c : ℕ) (job : Job) → job_in w.handed c ≡ Some job → Told c (h c) (half_of job c) (partner_in (groups_from r.jobs) c)
-    told c job e = told_of c (h c) (half_of job c) (call_in (groups_from r.jobs) c) (partner_in (groups_from r.jobs) c) (call_before c job e) (stand c)
+  seat_after : (k : ℕ) → k < length os → seat_at (map seat_of_open (all_done os)) k ≡ seat_of_open (done os (get_or os k no_open))
+  seat_after k l =
+      seat_read_at (all_done os) k (omega (arith, l, length-map os (done os))) ∙ ap seat_of_open (get_or-map (done os) os k no_open no_open l)
 
-    alone_finishes : (c : ℕ) (g : HalfMemory) → job_in w.handed c ≡ Some (One g) → Finishes c (One g)
-    alone_finishes c g e =
-        let t = told c (One g) e in
-        let alone : partner_in (groups_from r.jobs) c ≡ None = partner_before c (One g) e in
-        alone_finished r.seats (stays r after worked i w) h (partner_in (groups_from r.jobs)) (periods r after worked i w) c g t.history
-        (seated r after worked i w c (One g) e) t.told alone t.leg
-        (t.bridged ∙ ap is_some alone)
+  inside : (k : ℕ) → k < length (map seat_of_open os) → k < length os
+  inside k l = omega (arith, l, length-map os seat_of_open)
 
-    pair_of_job : (a b : HalfMemory) → job_in w.handed a.io.call ≡ Some (Two a b) → job_in w.handed b.io.call ≡ Some (Two a b) →
-        Pair h (partner_in (groups_from r.jobs)) a b
-    pair_of_job a b e f =
-        let m = a.io.call in
-        let n = b.io.call in
-        let group : group_in (groups_from r.jobs) m ≡ Some (group_from (Two a b)) = group_before m ∙ ap (λ (o : Option Job). option_map group_from o) e in
-        let lower : m < n = (found_group r.ended (groups_from r.jobs) m (group_from (Two a b)) i.groups group).0.2 in
-        let apart : m ≢ n = λ q. absurd (omega (arith, lower, q)) in
-        let is_m : (m == m) ≡ true = eq-eqb m m refl in
-        let not_m : (m == n) ≡ false = ne_eqb m n apart in
-        let first = told m (Two a b) e in
-        let second = told n (Two a b) f in
-        let first_partner : partner_in (groups_from r.jobs) m ≡ Some n = partner_before m (Two a b) e ∙ (rw is_m refl) in
-        let second_partner : partner_in (groups_from r.jobs) n ≡ Some m = partner_before n (Two a b) f ∙ (rw not_m refl) in
-        record {
-          first = first.history;
-          second = second.history;
-          first_told = first.told;
-          second_told = second.told;
-          first_partner = first_partner;
-          second_partner = second_partner;
-          first_leg = subst (λ (g : HalfMemory). Stands (whose m first.history) first.history.periods first.history.now g.leg) (first_half a b) first.leg;
-          second_leg =
-              subst (λ (g : HalfMemory). Stands (whose n second.history) second.history.periods second.history.now g.leg) (second_half a b apart) second.leg;
-          first_bridged = first.bridged ∙ ap is_some first_partner;
-          second_bridged = second.bridged ∙ ap is_some second_partner;
-          apart = apart;
-        }
+  pub same_place : (k : ℕ) → k < length (map seat_of_open os) → (seat_at (map seat_of_open (all_done os)) k).lines ≡ (seat_at (map seat_of_open os) k).lines
+  same_place k l =
+      ap (λ (s : SeatMemory). s.lines) (seat_after k (inside k l)) ∙ (keeps (get_or os k no_open)).lines
+      ∙ sym (ap (λ (s : SeatMemory). s.lines) (seat_before k (inside k l)))
 
-    pair_finishes : (c : ℕ) (a b : HalfMemory) → job_in w.handed c ≡ Some (Two a b) → has_call (Two a b) c ≡ true → Finishes c (Two a b)
-    pair_finishes c a b e t =
-        let first : job_in w.handed a.io.call ≡ Some (Two a b) =
-        job_other r after worked i w c a.io.call (Two a b) e (or_left (a.io.call == a.io.call) (b.io.call == a.io.call) (eq-eqb a.io.call a.io.call refl)) in
-        let second : job_in w.handed b.io.call ≡ Some (Two a b) =
-        job_other r after worked i w c b.io.call (Two a b) e (or_right (a.io.call == b.io.call) (b.io.call == b.io.call) (eq-eqb b.io.call b.io.call refl)) in
-        let both = pair_finished r.seats (stays r after worked i w) h (partner_in (groups_from r.jobs)) (periods r after worked i w) a b
-        (pair_of_job a b first second)
-        (seated r after worked i w a.io.call (Two a b) first) (seated r after worked i w b.io.call (Two a b) second) in
-        elim (or_cases (a.io.call == c) (b.io.call == c) t) [
-          | inl u ↦ subst (λ (n : ℕ). Finishes n (Two a b)) (eqb-true a.io.call c u) both.0
-          | inr u ↦ subst (λ (n : ℕ). Finishes n (Two a b)) (eqb-true b.io.call c u) both.1
+  -- the round's periods have numbers
+  pub ends_within : EndsWithin start (map seat_of_open (all_done os))
+  ends_within k l =
+      let lk : k < length (map seat_of_open os) = omega (arith, l, seats_number) in
+      let r = All-get_or (IsInRound start ended) os k no_open (inside k lk) i.each in
+      let e = ap (λ (p : LinesMemory). p.periods) (same_place k lk) in
+      let f = ap (λ (s : SeatMemory). s.lines.periods) (seat_before k (inside k lk)) in
+      omega (arith, r.periods, i.last, e, f)
+
+  pub same_partner : (c : ℕ) → partner_in (map kept_of (all_done os)) c ≡ partner_in (map kept_of os) c
+  same_partner c = by (open_in os c) refl where
+    read : (x : Option OpenCall) → option_and_then (λ k. k.partner) (option_map kept_of (option_map (done os) x)) ≡ option_and_then (λ k. k.partner)
+        (option_map kept_of x)
+    read None = refl
+    read (Some o) = (keeps o).partner
+
+    by : (x : Option OpenCall) → open_in os c ≡ x → partner_in (map kept_of (all_done os)) c ≡ partner_in (map kept_of os) c
+    by x e =
+        partner_by (all_done os) c
+        ∙ ap (λ (y : Option OpenCall). option_and_then (λ (k : Kept). k.partner) (option_map kept_of y)) (done_found os c)
+        ∙ read (open_in os c)
+        ∙ sym (partner_by os c)
+
+  -- ---- a call after it
+
+  call_after : (c : ℕ) (o : OpenCall) → open_in os c ≡ Some o → call_in (map kept_of (all_done os)) c ≡ Some (kept_of (done os o)).call
+  call_after c o e =
+      ap (option_map (λ (k : Kept). k.call)) (kept_by (all_done os) c ∙ ap (option_map kept_of) (done_found os c ∙ ap (option_map (done os)) e))
+
+  module _ (r : RoundMemory) (calls : r.calls ≡ map kept_of os) (seats : r.seats ≡ map seat_of_open os) where
+    half_is : (c : ℕ) (o : OpenCall) → open_in os c ≡ Some o → half_worked r c ≡ half_in (done os o).job
+    half_is c o e = worked_half start ended live os i r calls seats c o e
+
+    pub leg_after : (k : ℕ) → k < length (map seat_of_open os) → let c = call_at (map seat_of_open os) k in
+        option_map (λ (x : Call). x.leg) (call_in (map kept_of (all_done os)) c) ≡ Some (half_worked r c).leg
+    leg_after k l =
+        let lk = inside k l in
+        let o = get_or os k no_open in
+        let c = o.job.io.call in
+        let e = find_at os k rising lk in
+        let at : call_at (map seat_of_open os) k ≡ c = ap (λ (s : SeatMemory). s.lines.call) (seat_before k lk) ∙ place_at k lk in
+        subst (λ (n : ℕ). option_map (λ (x : Call). x.leg) (call_in (map kept_of (all_done os)) n) ≡ Some (half_worked r n).leg) (sym at)
+        (ap (option_map (λ (x : Call). x.leg)) (call_after c o e) ∙ ap (λ (h : HalfMemory). Some h.leg) (sym (half_is c o e)))
+
+    pub seat_left : (k : ℕ) → k < length (map seat_of_open os) → let s = seat_at (map seat_of_open os) k in
+        seat_at (map seat_of_open (all_done os)) k ≡ seat_with s.lines (half_worked r s.lines.call).io
+    seat_left k l =
+        let lk = inside k l in
+        let o = get_or os k no_open in
+        let e = find_at os k rising lk in
+        seat_after k lk
+        ∙ ap (λ (p : LinesMemory). seat_with p (done os o).job.io) (keeps o).lines
+        ∙ ap (λ (h : HalfMemory). seat_with o.lines h.io) (sym (half_is o.job.io.call o e))
+        ∙ ap (λ (n : ℕ). seat_with o.lines (half_worked r n).io) (sym (place_at k lk))
+        ∙ ap (λ (s : SeatMemory). seat_with s.lines (half_worked r s.lines.call).io) (sym (seat_before k lk))
+
+    -- ---- for all periods that the calls may have had
+
+    module _ (within : All (λ o. whole_in o.lines ≤ o.lines.periods) os) (h : ℕ → Option CallHistory) (stand : CallsStand h (map kept_of os)) where
+      abbrev before : List SeatMemory
+      before = map seat_of_open os
+
+      abbrev after : List SeatMemory
+      after = map seat_of_open (all_done os)
+
+      abbrev partner : ℕ → Option ℕ
+      partner = partner_in (map kept_of os)
+
+      -- a call goes on by its place
+      goes_on : (c : ℕ) (o : OpenCall) → open_in os c ≡ Some o → goes_on_call after c ≡ goes_on_in (seat_of_open o)
+      goes_on c o e =
+          let f = is_found os c o e in
+          let k = f.index in
+          let lk : k < length before = omega (arith, f.inside, length-map os seat_of_open) in
+          let la : k < length after = omega (arith, lk, seats_number) in
+          let place : (seat_at after k).lines ≡ o.lines = same_place k lk ∙ ap (λ (s : SeatMemory). s.lines) (seat_before k f.inside ∙ ap seat_of_open f.there) in
+          let call : call_at after k ≡ c = ap (λ (p : LinesMemory). p.call) place ∙ (in_round start ended live os i c o e).call.lines ∙ f.number in
+          subst (λ (n : ℕ). goes_on_call after n ≡ goes_on_in (seat_at after k)) call (goes_on_at after k seats_done_rising la)
+          ∙ ap (λ (p : LinesMemory). whole_in p == p.periods) place
+
+      seated : (c : ℕ) (o : OpenCall) → open_in os c ≡ Some o → Seated before (goes_on_call after) o.lines.periods c (half_open o)
+      seated c o e =
+          let q = in_round start ended live os i c o e in
+          let is = seat_found start ended live os i c o e in
+          let bound = found_all (λ x. whole_in x.lines ≤ x.lines.periods) os c o e within in
+          record {
+            octets = ap io_of (sym is);
+            sound = subst (λ (s : SeatMemory). IsIo (io_of s)) (sym is)
+                (record {
+                  number = subst IsCallNumber (sym q.call.lines) q.call.number;
+                  room = record {
+                    periods = o.lines.periods;
+                    enough = bound;
+                    up_room = q.fits.up;
+                    pcm_room = q.fits.pcm;
+                    out_room = q.fits.out;
+                    down_room = q.fits.down;
+                  };
+                  within = omega arith;
+                });
+            number = ap (λ (s : SeatMemory). s.lines.call) is ∙ q.call.lines ∙ (is_found os c o e).number;
+            within = subst (λ (s : SeatMemory). whole_in s.lines ≤ o.lines.periods) (sym is) bound;
+            full = goes_on c o e ∙ ap (λ (s : SeatMemory). whole_in s.lines == o.lines.periods) (sym is);
+          }
+
+      told : (c : ℕ) (o : OpenCall) → open_in os c ≡ Some o → Told c (h c) (half_open o) (partner c)
+      told c o e =
+          told_of c (h c) o (call_in (map kept_of os) c) (partner c) (ap (option_map (λ (k : Kept). k.call)) (kept_found start ended live os i c o e)) (stand c)
+
+      abbrev Finishes : ℕ → HalfMemory → Type 0
+      Finishes c f = Finished before (goes_on_call after) h partner c f
+
+      finishes : (c : ℕ) (o : OpenCall) → open_in os c ≡ Some o → Finishes c (half_worked r c)
+      finishes c o e = by o.partner refl
+        where
+          t : Told c (h c) (half_open o) (partner c)
+          t = told c o e
+
+          by : (q : Option ℕ) → o.partner ≡ q → Finishes c (half_worked r c)
+          by None q =
+              let alone : partner c ≡ None = partner_found os c o e ∙ q in
+              subst (Finishes c) (sym (ap (λ (j : Job). half_of (finished j) c) (job_alone start ended live os i r calls seats c o e q)))
+              (alone_finished before (goes_on_call after) h partner o.lines.periods c (half_open o) t.history (seated c o e) t.told alone t.leg
+              (t.bridged ∙ ap is_some alone))
+          by (Some d) q =
+              let b = beside start ended live os i c o d e q in
+              let p = b.other in
+              let u = told d p b.found in
+              let mine : partner c ≡ Some d = partner_found os c o e ∙ q in
+              let its : partner d ≡ Some c = partner_found os d p b.found ∙ b.back in
+              let same : p.lines.periods ≡ o.lines.periods =
+              omega (arith, (in_round start ended live os i c o e).periods, (in_round start ended live os i d p b.found).periods) in
+              subst (Finishes c) (sym (ap (λ (j : Job). half_of (finished j) c) (job_both start ended live os i r calls seats c o d p e q b.found)))
+              (beside_finished before (goes_on_call after) h partner o.lines.periods c d (half_open o) (half_open p) t.history u.history (seated c o e)
+              (subst (λ (n : ℕ). Seated before (goes_on_call after) n d (half_open p)) same (seated d p b.found)) t.told u.told mine t.leg u.leg
+              (t.bridged ∙ ap is_some mine) (u.bridged ∙ ap is_some its))
+
+      abbrev Works : ℕ → Option CallHistory → Option Call → Option ℕ → Type 0
+      Works c x y p = WorkedCall (goes_on_call after) c x y p
+
+      pub worked_call : (c : ℕ) → Works c (worked_histories before partner h c) (call_in (map kept_of (all_done os)) c)
+          (partner_in (map kept_of (all_done os)) c)
+      worked_call c = by (open_in os c) refl where
+        by : (x : Option OpenCall) → open_in os c ≡ x → Works c (worked_histories before partner h c) (call_in (map kept_of (all_done os)) c)
+            (partner_in (map kept_of (all_done os)) c)
+        by None e =
+            let was : call_in (map kept_of os) c ≡ None = ap (option_map (λ (k : Kept). k.call)) (kept_by os c ∙ ap (option_map kept_of) e) in
+            let gone : call_in (map kept_of (all_done os)) c ≡ None =
+            ap (option_map (λ (k : Kept). k.call)) (kept_by (all_done os) c ∙ ap (option_map kept_of) (done_found os c ∙ ap (option_map (done os)) e)) in
+            let none = none_told c (h c) (call_in (map kept_of os) c) (partner c) was (stand c) in
+            let history : worked_histories before partner h c ≡ None = ap (option_map (history_with before h c (partner c))) none.0 in
+            subst (λ (y : Option Call). Works c (worked_histories before partner h c) y (partner_in (map kept_of (all_done os)) c)) (sym gone)
+            (subst (λ (x : Option CallHistory). Works c x None (partner_in (map kept_of (all_done os)) c)) (sym history) (same_partner c ∙ none.1))
+        by (Some o) e =
+            let f = finishes c o e in
+            let half = half_is c o e in
+            let number : (done os o).job.io.call ≡ c = (keeps o).call ∙ (is_found os c o e).number in
+            let leg = subst (λ (g : HalfMemory). Stands (whose c f.now) f.now.periods f.now.now g.leg) half f.leg in
+            subst (λ (p : Option ℕ). Works c (worked_histories before partner h c) (call_in (map kept_of (all_done os)) c) p) (sym (same_partner c))
+            (subst (λ (y : Option Call). Works c (worked_histories before partner h c) y (partner c)) (sym (call_after c o e))
+            (subst (λ (x : Option CallHistory). Works c x (Some (kept_of (done os o)).call) (partner c)) (sym f.told) (number, leg, f.bridged)))
+
+      pub worked_octets : AreWorked before (worked_histories before partner h) after
+      worked_octets k x l e =
+          let lk = inside k l in
+          let o = get_or os k no_open in
+          let c = o.job.io.call in
+          let s = seat_at before k in
+          let found = find_at os k rising lk in
+          let f = finishes c o found in
+          let at : call_at before k ≡ c = ap (λ (t : SeatMemory). t.lines.call) (seat_before k lk) ∙ place_at k lk in
+          let here : seat_of before c ≡ s = seat_found start ended live os i c o found ∙ sym (seat_before k lk) in
+          let same : f.now ≡ x = some_same f.now x (sym f.told ∙ ap (worked_histories before partner h) (sym at) ∙ e) in
+          seat_left k l
+          ∙ ap (λ (n : ℕ). seat_with s.lines (half_worked r n).io) at
+          ∙ ap (seat_with s.lines) f.octets
+          ∙ ap (λ (t : SeatMemory). seat_with s.lines (io_after (whose c f.now) (whole_in t.lines) f.now.periods (io_of t))) here
+          ∙ ap (λ (y : CallHistory). seat_with s.lines (io_after (whose c y) (whole_in s.lines) y.periods (io_of s))) same
+          ∙ ap (λ (n : ℕ). seat_with s.lines (io_after (whose n x) (whole_in s.lines) x.periods (io_of s))) (sym at)
+        where
+          some_same : (y z : CallHistory) → Some y ≡ Some z → y ≡ z
+          some_same y z q = cc
+
+  -- ---- the round that is worked
+
+  -- no more periods came than were planned
+  pub came : All IsSound (all_done os) → All (λ o. whole_in o.lines ≤ o.lines.periods) os
+  came sound = All-from_get_or (λ o. whole_in o.lines ≤ o.lines.periods) os no_open (λ k l.
+      let o = get_or os k no_open in
+      let s = subst IsSound (get_or-map (done os) os k no_open no_open l)
+      (All-get_or IsSound (all_done os) k no_open (omega (arith, l, length-map os (done os))) sound) in
+      subst (λ (p : LinesMemory). whole_in p ≤ p.periods) (keeps o).lines s.1)
+
+  worked_one : (o : OpenCall) → IsInRound start ended o → IsSound (done os o) → IsWorkedCall ended (done os o)
+  worked_one o q s =
+      let d = done os o in
+      let place = (keeps o).lines in
+      let bound : whole_in o.lines ≤ o.lines.periods = subst (λ (p : LinesMemory). whole_in p ≤ p.periods) place s.1 in
+      let periods = ap (λ (p : LinesMemory). p.periods) place in
+      let up : length d.job.io.up ≡ 40 * o.lines.periods = ap length (keeps o).up ∙ q.fits.up in
+      let room = s.0.room in
+      let same : room.periods ≡ o.lines.periods = omega (arith, up, room.up_room) in
+      record {
+        number = s.0.number;
+        lines = done_place o q.call.lines;
+        worked = omega (arith, done_periods (all_told os) start ended (ends os o) o q, bound, q.call.worked, q.periods);
+        fits = record {
+          up = omega (arith, up, periods);
+          pcm = omega (arith, room.pcm_room, same, periods);
+          down = omega (arith, room.down_room, same, periods);
+          out = omega (arith, room.out_room, same, periods);
+        };
+      }
+
+  -- a call goes on where all its periods came
+  going : (d : ℕ) (p : OpenCall) → open_in os d ≡ Some p → goes_on_call (map seat_of_open (all_done os)) d ≡ goes_on_open p
+  going d p e =
+      let xs = all_done os in
+      let place : OpenCall → ℕ = λ o. o.lines.call in
+      let risen = rise place xs (subst IsRising (sym (map_same place number_of xs placed_done)) rising_done) in
+      any_map (λ (s : SeatMemory). (s.lines.call == d) && goes_on_in s) seat_of_open xs ∙ any_found place goes_on_open xs d risen
+      ∙ ap (λ (o : Option OpenCall). is_some (option_filter goes_on_open o))
+      (found_same number_of place xs d placed_done ∙ done_found os d ∙ ap (option_map (done os)) e)
+      ∙ kept (done os p) ∙ ap (λ (q : LinesMemory). whole_in q == q.periods) (keeps p).lines
+    where
+      kept : (o : OpenCall) → is_some (option_filter goes_on_open (Some o)) ≡ goes_on_open o
+      kept o = elim (cases_Bool (goes_on_open o)) [ inl t ↦ simp t refl | inr f ↦ simp f refl ]
+
+  -- whether a call is bridged behind both phases
+  done_flag : (o : OpenCall) → IsInRound start ended o →
+      (done os o).job.down.bridged ≡ (o.job.down.bridged && nat_le (whole_in o.lines) (ends os o))
+  done_flag o r = by o.partner where
+    by : (p : Option ℕ) → (open_finished (met_beside (all_told os) (told_open os o) p)).job.down.bridged
+        ≡ (o.job.down.bridged && nat_le (whole_in o.lines) (ends os o))
+    by None = flag_after (begun (whole_in o.lines) (ends os o) o.job) (told_open os o).job.partner r.call.first
+    by (Some d) = flag_after (begun (whole_in o.lines) (ends os o) o.job) _ r.call.first
+
+  -- one that goes on is so where its partner goes on too
+  still_one : (o : OpenCall) → open_in os o.job.io.call ≡ Some o → All (λ o. whole_in o.lines ≤ o.lines.periods) os →
+      StaysBridged (goes_on_call (map seat_of_open (all_done os))) (done os o)
+  still_one o e within goes = by o.partner refl where
+    r : IsInRound start ended o
+    r = in_round start ended live os i o.job.io.call o e
+
+    all : whole_in o.lines ≡ o.lines.periods
+    all = eqb-true (whole_in o.lines) o.lines.periods (ap (λ (q : LinesMemory). whole_in q == q.periods) (sym (keeps o).lines) ∙ goes)
+
+    by : (q : Option ℕ) → o.partner ≡ q → (done os o).job.down.bridged ≡ is_some (that_stays (goes_on_call (map seat_of_open (all_done os))) (done os o).partner)
+    by None q =
+        done_flag o r ∙ ap (λ (b : Bool). b && nat_le (whole_in o.lines) (ends os o)) (r.call.down ∙ ap (λ (p : Option ℕ). is_some p) q)
+        ∙ sym (ap (λ (p : Option ℕ). is_some (that_stays (goes_on_call (map seat_of_open (all_done os))) p)) ((keeps o).partner ∙ q))
+    by (Some d) q =
+        let b = beside start ended live os i o.job.io.call o d e q in
+        let p = b.other in
+        let other = in_round start ended live os i d p b.found in
+        let most : whole_in p.lines ≤ p.lines.periods = found_all (λ o. whole_in o.lines ≤ o.lines.periods) os d p b.found within in
+        done_flag o r ∙ ap (λ (b : Bool). b && nat_le (whole_in o.lines) (ends os o)) (r.call.down ∙ ap (λ (p : Option ℕ). is_some p) q)
+        ∙ ap (λ (m : ℕ). nat_le (whole_in o.lines) m) (ends_with start ended live os i o.job.io.call o d p q b.found)
+        ∙ short (whole_in o.lines) (whole_in p.lines) p.lines.periods (omega (arith, all, r.periods, other.periods)) most
+        ∙ sym (going d p b.found) ∙ stayed (goes_on_call (map seat_of_open (all_done os)) d)
+        ∙ sym (ap (λ (p : Option ℕ). is_some (that_stays (goes_on_call (map seat_of_open (all_done os))) p)) ((keeps o).partner ∙ q))
+      where
+        short : (a b n : ℕ) → a ≡ n → b ≤ n → nat_le a (min a b) ≡ (b == n)
+        short a b n e l = elim (cases_Bool (b == n)) [
+          | inl t ↦ le_is a (min a b) (let f = eqb-true b n t in omega (arith, e, f)) ∙ sym t
+          | inr f ↦ not_le_is a (min a b) (let apart : b ≢ n = λ g. false≢true (sym f ∙ eq-eqb b n g) in omega (arith, e, l, apart)) ∙ sym f
         ]
 
-    finishes : (c : ℕ) (job : Job) → job_in w.handed c ≡ Some job → has_call job c ≡ true → Finishes c job
-    finishes c (One g) e t = alone_finishes c g e
-    finishes c (Two a b) e t = pair_finishes c a b e t
+        stayed : (b : Bool) → b ≡ is_some (if b then Some d else None)
+        stayed true = refl
+        stayed false = refl
 
-    finished_call : (c : ℕ) (job : Job) → job_in w.handed c ≡ Some job → has_call job c ≡ true →
-        WorkedCall (stays r after worked i w) c (worked_histories r.seats (partner_in (groups_from r.jobs)) h c) (call_in (groups_from after) c)
-        (partner_in (groups_from after) c)
-    finished_call c job e t =
-        let f = finishes c job e t in
-        let half = half_of (finished job) c in
-        let number : half.io.call ≡ c = ap (λ (io : IoMemory). io.call) f.octets ∙ (seated r after worked i w c job e).number in
-        subst (λ (p : Option ℕ). WorkedCall (stays r after worked i w) c (worked_histories r.seats (partner_in (groups_from r.jobs)) h c)
-        (call_in (groups_from after) c) p) (sym (worked_partner c))
-        (subst (λ (x : Option Call). WorkedCall (stays r after worked i w) c (worked_histories r.seats (partner_in (groups_from r.jobs)) h c) x
-        (partner_in (groups_from r.jobs) c)) (sym (call_after c job e))
-        (subst (λ (o : Option CallHistory). WorkedCall (stays r after worked i w) c o (Some (call_from half)) (partner_in (groups_from r.jobs) c)) (sym f.told)
-        (number, f.leg, f.bridged)))
+  still_bridged : All IsSound (all_done os) → All (StaysBridged (goes_on_call (map seat_of_open (all_done os)))) (all_done os)
+  still_bridged sound =
+      All-map (StaysBridged (goes_on_call (map seat_of_open (all_done os)))) (done os) os
+      (All-from_get_or (λ o. StaysBridged (goes_on_call (map seat_of_open (all_done os))) (done os o)) os no_open
+      (λ k l. still_one (get_or os k no_open) (find_at os k rising l) (came sound)))
 
-    no_call : (c : ℕ) → job_in w.handed c ≡ None →
-        WorkedCall (stays r after worked i w) c (worked_histories r.seats (partner_in (groups_from r.jobs)) h c) (call_in (groups_from after) c)
-        (partner_in (groups_from after) c)
-    no_call c e =
-        let before : call_in (groups_from r.jobs) c ≡ None =
-        ap (λ (o : Option Group). option_map (call_of c) o) (group_before c ∙ ap (λ (o : Option Job). option_map group_from o) e) in
-        let gone : call_in (groups_from after) c ≡ None =
-        ap (λ (o : Option Group). option_map (call_of c) o) (group_after c ∙ ap (λ (o : Option Job). option_map group_from (option_map finished o)) e) in
-        let none = none_told c (h c) (call_in (groups_from r.jobs) c) (partner_in (groups_from r.jobs) c) before (stand c) in
-        let history : worked_histories r.seats (partner_in (groups_from r.jobs)) h c ≡ None =
-        ap (λ (o : Option CallHistory). option_map (history_with r.seats h c (partner_in (groups_from r.jobs) c)) o) none.0 in
-        subst (λ (x : Option Call). WorkedCall (stays r after worked i w) c (worked_histories r.seats (partner_in (groups_from r.jobs)) h c) x
-        (partner_in (groups_from after) c)) (sym gone)
-        (subst (λ (o : Option CallHistory). WorkedCall (stays r after worked i w) c o None (partner_in (groups_from after) c)) (sym history)
-        (worked_partner c ∙ none.1))
-
-    pub worked_call : (c : ℕ) →
-        WorkedCall (stays r after worked i w) c (worked_histories r.seats (partner_in (groups_from r.jobs)) h c) (call_in (groups_from after) c)
-        (partner_in (groups_from after) c)
-    worked_call c = by (job_in w.handed c) refl where
-      by : (o : Option Job) → job_in w.handed c ≡ o →
-          WorkedCall (stays r after worked i w) c (worked_histories r.seats (partner_in (groups_from r.jobs)) h c) (call_in (groups_from after) c)
-          (partner_in (groups_from after) c)
-      by None e = no_call c e
-      by (Some job) e = finished_call c job e (found_there (λ (j : Job). has_call j c) w.handed job e).1
-
-    pub worked_octets : AreWorked r.seats (worked_histories r.seats (partner_in (groups_from r.jobs)) h) worked
-    worked_octets k x l e =
-        let c = call_at r.seats k in
-        let place = (entry_at r.entries k).job in
-        let job = job_at w.handed place in
-        let has = its_job r.jobs w.handed r.entries r.seats k i.have w.same l in
-        let f = finishes c job (seat_job r after worked i w k l) has.1 in
-        let same : x ≡ f.now = some_same x f.now (sym e ∙ f.told) in
-        let run : job_at (map finished w.handed) place ≡ finished job = get_or-map finished w.handed place no_job no_job has.0 in
-        w.left k l ∙ ap (λ (j : Job). seat_with (seat_at r.seats k).place (half_of j c).io) run
-        ∙ ap (λ (io : IoMemory). seat_with (seat_at r.seats k).place io) f.octets
-        ∙ ap (λ (s : SeatMemory). seat_with (seat_at r.seats k).place (io_after (whose c f.now) (whole_in s.place) f.now.periods (io_of s)))
-        (seat_of_at r.seats k i.rising l)
-        ∙ ap (λ (y : CallHistory). seat_with (seat_at r.seats k).place
-        (io_after (whose c y) (whole_in (seat_at r.seats k).place) y.periods (io_of (seat_at r.seats k)))) (sym same)
-      where
-        some_same : (y z : CallHistory) → Some y ≡ Some z → y ≡ z
-        some_same y z q = cc
+  pub worked_round : All IsSound (all_done os) → IsWorkedRound ended live (all_done os)
+  worked_round sound = record {
+    listed = i.opened.listed ∙ sym (numbers_in os);
+    rising = i.opened.rising;
+    each = All-map (IsWorkedCall ended) (done os) os (All-from_get_or (λ o. IsWorkedCall ended (done os o)) os no_open (λ k l.
+        worked_one (get_or os k no_open) (All-get_or (IsInRound start ended) os k no_open l i.each)
+        (subst IsSound (get_or-map (done os) os k no_open no_open l)
+        (All-get_or IsSound (all_done os) k no_open (omega (arith, l, length-map os (done os))) sound))));
+    both = λ c d e.
+        let b = i.opened.both c d (sym (same_partner c) ∙ e) in
+        (same_partner d ∙ b.0, b.1);
+    bridged = still_bridged sound;
+  }

@@ -1,46 +1,27 @@
 -- The calls of a farm, by their numbers (this project's profile).
-use Rattle.std.specs.Prelude.{ℕ, nat_lt, ◌==◌, ◌||◌, if◌then◌else◌, Bool, Option, Some, None, List}
+use Rattle.std.specs.Prelude.{ℕ, ◌==◌, Bool, Option, List}
 use Rattle.std.specs.Option.{option_map, option_and_then}
-use Rattle.std.specs.List.{find, sum_by}
-use Rattle.farm_rounds.specs.declared.call.Call.{Call}
-use Rattle.farm_rounds.specs.declared.call.Group.{Group}
-use Rattle.farm_rounds.specs.declared.call.Group.TheVariants.{One, Two}
+use Rattle.std.specs.List.{find}
+use Rattle.call_leg.specs.Memory.{LegMemory}
 
--- whether a call is one of these
-abbrev pub holds : ℕ → Group → Bool
-holds c (One x) = x.number == c
-holds c (Two x y) = (x.number == c) || (y.number == c)
+-- an open call: its number, its leg, and whether its outgoing lines have failed
+pub record Call : Type 0 where
+  pub number : ℕ
+  pub leg : LegMemory
+  pub down_failed : Bool
+  pub out_failed : Bool
 
--- which one of them it is, and the number of its partner
-abbrev pub call_of : ℕ → Group → Call
-call_of c (One x) = x
-call_of c (Two x y) = if x.number == c then x else y
+-- an open call with the number of its partner, if it is bridged
+pub record Kept : Type 0 where
+  pub call : Call
+  pub partner : Option ℕ
 
-abbrev pub partner_of : ℕ → Group → Option ℕ
-partner_of c (One x) = None
-partner_of c (Two x y) = if x.number == c then Some y.number else Some x.number
+-- the call with this number, if it is open, and its partner's number, if it is bridged
+abbrev pub kept_in : List Kept → ℕ → Option Kept
+kept_in calls c = find (λ k. k.call.number == c) calls
 
-abbrev pub other_of : ℕ → Call → Call → Call
-other_of c x y = if x.number == c then y else x
+abbrev pub call_in : List Kept → ℕ → Option Call
+call_in calls c = option_map (λ k. k.call) (kept_in calls c)
 
--- the two calls of a bridge: the lower number stands first
-abbrev pub pair_of : Call → Call → Group
-pair_of x y = if nat_lt x.number y.number then Two x y else Two y x
-
--- the call with this number, where it is open, and the number of its partner, where it is bridged
-abbrev pub group_in : List Group → ℕ → Option Group
-group_in groups c = find (holds c) groups
-
-abbrev pub call_in : List Group → ℕ → Option Call
-call_in groups c = option_map (call_of c) (group_in groups c)
-
-abbrev pub partner_in : List Group → ℕ → Option ℕ
-partner_in groups c = option_and_then (partner_of c) (group_in groups c)
-
--- how many calls a group holds
-abbrev pub size_of : Group → ℕ
-size_of (One x) = 1
-size_of (Two x y) = 2
-
-abbrev pub calls_held : List Group → ℕ
-calls_held groups = sum_by size_of groups
+abbrev pub partner_in : List Kept → ℕ → Option ℕ
+partner_in calls c = option_and_then (λ k. k.partner) (kept_in calls c)

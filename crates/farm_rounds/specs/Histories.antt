@@ -1,4 +1,4 @@
--- The periods that the calls of a farm had. Lists have the newest period first.
+-- The periods that the calls of a farm have had. Lists have the newest period first.
 use Rattle.std.specs.Prelude.{◌≡◌, ℕ, Option, Some, None, is_some, ◌==◌, if◌then◌else◌, List, []}
 use Rattle.trau_alaw.specs.declared.Law.{Law}
 use Rattle.switchboard.specs.declared.act.Act.{Act}
@@ -11,10 +11,8 @@ use Rattle.call_leg.specs.Places.{sent_now}
 use Rattle.call_leg.specs.Down.{down_periods, frames_of}
 use Rattle.call_leg.specs.Stands.{Stands}
 use Rattle.down_framer.specs.Made.{handed_due}
-use Rattle.farm_rounds.specs.declared.call.Call.{Call}
-use Rattle.farm_rounds.specs.declared.call.Group.{Group}
 use Rattle.farm_rounds.specs.declared.tally.Tally.{Tally}
-use Rattle.farm_rounds.specs.Calls.{call_in, partner_in}
+use Rattle.farm_rounds.specs.Calls.{Call, Kept, call_in, partner_in}
 use Rattle.farm_rounds.specs.Acts.{put_at, changed, freed}
 
 -- the law of a call's octets, its periods so far, and what is set for the next one
@@ -27,19 +25,20 @@ pub record CallHistory : Type 0 where
 abbrev pub whose : ℕ → CallHistory → Who
 whose c h = record { number = c; law = h.law }
 
--- what is kept of a call that ends after these periods
+-- the tally of a call after these periods
 abbrev pub tally_of : List CallPeriod → Settings → Tally
 tally_of ts now = record { counts = call_counts ts; sent = sent_now ts now }
 
--- An open call stands for its periods so far, and the settings tell whether it is bridged.
+-- A possible history of a call: of an open call one that leads to its leg, whose settings say whether it is bridged; of any
+-- other call none.
 abbrev pub CallStands : ℕ → Option CallHistory → Option Call → Option ℕ → Type 0
 CallStands c None None partner = partner ≡ None
 CallStands c (Some h) (Some x) partner = (x.number ≡ c) × Stands (whose c h) h.periods h.now x.leg × (h.now.bridged ≡ is_some partner)
 CallStands c _ _ partner = ⊥
 
--- the groups of a farm stand for the histories of the open calls, by their numbers
-abbrev pub GroupsStand : (ℕ → Option CallHistory) → List Group → Type 0
-GroupsStand h groups = (c : ℕ) → CallStands c (h c) (call_in groups c) (partner_in groups c)
+-- h gives each call of a farm a possible history
+abbrev pub CallsStand : (ℕ → Option CallHistory) → List Kept → Type 0
+CallsStand h calls = (c : ℕ) → CallStands c (h c) (call_in calls c) (partner_in calls c)
 
 -- ---- what an act does to the histories
 
@@ -59,12 +58,12 @@ abbrev pub NoneWaits : Option CallHistory → Type 0
 NoneWaits None = Unit {0}
 NoneWaits (Some h) = handed_due (down_periods h.periods) (frames_of h.periods) ≡ None
 
--- a bridge starts only where no handed frame waits
+-- if the act starts a bridge, no handed frame waits in its calls
 abbrev pub NoneDrains : Act → (ℕ → Option CallHistory) → Type 0
 NoneDrains (Bridged a b) h = NoneWaits (h a) × NoneWaits (h b)
 NoneDrains _ h = Unit {0}
 
--- what is kept of each ended call
+-- the tallies that are kept of ended calls
 abbrev pub kept_of : Option CallHistory → Tally → Tally
 kept_of None kept = kept
 kept_of (Some h) kept = tally_of h.periods h.now

@@ -1,19 +1,18 @@
--- What a round adds to the periods that each call has had. `seats` are those of the round once the lines were read: the
--- octets of a call's whole periods are in its seat.
+-- What a round adds to the periods that each call has had. `seats` are the seats of the round after its lines were read: a
+-- call's seat has the octets of its whole periods.
 use Rattle.std.specs.Prelude.{◌≡◌, ℕ, ◌<◌, Bool, true, if◌then◌else◌, ◌==◌, Option, Some, None, is_some, unwrap_or, find, List, length}
 use Rattle.std.specs.Option.{option_map}
 use Rattle.call_leg.specs.Stands.{Stands}
 use Rattle.call_leg.specs.Settings.{settings_at}
 use Rattle.call_pair.specs.History.{Start, settings_past, alone_periods, bridged_periods, io_after}
 use Rattle.round_lines.specs.Transfer.{has_failed}
-use Rattle.round_lines.specs.Places.{whole_in}
+use Rattle.round_lines.specs.Memory.{whole_in}
 use Rattle.round_lines.specs.Seats.{SeatMemory, new_seat}
 use Rattle.round_lines.specs.Rounds.{no_seat, seat_at, call_at}
-use Rattle.farm_rounds.specs.declared.call.Call.{Call}
-use Rattle.farm_rounds.specs.declared.call.Group.{Group}
-use Rattle.farm_rounds.specs.Calls.{call_in, partner_in}
+use Rattle.farm_rounds.specs.Calls.{Call, Kept, call_in, partner_in}
 use Rattle.farm_rounds.specs.Histories.{CallHistory, whose}
-use Rattle.farm_rounds.specs.Rounds.{io_of, seat_with, groups_from}
+use Rattle.farm_rounds.specs.Rounds.{io_of}
+use Rattle.farm_rounds.specs.Opens.{seat_with}
 use Rattle.farm_rounds.specs.Working.{WorkedMemory, goes_on_call, that_stays}
 
 -- ---- before the round
@@ -27,33 +26,33 @@ seat_for periods c (Some x) = new_seat c periods x.down_failed x.out_failed
 
 -- the seat of a call
 abbrev pub seat_of : List SeatMemory → ℕ → SeatMemory
-seat_of seats c = unwrap_or (find (λ s. s.place.call == c) seats) no_seat
+seat_of seats c = unwrap_or (find (λ s. s.lines.call == c) seats) no_seat
 
 -- the call at the start of the round: what it has had, and the octets of its periods in the round
 abbrev pub start_with : List SeatMemory → ℕ → CallHistory → Start
 start_with seats c x = record { law = x.law; past = x.periods; now = x.now; io = io_of (seat_of seats c) }
 
--- after the round, of a call that lies in no bridge ..
+-- the history of a call after the round, if it isn't bridged
 abbrev pub history_alone : List SeatMemory → ℕ → CallHistory → CallHistory
 history_alone seats c x =
-    let n = whole_in (seat_of seats c).place in
+    let n = whole_in (seat_of seats c).lines in
     record { law = x.law; periods = alone_periods n (start_with seats c x); now = settings_at n x.now }
 
--- .. and of one that lies in a bridge with call d
+-- the same, if it is bridged with call d
 abbrev pub history_bridged : List SeatMemory → ℕ → CallHistory → ℕ → CallHistory → CallHistory
 history_bridged seats c x d y =
-    let n = whole_in (seat_of seats c).place in
+    let n = whole_in (seat_of seats c).lines in
     record {
       law = x.law;
       periods = bridged_periods n (start_with seats c x) (start_with seats d y);
-      now = settings_past n (whole_in (seat_of seats d).place) x.now;
+      now = settings_past n (whole_in (seat_of seats d).lines) x.now;
     }
 
 abbrev pub history_beside : List SeatMemory → ℕ → CallHistory → ℕ → Option CallHistory → CallHistory
 history_beside seats c x d None = history_alone seats c x
 history_beside seats c x d (Some y) = history_bridged seats c x d y
 
--- by its partner, if it has one
+-- the same, with its partner if it has one
 abbrev pub history_with : List SeatMemory → (ℕ → Option CallHistory) → ℕ → Option ℕ → CallHistory → CallHistory
 history_with seats h c None x = history_alone seats c x
 history_with seats h c (Some d) x = history_beside seats c x d (h d)
@@ -61,10 +60,10 @@ history_with seats h c (Some d) x = history_beside seats c x d (h d)
 abbrev pub worked_histories : List SeatMemory → (ℕ → Option ℕ) → (ℕ → Option CallHistory) → ℕ → Option CallHistory
 worked_histories seats partner h c = option_map (history_with seats h c (partner c)) (h c)
 
--- ---- the calls that were worked
+-- ---- after the work
 
--- A worked call stands for its periods with those of the round. Where it goes on, its settings tell whether its partner
--- goes on too.
+-- A possible history of a call after the work: it leads to the call's leg. If the call goes on, the settings say whether its
+-- partner goes on too.
 abbrev pub WorkedCall : (ℕ → Bool) → ℕ → Option CallHistory → Option Call → Option ℕ → Type 0
 WorkedCall stays c None None partner = partner ≡ None
 WorkedCall stays c (Some h) (Some x) partner =
@@ -72,20 +71,20 @@ WorkedCall stays c (Some h) (Some x) partner =
 WorkedCall stays c _ _ partner = ⊥
 
 abbrev pub WorkedStand : (ℕ → Option CallHistory) → WorkedMemory → Type 0
-WorkedStand h r = (c : ℕ) → WorkedCall (goes_on_call r.seats) c (h c) (call_in (groups_from r.jobs) c) (partner_in (groups_from r.jobs) c)
+WorkedStand h r = (c : ℕ) → WorkedCall (goes_on_call r.seats) c (h c) (call_in r.calls c) (partner_in r.calls c)
 
--- The seats after the work: Out and Down begin with the octets of the round's periods, and are as they were behind them.
+-- The seats after the work: the buffers of Out and Down begin with the octets of the round's periods; the rest is unchanged.
 abbrev pub AreWorked : List SeatMemory → (ℕ → Option CallHistory) → List SeatMemory → Type 0
 AreWorked seats worked now = (k : ℕ) (x : CallHistory) → k < length seats → worked (call_at seats k) ≡ Some x →
-    let s = seat_at seats k in seat_at now k ≡ seat_with s.place (io_after (whose (call_at seats k) x) (whole_in s.place) x.periods (io_of s))
+    let s = seat_at seats k in seat_at now k ≡ seat_with s.lines (io_after (whose (call_at seats k) x) (whole_in s.lines) x.periods (io_of s))
 
 -- ---- the calls that go on
 
--- those of the open calls that have all periods of the round
+-- the values of the calls that go on
 abbrev pub those_that : {A : Type 0} → (ℕ → Bool) → (ℕ → Option A) → ℕ → Option A
 those_that stays h c = if stays c then h c else None
 
--- a call that goes on knows which of its outgoing lines have failed so far, by its seat
-abbrev pub KnowFailed : List SeatMemory → List Group → Type 0
-KnowFailed seats groups = (c : ℕ) (x : Call) → call_in groups c ≡ Some x →
-    (x.down_failed ≡ has_failed (seat_of seats c).place.down) × (x.out_failed ≡ has_failed (seat_of seats c).place.out)
+-- each of these calls knows which of its outgoing lines have failed so far, as its seat says
+abbrev pub KnowFailed : List SeatMemory → List Kept → Type 0
+KnowFailed seats calls = (c : ℕ) (x : Call) → call_in calls c ≡ Some x →
+    (x.down_failed ≡ has_failed (seat_of seats c).lines.down) × (x.out_failed ≡ has_failed (seat_of seats c).lines.out)

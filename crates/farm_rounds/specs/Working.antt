@@ -1,86 +1,92 @@
--- What a round keeps of the farm and of the calls' jobs.
-use Rattle.std.specs.Prelude.{◌≡◌, ℕ, Bool, Option, Some, None, if◌then◌else◌, ◌==◌, ◌&&◌, ◌+◌, ◌<◌, ◌≤◌, List, length, slice_index, map, flat_map, ◌++◌}
+-- The view and the invariant of a round, before and after its work.
+use Rattle.std.specs.Prelude.{◌≡◌, ℕ, Bool, true, Option, Some, None, is_some, if◌then◌else◌, ◌==◌, ◌&&◌, ◌+◌, ◌≤◌, List, [], map, flat_map, ◌++◌}
 use Rattle.std.specs.List.{All, list_any}
 use Rattle.trau_io.specs.declared.ends.CallEnd.{CallEnd}
 use Rattle.trau_io.specs.declared.line.Line.{Line}
-use Rattle.trau_io.specs.Places.{place_of}
+use Rattle.trau_io.specs.Indices.{index_of_line}
 use Rattle.std.specs.List.Sorted.{IsPermutation, IsNonDecreasingBy}
-use Rattle.call_number.specs.declared.TheConstants.{NUMBERS}
-use Rattle.round_lines.specs.Places.{line_name, failed_in_round}
-use Rattle.round_lines.specs.Seats.{SeatMemory}
-use Rattle.round_lines.specs.Rounds.{Rising, seat_at, call_at}
-use Rattle.call_pair.specs.declared.job.Job.{Job}
-use Rattle.farm_rounds.specs.declared.entry.Entry.{Entry}
+use Rattle.round_lines.specs.Memory.{line_name, failed_in_round}
+use Rattle.round_lines.specs.Seats.{SeatMemory, Fits}
 use Rattle.farm_rounds.specs.declared.tally.Tally.{Tally}
-use Rattle.farm_rounds.specs.Groups.{AreGroups, ListsOpenCalls}
+use Rattle.call_number.specs.CallNumber.{IsCallNumber}
+use Rattle.farm_rounds.specs.declared.open.OpenCall.{OpenCall}
+use Rattle.farm_rounds.specs.Calls.{Kept}
+use Rattle.farm_rounds.specs.Numbers.{IsRising}
+use Rattle.farm_rounds.specs.Opens.{IsOpenCall, AreOpen, AreMutual, kept_of, seat_of_open, goes_on_open}
 use Rattle.farm_rounds.specs.Settling.{goes_on_in}
-use Rattle.farm_rounds.specs.Phased.{IsFreshJob}
-use Rattle.farm_rounds.specs.Rounds.{HaveJobs, HaveRoom, HaveTimeUntil, IsTimely, groups_from}
 
--- what is seen of a round: its first period and the first one after it, the open calls' numbers, what is kept of ended
--- calls, the lines that failed before, the calls' jobs and where they are, and their seats
+-- what is seen of a round: its first period and the first one after it, the open calls' numbers, the tallies of ended calls,
+-- the lines that failed before, the calls with their partners, and their seats
 pub record RoundMemory : Type 0 where
   pub start : ℕ
   pub ended : ℕ
   pub live : List ℕ
   pub tallies : List Tally
   pub failed : List Line
-  pub jobs : List Job
-  pub entries : List Entry
+  pub calls : List Kept
   pub seats : List SeatMemory
 
-pub record IsRound (r : RoundMemory) : Type 0 where
-  pub long : length r.entries ≡ length r.seats
-  pub numbers : length r.seats ≡ length r.live
-  pub aligned : (k : ℕ) → k < length r.seats → call_at r.seats k ≡ slice_index r.live k
-  pub have : HaveJobs r.jobs r.entries r.seats
-  pub rising : Rising r.seats
-  pub time : HaveTimeUntil r.ended r.jobs r.entries r.seats
-  pub timely : All (IsTimely r.ended) r.jobs
-  pub within : (k : ℕ) → k < length r.seats → r.start + (seat_at r.seats k).place.periods ≡ r.ended
-  pub room : HaveRoom r.seats
-  pub last : r.ended ≤ 4294967295
-  pub groups : AreGroups r.ended (groups_from r.jobs)
-  pub alive : ListsOpenCalls r.live (groups_from r.jobs)
-  pub kept : length r.tallies ≡ NUMBERS
-  pub fresh : All (IsFreshJob 0) r.jobs
+-- a call in a round: it and its bridge were planned for all periods of the round
+pub record IsInRound (start ended : ℕ) (o : OpenCall) : Type 0 where
+  pub call : IsOpenCall start o
+  pub periods : start + o.lines.periods ≡ ended
+  pub given : o.job.io.given ≡ o.lines.periods
+  pub fresh : o.job.notes ≡ []
+  pub alone : o.job.partner ≡ []
+  pub agrees : o.job.up.bridged ≡ o.job.down.bridged
+  pub bridge : o.job.bridge_end ≡ (if is_some o.partner then o.lines.periods else 0)
+  pub fits : Fits o.lines.periods o.job.io.up o.job.io.pcm o.job.io.down o.job.io.out
 
--- what is seen of a round that is worked
+pub record IsRound (start ended : ℕ) (live : List ℕ) (opens : List OpenCall) : Type 0 where
+  pub opened : AreOpen start live opens
+  pub each : All (IsInRound start ended) opens
+  pub last : ended ≤ 4294967295
+
+-- what is seen of a processed round
 pub record WorkedMemory : Type 0 where
   pub ended : ℕ
   pub live : List ℕ
   pub tallies : List Tally
   pub failed : List Line
-  pub jobs : List Job
+  pub calls : List Kept
   pub seats : List SeatMemory
   pub ends : List CallEnd
 
-pub record IsWorkedRound (r : WorkedMemory) : Type 0 where
-  pub numbers : length r.seats ≡ length r.live
-  pub aligned : (k : ℕ) → k < length r.seats → call_at r.seats k ≡ slice_index r.live k
-  pub rising : Rising r.seats
-  pub groups : AreGroups r.ended (groups_from r.jobs)
-  pub last : r.ended ≤ 4294967295
-  pub alive : ListsOpenCalls r.live (groups_from r.jobs)
-  pub kept : length r.tallies ≡ NUMBERS
+-- a call in a processed round
+pub record IsWorkedCall (most : ℕ) (o : OpenCall) : Type 0 where
+  pub number : IsCallNumber o.job.io.call
+  pub lines : o.lines.call ≡ o.job.io.call
+  pub worked : o.job.up.search.periods ≤ most
+  pub fits : Fits o.lines.periods o.job.io.up o.job.io.pcm o.job.io.down o.job.io.out
 
--- a call goes on where its seat has all periods of the round
+-- a call goes on if its seat has all periods of the round
 abbrev pub goes_on_call : List SeatMemory → ℕ → Bool
-goes_on_call seats c = list_any (λ s. (s.place.call == c) && goes_on_in s) seats
+goes_on_call seats c = list_any (λ s. (s.lines.call == c) && goes_on_in s) seats
 
--- a partner that goes on
+-- the partner, if it goes on
 abbrev pub that_stays : (ℕ → Bool) → Option ℕ → Option ℕ
 that_stays stays None = None
 that_stays stays (Some p) = if stays p then Some p else None
 
--- the partner of a call after a round: a call whose partner has ended goes on alone, and one that has ended has none
+-- a call that goes on is bridged exactly if its partner goes on too
+abbrev pub StaysBridged : (ℕ → Bool) → OpenCall → Type 0
+StaysBridged stays o = goes_on_open o ≡ true → o.job.down.bridged ≡ is_some (that_stays stays o.partner)
+
+pub record IsWorkedRound (ended : ℕ) (live : List ℕ) (opens : List OpenCall) : Type 0 where
+  pub listed : live ≡ map (λ o. o.job.io.call) opens
+  pub rising : IsRising live
+  pub each : All (IsWorkedCall ended) opens
+  pub both : AreMutual (map kept_of opens)
+  pub bridged : All (StaysBridged (goes_on_call (map seat_of_open opens))) opens
+
+-- the partners after a round: a call whose partner has ended goes on alone, and a call that has ended has no partner
 abbrev pub partner_past : (ℕ → Bool) → (ℕ → Option ℕ) → ℕ → Option ℕ
 partner_past stays partner c = if stays c then that_stays stays (partner c) else None
 
--- The lines that failed are those from before and those that failed in the round, by their calls' numbers, and those of a
--- call in the order Up, Pcm, Down, Out.
+-- The failed lines are those from before the round and those of the round, in call-number order, and a call's in the order Up,
+-- Pcm, Down, Out.
 pub record GainsFailed (before now : List Line) (seats : List SeatMemory) : Type 0 where
   pub lines : List Line
-  pub told : map line_name lines ≡ map line_name before ++ flat_map (λ s. failed_in_round s.place) seats
+  pub told : map line_name lines ≡ map line_name before ++ flat_map (λ s. failed_in_round s.lines) seats
   pub same : IsPermutation lines now
-  pub order : IsNonDecreasingBy (λ l. place_of l.call l.side) now
+  pub order : IsNonDecreasingBy (λ l. index_of_line l.call l.side) now

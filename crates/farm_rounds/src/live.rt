@@ -1,46 +1,39 @@
-//! The list of the open calls' numbers, which rise.
+//! The list of the open calls' numbers, in rising order.
 
-ghost use Rattle.std.specs.Prelude.{◌≡◌, ◌+◌, ◌<◌, ◌==◌, ◌&&◌, ◌||◌, not, ℕ, true, false, length, slice_index, vec_len, vec_capacity};
+ghost use Rattle.std.specs.Prelude.{◌≡◌, ◌<◌, ◌≤◌, ℕ, true, false, length, slice_index};
 ghost use Rattle.farm_rounds.specs.Numbers.{IsRising, is_among};
 
-/// Adds a number that isn't there.
-pub(crate) fn add_number(numbers: &mut Vec<u32>, number: u32)
-    requires rising { IsRising numbers.old.items }
-    requires absent { is_among numbers.old.items number ≡ false }
-    requires room { vec_len numbers.old < vec_capacity numbers.old }
-    ensures rising { IsRising numbers.new.items }
-    ensures numbers { (c : ℕ) → is_among numbers.new.items c ≡ ((number == c) || is_among numbers.old.items c) }
-    ensures len { vec_len numbers.new ≡ vec_len numbers.old + 1 }
-    ensures capacity { vec_capacity numbers.new ≡ vec_capacity numbers.old }
+/// Whether a number is in the list.
+pub(crate) fn contains(numbers: &[u32], number: u32) -> bool
+    ensures { result ≡ is_among numbers.now number }
 {
-    if let Err(place) = numbers.binary_search(&number) {
-        numbers.insert(place, number).unwrap();
+    numbers.contains(&number)
+}
+
+/// The index at which to insert a number that isn't in the list.
+pub(crate) fn insertion_index(numbers: &[u32], number: u32) -> usize
+    requires rising { IsRising numbers.now }
+    requires absent { is_among numbers.now number ≡ false }
+    ensures within { result ≤ length numbers.now }
+    ensures below { (k : ℕ) → k < result → slice_index numbers.now k < number }
+    ensures above { (k : ℕ) → result ≤ k → k < length numbers.now → number < slice_index numbers.now k }
+{
+    match numbers.binary_search(&number) {
+        // `absent` excludes `Ok`.
+        Ok(index) | Err(index) => index,
     }
 }
 
-/// Removes a number that is there.
-pub(crate) fn remove_number(numbers: &mut Vec<u32>, number: u32)
-    requires rising { IsRising numbers.old.items }
-    requires present { is_among numbers.old.items number ≡ true }
-    ensures rising { IsRising numbers.new.items }
-    ensures numbers { (c : ℕ) → is_among numbers.new.items c ≡ (not (number == c) && is_among numbers.old.items c) }
-    ensures len { vec_len numbers.new + 1 ≡ vec_len numbers.old }
-    ensures capacity { vec_capacity numbers.new ≡ vec_capacity numbers.old }
-{
-    if let Ok(place) = numbers.binary_search(&number) {
-        numbers.remove(place);
-    }
-}
-
-/// The place of a number that is there.
-pub(crate) fn place_in(numbers: &[u32], number: u32) -> usize
+/// The index of a number that is in the list.
+pub(crate) fn index_of(numbers: &[u32], number: u32) -> usize
     requires rising { IsRising numbers.now }
     requires present { is_among numbers.now number ≡ true }
     ensures within { result < length numbers.now }
     ensures number { slice_index numbers.now result ≡ number }
 {
     match numbers.binary_search(&number) {
-        Ok(place) => place,
+        Ok(index) => index,
+        // `present` excludes this.
         Err(_) => 0,
     }
 }

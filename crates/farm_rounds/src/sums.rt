@@ -3,16 +3,17 @@
 ghost use Rattle.std.specs.Prelude.{◌≡◌, ℕ, ◌+◌, ◌^◌, ◌%◌, IfOk};
 ghost use Rattle.std.specs.List.{sum};
 ghost use Rattle.trau_io.specs.declared.line.Side.{Side};
-ghost use Rattle.round_lines.specs.Seats.{SeatMemory};
+ghost use Rattle.round_lines.specs.Seats.{Fits};
+ghost use Rattle.farm_rounds.specs.Opens.{seat_of_open};
 ghost use Rattle.farm_rounds.specs.Sums.{AddsSeat, no_sums, sum_in};
 
+use crate::open::OpenCall;
 use farm_report::sum;
-use round_lines::Seat;
 use std::alloc::{AllocError, Global};
 use std::marker::Model;
-use trau_io::{Line, PLACES, Side, place};
+use trau_io::{LINE_INDICES, Line, Side, line_index};
 
-/// The sums of the octets of each call's outgoing lines, modulo 2^32: those of the rounds that were added.
+/// The sums, modulo 2^32, of the octets of each call's outgoing lines in the rounds that were added.
 #[derive(Drop)]
 pub struct Sums {
     sums: Vec<u32>,
@@ -20,30 +21,30 @@ pub struct Sums {
 
 impl Model for Sums {
     ghost use Rattle.std.specs.Prelude.{◌≡◌, ℕ, List, length};
-    ghost use Rattle.trau_io.specs.declared.places.TheConstants.{PLACES};
+    ghost use Rattle.trau_io.specs.declared.line_table.TheConstants.{LINE_INDICES};
 
     ghost Value = { List ℕ };
 
     ghost view = { λ s. s.sums.items };
 
-    ghost invariant = { λ s. length s.sums.items ≡ PLACES };
+    ghost invariant = { λ s. length s.sums.items ≡ LINE_INDICES };
 }
 
 impl Sums {
-    /// Before any round. Takes the memory for all calls.
+    /// The sums before any round. Takes the memory for all calls.
     pub fn new(alloc: Global) -> Result<Sums, AllocError>
         ensures { IfOk result (λ s. sum_in s ≡ no_sums) }
     {
         Ok(Sums {
-            sums: vec![in alloc; 0; PLACES]?,
+            sums: vec![in alloc; 0; LINE_INDICES]?,
         })
     }
 
-    /// The sum of a line's octets, of the rounds that were added.
+    /// The sum of a line's octets in the rounds that were added.
     pub fn of(&self, line: Line) -> u32
         ensures { result ≡ sum_in self.now line.call line.side }
     {
-        self.sums[place(line)]
+        self.sums[line_index(line)]
     }
 
     // Adds octets of a line to its sum.
@@ -51,24 +52,30 @@ impl Sums {
         ensures this { sum_in self.new line.call line.side ≡ (sum_in self.old line.call line.side + sum octets.now) % 2 ^ 32 }
         ensures others { (c : ℕ) (s : Side) → (c ≡ line.call → s ≡ line.side → ⊥) → sum_in self.new c s ≡ sum_in self.old c s }
     {
-        let at = place(line);
+        let at = line_index(line);
         self.sums[at] = self.sums[at].wrapping_add(sum(octets));
     }
 
-    /// Adds what goes out of a call's seat to the sums of its lines.
-    pub(crate) fn add_seat(&mut self, seat: &Seat)
-        ensures { AddsSeat seat.now (sum_in self.old) (sum_in self.new) }
+    /// Adds the octets that a call gives to its outgoing lines in a round to the sums of these lines.
+    pub(crate) fn add_call(&mut self, call: &OpenCall)
+        requires { Fits call.now.lines.periods call.now.job.io.up call.now.job.io.pcm call.now.job.io.down call.now.job.io.out }
+        ensures { AddsSeat (seat_of_open call.now) (sum_in self.old) (sum_in self.new) }
     {
-        let call = seat.place().call();
-        let down = Line {
-            call,
-            side: Side::Down,
-        };
-        let out = Line {
-            call,
-            side: Side::Out,
-        };
-        self.add(down, seat.down_given());
-        self.add(out, seat.out_given());
+        let number = call.lines.call();
+        let (down, out) = call.given();
+        self.add(
+            Line {
+                call: number,
+                side: Side::Down,
+            },
+            down,
+        );
+        self.add(
+            Line {
+                call: number,
+                side: Side::Out,
+            },
+            out,
+        );
     }
 }

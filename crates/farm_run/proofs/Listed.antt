@@ -1,6 +1,5 @@
 -- The lines that failed, and the list of them.
 pub mod Tests
-pub mod Once
 pub mod Counts
 pub mod Boards
 pub mod Seated

@@ -1,4 +1,4 @@
--- The ends of calls, as the board is told of them (this project's profile).
+-- The ends of calls, as they are reported to the board (this project's profile).
 use Rattle.std.specs.Prelude.{◌≡◌, ◌≤◌, ℕ, Bool, true, false, ◌||◌, if◌then◌else◌, Option, Some, None, List, [], ◌∷◌}
 use Rattle.std.specs.List.{All}
 use Rattle.trau_io.specs.declared.ends.CallEnd.{CallEnd}
@@ -16,7 +16,7 @@ abbrev pub AreApart : List CallEnd → Type 0
 AreApart [] = Unit {0}
 AreApart (e ∷ ends) = (is_told e.call ends ≡ false) × AreApart ends
 
--- the calls of these ends were opened and are open no more
+-- the calls of these ends were opened and aren't open any more
 abbrev pub AreShut : State → List CallEnd → Type 0
 AreShut s ends = (c : ℕ) → is_told c ends ≡ true → (opened_now s c ≡ true) × (open_now s c ≡ false)
 
@@ -24,7 +24,7 @@ AreShut s ends = (c : ℕ) → is_told c ends ≡ true → (opened_now s c ≡ t
 abbrev pub AreNew : List CallEnd → List CallEnd → Type 0
 AreNew noted ends = All (λ e. is_told e.call noted ≡ false) ends
 
--- none of these ends lies before the stamp of an executed order
+-- none of these ends is before the stamp of an executed order
 abbrev pub AreLate : State → List CallEnd → Type 0
 AreLate s ends = All (λ e. last_stamp s.done ≤ e.at) ends
 
@@ -33,7 +33,7 @@ abbrev pub has_left : Option ℕ → List CallEnd → Bool
 has_left None ends = false
 has_left (Some p) ends = is_told p ends
 
--- the partner of a call after these ends: none where one of the two has ended
+-- the partner of a call after these ends: none if one of the two has ended
 abbrev pub partner_past : List CallEnd → (ℕ → Option ℕ) → ℕ → Option ℕ
 partner_past ends partner c = if is_told c ends || has_left (partner c) ends then None else partner c
 

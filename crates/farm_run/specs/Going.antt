@@ -1,5 +1,5 @@
--- How far each call comes in a round of n periods, from the clock t on, and the board once ends are told (this project's
--- profile). `ds` are the orders that were executed so far, the oldest first.
+-- How far each call comes in a round of n periods, from the clock t on, and the board after ends are reported to it (this
+-- project's profile). `ds` are the orders that were executed so far, the oldest first.
 use Rattle.std.specs.Prelude.{ℕ, ◌+◌, ◌-◌, min, Bool, ◌&&◌, ◌==◌, nat_lt, List, [], ◌∷◌}
 use Rattle.std.specs.List.{list_any}
 use Rattle.trau_io.specs.declared.ends.CallEnd.{CallEnd}
@@ -12,11 +12,11 @@ use Rattle.run_spec.specs.Run.{Run, whole_in}
 abbrev pub places_in : Run → List Done → ℕ → ℕ → ℕ → ℕ
 places_in r ds t n c = min n (start_of ds c + whole_in r c - t)
 
--- a call is open at the clock, and its lines end it within the round
+-- a call is open at the clock, and ends within the round because of its lines
 abbrev pub ends_within : Run → List Done → ℕ → ℕ → ℕ → Bool
 ends_within r ds t n c = is_open (gone_at (whole_in r) t ds) ds c && nat_lt (places_in r ds t n c) n
 
--- the board after these ends were told, one after another
+-- the board after these ends were reported to it, one after another
 abbrev pub told_after : State → List CallEnd → State
 told_after s [] = s
 told_after s (e ∷ ends) = told_after (told_more s e.call e.at) ends

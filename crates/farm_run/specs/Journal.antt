@@ -13,20 +13,20 @@ use Rattle.farm_run.specs.Ending.{AreApart}
 use Rattle.farm_run.specs.declared.notes.Opening.{Opening}
 use Rattle.farm_run.specs.declared.notes.BridgeNote.{BridgeNote}
 
--- what is known of each call, by its number; the ends of calls and the bridges, in the order in which they came
+-- what is known of each call, at the index of its number; the ends of calls; the bridges. Both lists are in the order of events.
 pub record JournalMemory : Type 0 where
   pub calls : List Opening
   pub ends : List CallEnd
   pub bridges : List BridgeNote
 
--- of a call that wasn't opened
+-- the entry of a call that wasn't opened
 abbrev pub no_opening : Opening
 no_opening = record { from = 0; bridge = None }
 
 abbrev pub opening_of : List Opening → ℕ → Opening
 opening_of calls c = get_or calls c no_opening
 
--- before the first order
+-- the journal before the first order
 abbrev pub new_journal : JournalMemory
 new_journal = record { calls = replicate NUMBERS no_opening; ends = []; bridges = [] }
 
@@ -34,7 +34,7 @@ new_journal = record { calls = replicate NUMBERS no_opening; ends = []; bridges 
 abbrev pub HaveNumbers : List CallEnd → Type 0
 HaveNumbers ends = All (λ e. IsCallNumber e.call) ends
 
--- there is an entry for each call number, the places are those of bridges, and the ends those of calls, no two of one call
+-- there is an entry for each call number; the ends are of calls, no two of one call; the bridge of an entry is one of the bridges
 pub record IsJournal (calls : List Opening) (ends : List CallEnd) (bridges : List BridgeNote) : Type 0 where
   pub long : length calls ≡ NUMBERS
   pub numbers : HaveNumbers ends
@@ -43,12 +43,12 @@ pub record IsJournal (calls : List Opening) (ends : List CallEnd) (bridges : Lis
 
 -- ---- what is noted
 
--- of a call that an order closes no end is noted yet
+-- no end is noted yet of a call that the order closes
 abbrev pub ClosesOnce : Act → List CallEnd → Type 0
 ClosesOnce (act.Closed c p) ends = is_told c ends ≡ false
 ClosesOnce _ ends = Unit {0}
 
--- the ends that are noted once an order of this period is
+-- the noted ends after an order of this period is noted
 abbrev pub ends_noted : Act → ℕ → List CallEnd → List CallEnd
 ends_noted (act.Closed c p) period ends = ends ++ record { call = c; at = period; cause = Closed } ∷ []
 ends_noted _ period ends = ends
@@ -61,11 +61,11 @@ with_opening c period j = record j { calls = set j.calls c (record { from = peri
 abbrev pub with_end : CallEnd → JournalMemory → JournalMemory
 with_end end j = record j { ends = j.ends ++ end ∷ [] }
 
--- the latest bridge of a call stands at this place
+-- the latest bridge of a call is at this index
 abbrev pub bridged_at : ℕ → ℕ → List Opening → List Opening
 bridged_at c place calls = set calls c (record { from = (opening_of calls c).from; bridge = Some place })
 
--- so do several, one after another
+-- several calls end, one after another
 abbrev pub with_ends : List CallEnd → JournalMemory → JournalMemory
 with_ends ends j = record j { ends = j.ends ++ ends }
 
@@ -76,7 +76,7 @@ with_bridge_noted a b j = record j {
   bridges = j.bridges ++ record { a = a; b = b; sent_by_a = 0; sent_by_b = 0 } ∷ [];
 }
 
--- a call has sent so many handed frames in a bridge
+-- a call has sent this number of handed frames in a bridge
 abbrev pub with_sent : ℕ → ℕ → BridgeNote → BridgeNote
 with_sent c sent x = if c == x.a then record x { sent_by_a = sent } else record x { sent_by_b = sent }
 
@@ -87,12 +87,12 @@ abbrev pub sent_at : ℕ → ℕ → Option ℕ → List BridgeNote → List Bri
 sent_at c sent None bridges = bridges
 sent_at c sent (Some k) bridges = set bridges k (with_sent c sent (get_or bridges k no_note))
 
--- and in its latest one, if it has been bridged
+-- the same in its latest bridge, if it has been bridged
 abbrev pub settled : ℕ → ℕ → JournalMemory → JournalMemory
 settled c sent j = record j { bridges = sent_at c sent (opening_of j.calls c).bridge j.bridges }
 
--- What is noted of an accepted order, with what each call has sent in its latest bridge so far: two calls that are
--- bridged have sent no more in the bridges that they had before.
+-- What is noted of an accepted order. `sent` is how many frames each call has sent in its latest bridge so far. When two calls
+-- are bridged, this number is final for their bridges before.
 abbrev pub noted_by : Act → ℕ → (ℕ → ℕ) → JournalMemory → JournalMemory
 noted_by (act.Opened c law) period sent j = with_opening c period j
 noted_by (act.Closed c p) period sent j = with_end (record { call = c; at = period; cause = Closed }) j

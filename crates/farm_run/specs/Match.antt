@@ -1,4 +1,4 @@
--- What ties the board and the farm of a run to each other.
+-- How the board and the farm of a run agree.
 use Rattle.std.specs.Prelude.{◌≡◌, ◌≤◌, ℕ, ◌-◌, Bool, true, false, Option, Some, None, is_some, IfSome, List}
 use Rattle.trau_alaw.specs.declared.Law.{Law}
 use Rattle.trau_orders.specs.Lists.{AreOrders}
@@ -13,45 +13,44 @@ use Rattle.switchboard.specs.Ends.{start_of}
 use Rattle.switchboard.specs.Open.{open_now, partner_now}
 use Rattle.run_spec.specs.Run.{Run, whole_in, periods_to, law_in}
 use Rattle.run_spec.specs.Now.{IsSoFar, settings_now}
-use Rattle.farm_rounds.specs.declared.call.Group.{Group}
 use Rattle.call_number.specs.CallNumber.{IsCallNumber}
-use Rattle.farm_rounds.specs.Calls.{call_in, partner_in}
-use Rattle.farm_rounds.specs.Histories.{CallHistory, GroupsStand}
+use Rattle.farm_rounds.specs.Calls.{Kept, call_in, partner_in}
+use Rattle.farm_rounds.specs.Histories.{CallHistory, CallsStand}
 
 -- the same calls are open, each has the same partner, and their numbers are those of calls
-pub record Matches (b : State) (groups : List Group) : Type 0 where
-  pub is_open : (c : ℕ) → is_some (call_in groups c) ≡ open_now b c
-  pub partner : (c : ℕ) → partner_in groups c ≡ partner_now b c
+pub record Matches (b : State) (calls : List Kept) : Type 0 where
+  pub is_open : (c : ℕ) → is_some (call_in calls c) ≡ open_now b c
+  pub partner : (c : ℕ) → partner_in calls c ≡ partner_now b c
   pub number : (c : ℕ) → open_now b c ≡ true → IsCallNumber c
 
--- the calls that the run notes something of have numbers of calls
+-- the numbers that are noted for the act are numbers of calls
 abbrev pub AreNumbers : Act → Type 0
 AreNumbers (act.Opened c law) = IsCallNumber c
 AreNumbers (act.Closed c p) = IsCallNumber c
 AreNumbers (act.Bridged a b) = IsCallNumber a × IsCallNumber b
 AreNumbers _ = Unit {0}
 
--- At the clock t no order that is left has a smaller stamp, no executed one a greater one, and all ends that were told lie
--- before.
-pub record AtClock (t : ℕ) (b : State) (groups : List Group) : Type 0 where
+-- At the clock t, no remaining order has a smaller stamp, no executed order has a greater one, and all ends that the board knows
+-- are before the clock.
+pub record AtClock (t : ℕ) (b : State) (calls : List Kept) : Type 0 where
   pub orders : AreOrders (orders_of b)
   pub ahead : IfSome (first_stamp b.left) (λ s. t ≤ s)
   pub past : last_stamp b.done ≤ t
   pub ends : EndBefore t b
-  pub matches : Matches b groups
+  pub matches : Matches b calls
 
--- ---- the same, beside what the definition says of the run
+-- ---- how they agree with the run that the definition gives
 
--- what a call with this law has had, where it is open
+-- the history of a call with this law, if it is open
 abbrev pub past_if : Bool → Law → List CallPeriod → Settings → Option CallHistory
 past_if true law ts now = Some (record { law = law; periods = ts; now = now })
 past_if false law ts now = None
 
--- what each open call has had at the clock t, after these orders
+-- the history of each open call at the clock t, after these orders
 abbrev pub histories_at : Run → List Done → ℕ → ℕ → Option CallHistory
 histories_at r ds t c = past_if (is_open (gone_at (whole_in r) t ds) ds c) (law_in r c) (periods_to r c (t - start_of ds c)) (settings_now r ds t c)
 
-pub record FollowsRun (r : Run) (t : ℕ) (b : State) (groups : List Group) : Type 0 where
+pub record FollowsRun (r : Run) (t : ℕ) (b : State) (calls : List Kept) : Type 0 where
   pub so_far : IsSoFar r t b.done b.left
   pub tells : TellsEnds (whole_in r) t b
-  pub stands : GroupsStand (histories_at r b.done t) groups
+  pub stands : CallsStand (histories_at r b.done t) calls

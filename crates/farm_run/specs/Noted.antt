@@ -1,5 +1,5 @@
--- What is known of a run so far for its report (this project's profile): `ds` are the orders that were executed, the
--- oldest first.
+-- What is noted so far for the report of a run (this project's profile). `ds` are the orders that were executed, the oldest
+-- first.
 use Rattle.std.specs.Prelude.{◌≡◌, ◌≢◌, ℕ, ◌<◌, ◌==◌, if◌then◌else◌, ◌≤◌, true, false, Bool, Some, is_some, IfSome, List, length}
 use Rattle.std.specs.List.{AllByRecursion}
 use Rattle.std.proofs.Common.{get_or}
@@ -14,7 +14,7 @@ use Rattle.switchboard.specs.State.{State, told_in, first_stamp}
 use Rattle.switchboard.specs.Open.{open_now}
 use Rattle.switchboard.specs.Ends.{end_of, start_of, ends_at}
 use Rattle.call_leg.specs.Counted.{call_counts}
-use Rattle.farm_rounds.specs.declared.call.Group.{Group}
+use Rattle.farm_rounds.specs.Calls.{Kept}
 use Rattle.farm_rounds.specs.declared.tally.Tally.{Tally}
 use Rattle.call_number.specs.CallNumber.{IsCallNumber}
 use Rattle.farm_rounds.specs.Memory.{tally_in}
@@ -27,7 +27,7 @@ use Rattle.farm_run.specs.Going.{is_told}
 use Rattle.farm_run.specs.Ending.{AreApart}
 use Rattle.farm_run.specs.Match.{FollowsRun}
 
--- ---- the run's facts, by place and number
+-- ---- the run's facts
 
 -- the end of a call in the whole run
 abbrev pub call_end_in : Run → ℕ → CallEnd
@@ -36,7 +36,7 @@ call_end_in r c = end_of (given_in r) r.periods (done_in r) c (start_of (done_in
 abbrev pub no_span : Span
 no_span = record { a = 0; b = 0; from = 0; to = 0 }
 
--- the span of the bridge at this place
+-- the span of the bridge at this index
 abbrev pub span_numbered : Run → ℕ → Span
 span_numbered r k = get_or (spans_in r) k no_span
 
@@ -61,8 +61,7 @@ pub record EndsNoted (r : Run) (ended : ℕ → Bool) (ends : List CallEnd) : Ty
   pub apart : AreApart ends
   pub told : (c : ℕ) → is_told c ends ≡ ended c
 
--- Of each call that was opened, by its number, its first period and its latest bridge are noted, and of each bridge its
--- two calls.
+-- The first period and the latest bridge of each call that was opened are noted, and the two calls of each bridge.
 pub record PlacesNoted (ds : List Done) (j : JournalMemory) : Type 0 where
   pub long : length j.calls ≡ NUMBERS
   pub numbers : (c : ℕ) → is_opened ds c ≡ true → IsCallNumber c
@@ -72,18 +71,18 @@ pub record PlacesNoted (ds : List Done) (j : JournalMemory) : Type 0 where
   pub calls : (k : ℕ) → ((bridge_note_at j.bridges k).a ≡ (bridge_at ds k).a) × ((bridge_note_at j.bridges k).b ≡ (bridge_at ds k).b)
   pub apart : (k : ℕ) → k < length (bridges ds) → (bridge_at ds k).a ≢ (bridge_at ds k).b
 
--- What each call has sent in each of its bridges is noted; in its latest one only where it is settled.
+-- How many frames each call has sent in each of its bridges is noted. For its latest bridge this is required only if the call is
+-- settled.
 abbrev pub SentNoted : Run → List Done → (ℕ → Bool) → JournalMemory → Type 0
 SentNoted r ds settled j = (c k : ℕ) → k < length (bridges ds) → joins c (bridge_at ds k) ≡ true → ((opening_of j.calls c).bridge ≡ Some k → settled c ≡ true) →
     noted_sent c (bridge_note_at j.bridges k) ≡ sent_by r (span_numbered r k) c
 
--- What is kept of a call is that of all its periods, and of its latest bridge.
+-- The tally that is kept of a call is that of all its periods and of its latest bridge.
 pub record IsKept (r : Run) (calls : List Opening) (c : ℕ) (kept : Tally) : Type 0 where
   pub counts : kept.counts ≡ call_counts (periods_in r c)
   pub sent : (k : ℕ) → (opening_of calls c).bridge ≡ Some k → kept.sent ≡ sent_by r (span_numbered r k) c
 
--- What a journal notes of a run in which these calls have ended, and what is kept of them. What a call has sent in its
--- latest bridge isn't settled yet.
+-- The journal and the tallies of a run in which these calls have ended. No call is settled yet.
 pub record IsNoted (r : Run) (ds : List Done) (ended : ℕ → Bool) (j : JournalMemory) (tally : ℕ → Tally) : Type 0 where
   pub ends : EndsNoted r ended j.ends
   pub places : PlacesNoted ds j
@@ -94,23 +93,23 @@ pub record IsNoted (r : Run) (ds : List Done) (ended : ℕ → Bool) (j : Journa
 abbrev pub ended_at : Run → List Done → ℕ → ℕ → Bool
 ended_at r ds t = has_ended (gone_at (whole_in r) t ds) ds
 
--- What the journal and the tallies of a farm know at the clock t.
+-- The journal and the farm's tallies at the clock t are right.
 abbrev pub Noted : Run → List Done → ℕ → JournalMemory → List Tally → Type 0
 Noted r ds t j tallies = IsNoted r ds (ended_at r ds t) j (tally_in tallies)
 
--- The ends that the board was told are the run's.
+-- The ends that the board knows are the run's.
 abbrev pub TellsTruly : Run → State → Type 0
 TellsTruly r s = (c at : ℕ) → told_in s c ≡ Some at → ends_at (given_in r) r.periods (done_in r) c ≡ at
 
--- What the board was told of ends, and what the journal and the tallies know at the clock t, is right.
+-- The ends that the board knows, the journal and the tallies are right at the clock t.
 pub record IsKnown (r : Run) (t : ℕ) (b : State) (tallies : List Tally) (j : JournalMemory) : Type 0 where
   pub truly : TellsTruly r b
   pub noted : Noted r b.done t j tallies
 
--- A run that has come to its end at the clock t: no order below that end is left, and where a call is open, the clock is
--- there. What the board, the farm and the journal know is right.
-pub record IsAtEnd (r : Run) (t : ℕ) (b : State) (groups : List Group) (tallies : List Tally) (j : JournalMemory) : Type 0 where
-  pub follows : FollowsRun r t b groups
+-- A run that has come to its end at the clock t: no order before the run's end remains, and if a call is open, t is the run's
+-- end. The board, the farm and the journal are right.
+pub record IsAtEnd (r : Run) (t : ℕ) (b : State) (calls : List Kept) (tallies : List Tally) (j : JournalMemory) : Type 0 where
+  pub follows : FollowsRun r t b calls
   pub none_left : IfSome (first_stamp b.left) (λ s. r.periods ≤ s)
   pub clock : (c : ℕ) → open_now b c ≡ true → t ≡ r.periods
   pub truly : TellsTruly r b

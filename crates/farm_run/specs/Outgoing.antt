@@ -1,11 +1,11 @@
--- What becomes of the octets that the calls of a round give to their outgoing lines (this project's profile).
+-- Where the octets go that the calls of a round give to their outgoing lines (this project's profile).
 use Rattle.std.specs.Prelude.{◌≡◌, ◌⊎◌, ℕ, Bool, true, false, List, length}
 use Rattle.trau_io.specs.declared.line.Side.{Side}
 use Rattle.trau_io.specs.declared.line.Side.TheVariants.{Down, Out}
 use Rattle.trau_io.specs.Lines.{LineState}
 use Rattle.round_lines.specs.declared.transfer.Outlet.{Outlet}
 use Rattle.round_lines.specs.Transfer.{LineGives}
-use Rattle.round_lines.specs.Places.{TellsFaults}
+use Rattle.round_lines.specs.Memory.{TellsFaults}
 use Rattle.round_lines.specs.Seats.{SeatMemory, Drains, down_given, out_given}
 use Rattle.round_lines.specs.Rounds.{Each, KeepsButEach, IsOutgoing}
 use Rattle.farm_rounds.specs.Memory.{FarmMemory}
@@ -33,32 +33,32 @@ sum_to Written = no_sums
 sum_to (Summed sums) = sum_in sums
 sum_to (Held sums) = sum_in sums
 
--- the same becomes of them, whatever the sums are
+-- the same is done with them, whatever the sums are
 pub record IsSameWay (before now : Outgoing) : Type 0 where
   pub held : is_held now ≡ is_held before
   pub summed : is_summed now ≡ is_summed before
 
--- an outgoing line was given the octets, or it and how it stands in its seat are as they were
+-- an outgoing line was given the octets, or it and its state in its seat are unchanged
 abbrev pub PassesOn : LineState → LineState → Outlet → Outlet → List ℕ → Type 0
 PassesOn before now was stands octets = LineGives before now was stands octets ⊎ ((now ≡ before) × (stands ≡ was))
 
--- So it is for the outgoing lines of a call; of its seat only how they stand changed. If the seat told which counts had risen since
--- `first`, it still does.
+-- This holds for both outgoing lines of a call, and only their states in its seat changed. If the seat said which fault counts
+-- had risen since `first`, it still does.
 pub record Settles (before now : Side → LineState) (s t : SeatMemory) : Type 0 where
-  pub down : PassesOn (before Down) (now Down) s.place.down t.place.down (down_given s)
-  pub out : PassesOn (before Out) (now Out) s.place.out t.place.out (out_given s)
-  pub kept : t ≡ record s { place = record s.place { down = t.place.down; out = t.place.out } }
-  pub faults : (first : Side → LineState) → TellsFaults first before s.place → TellsFaults first now t.place
+  pub down : PassesOn (before Down) (now Down) s.lines.down t.lines.down (down_given s)
+  pub out : PassesOn (before Out) (now Out) s.lines.out t.lines.out (out_given s)
+  pub kept : t ≡ record s { lines = record s.lines { down = t.lines.down; out = t.lines.out } }
+  pub faults : (first : Side → LineState) → TellsFaults first before s.lines → TellsFaults first now t.lines
 
--- The octets of a worked round were written, or they were held back, and the farm knows which lines failed.
+-- The octets of a processed round were written or held back, and the farm knows which lines failed.
 pub record IsSettled (held : Bool) (before now : ℕ → Side → LineState) (worked : WorkedMemory) (after : FarmMemory) : Type 0 where
-  -- the round's seats behind it
+  -- the seats after it
   pub seats : List SeatMemory
   pub number : length seats ≡ length worked.seats
   pub settles : Each Settles before now worked.seats seats (length worked.seats)
   pub others : KeepsButEach IsOutgoing before now worked.seats (length worked.seats)
   pub gains : GainsFailed worked.failed after.failed seats
-  pub know : KnowFailed seats after.groups
-  -- written, each call's lines were given what goes out; held back, lines and seats are as they were
+  pub know : KnowFailed seats after.calls
+  -- if they are written, each call's lines were given what goes out; if they are held back, lines and seats are unchanged
   pub written : held ≡ false → Each Drains before now worked.seats seats (length worked.seats)
   pub back : held ≡ true → (now ≡ before) × (seats ≡ worked.seats)

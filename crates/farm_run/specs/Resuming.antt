@@ -1,6 +1,6 @@
--- What a resumed run leaves and reports, whatever fails (this project's profile). It works the same recordings from the
--- start, holds back what was written before the mark's period, and compares the mark there. `before` are the lines before
--- it, `now` those after it.
+-- What a resumed run leaves and reports, whatever fails (this project's profile). It processes the same recordings from the
+-- start, holds back the octets of the periods before the mark's, and compares the mark there. `before` are the lines before it,
+-- `now` those after it.
 use Rattle.std.specs.Prelude.{◌≡◌, ◌≢◌, ◌<◌, ◌≤◌, ℕ, ◌*◌, max, Bool, true, false, List, length, take, drop}
 use Rattle.trau_io.specs.declared.line.Line.{Line}
 use Rattle.trau_io.specs.declared.line.Side.{Side}
@@ -23,110 +23,110 @@ use Rattle.farm_run.specs.Runs.{TellsFailed, AreFailures, KeepsSides, ReadsOn, A
 use Rattle.farm_run.specs.Runs.{FailedShort, is_listed}
 use Rattle.farm_run.specs.Fronts.{HasFront}
 
--- What a run leaves on the lines where the outgoing octets of the periods before `from` are held back.
+-- What a run leaves on the lines if the outgoing octets of the periods before `from` are held back.
 pub record LeavesFrom (r : Run) (from : ℕ) (fails : ℕ → Side → Bool) (before now : ℕ → Side → LineState) : Type 0 where
-  -- the outgoing lines of each call that it opened have what the run gives them from there on
+  -- the outgoing lines of each call that it opened have gained what the run gives them from there on
   pub out : (c : ℕ) → IsOpened r c → HasWritten (fails c Out) (before c Out) (now c Out) (drop (160 * worked_to r from c) (out_of_call r c))
   pub down : (c : ℕ) → IsOpened r c → HasWritten (fails c Down) (before c Down) (now c Down) (drop (40 * worked_to r from c) (down_of_call r c))
-  -- of the incoming lines of a call that they didn't end exactly the octets of its periods were read
+  -- if its lines didn't end a call, exactly the octets of its periods were read of its incoming lines
   pub up_read : (c : ℕ) → IsOpened r c → fails c Up ≡ false → IsCutOff (cause_in r c) → IsReadTo (now c Up) (40 * length (periods_in r c)) (r.lines c).up
   pub pcm_read : (c : ℕ) → IsOpened r c → fails c Pcm ≡ false → IsCutOff (cause_in r c) → IsReadTo (now c Pcm) (160 * length (periods_in r c)) (r.lines c).pcm
-  -- the lines of all other calls are as they were, their counts included
+  -- the lines of all other calls are unchanged, their counts included
   pub others : (c : ℕ) (s : Side) → (IsOpened r c → ⊥) → now c s ≡ before c s
 
--- A resumed run that was carried to its end, which is the later one of the mark's period and the number of periods asked for.
+-- A resumed run that came to its end: the mark's period or the number of periods asked for, whichever is greater.
 pub record ResumesRun (orders : List Order) (pace : Pace) (mark : MarkView) (before now : ℕ → Side → LineState) (report : ReportView) : Type 0 where
   -- the report lists the lines that failed
   pub failed : TellsFailed before now report.failed
-  -- incoming lines are only read, from the front, and outgoing ones only written
+  -- incoming lines are only read, from the start, and outgoing lines only written
   pub sides : KeepsSides before now
   pub reads : ReadsOn before now
-  -- lines and report are those of the run of these orders over what the lines gave, without what was held back;
+  -- lines and report are those of the run of these orders over what the lines gave, without what was held back
   pub leaves : (r : Run) → IsRunOver orders (max mark.period pace.periods) (is_listed report.failed) before now r →
       LeavesFrom r mark.period (is_listed report.failed) before now
   pub reports : (r : Run) → IsRunOver orders (max mark.period pace.periods) (is_listed report.failed) before now r → report ≡ report_of r report.failed
   -- the run to the mark's period has the mark's calls
   pub same_mark : (r : Run) → IsRunOver orders mark.period (is_listed report.failed) before now r → marked_calls r ≡ mark.calls
-  -- in the run each line that failed is one of a call that it opened, and each incoming one failed short of what a round takes of it
+  -- each line that failed is one of a call that the run opened, and each incoming one failed short of what a round takes of it
   pub opened : (r : Run) → IsRunOver orders (max mark.period pace.periods) (is_listed report.failed) before now r →
       OnlyOpenedFail r (is_listed report.failed)
   pub short : (r : Run) → IsRunOver orders (max mark.period pace.periods) (is_listed report.failed) before now r →
       FailedShort r pace.batch (is_listed report.failed)
-  -- and there are such runs, to any number of periods, of orders that are in range, wherever the lines tell what they hold
+  -- if the orders are in range and the contents of the incoming lines are known, such runs exist, up to any number of periods
   pub there : AreOrders orders → AreTold before → (periods : ℕ) → (r : Run) × IsRunOver orders periods (is_listed report.failed) before now r
 
--- A resumed run whose mark isn't that of these lines and orders: it wrote nothing, and at the mark's period `call`
--- is the least number of a call that the mark has otherwise, or that only one of them has.
+-- A resumed run whose mark isn't that of these lines and orders. It wrote nothing. At the mark's period, `call` is the least call
+-- number whose entries differ in the run and in the mark, or that only one of the two has.
 pub record FindsDifference (orders : List Order) (pace : Pace) (mark : MarkView) (before now : ℕ → Side → LineState) (call : ℕ) : Type 0 where
   -- the lines that failed
   pub failed : List Line
   pub told : TellsFailed before now failed
-  -- incoming lines were only read, from the front, and outgoing ones are as they were, their counts included
+  -- incoming lines were only read, from the start, and outgoing lines are unchanged, their counts included
   pub sides : KeepsSides before now
   pub reads : ReadsOn before now
   pub unwritten : (c : ℕ) (s : Side) → IsOutgoing s → now c s ≡ before c s
-  -- so it is for the run to the mark's period over what the lines gave;
+  -- this is the least difference for the run up to the mark's period, over what the lines gave
   pub differs : (r : Run) → IsRunOver orders mark.period (is_listed failed) before now r → IsLeastDifference mark.calls (marked_calls r) call
-  -- of the incoming lines of a call that they didn't end exactly the octets of its periods were read,
+  -- if its lines didn't end a call, exactly the octets of its periods were read of its incoming lines
   pub up_read : (r : Run) → IsRunOver orders mark.period (is_listed failed) before now r →
       (c : ℕ) → IsOpened r c → is_listed failed c Up ≡ false → IsCutOff (cause_in r c) → IsReadTo (now c Up) (40 * length (periods_in r c)) (r.lines c).up
   pub pcm_read : (r : Run) → IsRunOver orders mark.period (is_listed failed) before now r →
       (c : ℕ) → IsOpened r c → is_listed failed c Pcm ≡ false → IsCutOff (cause_in r c) → IsReadTo (now c Pcm) (160 * length (periods_in r c)) (r.lines c).pcm
-  -- the lines of calls that it doesn't open are as they were
+  -- the lines of calls that it doesn't open are unchanged
   pub others : (r : Run) → IsRunOver orders mark.period (is_listed failed) before now r → (c : ℕ) (s : Side) → (IsOpened r c → ⊥) → now c s ≡ before c s
-  -- in the run each line that failed is one of a call that it opened, and each incoming one failed short of what a round takes of it
+  -- each line that failed is one of a call that the run opened, and each incoming one failed short of what a round takes of it
   pub opened : (r : Run) → IsRunOver orders mark.period (is_listed failed) before now r → OnlyOpenedFail r (is_listed failed)
   pub short : (r : Run) → IsRunOver orders mark.period (is_listed failed) before now r → FailedShort r pace.batch (is_listed failed)
-  -- and there is such a run of orders that are in range, wherever the lines tell what they hold
+  -- if the orders are in range and the contents of the incoming lines are known, such a run exists
   pub there : AreOrders orders → AreTold before → (r : Run) × IsRunOver orders mark.period (is_listed failed) before now r
 
--- what a resumed run comes to
+-- the result of a resumed run
 abbrev pub Resumes : List Order → Pace → MarkView → (ℕ → Side → LineState) → (ℕ → Side → LineState) → Resumed → Type 0
 Resumes orders pace mark before now (Ran report) = ResumesRun orders pace mark before now report
 Resumes orders pace mark before now (Differs call) = FindsDifference orders pace mark before now call
 
--- What a run leaves on the lines where it stops before its end, and the outgoing octets of the periods before `from` are held
--- back.
+-- What a run leaves on the lines if it stops before its end, and the outgoing octets of the periods before `from` are held back.
 pub record LeavesFrontsFrom (r : Run) (from : ℕ) (fails : ℕ → Side → Bool) (before now : ℕ → Side → LineState) : Type 0 where
-  -- the outgoing lines of each call that it opens have gained a front of what the run gives them from there on, those that failed a proper one
+  -- the outgoing lines of each call that it opens have gained a prefix of what the run gives them from there on; those that failed,
+  -- a proper prefix
   pub out : (c : ℕ) → IsOpened r c → HasFront (fails c Out) (before c Out) (now c Out) (drop (160 * worked_to r from c) (out_of_call r c))
   pub down : (c : ℕ) → IsOpened r c → HasFront (fails c Down) (before c Down) (now c Down) (drop (40 * worked_to r from c) (down_of_call r c))
-  -- the lines of all other calls are as they were, their counts included
+  -- the lines of all other calls are unchanged, their counts included
   pub others : (c : ℕ) (s : Side) → (IsOpened r c → ⊥) → now c s ≡ before c s
 
--- What a run leaves on the lines where it stops at its period t, and the outgoing octets of the periods before `from` are held back.
+-- What a run leaves on the lines if it stops at its period t, and the outgoing octets of the periods before `from` are held back.
 pub record StopsFrom (r : Run) (from t : ℕ) (fails : ℕ → Side → Bool) (before now : ℕ → Side → LineState) : Type 0 where
-  -- the outgoing lines of each call that it opens have gained the octets of its periods from there on and before t, none where t comes
-  -- first, those that failed a proper prefix of them
+  -- the outgoing lines of each call that it opens have gained the octets of its periods from `from` on and before t, none if t comes
+  -- first; those that failed, a proper prefix of them
   pub out : (c : ℕ) → IsOpened r c → HasWritten (fails c Out) (before c Out) (now c Out)
       (drop (160 * worked_to r from c) (take (160 * worked_to r t c) (out_of_call r c)))
   pub down : (c : ℕ) → IsOpened r c → HasWritten (fails c Down) (before c Down) (now c Down)
       (drop (40 * worked_to r from c) (take (40 * worked_to r t c) (down_of_call r c)))
-  -- of the incoming lines of a call that they didn't end before t exactly the octets of all its periods before t were read
+  -- unless the call ended before t because of its lines, exactly the octets of its periods before t were read of its incoming lines
   pub up_read : (c : ℕ) → IsOpened r c → fails c Up ≡ false → IsReadWhole r t c → IsReadTo (now c Up) (40 * worked_to r t c) (r.lines c).up
   pub pcm_read : (c : ℕ) → IsOpened r c → fails c Pcm ≡ false → IsReadWhole r t c → IsReadTo (now c Pcm) (160 * worked_to r t c) (r.lines c).pcm
-  -- an incoming line that failed ended its call before t
-  pub over : (c : ℕ) (s : Side) → IsIncoming s → fails c s ≡ true → end_in r c < t
+  -- the call of an incoming line that failed ended before t, by its lines and not by an order
+  pub over : (c : ℕ) (s : Side) → IsIncoming s → fails c s ≡ true → (end_in r c < t) × (IsCutOff (cause_in r c) → ⊥)
 
--- A resumed run of these orders that want of memory cut short. Its report isn't told, so these clauses tell which lines failed.
+-- A resumed run of these orders that ran out of memory. There is no report, so `fails` says which lines failed.
 pub record IsResumeCutShort (orders : List Order) (periods : ℕ) (mark : MarkView) (before now : ℕ → Side → LineState) : Type 0 where
   -- the lines that failed
   pub fails : ℕ → Side → Bool
   pub told : AreFailures fails before now
-  -- incoming lines were only read, from the front, and outgoing ones only written
+  -- incoming lines were only read, from the start, and outgoing lines only written
   pub sides : KeepsSides before now
   pub reads : ReadsOn before now
-  -- each outgoing line holds a front of what the whole run over what the lines gave gives it from the mark's period on, one that
-  -- failed a proper front (this follows from `stops`, but for `others`),
+  -- each outgoing line has gained a prefix of what the whole run, over what the lines gave, gives it from the mark's period on; a
+  -- line that failed, a proper prefix. Except for `others`, that follows from `stops`.
   pub fronts : (r : Run) → IsRunOver orders periods fails before now r → LeavesFrontsFrom r mark.period fails before now
-  -- it stopped at one period, the same for all lines,
+  -- it stopped at one period, the same for all lines
   pub clock : ℕ
   pub within : clock ≤ periods
   pub stops : (r : Run) → IsRunOver orders periods fails before now r → StopsFrom r mark.period clock fails before now
-  -- each line that failed is one of a call that the run opens,
+  -- each line that failed is one of a call that the run opens
   pub opened : (r : Run) → IsRunOver orders periods fails before now r → OnlyOpenedFail r fails
-  -- and where the run to the mark's period hasn't the mark's calls, each is as it was, its counts included
+  -- if the run up to the mark's period hasn't the mark's calls, each outgoing line is unchanged, its counts included
   pub held : (r : Run) → IsRunOver orders mark.period fails before now r → marked_calls r ≢ mark.calls →
       (c : ℕ) (s : Side) → IsOutgoing s → now c s ≡ before c s
-  -- there are such runs, to any number of periods, of orders that are in range, wherever the lines tell what they hold
+  -- if the orders are in range and the contents of the incoming lines are known, such runs exist, up to any number of periods
   pub there : AreOrders orders → AreTold before → (n : ℕ) → (r : Run) × IsRunOver orders n fails before now r

@@ -10,7 +10,7 @@ use Rattle.trau_io.specs.declared.line.Side.TheVariants.{Up, Pcm, Down, Out}
 use Rattle.trau_io.specs.declared.ends.Cause.{Cause}
 use Rattle.trau_io.specs.declared.ends.Cause.TheVariants.{Closed, End, Fault, Limit}
 use Rattle.trau_io.specs.Lines.{LineState, Rose, NotRose}
-use Rattle.trau_io.specs.Places.{place_of}
+use Rattle.trau_io.specs.Indices.{index_of_line}
 use Rattle.call_number.specs.CallNumber.{IsCallNumber}
 use Rattle.trau_orders.specs.declared.order.Order.{Order}
 use Rattle.trau_orders.specs.Lists.{AreOrders}
@@ -23,26 +23,25 @@ use Rattle.farm_run.specs.declared.pace.Pace.{Pace}
 
 -- ---- the lines that failed
 
--- The count of each line that failed rose, and that of each other line is as it was.
+-- The fault count of each line that failed rose, and that of each other line is unchanged.
 pub record AreFailures (fails : ℕ → Side → Bool) (before now : ℕ → Side → LineState) : Type 0 where
   pub rose : (c : ℕ) (s : Side) → fails c s ≡ true → Rose (before c s).faults (now c s).faults
   pub kept : (c : ℕ) (s : Side) → fails c s ≡ false → (now c s).faults ≡ (before c s).faults
 
 -- whether the line of a call on a side is one of these
 abbrev pub is_listed : List Line → ℕ → Side → Bool
-is_listed lines c s = list_any (λ l. place_of l.call l.side == place_of c s) lines
+is_listed lines c s = list_any (λ l. index_of_line l.call l.side == index_of_line c s) lines
 
--- These are the lines that failed, each once: by their calls' numbers, and those of a call in the order Up, Pcm, Down, Out.
+-- These are the lines that failed, each once, in call-number order, and a call's in the order Up, Pcm, Down, Out.
 pub record TellsFailed (before now : ℕ → Side → LineState) (lines : List Line) : Type 0 where
   pub failures : AreFailures (is_listed lines) before now
-  -- each stands behind those of smaller numbers, and none stands twice
-  pub order : IsStrictlyIncreasing (map (λ l. place_of l.call l.side) lines)
+  pub order : IsStrictlyIncreasing (map (λ l. index_of_line l.call l.side) lines)
 
 -- no line failed
 abbrev pub none_fails : ℕ → Side → Bool
 none_fails c s = false
 
--- no count of a line rose, and none stands at its last value
+-- no fault count of a line rose, and none is at its last value
 abbrev pub NoneRose : (ℕ → Side → LineState) → (ℕ → Side → LineState) → Type 0
 NoneRose before now = (c : ℕ) (s : Side) → NotRose (before c s).faults (now c s).faults
 
@@ -53,24 +52,24 @@ pub record KeepsSides (before now : ℕ → Side → LineState) : Type 0 where
   pub incoming : (c : ℕ) (s : Side) → IsIncoming s → (now c s).written ≡ (before c s).written
   pub outgoing : (c : ℕ) (s : Side) → IsOutgoing s → (now c s).to_come ≡ (before c s).to_come
 
--- Of an incoming line that told its octets, some of the first were read, and it tells the others.
+-- If the contents of an incoming line were known, some octets at its start were read, and the others are known.
 abbrev pub ReadsOn : (ℕ → Side → LineState) → (ℕ → Side → LineState) → Type 0
 ReadsOn before now = (c : ℕ) (s : Side) (octets : List ℕ) → IsIncoming s → (before c s).to_come ≡ Some octets →
     (k : ℕ) × ((now c s).to_come ≡ Some (drop k octets))
 
--- the incoming lines of all calls tell what they hold
+-- the contents of the incoming lines of all calls are known
 abbrev pub AreTold : (ℕ → Side → LineState) → Type 0
 AreTold lines = (c : ℕ) (s : Side) → IsCallNumber c → IsIncoming s → (octets : List ℕ) × ((lines c s).to_come ≡ Some octets)
 
--- ---- the run of the definition: `fails` tells which lines failed in it
+-- ---- the run of the definition; `fails` says which lines failed in it
 
--- The octets of an incoming line are its contents, or, where a read of it failed in the run, the octets that its reads gave
--- before that: a line that failed isn't read again, and so what it still holds are the others.
+-- The octets of an incoming line are its contents. If a read of it failed in the run, they are the octets that were read before:
+-- a line that failed isn't read again, so the others are still to come.
 abbrev pub IsGiven : Bool → LineState → LineState → List ℕ → Type 0
 IsGiven false before now octets = before.to_come ≡ Some octets
 IsGiven true before now octets = (rest : List ℕ) × (before.to_come ≡ Some (octets ++ rest)) × (now.to_come ≡ Some rest)
 
--- The run of these orders, to this number of periods, over what these lines gave until they ended or failed.
+-- The run of these orders, up to this number of periods, over what these lines gave until they ended or failed.
 pub record IsRunOver (orders : List Order) (periods : ℕ) (fails : ℕ → Side → Bool) (before now : ℕ → Side → LineState) (r : Run) : Type 0 where
   pub same_orders : r.orders ≡ orders
   pub same_periods : r.periods ≡ periods
@@ -87,44 +86,45 @@ IsCutOff Limit = Unit {0}
 IsCutOff (End side left) = ⊥
 IsCutOff (Fault side) = ⊥
 
--- The call goes on up to period t, or its lines didn't end it. Exactly the octets of its periods before t are then read of them.
+-- The call goes on up to period t, or its lines didn't end it. Then exactly the octets of its periods before t are read.
 abbrev pub IsReadWhole : Run → ℕ → ℕ → Type 0
 IsReadWhole r t c = (t ≤ end_in r c) ⊎ IsCutOff (cause_in r c)
 
--- of a line that told these octets exactly the first n were read
+-- the line's contents were these octets, and exactly the first n were read
 abbrev pub IsReadTo : LineState → ℕ → List ℕ → Type 0
 IsReadTo now n octets = now.to_come ≡ Some (drop n octets)
 
--- An outgoing line has gained all these octets, or, where it failed, a proper front of them.
+-- An outgoing line has gained all these octets; if it failed, a proper prefix of them.
 abbrev pub HasWritten : Bool → LineState → LineState → List ℕ → Type 0
 HasWritten false before now octets = Appends before.written now.written octets
 HasWritten true before now octets = (n : ℕ) × (n < length octets) × Appends before.written now.written (take n octets)
 
 -- What a run leaves on the lines.
 pub record Leaves (r : Run) (fails : ℕ → Side → Bool) (before now : ℕ → Side → LineState) : Type 0 where
-  -- the outgoing lines of each call that it opened have what the run gives them
+  -- the outgoing lines of each call that it opened have gained what the run gives them
   pub out : (c : ℕ) → IsOpened r c → HasWritten (fails c Out) (before c Out) (now c Out) (out_of_call r c)
   pub down : (c : ℕ) → IsOpened r c → HasWritten (fails c Down) (before c Down) (now c Down) (down_of_call r c)
-  -- of the incoming lines of a call that they didn't end exactly the octets of its periods were read
+  -- if its lines didn't end a call, exactly the octets of its periods were read of its incoming lines
   pub up_read : (c : ℕ) → IsOpened r c → fails c Up ≡ false → IsCutOff (cause_in r c) → IsReadTo (now c Up) (40 * length (periods_in r c)) (r.lines c).up
   pub pcm_read : (c : ℕ) → IsOpened r c → fails c Pcm ≡ false → IsCutOff (cause_in r c) → IsReadTo (now c Pcm) (160 * length (periods_in r c)) (r.lines c).pcm
-  -- the lines of all other calls are as they were, their counts included
+  -- the lines of all other calls are unchanged, their counts included
   pub others : (c : ℕ) (s : Side) → (IsOpened r c → ⊥) → now c s ≡ before c s
 
 -- each line that failed is one of a call that the run opened
 abbrev pub OnlyOpenedFail : Run → (ℕ → Side → Bool) → Type 0
 OnlyOpenedFail r fails = (c : ℕ) (s : Side) → fails c s ≡ true → IsOpened r c
 
--- An incoming line failed while a round was read, the periods of the run from `from` up to, without it, `until`: its call
--- ended in this round, and the line gave fewer octets, so many a period, than all of the call's periods up to the round's end
--- take of it.
+-- An incoming line failed while a round was read, with the run's periods from `from` on and before `until`. Its call ended in this
+-- round because of its lines, not by an order. In all, the line gave fewer octets than the call's periods before `until` take
+-- (`octets` each).
 pub record FailedIn (r : Run) (c octets : ℕ) (line : List ℕ) (from until : ℕ) : Type 0 where
   pub begun : from ≤ end_in r c
   pub over : end_in r c < until
   pub within : until ≤ r.periods
+  pub by_lines : IsCutOff (cause_in r c) → ⊥
   pub short : length line < octets * (until - start_in r c)
 
--- so did each incoming line that failed, in a round of at most `batch` periods
+-- each incoming line that failed did so in a round of at most `batch` periods
 pub record FailedShort (r : Run) (batch : ℕ) (fails : ℕ → Side → Bool) : Type 0 where
   pub up : (c : ℕ) → fails c Up ≡ true → (from : ℕ) × (until : ℕ) × (until ≤ from + batch) × FailedIn r c 40 (r.lines c).up from until
   pub pcm : (c : ℕ) → fails c Pcm ≡ true → (from : ℕ) × (until : ℕ) × (until ≤ from + batch) × FailedIn r c 160 (r.lines c).pcm from until
@@ -133,14 +133,14 @@ pub record FailedShort (r : Run) (batch : ℕ) (fails : ℕ → Side → Bool) :
 pub record Runs (orders : List Order) (pace : Pace) (before now : ℕ → Side → LineState) (report : ReportView) : Type 0 where
   -- the report lists the lines that failed
   pub failed : TellsFailed before now report.failed
-  -- incoming lines are only read, from the front, and outgoing ones only written
+  -- incoming lines are only read, from the start, and outgoing lines only written
   pub sides : KeepsSides before now
   pub reads : ReadsOn before now
-  -- lines and report are those of the run of these orders over what the lines gave;
+  -- lines and report are those of the run of these orders over what the lines gave
   pub leaves : (r : Run) → IsRunOver orders pace.periods (is_listed report.failed) before now r → Leaves r (is_listed report.failed) before now
   pub reports : (r : Run) → IsRunOver orders pace.periods (is_listed report.failed) before now r → report ≡ report_of r report.failed
-  -- in this run each line that failed is one of a call that it opened, and each incoming one failed short of what a round takes of it
+  -- each line that failed is one of a call that the run opened, and each incoming one failed short of what a round takes of it
   pub opened : (r : Run) → IsRunOver orders pace.periods (is_listed report.failed) before now r → OnlyOpenedFail r (is_listed report.failed)
   pub short : (r : Run) → IsRunOver orders pace.periods (is_listed report.failed) before now r → FailedShort r pace.batch (is_listed report.failed)
-  -- and there is such a run of orders that are in range, wherever the lines tell what they hold
+  -- if the orders are in range and the contents of the incoming lines are known, such a run exists
   pub there : AreOrders orders → AreTold before → (r : Run) × IsRunOver orders pace.periods (is_listed report.failed) before now r

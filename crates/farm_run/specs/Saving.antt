@@ -1,5 +1,5 @@
--- What a run leaves and marks that is marked at its end, whatever fails (this project's profile). `before` are the
--- lines before it, `now` those after it.
+-- What a run leaves on the lines, and its mark, if it is marked at its end, whatever fails (this project's profile). `before`
+-- are the lines before it, `now` those after it.
 use Rattle.std.specs.Prelude.{◌≡◌, ℕ, List}
 use Rattle.trau_io.specs.declared.line.Line.{Line}
 use Rattle.trau_io.specs.declared.line.Side.{Side}
@@ -17,21 +17,21 @@ pub record SavedView : Type 0 where
   pub failed : List Line
   pub mark : MarkView
 
--- A run of these orders that was carried to its end and marked there.
+-- A run of these orders that came to its end and was marked there.
 pub record Saves (orders : List Order) (pace : Pace) (before now : ℕ → Side → LineState) (saved : SavedView) : Type 0 where
-  -- the lines that failed are told
+  -- the lines that failed are listed
   pub failed : TellsFailed before now saved.failed
-  -- incoming lines are only read, from the front, and outgoing ones only written
+  -- incoming lines are only read, from the start, and outgoing lines only written
   pub sides : KeepsSides before now
   pub reads : ReadsOn before now
-  -- lines and mark are those of the run of these orders over what the lines gave;
+  -- lines and mark are those of the run of these orders over what the lines gave
   pub leaves : (r : Run) → IsRunOver orders pace.periods (is_listed saved.failed) before now r → Leaves r (is_listed saved.failed) before now
   pub marks : (r : Run) → IsRunOver orders pace.periods (is_listed saved.failed) before now r → saved.mark ≡ mark_of r
-  -- in this run each line that failed is one of a call that it opened, and each incoming one failed short of what a round takes of it
+  -- each line that failed is one of a call that the run opened, and each incoming one failed short of what a round takes of it
   pub opened : (r : Run) → IsRunOver orders pace.periods (is_listed saved.failed) before now r → OnlyOpenedFail r (is_listed saved.failed)
   pub short : (r : Run) → IsRunOver orders pace.periods (is_listed saved.failed) before now r → FailedShort r pace.batch (is_listed saved.failed)
-  -- and there is such a run of orders that are in range, wherever the lines tell what they hold
+  -- if the orders are in range and the contents of the incoming lines are known, such a run exists
   pub there : AreOrders orders → AreTold before → (r : Run) × IsRunOver orders pace.periods (is_listed saved.failed) before now r
-  -- wherever that is so or not, the mark is one that may be written: its period is that of the run's end, and its calls began before
+  -- in any case the mark is one that may be written: its period is that of the run's end, and its calls began before it
   pub period : saved.mark.period ≡ pace.periods
   pub are_open : AreOpenAtMark saved.mark.period saved.mark.calls

@@ -7,7 +7,7 @@ use Rattle.trau_orders.specs.declared.order.Order.{Order}
 use Rattle.round_lines.specs.Rounds.{IsOutgoing}
 use Rattle.switchboard.specs.State.{EndBefore, orders_of}
 use Rattle.farm_report.specs.Sums.{sum_of}
-use Rattle.farm_rounds.specs.Histories.{GroupsStand}
+use Rattle.farm_rounds.specs.Histories.{CallsStand}
 use Rattle.run_spec.specs.Run.{Run, periods_to, who_in, IsOpened, worked_to}
 use Rattle.run_spec.specs.Lines.{out_line, down_octets}
 use Rattle.farm_run.specs.declared.notes.Opening.{Opening}
@@ -26,11 +26,11 @@ use Rattle.farm_run.specs.Clock.{NeverFell, IsAtClock, WrittenFrom}
 
 -- what holds at each clock of a run, whatever its lines give
 pub record IsStage (s : Stage) : Type 0 where
-  pub clock : AtClock s.clock s.board s.farm.groups
+  pub clock : AtClock s.clock s.board s.farm.calls
   pub shut : AreShut s.board s.journal.ends
   pub bridges : length s.journal.bridges ≤ length s.board.done
   pub ended : s.farm.ended ≤ s.clock
-  pub knows : KnowsListed s.board s.farm.groups s.farm.failed
+  pub knows : KnowsListed s.board s.farm.calls s.farm.failed
   pub few : length (orders_of s.board) ≤ 65536
 
 -- the run of these orders, before the first of them
@@ -40,9 +40,9 @@ pub record IsFirstStage (listed : List Order) (outgoing : Outgoing) (s : Stage) 
   pub orders : orders_of s.board ≡ listed
   pub none_done : s.board.done ≡ []
   pub untold : EndBefore 0 s.board
-  pub none_open : s.farm.groups ≡ []
+  pub none_open : s.farm.calls ≡ []
   pub none_failed : s.farm.failed ≡ []
-  pub histories : GroupsStand (λ c. None) s.farm.groups
+  pub histories : CallsStand (λ c. None) s.farm.calls
   pub none_noted : s.journal ≡ new_journal
   pub way : s.outgoing ≡ outgoing
 
@@ -57,45 +57,45 @@ pub record SumsAt (r : Run) (t : ℕ) (sums : ℕ → Side → ℕ) : Type 0 whe
 
 -- ---- from one clock to a later one
 
--- outgoing lines are as they were, and none of them more is listed as failed
+-- outgoing lines are unchanged, and the same ones are listed as failed
 pub record HoldsBack (was is : ℕ → Side → Bool) (before now : ℕ → Side → LineState) : Type 0 where
   pub lines : (c : ℕ) (s : Side) → IsOutgoing s → now c s ≡ before c s
   pub listed : (c : ℕ) (s : Side) → IsOutgoing s → is c s ≡ was c s
 
--- From a clock of a run, with rounds of at most `batch` periods: `first` are the lines before the run, and `last` is how it
--- stands at its end.
+-- From a clock of a run to a later one, with rounds of at most `batch` periods. `first` are the lines before the run, and `last`
+-- is the state of the run at its end.
 pub record Reaches (batch : ℕ) (s u : Stage) (before now : ℕ → Side → LineState) : Type 0 where
   pub later : s.clock ≤ u.clock
   pub stage : IsStage u
   pub kept : orders_of u.board ≡ orders_of s.board
   pub way : IsSameWay s.outgoing u.outgoing
   pub openings : (n : ℕ) → u.clock ≤ n → OpenedBefore n s.journal.calls → OpenedBefore n u.journal.calls
-  -- the farm goes on listing exactly the lines whose counts rose; incoming lines are only read, and outgoing ones only written
+  -- the farm still lists exactly the lines whose fault counts rose; incoming lines are only read, and outgoing lines only written
   pub fell : NeverFell before now
   pub failed : (first : ℕ → Side → LineState) → NeverFell first before → TellsFailed first before s.farm.failed → TellsFailed first now u.farm.failed
   pub sides : KeepsSides before now
   pub goes : StandingGoesOn (standing s.board s.farm.failed before) (standing u.board u.farm.failed now)
   pub back : is_held s.outgoing ≡ true → HoldsBack (is_listed s.farm.failed) (is_listed u.farm.failed) before now
-  -- where it goes on to the run's end, all between is the run's: board, farm and incoming lines,
+  -- If it goes on to the run's end, these are still the run's: board, farm and incoming lines.
   pub run : (r : Run) (first : ℕ → Side → LineState) (last : Standing) → HasFlags r last → u.clock ≤ r.periods →
       StandingGoesOn (standing u.board u.farm.failed now) last →
-      IsAtClock r s.clock s.board s.farm.groups last first before → IsAtClock r u.clock u.board u.farm.groups last first now
-  -- what is noted and kept,
+      IsAtClock r s.clock s.board s.farm.calls last first before → IsAtClock r u.clock u.board u.farm.calls last first now
+  -- what is noted and kept
   pub known : (r : Run) (first : ℕ → Side → LineState) (last : Standing) → HasFlags r last → u.clock ≤ r.periods →
       StandingGoesOn (standing u.board u.farm.failed now) last →
-      IsAtClock r s.clock s.board s.farm.groups last first before → IsKnown r s.clock s.board s.farm.tallies s.journal →
+      IsAtClock r s.clock s.board s.farm.calls last first before → IsKnown r s.clock s.board s.farm.tallies s.journal →
       IsKnown r u.clock u.board u.farm.tallies u.journal
-  -- what is written, from whichever earlier period on,
+  -- what is written from any earlier period on
   pub wrote : is_held s.outgoing ≡ false → (from : ℕ) → from ≤ s.clock → (r : Run) (first : ℕ → Side → LineState) (last : Standing) → HasFlags r last →
       u.clock ≤ r.periods → StandingGoesOn (standing u.board u.farm.failed now) last →
-      IsAtClock r s.clock s.board s.farm.groups last first before → WrittenFrom r from s.clock (is_listed s.farm.failed) first before →
+      IsAtClock r s.clock s.board s.farm.calls last first before → WrittenFrom r from s.clock (is_listed s.farm.failed) first before →
       WrittenFrom r from u.clock (is_listed u.farm.failed) first now
-  -- the sums,
+  -- the sums
   pub sums : is_summed s.outgoing ≡ true → (r : Run) (first : ℕ → Side → LineState) (last : Standing) → HasFlags r last → u.clock ≤ r.periods →
       StandingGoesOn (standing u.board u.farm.failed now) last →
-      IsAtClock r s.clock s.board s.farm.groups last first before → SumsAt r s.clock (sum_to s.outgoing) → SumsAt r u.clock (sum_to u.outgoing)
-  -- and where incoming lines failed
+      IsAtClock r s.clock s.board s.farm.calls last first before → SumsAt r s.clock (sum_to s.outgoing) → SumsAt r u.clock (sum_to u.outgoing)
+  -- where incoming lines failed
   pub short : (r : Run) (first : ℕ → Side → LineState) (last : Standing) → HasFlags r last → u.clock ≤ r.periods →
       StandingGoesOn (standing u.board u.farm.failed now) last →
-      IsAtClock r s.clock s.board s.farm.groups last first before → FailedShort r batch (is_listed s.farm.failed) →
+      IsAtClock r s.clock s.board s.farm.calls last first before → FailedShort r batch (is_listed s.farm.failed) →
       FailedShort r batch (is_listed u.farm.failed)

@@ -6,26 +6,24 @@ use Rattle.trau_io.specs.declared.line.Side.{Side}
 use Rattle.trau_io.specs.declared.line.Side.TheVariants.{Up, Pcm, Down, Out}
 use Rattle.trau_io.specs.Lines.{LineState}
 use Rattle.round_lines.specs.declared.transfer.Taken.{Taken}
-use Rattle.round_lines.specs.Places as places
-use Rattle.round_lines.specs.Places.{fails_in}
+use Rattle.round_lines.specs.Memory as places
+use Rattle.round_lines.specs.Memory.{fails_in}
 use Rattle.round_lines.specs.Seats.{SeatMemory}
 use Rattle.round_lines.specs.Rounds.{IsIncoming, seat_at, call_at}
 use Rattle.switchboard.specs.Calls.{closed_at}
 use Rattle.switchboard.specs.State.{State, gone_in}
 use Rattle.switchboard.specs.Open.{opened_now}
-use Rattle.farm_rounds.specs.declared.call.Call.{Call}
-use Rattle.farm_rounds.specs.declared.call.Group.{Group}
-use Rattle.farm_rounds.specs.Calls.{call_in}
+use Rattle.farm_rounds.specs.Calls.{Call, Kept, call_in}
 use Rattle.run_spec.specs.Run.{Run}
 use Rattle.farm_run.specs.Runs.{is_listed, ReadsOn}
 
 -- ---- what is known at a clock
 
--- the call has ended, by an order or by its lines
+-- the call has ended, by an order or because of its lines
 abbrev pub is_over : State → ℕ → Bool
 is_over b c = gone_in b c || is_some (closed_at c b.done)
 
--- How a run stands at a clock.
+-- The state of a run at a clock.
 pub record Standing : Type 0 where
   -- which calls have ended
   pub over : ℕ → Bool
@@ -40,63 +38,63 @@ standing b failed now = record { over = is_over b; listed = is_listed failed; li
 pub record StandingGoesOn (before now : Standing) : Type 0 where
   -- a call that has ended stays so
   pub over : (c : ℕ) → before.over c ≡ true → now.over c ≡ true
-  -- incoming lines are only read, from the front
+  -- incoming lines are only read, from the start
   pub read_on : ReadsOn before.lines now.lines
-  -- those of a call that has ended are neither read again nor listed any more
+  -- the incoming lines of a call that has ended are neither read again nor newly listed
   pub lines : (c : ℕ) (s : Side) → IsIncoming s → before.over c ≡ true → (now.lines c s).to_come ≡ (before.lines c s).to_come
   pub listed : (c : ℕ) (s : Side) → IsIncoming s → before.over c ≡ true → now.listed c s ≡ before.listed c s
 
--- What board and farm know of the lines that are listed as failed. So a line that failed isn't used again.
-pub record KnowsListed (b : State) (groups : List Group) (failed : List Line) : Type 0 where
+-- What board and farm know of the lines that are listed as failed. So a line that failed isn't used in a later round.
+pub record KnowsListed (b : State) (kept : List Kept) (failed : List Line) : Type 0 where
   -- an order opened the line's call
   pub opened : (c : ℕ) (s : Side) → is_listed failed c s ≡ true → opened_now b c ≡ true
-  -- an incoming line ended its call, and that was told
+  -- an incoming line ended its call, and the board knows this
   pub ended : (c : ℕ) (s : Side) → IsIncoming s → is_listed failed c s ≡ true → gone_in b c ≡ true
   -- an open call knows which of its outgoing lines are listed
-  pub calls : (c : ℕ) (x : Call) → call_in groups c ≡ Some x → (x.down_failed ≡ is_listed failed c Down) × (x.out_failed ≡ is_listed failed c Out)
+  pub calls : (c : ℕ) (x : Call) → call_in kept c ≡ Some x → (x.down_failed ≡ is_listed failed c Down) × (x.out_failed ≡ is_listed failed c Out)
 
 -- ---- what a line gives
 
--- The octets that an incoming line never gives in a run: where it fails in the run, those that it still holds at the end.
+-- The octets that an incoming line never gives in a run: if it fails in the run, those that are still to come at the run's end.
 abbrev pub never_given : Bool → LineState → List ℕ
 never_given false last = []
 never_given true last = unwrap_or last.to_come []
 
--- A line of which the run's first k octets were read: the run's others are to come, and behind them those that it never gives.
+-- The run's first k octets of a line were read: still to come are the run's others, followed by those that the line never gives.
 abbrev pub IsToCome : LineState → ℕ → List ℕ → List ℕ → Type 0
 IsToCome now k line rest = now.to_come ≡ Some (drop k line ++ rest)
 
--- How a round's read of at most m octets agrees with the run, in which the line fails or not: `rest` is what it never gives,
--- `now` the line behind the read, and `t` what came.
+-- How a round's read of at most m octets agrees with the run. `failing` says whether the line fails in the run, `rest` is what it
+-- never gives, `now` the line after the read, and `t` what was read.
 pub record Meets (m : ℕ) (rest : List ℕ) (failing : Bool) (now : LineState) (t : Taken) : Type 0 where
   -- a line that doesn't fail in the run gives all
   pub whole : failing ≡ false → rest ≡ []
-  -- one that failed in this read fails in the run, and here
+  -- a line that failed in this read fails in the run, and at this point
   pub here : t.failed ≡ true → (failing ≡ true) × (now.to_come ≡ Some rest)
-  -- one that is to fail later gave all m octets, and what it never gives is still to come
+  -- a line that fails later in the run gave all m octets, and what it never gives is still to come
   pub ahead : t.failed ≡ false → failing ≡ true → (t.count ≡ m) × ((x : List ℕ) × (now.to_come ≡ Some (x ++ rest)))
 
--- What a round's read of at most m octets took of a line, of which the run's first k octets were read before.
+-- What a round's read of at most m octets took of a line, after the run's first k octets of it were read.
 pub record GaveBlock (m k : ℕ) (line rest : List ℕ) (failing : Bool) (now : LineState) (t : Taken) (block : List ℕ) : Type 0 where
-  -- it took the run's next octets, as many as m and the line have
+  -- it took the run's next octets: m of them, or as many as the line has
   pub count : t.count ≡ min m (length line - k)
   pub octets : take t.count block ≡ take t.count (drop k line)
   pub left : IsToCome now (k + m) line rest
-  -- one that gave fewer than m failed in this round where it fails in the run
+  -- a line that gave fewer than m failed in this round exactly if it fails in the run
   pub fails : t.count < m → t.failed ≡ failing
 
 -- ---- a round
 
--- the run's incoming lines fail where they are listed at its end
+-- the run's incoming lines fail exactly if they are listed at its end
 pub record HasFlags (r : Run) (last : Standing) : Type 0 where
   pub up : (c : ℕ) → (r.lines c).up_failed ≡ last.listed c Up
   pub pcm : (c : ℕ) → (r.lines c).pcm_failed ≡ last.listed c Pcm
 
--- How a round of n periods agrees with the run: `behind` is how the run stands behind the round, `last` at its end.
+-- How a round of n periods agrees with the run: `behind` is the state of the run after the round, `last` at its end.
 pub record MeetsRun (r : Run) (n : ℕ) (seats : List SeatMemory) (behind last : Standing) : Type 0 where
   pub on : StandingGoesOn behind last
   pub flags : HasFlags r last
-  -- of the round's calls exactly the incoming lines that failed in it are listed behind it
-  pub listed : (k : ℕ) (s : Side) → k < length seats → IsIncoming s → behind.listed (call_at seats k) s ≡ fails_in (seat_at seats k).place s
-  -- a call that lacks one of the periods has ended behind it
-  pub over : (k : ℕ) → k < length seats → places.whole_in (seat_at seats k).place < n → behind.over (call_at seats k) ≡ true
+  -- of the incoming lines of the round's calls, exactly those that failed in it are listed after it
+  pub listed : (k : ℕ) (s : Side) → k < length seats → IsIncoming s → behind.listed (call_at seats k) s ≡ fails_in (seat_at seats k).lines s
+  -- a call whose lines lack one of the periods has ended after it
+  pub over : (k : ℕ) → k < length seats → places.whole_in (seat_at seats k).lines < n → behind.over (call_at seats k) ≡ true

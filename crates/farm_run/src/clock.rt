@@ -1,4 +1,4 @@
-//! The clock of a run: it goes from the orders of a period to a round of periods, and on.
+//! The clock of a run: it goes from the orders of a period to a round of periods, and on to a later clock.
 
 ghost use Rattle.std.specs.Prelude.{◌≡◌, ◌<◌, ◌≤◌, ◌+◌, ℕ, is_some, IfOk, IfSome, OnErr};
 ghost use Rattle.switchboard.specs.State.{first_stamp};
@@ -19,7 +19,7 @@ use std::sync::Wait;
 use std::thread::Threads;
 use trau_io::Trunk;
 
-// The periods of the next round: at most a batch, and it passes neither an order nor period `until`.
+// The number of periods of the next round: at most a batch, and it passes neither the next order nor period `until`.
 fn round_periods(pace: &Pace, clock: u32, until: u32, next: Option<u32>) -> u32
     requires pace { IsPace pace.now }
     requires clock { clock < until }
@@ -38,7 +38,7 @@ fn round_periods(pace: &Pace, clock: u32, until: u32, next: Option<u32>) -> u32
     }
 }
 
-// A round of periods over the open calls. Want of memory comes before it uses a line.
+// Processes a round of `periods` periods of the open calls. It runs out of memory only before it reads or writes a line.
 fn work_round<R: Threads + Wait + Sync, T: Trunk, G: Gate + Sync>(
     rt: &R,
     alloc: Global,
@@ -50,7 +50,7 @@ fn work_round<R: Threads + Wait + Sync, T: Trunk, G: Gate + Sync>(
 ) -> Result<Stage, AllocError>
     requires pace { IsPace pace.now }
     requires stage { IsStage stage }
-    requires live { (c : ℕ) → is_among stage.farm.live c ≡ is_some (call_in stage.farm.groups c) }
+    requires live { (c : ℕ) → is_among stage.farm.live c ≡ is_some (call_in stage.farm.calls c) }
     requires some { 1 ≤ periods }
     requires few { periods ≤ pace.now.batch }
     requires within { stage.clock + periods ≤ 4294967295 }
@@ -81,7 +81,7 @@ fn work_round<R: Threads + Wait + Sync, T: Trunk, G: Gate + Sync>(
     })
 }
 
-// The clock where no call is open: at the next order, or at period `until`.
+// The next clock if no call is open: at the next order, or at period `until` if that comes first.
 fn idle_until(clock: u32, until: u32, next: Option<u32>) -> u32
     requires clock { clock < until }
     requires next { IfSome next (λ s. clock < s) }
@@ -95,8 +95,8 @@ fn idle_until(clock: u32, until: u32, next: Option<u32>) -> u32
     }
 }
 
-// The orders of the clock, and behind them a round, or where no call is open nothing up to the next order. Want of memory
-// comes before it uses a line.
+// Executes the orders of the clock. Then processes a round, or goes to the next order or to `until` if no call is open. It runs
+// out of memory only before it reads or writes a line.
 fn step<R: Threads + Wait + Sync, T: Trunk, G: Gate + Sync>(
     rt: &R,
     alloc: Global,
@@ -147,7 +147,7 @@ pub(crate) fn work_until<R: Threads + Wait + Sync, T: Trunk, G: Gate + Sync>(
     ensures clock { IfOk result (λ after. after.clock ≡ until) }
     ensures reaches { IfOk result (λ after. Reaches pace.now.batch stage after (T.lines trunk.old) (T.lines trunk.new)) }
 
-    // Where there was no memory, it came to a clock up to there.
+    // If it runs out of memory, it has come to some clock, at most `until`.
     ensures cut { OnErr result ((after : AnyStage) × (after.clock ≤ until) × Reaches pace.now.batch stage after (T.lines trunk.old) (T.lines trunk.new)) }
 {
     while stage.clock < until {

@@ -14,8 +14,8 @@ use crate::journal::Journal;
 use switchboard::Board;
 use trau_io::{CallEnd, Cause};
 
-/// Tells the board of the ends of calls that are open, no call's twice, and notes them. No end is below the stamp of an
-/// executed order. It takes no memory.
+/// Reports ends of calls to the board, and notes them. The calls are open, no two ends are of one call, and no end is before
+/// the stamp of an executed order. It takes no memory.
 pub(crate) fn tell_ends(board: &mut Board, journal: &mut Journal, ends: &[CallEnd])
     requires numbers { HaveNumbers ends.now }
     requires open { AreOpen board.old ends.now }
@@ -25,7 +25,7 @@ pub(crate) fn tell_ends(board: &mut Board, journal: &mut Journal, ends: &[CallEn
     ensures told { board.new ≡ told_after board.old ends.now }
     ensures noted { journal.new ≡ with_ends ends.now journal.old }
 
-    // Their calls are open no more, and neither they nor their partners have one.
+    // These calls aren't open any more, and neither they nor those that were their partners have a partner.
     ensures open { (c : ℕ) → open_now board.new c ≡ (open_now board.old c && not (is_told c ends.now)) }
     ensures partner { (c : ℕ) → partner_now board.new c ≡ partner_past ends.now (partner_now board.old) c }
 {
@@ -36,8 +36,8 @@ pub(crate) fn tell_ends(board: &mut Board, journal: &mut Journal, ends: &[CallEn
     }
 }
 
-/// Tells the board that the run has no period from `at` on for these calls, which are open and whose numbers rise, and
-/// notes their ends. It takes no memory.
+/// Ends these calls at `at`, the end of the run: reports the ends to the board, and notes them. The calls are open, and their
+/// numbers rise. It takes no memory.
 pub(crate) fn end_all(board: &mut Board, journal: &mut Journal, calls: &[u32], at: u32)
     requires rising { IsRising calls.now }
     requires open { All (λ c. open_now board.old c ≡ true) calls.now }
@@ -47,7 +47,7 @@ pub(crate) fn end_all(board: &mut Board, journal: &mut Journal, calls: &[u32], a
     ensures told { board.new ≡ told_after board.old (map (limit_at at) calls.now) }
     ensures noted { journal.new ≡ with_ends (map (limit_at at) calls.now) journal.old }
 
-    // They are open no more; where they are all that were open, no call is.
+    // They aren't open any more. If they were all the open calls, no call is open.
     ensures open { (c : ℕ) → open_now board.new c ≡ (open_now board.old c && not (is_among calls.now c)) }
     ensures none { ((c : ℕ) → is_among calls.now c ≡ open_now board.old c) → (c : ℕ) → open_now board.new c ≡ false }
 {

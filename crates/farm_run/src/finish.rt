@@ -16,8 +16,8 @@ use farm_rounds::Farm;
 use std::alloc::{AllocError, Global};
 use switchboard::Board;
 
-/// Ends the calls that are open at the end of a run of so many orders and periods, and reports the run. An error says
-/// that there was no memory.
+/// Ends the calls that are open at the end of a run of `orders` orders and `periods` periods, and reports the run. An error
+/// says that memory ran out.
 pub(crate) fn finish(
     alloc: Global,
     board: &mut Board,
@@ -27,13 +27,13 @@ pub(crate) fn finish(
     periods: u32,
 ) -> Result<Report, AllocError>
     requires few { orders ≤ 65536 }
-    requires matches { Matches board.old farm.now.groups }
+    requires matches { Matches board.old farm.now.calls }
     requires late { last_stamp board.old.done ≤ periods }
     requires shut { AreShut board.old journal.old.ends }
     ensures failed { IfOk result (λ report. report.failed ≡ farm.now.failed) }
 
-    // At the end of a run it is the report of the definition, with the lines that failed.
-    ensures reports { IfOk result (λ report. (r : Run) (t : ℕ) → IsAtEnd r t board.old farm.now.groups farm.now.tallies journal.old →
+    // The report is the one that the definition gives for the run (`report_of`), with the lines that failed.
+    ensures reports { IfOk result (λ report. (r : Run) (t : ℕ) → IsAtEnd r t board.old farm.now.calls farm.now.tallies journal.old →
         r.periods ≡ periods → length r.orders ≡ orders → report ≡ report_of r report.failed) }
 {
     end_all(board, journal, farm.live_calls(), periods);

@@ -11,8 +11,8 @@ use std::alloc::{AllocError, Global};
 use std::marker::Model;
 use trau_io::CallEnd;
 
-/// What the report needs to know of the past: of each call, by its number, and in the order in which they came the ends
-/// of calls and the bridges.
+/// What the report needs to know of the past: an entry for each call number, and the ends of calls and the bridges, each in the
+/// order in which they came.
 #[derive(Drop)]
 pub(crate) struct Journal {
     calls: Vec<Opening>,
@@ -32,7 +32,7 @@ impl Model for Journal {
     ghost invariant = { λ j. IsJournal j.calls.items j.ends.items j.bridges.items × (NUMBERS ≤ vec_capacity j.ends) × (65536 ≤ vec_capacity j.bridges) };
 }
 
-// A run has at most so many orders, and each bridge is made by one.
+// The most orders of a run, and so the most bridges: an order makes at most one.
 const ORDERS: usize = 65536;
 
 const NOT_OPENED: Opening = Opening {
@@ -41,7 +41,7 @@ const NOT_OPENED: Opening = Opening {
 };
 
 impl Journal {
-    /// The journal before the first order, with the room of all that it will ever note: it takes no memory afterwards.
+    /// The journal before the first order. It has room for all that it will ever note, and takes no memory afterwards.
     pub(crate) fn new(alloc: Global) -> Result<Journal, AllocError>
         ensures { IfOk result (λ j. j ≡ new_journal) }
     {
@@ -55,7 +55,7 @@ impl Journal {
         })
     }
 
-    /// A call is opened at a period.
+    /// Notes that a call is opened at a period.
     pub(crate) fn open(&mut self, call: u32, period: u32)
         requires { call < NUMBERS }
         ensures { self.new ≡ with_opening call period self.old }
@@ -66,7 +66,7 @@ impl Journal {
         };
     }
 
-    /// A call ends, whose end isn't noted.
+    /// Notes the end of a call, which isn't noted yet.
     pub(crate) fn end(&mut self, end: CallEnd)
         requires number { IsCallNumber end.call }
         requires new { is_told end.call self.old.ends ≡ false }
@@ -75,7 +75,7 @@ impl Journal {
         self.ends.push_reserved(end);
     }
 
-    /// A bridge of two calls begins, after fewer bridges than a run can have orders.
+    /// Notes that a bridge of two calls begins. Fewer than 65,536 bridges are noted.
     pub(crate) fn bridge(&mut self, a: u32, b: u32)
         requires a { a < NUMBERS }
         requires b { b < NUMBERS }
@@ -93,7 +93,7 @@ impl Journal {
         self.calls[b as usize].bridge = Some(place);
     }
 
-    /// A call has sent so many handed frames in its latest bridge, if it has been bridged.
+    /// Notes that a call has sent `sent` handed frames in its latest bridge, if it has been bridged.
     pub(crate) fn settle(&mut self, call: u32, sent: u32)
         requires { call < NUMBERS }
         ensures { self.new ≡ settled call sent self.old }
@@ -122,7 +122,7 @@ impl Journal {
         self.calls[call as usize].from
     }
 
-    /// The ends so far, in the order in which they came.
+    /// The ends so far, in the order in which they came. Each is of a call.
     pub(crate) fn ends(&self) -> &[CallEnd]
         ensures ends { result.now ≡ self.now.ends }
         ensures numbers { HaveNumbers result.now }

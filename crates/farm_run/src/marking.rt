@@ -37,7 +37,7 @@ pub(crate) fn mark_calls(alloc: Global, stage: &Stage) -> Result<Vec<MarkCall>, 
     ensures calls { IfOk result (λ calls. calls.items ≡ map (entry_of stage.now) stage.now.farm.live) }
 
     // They are the farm's, in rising order of their numbers.
-    ensures live { (c : ℕ) → is_among stage.now.farm.live c ≡ is_some (call_in stage.now.farm.groups c) }
+    ensures live { (c : ℕ) → is_among stage.now.farm.live c ≡ is_some (call_in stage.now.farm.calls c) }
     ensures rising { IsRising stage.now.farm.live }
 {
     let live = stage.farm.live_calls();

@@ -2,7 +2,7 @@
 
 ghost use Rattle.std.specs.Prelude.{◌≡◌};
 
-/// A call that was opened: its first period, and the place of its latest bridge among all bridges.
+/// A call that was opened: its first period, and the index of its latest bridge among all bridges.
 #[derive(Clone, Copy)]
 pub(crate) struct Opening {
     pub(crate) from: u32,

@@ -1,11 +1,10 @@
-//! What becomes of the octets that the calls of a round give to their outgoing lines.
+//! Where the octets go that the calls of a round give to their outgoing lines.
 
 ghost use Rattle.std.specs.Prelude.{◌≡◌, ◌&&◌, ℕ, true, Option, if◌then◌else◌, is_some};
 ghost use Rattle.farm_rounds.specs.Calls.{call_in, partner_in};
 ghost use Rattle.farm_rounds.specs.Numbers.{is_among};
-ghost use Rattle.farm_rounds.specs.Rounds.{groups_from};
 ghost use Rattle.farm_rounds.specs.Memory.{tally_in};
-ghost use Rattle.farm_rounds.specs.Histories.{CallHistory, GroupsStand, kept_of};
+ghost use Rattle.farm_rounds.specs.Histories.{CallHistory, CallsStand, kept_of};
 ghost use Rattle.farm_rounds.specs.Working.{goes_on_call, partner_past};
 ghost use Rattle.farm_rounds.specs.RoundHistories.{WorkedStand, those_that};
 ghost use Rattle.farm_rounds.specs.Sums.{Adds};
@@ -15,7 +14,7 @@ ghost use Rattle.farm_run.specs.Outgoing.{is_held, is_summed, sum_to, IsSameWay,
 use farm_rounds::{Farm, Sums, Worked};
 use trau_io::{Line, Trunk};
 
-/// What becomes of the octets of all rounds.
+/// What is done with the outgoing octets of all rounds.
 #[derive(Drop)]
 pub(crate) enum Outgoing {
     /// They are written.
@@ -27,7 +26,7 @@ pub(crate) enum Outgoing {
 }
 
 impl Outgoing {
-    /// Does so with those of a worked round, and gives the farm after it.
+    /// Does this with the octets of a processed round, and returns the farm after it.
     pub(crate) fn settle<T: Trunk>(&mut self, worked: Worked, trunk: &mut T) -> Farm
         ensures same { IsSameWay self.old self.new }
         ensures adds { is_summed self.old ≡ true → Adds worked.seats (sum_to self.old) (sum_to self.new) }
@@ -35,11 +34,11 @@ impl Outgoing {
         ensures sides { KeepsSides (T.lines trunk.old) (T.lines trunk.new) }
         ensures ended { result.ended ≡ worked.ended }
 
-        // Which calls are open, who their partners are, what they had and what is kept of them.
+        // The open calls, their partners and histories, and the kept tallies.
         ensures live { (c : ℕ) → is_among result.live c ≡ (is_among worked.live c && goes_on_call worked.seats c) }
-        ensures open { (c : ℕ) → is_some (call_in result.groups c) ≡ is_among result.live c }
-        ensures partners { (c : ℕ) → partner_in result.groups c ≡ partner_past (goes_on_call worked.seats) (partner_in (groups_from worked.jobs)) c }
-        ensures history { (h : ℕ → Option CallHistory) → WorkedStand h worked → GroupsStand (those_that (goes_on_call worked.seats) h) result.groups }
+        ensures open { (c : ℕ) → is_some (call_in result.calls c) ≡ is_among result.live c }
+        ensures partners { (c : ℕ) → partner_in result.calls c ≡ partner_past (goes_on_call worked.seats) (partner_in worked.calls) c }
+        ensures history { (h : ℕ → Option CallHistory) → WorkedStand h worked → CallsStand (those_that (goes_on_call worked.seats) h) result.calls }
         ensures tallies { (h : ℕ → Option CallHistory) → WorkedStand h worked → (c : ℕ) →
             tally_in result.tallies c ≡ (if goes_on_call worked.seats c then tally_in worked.tallies c else kept_of (h c) (tally_in worked.tallies c)) }
     {
@@ -56,7 +55,7 @@ impl Outgoing {
         }
     }
 
-    /// The sum of a line's octets so far, modulo 2^32; 0 where no sums are kept.
+    /// The sum of a line's octets so far, modulo 2^32; 0 if no sums are kept.
     pub(crate) fn sum(&self, line: Line) -> u32
         ensures { result ≡ sum_to self.now line.call line.side }
     {

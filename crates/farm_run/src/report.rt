@@ -1,11 +1,11 @@
-//! The report of a run that has ended: what the board, the farm and the journal know of it.
+//! The report of a run that has ended, from what the board, the farm and the journal know.
 
 ghost use Rattle.std.specs.Prelude.{◌≡◌, ◌≤◌, ◌-◌, ℕ, Option, length, map, IfOk, IsPermutation};
 ghost use Rattle.std.specs.List.Sorted.{IsNonDecreasingBy};
 ghost use Rattle.switchboard.specs.State.{numbered, told_in};
 ghost use Rattle.switchboard.specs.Ends.{Given, spans_now, spans_of};
 ghost use Rattle.switchboard.specs.Runs.{AllEnded};
-ghost use Rattle.farm_rounds.specs.Histories.{CallHistory, GroupsStand};
+ghost use Rattle.farm_rounds.specs.Histories.{CallHistory, CallsStand};
 ghost use Rattle.farm_run.specs.Facts.{span_line, span_lines, kept_in, call_line, settled_each};
 
 use crate::journal::Journal;
@@ -15,7 +15,8 @@ use farm_rounds::Farm;
 use std::alloc::{AllocError, Global};
 use switchboard::{Board, Span};
 
-// A bridge's line. A call hands a frame over in each period of the bridge; those that its partner hasn't sent are lost.
+// The report's line of a bridge. A call hands over a frame in each period of the bridge. The frames that its partner hasn't sent
+// are lost.
 fn span_line(span: &Span, bridge: &BridgeNote) -> SpanLine
     ensures { result ≡ span_line span.now bridge.now }
 {
@@ -43,10 +44,10 @@ fn span_lines(
     Ok(lines)
 }
 
-// The lines of the calls that have ended, as they ended.
+// The report's lines of the calls that have ended, in the order of their ends.
 fn ended_lines(alloc: Global, journal: &Journal, farm: &Farm) -> Result<Vec<CallLine>, AllocError>
     ensures ends { IfOk result (λ lines. map (λ l. l.end) lines.items ≡ journal.now.ends) }
-    ensures lines { IfOk result (λ lines. (h : ℕ → Option CallHistory) → GroupsStand h farm.now.groups →
+    ensures lines { IfOk result (λ lines. (h : ℕ → Option CallHistory) → CallsStand h farm.now.calls →
         lines.items ≡ map (call_line journal.now.calls (kept_in farm.now.tallies h)) journal.now.ends) }
 {
     let mut lines = Vec::with_capacity(alloc, journal.ends().len())?;
@@ -60,7 +61,7 @@ fn ended_lines(alloc: Global, journal: &Journal, farm: &Farm) -> Result<Vec<Call
     Ok(lines)
 }
 
-// The lines of calls by the calls' numbers.
+// Sorts lines in call-number order.
 fn by_number(mut lines: Vec<CallLine>) -> Vec<CallLine>
     ensures same { IsPermutation lines.items result.items }
     ensures sorted { IsNonDecreasingBy (λ l. l.end.call) result.items }
@@ -69,9 +70,9 @@ fn by_number(mut lines: Vec<CallLine>) -> Vec<CallLine>
     lines
 }
 
-// Notes of each call that has ended what it has sent in its latest bridge.
+// Notes for each call that has ended how many frames it has sent in its latest bridge.
 fn settle_all(journal: &mut Journal, farm: &Farm)
-    ensures settled { (h : ℕ → Option CallHistory) → GroupsStand h farm.now.groups →
+    ensures settled { (h : ℕ → Option CallHistory) → CallsStand h farm.now.calls →
         journal.new ≡ settled_each (kept_in farm.now.tallies h) journal.old.ends journal.old }
     ensures ends { journal.new.ends ≡ journal.old.ends }
     ensures calls { journal.new.calls ≡ journal.old.calls }
@@ -82,8 +83,8 @@ fn settle_all(journal: &mut Journal, farm: &Farm)
     }
 }
 
-/// The report of a run of so many orders, of which the board executed some, once the end of each call was noted. An
-/// error says that there was no memory.
+/// The report of a run of `orders` orders, of which the board has executed some, after the end of each call was noted. An error
+/// says that memory ran out.
 pub(crate) fn report(
     alloc: Global,
     board: &Board,
@@ -96,18 +97,18 @@ pub(crate) fn report(
     ensures failed { IfOk result (λ r. r.failed ≡ farm.now.failed) }
     ensures left { IfOk result (λ r. r.left ≡ orders - length board.now.done) }
 
-    // One line for each call that has ended, by the calls' numbers.
+    // One line for each call that has ended, in call-number order.
     ensures sorted { IfOk result (λ r. IsNonDecreasingBy (λ l. l.end.call) r.calls) }
     ensures ends { IfOk result (λ r. IsPermutation journal.old.ends (map (λ l. l.end) r.calls)) }
-    ensures calls { IfOk result (λ r. (h : ℕ → Option CallHistory) → GroupsStand h farm.now.groups →
+    ensures calls { IfOk result (λ r. (h : ℕ → Option CallHistory) → CallsStand h farm.now.calls →
         IsPermutation (map (call_line journal.old.calls (kept_in farm.now.tallies h)) journal.old.ends) r.calls) }
 
-    // The bridges that have ended, with what the calls have sent in them.
-    ensures spans { IfOk result (λ r. (h : ℕ → Option CallHistory) → GroupsStand h farm.now.groups →
+    // The bridges that have ended, with the numbers of frames that their calls have sent in them.
+    ensures spans { IfOk result (λ r. (h : ℕ → Option CallHistory) → CallsStand h farm.now.calls →
         r.spans ≡ span_lines (spans_now (told_in board.now) board.now.done) (settled_each (kept_in farm.now.tallies h) journal.old.ends journal.old).bridges) }
 
-    // They are all bridges, once each call has ended.
-    ensures whole { IfOk result (λ r. (h : ℕ → Option CallHistory) (given : ℕ → Given) (periods : ℕ) → GroupsStand h farm.now.groups →
+    // If each call has ended, these are all bridges.
+    ensures whole { IfOk result (λ r. (h : ℕ → Option CallHistory) (given : ℕ → Given) (periods : ℕ) → CallsStand h farm.now.calls →
         AllEnded given periods board.now →
         r.spans ≡ span_lines (spans_of given periods board.now.done) (settled_each (kept_in farm.now.tallies h) journal.old.ends journal.old).bridges) }
 {

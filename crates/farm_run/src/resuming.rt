@@ -22,19 +22,20 @@ use std::thread::Threads;
 use trau_io::Trunk;
 use trau_orders::Orders;
 
-/// What a resumed run came to.
+/// The result of a resumed run.
 #[derive(Drop)]
 pub enum Resumed {
-    /// It was carried to its end.
+    /// It came to its end.
     Ran(Report),
-    /// The mark isn't that of its lines and orders: the least number of a call that the mark has otherwise.
+    /// The mark isn't that of its lines and orders. The number is the least call number whose entry differs, or that only one of
+    /// the two has.
     Differs(u32),
 }
 
-/// Runs these orders over the lines of a trunk from the start, as `run` does, and holds back the octets of the periods before
-/// the mark's. There it compares the mark, and where that is its own, it writes all that follows, to the later one of the
-/// mark's period and the number of periods asked for. An error says that there was no memory. The run waits for its
-/// workers: that it returns isn't proved.
+/// Runs these orders over the lines of a trunk from the start, as `run` does, but holds back the octets of the periods before
+/// the mark's period. There it compares the mark. If the mark is the run's own, it writes all that follows, up to the mark's
+/// period or the number of periods asked for, whichever is greater. An error says that memory ran out. The run waits for its
+/// workers; that it returns isn't proved.
 pub fn resume<R: Threads + Wait + Sync, T: Trunk, G: Gate + Sync>(
     rt: &R,
     alloc: Global,
@@ -48,12 +49,12 @@ pub fn resume<R: Threads + Wait + Sync, T: Trunk, G: Gate + Sync>(
     requires rising { NumbersRise mark.now.calls }
     ensures resumes { IfOk result (λ resumed. Resumes orders pace.now mark.now (T.lines trunk.old) (T.lines trunk.new) resumed) }
 
-    // Where there was no memory, the run stopped at one period: of each outgoing line that didn't fail exactly the octets of the
-    // periods from the mark's on and before that one are there, of one that failed a proper prefix of these. Each is as it was where
-    // the mark isn't the run's.
+    // If memory ran out, the run stopped at one period. Each outgoing line that didn't fail has gained exactly the octets of the
+    // periods from the mark's on and before that one; a line that failed, a proper prefix of them. If the mark isn't the run's, all
+    // outgoing lines are unchanged.
     ensures cut { OnErr result (IsResumeCutShort orders (max mark.now.period pace.now.periods) mark.now (T.lines trunk.old) (T.lines trunk.new)) }
 
-    // Incoming lines are only read and outgoing ones only written, also where there was no memory.
+    // Incoming lines are only read and outgoing lines only written, even if memory runs out.
     ensures sides { KeepsSides (T.lines trunk.old) (T.lines trunk.new) }
 {
     let count = orders.list().len();

@@ -18,9 +18,9 @@ use std::thread::Threads;
 use trau_io::Trunk;
 use trau_orders::Orders;
 
-/// Runs these orders over the lines of a trunk, and reports what became of them. The slices of the calls' work are run by
-/// the workers of a pool in threads of their own, and each passes the gate. An error says that there was no memory. The
-/// run waits for its workers: that it returns isn't proved.
+/// Runs these orders over the lines of a trunk, and reports the result. The workers of a pool, in threads of their own, process
+/// the calls in slices, and each slice passes the gate. An error says that memory ran out. The run waits for its workers; that
+/// it returns isn't proved.
 pub fn run<R: Threads + Wait + Sync, T: Trunk, G: Gate + Sync>(
     rt: &R,
     alloc: Global,
@@ -32,11 +32,11 @@ pub fn run<R: Threads + Wait + Sync, T: Trunk, G: Gate + Sync>(
     requires { IsPace pace.now }
     ensures runs { IfOk result (λ report. Runs orders pace.now (T.lines trunk.old) (T.lines trunk.new) report) }
 
-    // Where there was no memory, the run stopped at one period: of each outgoing line that didn't fail exactly the octets of the
-    // periods before it are there, of one that failed a proper prefix of these.
+    // If memory ran out, the run stopped at one period. Each outgoing line that didn't fail has gained exactly the octets of the
+    // periods before it; a line that failed, a proper prefix of them.
     ensures cut { OnErr result (IsCutShort orders pace.now.periods (T.lines trunk.old) (T.lines trunk.new)) }
 
-    // Incoming lines are only read and outgoing ones only written, also where there was no memory.
+    // Incoming lines are only read and outgoing lines only written, even if memory runs out.
     ensures sides { KeepsSides (T.lines trunk.old) (T.lines trunk.new) }
 {
     let count = orders.list().len();

@@ -21,12 +21,12 @@ use std::thread::Threads;
 use trau_io::{Line, Trunk};
 use trau_orders::Orders;
 
-/// What is kept of a run that was worked to its end. Contracts see the lines and the mark.
+/// What is kept of a run that came to its end.
 #[derive(Drop)]
 pub struct Saved {
-    /// The lines that failed, by call and then in the order up, pcm, down, out.
+    /// The lines that failed, in call-number order, and a call's in the order Up, Pcm, Down, Out.
     pub failed: Vec<Line>,
-    /// Where the run stood at its end.
+    /// The mark of the run at its end.
     pub mark: Mark,
 }
 
@@ -38,8 +38,8 @@ impl Model for Saved {
     ghost view = { λ s. record { failed = s.failed.items; mark = s.mark } };
 }
 
-/// Runs these orders over the lines of a trunk as `run` does, and marks where the run stands at its end. An error
-/// says that there was no memory. The run waits for its workers: that it returns isn't proved.
+/// Runs these orders over the lines of a trunk as `run` does, and marks the run at its end. An error says that memory ran out.
+/// The run waits for its workers; that it returns isn't proved.
 pub fn save<R: Threads + Wait + Sync, T: Trunk, G: Gate + Sync>(
     rt: &R,
     alloc: Global,
@@ -51,11 +51,11 @@ pub fn save<R: Threads + Wait + Sync, T: Trunk, G: Gate + Sync>(
     requires { IsPace pace.now }
     ensures saves { IfOk result (λ saved. Saves orders pace.now (T.lines trunk.old) (T.lines trunk.new) saved) }
 
-    // Where there was no memory, the run stopped at one period: of each outgoing line that didn't fail exactly the octets of the
-    // periods before it are there, of one that failed a proper prefix of these.
+    // If memory ran out, the run stopped at one period. Each outgoing line that didn't fail has gained exactly the octets of the
+    // periods before it; a line that failed, a proper prefix of them.
     ensures cut { OnErr result (IsCutShort orders pace.now.periods (T.lines trunk.old) (T.lines trunk.new)) }
 
-    // Incoming lines are only read and outgoing ones only written, also where there was no memory.
+    // Incoming lines are only read and outgoing lines only written, even if memory runs out.
     ensures sides { KeepsSides (T.lines trunk.old) (T.lines trunk.new) }
 {
     let outgoing = Outgoing::Summed(Sums::new(alloc)?);

@@ -10,7 +10,7 @@ use std::alloc::{AllocError, Global};
 use switchboard::Board;
 use trau_orders::Orders;
 
-/// A run at one of its clocks: what is known of it, and what becomes of the octets that its calls give.
+/// A run at one of its clocks: what is known of it, and where the octets go that its calls give.
 #[derive(Drop)]
 pub(crate) struct Stage {
     pub(crate) board: Board,

@@ -1,5 +1,5 @@
-//! A gate between two posts: each of the calls 1 and 2 waits, before its second period, until the other is between its own
-//! first and second one.
+//! A gate between two posts: before its second period, each of the calls 1 and 2 waits until the other call is between its own
+//! first and second period.
 
 use crate::counts::Counts;
 use pool_run::Gate;
@@ -8,7 +8,7 @@ use std::thread;
 
 #[derive(Drop)]
 pub(crate) struct Between {
-    // How often a wait looks for what it waits for.
+    // How often a wait checks its condition.
     turns: u32,
     begun: Counts,
     posted: Counts,
@@ -25,12 +25,12 @@ impl Between {
         }
     }
 
-    // How many waits used up their turns.
+    // How many waits ended without their condition.
     pub(crate) fn used_up(&self) -> u32 {
         self.used_up.load(Ordering::SeqCst)
     }
 
-    // Waits until a call has a post, and its second one was begun.
+    // Waits until a call has posted, and its second post has begun.
     fn wait_for(&self, call: u32) {
         for _ in 0..self.turns {
             if self.posted.get(call) > 0 && self.begun.get(call) > 1 {

@@ -7,7 +7,7 @@ pub(crate) struct Counts {
     of_1: AtomicU32,
     of_2: AtomicU32,
     of_3: AtomicU32,
-    // All other numbers.
+    // Of all other numbers.
     of_others: AtomicU32,
 }
 
@@ -30,7 +30,7 @@ impl Counts {
         }
     }
 
-    // Counts one more for a call. Returns the count before.
+    // Adds one to the count of a call. Returns the count before.
     pub(crate) fn raise(&self, call: u32) -> u32 {
         self.of(call).fetch_add(1, Ordering::SeqCst)
     }

@@ -1,4 +1,4 @@
-//! A desk of which one operation fails.
+//! A desk on which one operation fails.
 
 ghost use Rattle.std.specs.Prelude.{None};
 ghost use Rattle.trau_io.specs.Desks.{DeskState};
@@ -8,13 +8,13 @@ use std::alloc::Global;
 use std::process::Abort;
 use trau_io::{Desk, Failed};
 
-// The most octets that a read gives, and that a write takes.
+// The most octets of a read, and of a write.
 const READ: usize = 3;
 
 pub(crate) const WRITTEN: usize = 30;
 
-// A desk that reads and writes few octets at a time, and whose read or write of one number fails. It tells nothing of what
-// it holds to a contract.
+// A desk that reads and writes few octets at a time, and on which one read and one write fail. Contracts don't know its
+// contents.
 #[derive(Drop)]
 pub(crate) struct FailingDesk {
     orders: Vec<u8>,
@@ -29,7 +29,7 @@ pub(crate) struct FailingDesk {
 }
 
 impl FailingDesk {
-    // A desk that has these orders, and of which these calls fail, by their numbers.
+    // A desk with these orders, on which the read and the write with these numbers fail.
     pub(crate) fn new(
         rt: &impl Abort,
         alloc: Global,
@@ -50,7 +50,7 @@ impl FailingDesk {
         }
     }
 
-    // A desk of which no operation fails.
+    // A desk on which no operation fails.
     pub(crate) fn calm(rt: &impl Abort, alloc: Global, orders: &str) -> FailingDesk {
         FailingDesk::new(rt, alloc, orders, NONE, NONE)
     }

@@ -5,8 +5,7 @@ ghost use Rattle.trau_io.specs.Lines.{LineState};
 
 use trau_io::{Failed, Line, Trunk};
 
-// Lines of which each read fills the buffer, and that take all that is written. They tell nothing of what they hold to a
-// contract.
+// Each read fills the buffer, and each write takes all octets. Contracts don't know the contents of these lines.
 #[derive(Drop)]
 pub(crate) struct Endless {
     pub(crate) written: u64,

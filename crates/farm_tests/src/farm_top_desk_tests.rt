@@ -1,4 +1,4 @@
-//! The command `run` over two calls, of which the desk fails once at each of its first ten reads and writes: 20 runs.
+//! The command `run` over two calls. The desk fails at each of its first ten reads and at each of its first ten writes: 20 runs.
 
 use crate::desk::{FailingDesk, WRITTEN};
 use crate::lines::NONE;
@@ -9,7 +9,7 @@ use std::sync::Wait;
 use std::thread::Threads;
 use trau_io::MemTrunk;
 
-// Whether a run in which read `number` of the desk fails is refused and uses no line.
+// Whether a run in which read `number` of the desk fails refuses its orders and uses no line.
 fn is_unread<R: Abort + Threads + Wait + Sync>(
     rt: &R,
     alloc: Global,
@@ -22,13 +22,13 @@ fn is_unread<R: Abort + Threads + Wait + Sync>(
     run.status == 3 && is_told && is_written(&run.trunk, unused)
 }
 
-// Whether a text is the front of a report that the writes before write `number` told.
+// Whether a text is the prefix of a report that the writes before write `number` wrote.
 fn is_front(text: &[u8], number: u32, report: &[u8]) -> bool {
     let length = number as usize * WRITTEN;
     text.len() == length && length < report.len() && report.starts_with(text)
 }
 
-// Whether a run in which write `number` of the desk fails leaves a front of the report, and all lines whole.
+// Whether a run in which write `number` of the desk fails leaves a prefix of the report, and all lines whole.
 fn is_untold<R: Abort + Threads + Wait + Sync>(
     rt: &R,
     alloc: Global,
@@ -55,7 +55,6 @@ fn desk_fails<R: Abort + Threads + Wait + Sync>(rt: &R, alloc: Global) -> u32 {
     10
 }
 
-// The desk fails at each of its first ten reads, and at each of its first ten writes.
 #[test]
 fn the_desk_fails_at_each_call(rt: HostRuntime) {
     let number = desk_fails(&rt, rt.alloc());

@@ -1,4 +1,4 @@
-//! The command `drill`; and uplinks as no base station sends them.
+//! The command `drill`; and uplinks that no base station sends.
 
 use crate::desk::{FailingDesk, WRITTEN};
 use crate::endless::Endless;
@@ -14,10 +14,10 @@ use std::thread::Threads;
 use trau_io::Side::{Down, Out, Pcm, Up};
 use trau_io::{MemTrunk, Side};
 
-// In one piece.
+// A large chunk size.
 const ALL: u32 = 10_000;
 
-// Two drills in which comfort noise plays no part, with the sums that another program gives.
+// Two drills without comfort noise, with the sums that another program gives.
 const ONE_PERIOD: &str = "order 1 ok
 call 1 from 0 to 1 limit
 counts 1 good 0 sid 1 invalid 0 bad 0 idle 0 other 0 miss 0 none 0 made 1
@@ -39,15 +39,39 @@ sum 1 out 86808 down 26333
 sum 2 out 83289 down 26017
 ";
 
-// Lines of call 1 of which each operation fails.
+// Lines of call 1 on which each operation fails.
 static FAILING: [Laid; 4] = [
-    (1, Up, 400, ALL, 0),
-    (1, Pcm, 1600, ALL, 0),
-    (1, Down, 0, ALL, 0),
-    (1, Out, 0, ALL, 0),
+    Laid {
+        call: 1,
+        side: Up,
+        octets: 400,
+        piece: ALL,
+        fails: 0,
+    },
+    Laid {
+        call: 1,
+        side: Pcm,
+        octets: 1600,
+        piece: ALL,
+        fails: 0,
+    },
+    Laid {
+        call: 1,
+        side: Down,
+        octets: 0,
+        piece: ALL,
+        fails: 0,
+    },
+    Laid {
+        call: 1,
+        side: Out,
+        octets: 0,
+        piece: ALL,
+        fails: 0,
+    },
 ];
 
-// Whether no operation came to any of these lines of call 1.
+// Whether no operation was done on these lines of call 1.
 fn is_unused(trunk: &MemTrunk) -> bool {
     for side in [Up, Pcm, Down, Out] {
         if trunk.faults(line(1, side)) != 0 || !trunk.written(line(1, side)).is_empty() {
@@ -57,7 +81,7 @@ fn is_unused(trunk: &MemTrunk) -> bool {
     true
 }
 
-// Drills, also by several workers and in several slices, and what they tell.
+// Drills, some by several workers and in several slices, and what they print.
 static DRILLS: [([&str; 5], &str); 6] = [
     (["drill", "--calls", "1", "--periods", "1"], ONE_PERIOD),
     (["drill", "--calls", "2", "--periods", "4"], FOUR_PERIODS),
@@ -103,7 +127,7 @@ static DRILLS: [([&str; 5], &str); 6] = [
     ),
 ];
 
-// Whether a drill tells this text and uses no line.
+// Whether a drill prints this text and uses no line.
 fn tells<R: Abort + Threads + Wait + Sync>(
     rt: &R,
     alloc: Global,
@@ -122,7 +146,7 @@ fn drills_are_those_of_another_program(rt: HostRuntime) {
     }
 }
 
-// Whether a drill at a desk that fails at its second write ends with status 4, and its text is what went before.
+// Whether a drill whose desk fails at its second write ends with status 4 and the text of its first write.
 fn is_told_in_part<R: Abort + Threads + Wait + Sync>(rt: &R, alloc: Global) -> bool {
     let trunk = trunk_of(rt, alloc, &FAILING);
     let desk = FailingDesk::new(rt, alloc, "", 0, 1);
@@ -146,7 +170,7 @@ counts 1 good 0 sid 0 invalid 0 bad 0 idle 0 other 0 miss 0 none 5 made 5
 end period 5 calls 1 left 0
 ";
 
-// Whether a run of five periods over lines that never end comes to its limit, and writes them.
+// Whether a run of five periods over lines that never end comes to its limit, and writes these periods.
 fn comes_to_the_limit<R: Abort + Threads + Wait + Sync>(rt: &R, alloc: Global) -> bool {
     let mut desk = FailingDesk::calm(rt, alloc, "0 open 1\n");
     let mut trunk = Endless { written: 0 };
@@ -160,7 +184,7 @@ fn lines_that_never_end_come_to_the_limit(rt: HostRuntime) {
     assert!(rt; comes_to_the_limit(&rt, rt.alloc()));
 }
 
-// A hostile uplink by its kind and periods, what is told of a run over it, and the sums of Down and Out.
+// A hostile uplink by its kind and periods, the text of a run over it, and the sums of Down and Out.
 struct Hostile {
     kind: u8,
     periods: usize,
@@ -238,7 +262,7 @@ end period 10 calls 1 left 0
     },
 ];
 
-// The FNV-1a sum of 32 bits of what was written to a line of call 1.
+// The FNV-1a sum, 32 bits, of what was written to a line of call 1.
 fn sum(trunk: &MemTrunk, side: Side) -> u32 {
     let mut sum = 2_166_136_261u32;
     for octet in trunk.written(line(1, side)) {
@@ -250,7 +274,13 @@ fn sum(trunk: &MemTrunk, side: Side) -> u32 {
 // Call 1 with a hostile uplink and an idle Pcm line.
 fn hostile_lines(rt: &impl Abort, alloc: Global, row: &Hostile) -> MemTrunk {
     let periods = row.periods.min(1000);
-    let pcm = [(1, Pcm, 160 * periods, ALL, NONE)];
+    let pcm = [Laid {
+        call: 1,
+        side: Pcm,
+        octets: 160 * periods,
+        piece: ALL,
+        fails: NONE,
+    }];
     let mut trunk = trunk_of(rt, alloc, &pcm);
     let up = hostile(alloc, row.kind.min(5), periods as u32).expect(rt, "memory");
     put(rt, alloc, &mut trunk, line(1, Up), up, ALL, NONE);
@@ -268,7 +298,7 @@ fn hostile_lines(rt: &impl Abort, alloc: Global, row: &Hostile) -> MemTrunk {
     trunk
 }
 
-// Whether a run over a hostile uplink is as its row has it.
+// Whether a run over a hostile uplink gives what its row says.
 fn comes_of<R: Abort + Threads + Wait + Sync>(rt: &R, alloc: Global, row: &Hostile) -> bool {
     let mut trunk = hostile_lines(rt, alloc, row);
     let ran = carry(
@@ -290,7 +320,7 @@ fn hostile_uplinks_as_another_program(rt: HostRuntime) {
     }
 }
 
-// What is searched on the uplink whose frames are cut behind their 305th bit.
+// The yields of the search on the uplink whose frames are cut after their 305th bit.
 static CUT_FRAMES: &str = "0 good
 320 miss
 640 miss
@@ -302,7 +332,7 @@ static CUT_FRAMES: &str = "0 good
 frames 8 left 0
 ";
 
-// Whether they are listed so.
+// Whether `frames` lists them so.
 fn lists_cut_frames<R: Abort + Threads + Wait + Sync>(rt: &R, alloc: Global) -> bool {
     let mut trunk = hostile_lines(rt, alloc, &HOSTILE[4]);
     let listed = carry(rt, alloc, &["frames", "1"], &mut trunk, "", NONE, &OpenGate);

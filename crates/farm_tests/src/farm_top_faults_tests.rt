@@ -1,6 +1,6 @@
-//! The command `run` over two calls, of which each line fails once at each of its first ten operations: 80 runs. Incoming lines
-//! also fail at the eleventh, which gives their end, and would at the one after. Each run is compared with a run over the octets
-//! that were given, in which no operation fails.
+//! The command `run` over two calls. Each line fails at each of its first ten operations: 80 runs. Incoming lines also fail at the
+//! eleventh operation, which gives their end, and are set to fail at the twelfth, which isn't done. Each run is compared with a run
+//! over the octets that were given, in which no operation fails.
 
 use crate::lines::{NONE, line};
 use crate::two_calls::{OF_40, OF_160, Outcome, calm, carry_calm, is_written, lay};
@@ -11,22 +11,22 @@ use std::thread::Threads;
 use trau_io::Side::{Down, Out, Pcm, Up};
 use trau_io::{MemTrunk, Side};
 
-// How many octets the operations before each one move: rounds of 4, 7, 7, 7 and 5 periods, in pieces. Operation 10 of an
-// incoming line is the read that gives `Ok(0)`.
+// For each operation, how many octets the operations before it move: rounds of 4, 7, 7, 7 and 5 periods, in chunks. Operation 10
+// of an incoming line is the read that gives `Ok(0)`.
 const BEFORE_40: [usize; 11] = [0, 150, 160, 310, 440, 590, 720, 870, 1000, 1150, OF_40];
 
 const BEFORE_160: [usize; 11] = [
     0, 600, 640, 1240, 1760, 2360, 2880, 3480, 4000, 4600, OF_160,
 ];
 
-// The first operation of an incoming line that doesn't come, since the one before it gave `Ok(0)`.
+// The first operation of an incoming line that isn't done, since the one before it gave `Ok(0)`.
 const BEHIND_THE_END: u32 = 11;
 
-// A line that fails, what the report has of it, and how many octets the operations before each one moved.
+// A line that fails, the report's texts about it, and how many octets the operations before each one move.
 struct Failing {
     call: u32,
     side: Side,
-    // How the line of its call begins, and how it ends where the call's lines fail.
+    // How the report's line of the call begins, and how it ends if the call's lines fail.
     head: &'static str,
     cause: &'static str,
     told: &'static str,
@@ -104,7 +104,7 @@ fn is_incoming(side: Side) -> bool {
     side == Up || side == Pcm
 }
 
-// The lines of both calls, of which this one fails at operation `number`.
+// The lines of both calls. This one fails at operation `number`.
 fn failed_at(rt: &impl Abort, alloc: Global, row: &Failing, number: u32) -> MemTrunk {
     let mut trunk = calm(rt, alloc);
     let octets = match row.side {
@@ -116,7 +116,7 @@ fn failed_at(rt: &impl Abort, alloc: Global, row: &Failing, number: u32) -> MemT
     trunk
 }
 
-// The lines of both calls, of which this incoming one has the octets that were given before it failed, and never fails.
+// The lines of both calls. This incoming one has only the octets that were given before it failed, and never fails.
 fn given(rt: &impl Abort, alloc: Global, row: &Failing, before: usize) -> MemTrunk {
     let mut trunk = calm(rt, alloc);
     lay(rt, alloc, &mut trunk, row.call, row.side, before, NONE);
@@ -127,14 +127,14 @@ fn put(rt: &impl Abort, told: &mut String, text: &str) {
     told.push_str(text).expect(rt, "memory");
 }
 
-// Whether a call ends by the fault: not where an outgoing line fails, and not where Pcm fails at the place where Up ends,
-// which goes first.
+// Whether the fault ends a call: not if an outgoing line fails, and not if Pcm fails where Up ends, since the end of Up goes
+// first.
 fn ends_its_call(side: Side, before: usize) -> bool {
     side == Up || side == Pcm && before < OF_160
 }
 
-// The report of the run over the octets that were given, as it is where the line failed: the line is listed before the last
-// line, and its call may end by the fault.
+// From the report of the run over the octets that were given, the report of the run with the fault: the line is listed before
+// the last line, and its call may end by the fault.
 fn told_of(rt: &impl Abort, alloc: Global, row: &Failing, ends: bool, calm: &[u8]) -> String {
     let calm = str::from_utf8(calm).expect(rt, "text");
     let mut told = String::new(alloc);
@@ -155,7 +155,7 @@ fn told_of(rt: &impl Abort, alloc: Global, row: &Failing, ends: bool, calm: &[u8
     told
 }
 
-// Whether a line got what it got in another run; where it failed, the first `before` octets of that.
+// Whether a line got what it got in another run; if it failed, the first `before` octets of that.
 fn has_front(
     trunk: &MemTrunk,
     other: &MemTrunk,
@@ -182,7 +182,7 @@ fn have_fronts(trunk: &MemTrunk, other: &MemTrunk, row: &Failing, before: usize)
         && trunk.faults(line(row.call, row.side)) == 1
 }
 
-// Whether a run in which a line fails at operation `number` is as that over the octets that were given.
+// Whether a run in which a line fails at operation `number` agrees with the run over the octets that were given.
 fn is_as_given<R: Abort + Threads + Wait + Sync>(
     rt: &R,
     alloc: Global,
@@ -200,7 +200,7 @@ fn is_as_given<R: Abort + Threads + Wait + Sync>(
         && have_fronts(&run.trunk, &given.trunk, row, before)
 }
 
-// Whether an incoming line isn't read any more where it has ended: the run is as if no operation failed.
+// Whether an incoming line isn't read again after its end: the run is as if no operation failed.
 fn ends_once<R: Abort + Threads + Wait + Sync>(
     rt: &R,
     alloc: Global,
@@ -214,7 +214,7 @@ fn ends_once<R: Abort + Threads + Wait + Sync>(
         && run.trunk.faults(line(row.call, row.side)) == 0
 }
 
-// How many operations of an incoming line fail as they should, in turn, and whether none comes behind its end.
+// How many operations of an incoming line fail as they should, in turn; one more if no read follows its end.
 fn incoming_fails<R: Abort + Threads + Wait + Sync>(
     rt: &R,
     alloc: Global,
@@ -235,7 +235,7 @@ fn incoming_fails<R: Abort + Threads + Wait + Sync>(
     }
 }
 
-// How many of the first ten operations of an outgoing line fail as they should: the octets that were given are all.
+// How many of the first ten operations of an outgoing line fail as they should, in turn. The incoming lines give all octets.
 fn outgoing_fails<R: Abort + Threads + Wait + Sync>(
     rt: &R,
     alloc: Global,
@@ -250,7 +250,7 @@ fn outgoing_fails<R: Abort + Threads + Wait + Sync>(
     10
 }
 
-// Two calls of 30 periods, in rounds of at most 7: each line fails at each of its operations.
+// Two calls of 30 periods, in rounds of at most 7. Each line fails at each of its operations.
 #[test]
 fn each_line_fails_at_each_call(rt: HostRuntime) {
     let whole = carry_calm(&rt, rt.alloc(), calm(&rt, rt.alloc()));

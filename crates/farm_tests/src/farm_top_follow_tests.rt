@@ -1,4 +1,4 @@
-//! The base station's end of a downlink in memory: whole, in pieces, and where a line or the desk fails.
+//! The base station's end of a downlink in memory: whole, in chunks, and with a line or the desk that fails.
 
 use crate::farm_top_tests::{Outcome, carry};
 use crate::lines::{NONE, UPLINK_FRAME, line, put};
@@ -10,7 +10,7 @@ use std::thread::Threads;
 use trau_io::MemTrunk;
 use trau_io::Side::{Down, Up};
 
-// Octet `i` of the downlink speech frame with SP 1 and the data bits of the uplink frame, and of ones behind it.
+// Octet `i` of the downlink speech frame with SP 1 and the data bits of the uplink frame; after the frame, ones.
 fn frame(i: usize) -> u8 {
     match i {
         2 => 0xF0,
@@ -22,7 +22,7 @@ fn frame(i: usize) -> u8 {
 }
 
 // A period of ones; a frame; a shift of 39 octets; a frame without its time bits, by a shift of -2; a frame; twelve ones.
-// So the frames stand at bits 320, 952 and 1268, the third one within an octet.
+// So the frames begin at bits 320, 952 and 1268, the third one within an octet.
 fn downlink(rt: &impl Abort, alloc: Global) -> Vec<u8> {
     let mut octets = vec![in alloc; 0xFF; 200].expect(rt, "memory");
     for i in 0..40 {
@@ -34,8 +34,8 @@ fn downlink(rt: &impl Abort, alloc: Global) -> Vec<u8> {
     octets
 }
 
-// Octet `i` of what is sent up: idle frames in the two periods in which no frame ends, and else good speech, which from period
-// 3 on asks for a step of 8 bits. All have TAF 0 and DTXd 1.
+// Octet `i` of what is sent up: idle frames in the two periods in which no frame ends, otherwise good speech, which from period 3
+// on asks for a step of 8 bits. All have TAF 0 and DTXd 1.
 fn answer(i: usize) -> u8 {
     match (i / 40, i % 40) {
         (_, 0 | 1) => 0,
@@ -49,7 +49,7 @@ fn answer(i: usize) -> u8 {
     }
 }
 
-// Follows the downlink on call 7, in pieces, where a read of the line fails, or a write of the answers or of the desk.
+// Follows the downlink on call 7, in chunks. A read of the line, a write of the answers and a write of the desk fail.
 fn follow<R: Abort + Threads + Wait + Sync>(
     rt: &R,
     alloc: Global,
@@ -72,8 +72,8 @@ fn are_answers(octets: &[u8], count: usize) -> bool {
     octets.len() == count && octets.iter().enumerate().all(|(i, o)| *o == answer(i))
 }
 
-// The size of the pieces; which read of the line fails, which write of the answers, and which of the desk; what is answered
-// and told, and how many octets are sent up.
+// The chunk size; which read of the line, which write of the answers and which write of the desk fail; the status, the text, and
+// how many octets are sent up.
 struct Row {
     cut: u32,
     faults: (u32, u32, u32),
@@ -106,7 +106,7 @@ static ROWS: [Row; 8] = [
         text: "320 speech\nline 7 up failed\n",
         sent: 80,
     },
-    // The frame of a period whose answer isn't written isn't told.
+    // The frame of a period whose answer isn't written isn't printed.
     Row {
         cut: 1000,
         faults: (NONE, 1, NONE),
@@ -144,7 +144,7 @@ static ROWS: [Row; 8] = [
     },
 ];
 
-// Whether of a downlink comes what its row has.
+// Whether following a downlink gives what its row says.
 fn comes_of<R: Abort + Threads + Wait + Sync>(rt: &R, alloc: Global, row: &Row) -> bool {
     let (outcome, trunk) = follow(rt, alloc, row.cut, row.faults);
     outcome.is(row.status, row.text) && are_answers(trunk.written(line(7, Down)), row.sent)

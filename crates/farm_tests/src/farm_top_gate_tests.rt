@@ -1,4 +1,4 @@
-//! The workers of a run: that they are several threads, and that calls are stolen half done. No clause says so.
+//! The workers of a run are several threads, and steal calls half done. No clause says so.
 
 use crate::farm_top_tests::carry;
 use crate::held::{Held, PAIRS};
@@ -12,32 +12,104 @@ use trau_io::Side::{Down, Out, Pcm, Up};
 
 // The lines of the calls 1, 2 and 3, with three periods each.
 static LINES: [Laid; 12] = [
-    (1, Up, 120, 1000, NONE),
-    (1, Pcm, 480, 1000, NONE),
-    (1, Down, 0, 1000, NONE),
-    (1, Out, 0, 1000, NONE),
-    (2, Up, 120, 1000, NONE),
-    (2, Pcm, 480, 1000, NONE),
-    (2, Down, 0, 1000, NONE),
-    (2, Out, 0, 1000, NONE),
-    (3, Up, 120, 1000, NONE),
-    (3, Pcm, 480, 1000, NONE),
-    (3, Down, 0, 1000, NONE),
-    (3, Out, 0, 1000, NONE),
+    Laid {
+        call: 1,
+        side: Up,
+        octets: 120,
+        piece: 1000,
+        fails: NONE,
+    },
+    Laid {
+        call: 1,
+        side: Pcm,
+        octets: 480,
+        piece: 1000,
+        fails: NONE,
+    },
+    Laid {
+        call: 1,
+        side: Down,
+        octets: 0,
+        piece: 1000,
+        fails: NONE,
+    },
+    Laid {
+        call: 1,
+        side: Out,
+        octets: 0,
+        piece: 1000,
+        fails: NONE,
+    },
+    Laid {
+        call: 2,
+        side: Up,
+        octets: 120,
+        piece: 1000,
+        fails: NONE,
+    },
+    Laid {
+        call: 2,
+        side: Pcm,
+        octets: 480,
+        piece: 1000,
+        fails: NONE,
+    },
+    Laid {
+        call: 2,
+        side: Down,
+        octets: 0,
+        piece: 1000,
+        fails: NONE,
+    },
+    Laid {
+        call: 2,
+        side: Out,
+        octets: 0,
+        piece: 1000,
+        fails: NONE,
+    },
+    Laid {
+        call: 3,
+        side: Up,
+        octets: 120,
+        piece: 1000,
+        fails: NONE,
+    },
+    Laid {
+        call: 3,
+        side: Pcm,
+        octets: 480,
+        piece: 1000,
+        fails: NONE,
+    },
+    Laid {
+        call: 3,
+        side: Down,
+        octets: 0,
+        piece: 1000,
+        fails: NONE,
+    },
+    Laid {
+        call: 3,
+        side: Out,
+        octets: 0,
+        piece: 1000,
+        fails: NONE,
+    },
 ];
 
 static WORDS: [&str; 5] = ["run", "--workers", "2", "--slice", "1"];
 
 const ORDERS: &str = "0 open 1\n0 open 2\n0 open 3\n";
 
-// Runs the calls 1, 2 and 3, by two workers in slices of one period. Answers the status.
+// Runs the calls 1, 2 and 3, by two workers in slices of one period. Returns the status.
 fn run_gated<R: Abort + Threads + Wait + Sync>(rt: &R, alloc: Global, gate: &Held) -> u8 {
     let mut trunk = trunk_of(rt, alloc, &LINES);
     carry(rt, alloc, &WORDS, &mut trunk, ORDERS, NONE, gate).status
 }
 
-// Whether the run was done, each call passed the gate for three slices of each phase, and each wait of the gate was
-// answered.
+// Whether the run's status is 0, each call passed the gate for three slices of each phase, and each wait of the gate met its
+// condition.
 fn each_wait_is_answered<R: Abort + Threads + Wait + Sync>(
     rt: &R,
     alloc: Global,
@@ -48,8 +120,8 @@ fn each_wait_is_answered<R: Abort + Threads + Wait + Sync>(
     run_gated(rt, alloc, &gate) == 0 && gate.each_is_answered(6)
 }
 
-// Calls 1 and 3 start in one deque, and call 2 in the other. The worker that is held with one call of a pair can't work the
-// other one: so the other worker has to take it, where it was begun, and both have to be at work at once.
+// Calls 1 and 3 start in one deque, and call 2 in the other. The worker that is held with one call of a pair can't process the
+// other call. So the other worker has to take it half done, and both have to be at work at once.
 #[test]
 fn calls_are_stolen_half_done(rt: HostRuntime) {
     for (one, other) in &PAIRS {
@@ -62,17 +134,65 @@ fn calls_are_stolen_half_done(rt: HostRuntime) {
 
 // The lines of call 1, with three periods, and of call 2, with five.
 static UNEVEN_LINES: [Laid; 8] = [
-    (1, Up, 120, 1000, NONE),
-    (1, Pcm, 480, 1000, NONE),
-    (1, Down, 0, 1000, NONE),
-    (1, Out, 0, 1000, NONE),
-    (2, Up, 200, 1000, NONE),
-    (2, Pcm, 800, 1000, NONE),
-    (2, Down, 0, 1000, NONE),
-    (2, Out, 0, 1000, NONE),
+    Laid {
+        call: 1,
+        side: Up,
+        octets: 120,
+        piece: 1000,
+        fails: NONE,
+    },
+    Laid {
+        call: 1,
+        side: Pcm,
+        octets: 480,
+        piece: 1000,
+        fails: NONE,
+    },
+    Laid {
+        call: 1,
+        side: Down,
+        octets: 0,
+        piece: 1000,
+        fails: NONE,
+    },
+    Laid {
+        call: 1,
+        side: Out,
+        octets: 0,
+        piece: 1000,
+        fails: NONE,
+    },
+    Laid {
+        call: 2,
+        side: Up,
+        octets: 200,
+        piece: 1000,
+        fails: NONE,
+    },
+    Laid {
+        call: 2,
+        side: Pcm,
+        octets: 800,
+        piece: 1000,
+        fails: NONE,
+    },
+    Laid {
+        call: 2,
+        side: Down,
+        octets: 0,
+        piece: 1000,
+        fails: NONE,
+    },
+    Laid {
+        call: 2,
+        side: Out,
+        octets: 0,
+        piece: 1000,
+        fails: NONE,
+    },
 ];
 
-// Runs both calls, by two workers in slices of one period. Answers the status.
+// Runs both calls, by two workers in slices of one period. Returns the status.
 fn run_paired<R: Abort + Threads + Wait + Sync>(rt: &R, alloc: Global, gate: &Paired) -> u8 {
     let mut trunk = trunk_of(rt, alloc, &UNEVEN_LINES);
     let orders = "0 open 1\n0 open 2\n";

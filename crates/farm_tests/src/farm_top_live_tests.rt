@@ -1,5 +1,5 @@
-//! The command `live`: callers on threads of their own are at work at once, and the text is the same whatever they do. No
-//! clause says the first.
+//! The command `live`: callers on threads of their own are at work at once, which no clause says; and the text is the same
+//! whatever they do.
 
 use crate::between::Between;
 use crate::desk::{FailingDesk, WRITTEN};
@@ -22,15 +22,39 @@ sum 2 out 13986 down 10200
 live periods 1 calls 2
 ";
 
-// Lines of call 1 of which each operation fails.
+// Lines of call 1 on which each operation fails.
 static FAILING: [Laid; 4] = [
-    (1, Up, 400, 10_000, 0),
-    (1, Pcm, 1600, 10_000, 0),
-    (1, Down, 0, 10_000, 0),
-    (1, Out, 0, 10_000, 0),
+    Laid {
+        call: 1,
+        side: Up,
+        octets: 400,
+        piece: 10_000,
+        fails: 0,
+    },
+    Laid {
+        call: 1,
+        side: Pcm,
+        octets: 1600,
+        piece: 10_000,
+        fails: 0,
+    },
+    Laid {
+        call: 1,
+        side: Down,
+        octets: 0,
+        piece: 10_000,
+        fails: 0,
+    },
+    Laid {
+        call: 1,
+        side: Out,
+        octets: 0,
+        piece: 10_000,
+        fails: 0,
+    },
 ];
 
-// Whether no operation came to any of these lines.
+// Whether no operation was done on these lines.
 fn are_unused(trunk: &MemTrunk) -> bool {
     for side in [Up, Pcm, Down, Out] {
         if trunk.faults(line(1, side)) != 0 {
@@ -40,8 +64,8 @@ fn are_unused(trunk: &MemTrunk) -> bool {
     true
 }
 
-// The drill of one period by so many callers: whether it tells its text, uses no line and passes the gate once for each
-// call, and how many waits of the gate used up its turns.
+// A drill of one period by these callers: whether it prints its text, uses no line and passes the gate once for each call; and
+// how many waits of the gate ended without their condition.
 fn live_met<R: Abort + Threads + Wait + Sync>(
     rt: &R,
     alloc: Global,
@@ -58,15 +82,15 @@ fn live_met<R: Abort + Threads + Wait + Sync>(
     )
 }
 
-// Neither of two callers can post its period before the other has come to post its own. A single caller uses the turns up,
-// at its first call, and the rest is done all the same.
+// Neither of two callers can post its period before the other has come to post its own. With a single caller, the first wait
+// ends without its condition, and the rest is done all the same.
 #[test]
 fn both_callers_are_at_work_at_once(rt: HostRuntime) {
     assert!(rt; live_met(&rt, rt.alloc(), "--callers=2", 5_000_000) == (true, 0));
     assert!(rt; live_met(&rt, rt.alloc(), "--callers=1", 1000) == (true, 1));
 }
 
-// Two live drills of two periods by two callers, one of them with this gate: whether they tell the same.
+// Two live drills of two periods by two callers, one of them with this gate: whether they print the same.
 fn live_between<R: Abort + Threads + Wait + Sync>(rt: &R, alloc: Global, gate: &Between) -> bool {
     let mut trunk = trunk_of(rt, alloc, &FAILING);
     let words = ["live", "--calls=2", "--callers=2", "--periods=2"];
@@ -83,7 +107,7 @@ fn callers_meet_between_two_posts(rt: HostRuntime) {
     assert!(rt; gate.used_up() == 0);
 }
 
-// A live drill of twenty periods by such callers, whose inboxes take one post: the status.
+// A live drill of twenty periods by these callers, with inboxes for one post. Returns the status.
 fn live_paired<R: Abort + Threads + Wait + Sync>(
     rt: &R,
     alloc: Global,
@@ -95,7 +119,7 @@ fn live_paired<R: Abort + Threads + Wait + Sync>(
     carry(rt, alloc, &words, &mut trunk, "", NONE, gate).status
 }
 
-// Each period passes the gate once, also where posts are tried again.
+// Each period passes the gate once, even if its post is tried again.
 #[test]
 fn each_period_passes_the_gate_once(rt: HostRuntime) {
     for callers in ["--callers=2", "--callers=1"] {
@@ -105,7 +129,7 @@ fn each_period_passes_the_gate_once(rt: HostRuntime) {
     }
 }
 
-// Whether a live drill at a desk that fails at its second write ends with status 4, and its text is what went before.
+// Whether a live drill whose desk fails at its second write ends with status 4 and the text of its first write.
 fn is_told_in_part<R: Abort + Threads + Wait + Sync>(rt: &R, alloc: Global) -> bool {
     let trunk = trunk_of(rt, alloc, &FAILING);
     let desk = FailingDesk::new(rt, alloc, "", 0, 1);

@@ -1,4 +1,4 @@
-//! The two phases of a round: the two calls of a bridge are worked by different workers at once. No clause says so.
+//! The two phases of a round: different workers process the two calls of a bridge at once. No clause says so.
 
 use crate::farm_top_tests::carry;
 use crate::lines::{Laid, NONE, trunk_of};
@@ -11,20 +11,68 @@ use trau_io::Side::{Down, Out, Pcm, Up};
 
 // The lines of the calls 1 and 2, with three periods each.
 static LINES: [Laid; 8] = [
-    (1, Up, 120, 1000, NONE),
-    (1, Pcm, 480, 1000, NONE),
-    (1, Down, 0, 1000, NONE),
-    (1, Out, 0, 1000, NONE),
-    (2, Up, 120, 1000, NONE),
-    (2, Pcm, 480, 1000, NONE),
-    (2, Down, 0, 1000, NONE),
-    (2, Out, 0, 1000, NONE),
+    Laid {
+        call: 1,
+        side: Up,
+        octets: 120,
+        piece: 1000,
+        fails: NONE,
+    },
+    Laid {
+        call: 1,
+        side: Pcm,
+        octets: 480,
+        piece: 1000,
+        fails: NONE,
+    },
+    Laid {
+        call: 1,
+        side: Down,
+        octets: 0,
+        piece: 1000,
+        fails: NONE,
+    },
+    Laid {
+        call: 1,
+        side: Out,
+        octets: 0,
+        piece: 1000,
+        fails: NONE,
+    },
+    Laid {
+        call: 2,
+        side: Up,
+        octets: 120,
+        piece: 1000,
+        fails: NONE,
+    },
+    Laid {
+        call: 2,
+        side: Pcm,
+        octets: 480,
+        piece: 1000,
+        fails: NONE,
+    },
+    Laid {
+        call: 2,
+        side: Down,
+        octets: 0,
+        piece: 1000,
+        fails: NONE,
+    },
+    Laid {
+        call: 2,
+        side: Out,
+        octets: 0,
+        piece: 1000,
+        fails: NONE,
+    },
 ];
 
 const ORDERS: &str = "0 open 1\n0 open 2\n0 bridge 1 2\n";
 
-// Runs both calls, bridged from the first period on, in slices of one period: the status, how many waits of the gate used up
-// its turns, and whether each call passed the gate for three slices of each phase.
+// Runs both calls, bridged from the first period on, in slices of one period. Returns the status, how many waits of the gate
+// ended without their condition, and whether each call passed the gate for three slices of each phase.
 fn run_met<R: Abort + Threads + Wait + Sync>(
     rt: &R,
     alloc: Global,
@@ -38,8 +86,9 @@ fn run_met<R: Abort + Threads + Wait + Sync>(
     (outcome.status, gate.used_up(), gate.passed(6))
 }
 
-// Each call starts in a deque of its own, and neither of two workers can go on with the first slice of a phase before the
-// other has begun it. A single worker uses the turns up, at the start of each phase, and the run is done all the same.
+// Each call starts in a deque of its own, and neither of two workers can go on with the first slice of a phase before the other
+// has begun it. With a single worker, the wait at the start of each phase ends without its condition, and the run is done all
+// the same.
 #[test]
 fn both_calls_of_a_bridge_are_at_work_at_once(rt: HostRuntime) {
     assert!(rt; run_met(&rt, rt.alloc(), "2", 5_000_000) == (0, 0, true));

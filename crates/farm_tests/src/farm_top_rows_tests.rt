@@ -1,4 +1,4 @@
-//! The command `run` where a line is short or fails, or the desk: values that were worked by hand from the rules.
+//! The command `run` with a line that is short or fails, or a desk that fails. The values were calculated by hand from the rules.
 
 use crate::farm_top_tests::{Outcome, carry, carry_at};
 use crate::lines::{Laid, NONE, UPLINK_FRAME, line, put, quiet_lines, trunk_of};
@@ -10,21 +10,21 @@ use std::thread::Threads;
 use trau_io::Side::{Down, Out, Pcm, Up};
 use trau_io::{Line, MemDesk, MemTrunk};
 
-// In one piece.
+// A large chunk size.
 const ALL: u32 = 10_000;
 
-// A run of call 1 over three periods of an uplink without a frame and of silence, or less; and what comes of it.
+// A run of call 1 over at most three periods of an uplink without a frame and of silence, and its outcome.
 struct Row {
-    // How many octets lie on Up and on Pcm.
+    // How many octets are on Up and on Pcm.
     up: usize,
     pcm: usize,
-    // Which write of Out fails, which read of the desk, and for how many octets the desk has room.
+    // Which write of Out and which read of the desk fail, and for how many octets the desk has room.
     out_fails: u32,
     desk_fails: u32,
     room: u32,
     status: u8,
     text: &'static str,
-    // How many octets Down and Out get, of those of three whole periods.
+    // How many octets of three whole periods Down and Out get.
     down: usize,
     out: usize,
 }
@@ -46,7 +46,7 @@ end period 2 calls 1 left 0
         down: 80,
         out: 320,
     },
-    // Pcm is.
+    // Pcm is one octet short of three periods.
     Row {
         up: 120,
         pcm: 479,
@@ -112,7 +112,7 @@ fn desk_of(rt: &impl Abort, alloc: Global, row: &Row) -> MemDesk {
     MemDesk::new(alloc, orders, fails, Vec::new(alloc), row.room).expect(rt, "memory")
 }
 
-// An octet of Down: one period of ones, and then idle frames.
+// An octet of Down: one period of ones, followed by idle frames.
 fn down_at(place: usize) -> u8 {
     match place % 40 {
         _ if place < 40 => 0xFF,
@@ -123,7 +123,7 @@ fn down_at(place: usize) -> u8 {
     }
 }
 
-// Whether Down and Out got what their row has.
+// Whether Down and Out got what their row says.
 fn is_written(trunk: &MemTrunk, row: &Row) -> bool {
     let down = trunk.written(line(1, Down));
     let out = trunk.written(line(1, Out));
@@ -134,7 +134,7 @@ fn is_written(trunk: &MemTrunk, row: &Row) -> bool {
         && out.iter().all(|octet| *octet == 0xD5)
 }
 
-// Whether of a run comes what its row has.
+// Whether a run gives what its row says.
 fn comes_of<R: Abort + Threads + Wait + Sync>(rt: &R, alloc: Global, row: &Row) -> bool {
     let fails = [NONE, NONE, NONE, row.out_fails];
     let mut trunk = quiet_lines(rt, alloc, row.up, row.pcm, fails);
@@ -150,21 +150,93 @@ fn one_call_at_its_limits(rt: HostRuntime) {
     }
 }
 
-// Three calls of 20 periods: of Pcm of call 7 the second read fails, after 400 octets, and the first write of Down of call 9.
+// Three calls of 20 periods. The second read of Pcm of call 7 fails, after 400 octets, and the first write of Down of call 9.
 fn of_three(pcm_fails: u32, down_fails: u32) -> [Laid; 12] {
     [
-        (7, Up, 20 * 40, ALL, NONE),
-        (7, Pcm, 20 * 160, 400, pcm_fails),
-        (7, Down, 0, ALL, NONE),
-        (7, Out, 0, ALL, NONE),
-        (8, Up, 20 * 40, ALL, NONE),
-        (8, Pcm, 20 * 160, ALL, NONE),
-        (8, Down, 0, ALL, NONE),
-        (8, Out, 0, ALL, NONE),
-        (9, Up, 20 * 40, ALL, NONE),
-        (9, Pcm, 20 * 160, ALL, NONE),
-        (9, Down, 0, ALL, down_fails),
-        (9, Out, 0, ALL, NONE),
+        Laid {
+            call: 7,
+            side: Up,
+            octets: 20 * 40,
+            piece: ALL,
+            fails: NONE,
+        },
+        Laid {
+            call: 7,
+            side: Pcm,
+            octets: 20 * 160,
+            piece: 400,
+            fails: pcm_fails,
+        },
+        Laid {
+            call: 7,
+            side: Down,
+            octets: 0,
+            piece: ALL,
+            fails: NONE,
+        },
+        Laid {
+            call: 7,
+            side: Out,
+            octets: 0,
+            piece: ALL,
+            fails: NONE,
+        },
+        Laid {
+            call: 8,
+            side: Up,
+            octets: 20 * 40,
+            piece: ALL,
+            fails: NONE,
+        },
+        Laid {
+            call: 8,
+            side: Pcm,
+            octets: 20 * 160,
+            piece: ALL,
+            fails: NONE,
+        },
+        Laid {
+            call: 8,
+            side: Down,
+            octets: 0,
+            piece: ALL,
+            fails: NONE,
+        },
+        Laid {
+            call: 8,
+            side: Out,
+            octets: 0,
+            piece: ALL,
+            fails: NONE,
+        },
+        Laid {
+            call: 9,
+            side: Up,
+            octets: 20 * 40,
+            piece: ALL,
+            fails: NONE,
+        },
+        Laid {
+            call: 9,
+            side: Pcm,
+            octets: 20 * 160,
+            piece: ALL,
+            fails: NONE,
+        },
+        Laid {
+            call: 9,
+            side: Down,
+            octets: 0,
+            piece: ALL,
+            fails: down_fails,
+        },
+        Laid {
+            call: 9,
+            side: Out,
+            octets: 0,
+            piece: ALL,
+            fails: NONE,
+        },
     ]
 }
 
@@ -182,7 +254,7 @@ line 9 down failed
 end period 20 calls 3 left 0
 ";
 
-// Runs the three calls. Answers what comes of it, and the lines afterwards.
+// Runs the three calls. Returns the outcome, and the lines afterwards.
 fn carry_three<R: Abort + Threads + Wait + Sync>(
     rt: &R,
     alloc: Global,
@@ -201,7 +273,7 @@ fn is_same(one: &MemTrunk, other: &MemTrunk, line: Line, count: usize) -> bool {
     octets.len() == count && octets == other.written(line)
 }
 
-// Whether two failing lines leave call 8, and Out of call 9, as they are where nothing fails.
+// Whether two failing lines leave call 8, and Out of call 9, as they are if nothing fails.
 fn two_fail<R: Abort + Threads + Wait + Sync>(rt: &R, alloc: Global) -> bool {
     let (_outcome, calm) = carry_three(rt, alloc, NONE, NONE);
     let (outcome, trunk) = carry_three(rt, alloc, 1, 0);
@@ -217,7 +289,7 @@ fn two_lines_of_three_calls_fail(rt: HostRuntime) {
     assert!(rt; two_fail(&rt, rt.alloc()), "calls 7, 8 and 9");
 }
 
-// An uplink whose frames begin at bit 5: five bits 0, and then good frames without a gap.
+// An uplink whose frames begin at bit 5: five bits 0, followed by good frames without a gap.
 fn shifted_frames(rt: &impl Abort, alloc: Global, octets: usize) -> Vec<u8> {
     let mut shifted = vec![in alloc; 0; octets].expect(rt, "memory");
     let mut before = 0;
@@ -236,17 +308,34 @@ counts 1 good 3 sid 0 invalid 0 bad 0 idle 0 other 0 miss 0 none 1 made 4
 end period 4 calls 1 left 0
 ";
 
-// Runs call 1 over four periods of them, where each line moves at most `cut` octets at a time. Answers what comes of it, and
-// the lines afterwards.
+// Runs call 1 over four periods of this uplink, in chunks of at most `cut` octets. Returns the outcome, and the lines afterwards.
 fn carry_shifted<R: Abort + Threads + Wait + Sync>(
     rt: &R,
     alloc: Global,
     cut: u32,
 ) -> (Outcome, MemTrunk) {
     let lines = [
-        (1, Pcm, 640, cut, NONE),
-        (1, Down, 0, cut, NONE),
-        (1, Out, 0, cut, NONE),
+        Laid {
+            call: 1,
+            side: Pcm,
+            octets: 640,
+            piece: cut,
+            fails: NONE,
+        },
+        Laid {
+            call: 1,
+            side: Down,
+            octets: 0,
+            piece: cut,
+            fails: NONE,
+        },
+        Laid {
+            call: 1,
+            side: Out,
+            octets: 0,
+            piece: cut,
+            fails: NONE,
+        },
     ];
     let mut trunk = trunk_of(rt, alloc, &lines);
     let up = shifted_frames(rt, alloc, 160);
@@ -263,7 +352,7 @@ fn carry_shifted<R: Abort + Threads + Wait + Sync>(
     (outcome, trunk)
 }
 
-// Whether Down and Out are in these pieces what they are in one piece, and Out is silent in period 0.
+// Whether Down and Out are the same in these chunks as without any, and Out is silent in period 0.
 fn is_in_pieces<R: Abort + Threads + Wait + Sync>(rt: &R, alloc: Global, cut: u32) -> bool {
     let (outcome, trunk) = carry_shifted(rt, alloc, cut);
     let (_outcome, whole) = carry_shifted(rt, alloc, ALL);

@@ -1,4 +1,4 @@
-//! The command `run`, with the lines and the orders in memory: what it answers, tells and writes.
+//! The command `run`, with the lines and the orders in memory: its status, its text and what it writes.
 
 use crate::farm_top_tests::{Outcome, carry};
 use crate::lines::{Laid, NONE, line, trunk_of};
@@ -10,10 +10,10 @@ use std::thread::Threads;
 use trau_io::MemTrunk;
 use trau_io::Side::{Down, Out, Pcm, Up};
 
-// In one piece.
+// A large chunk size.
 const ALL: u32 = 10_000;
 
-// A run of the calls 7 and 9, and what comes of it.
+// A run of the calls 7 and 9, and its outcome.
 struct Row {
     option: &'static str,
     value: &'static str,
@@ -31,12 +31,36 @@ const OPEN_BOTH: &str = "0 open 7\n0 open 9\n";
 
 const BRIDGE: &str = "0 open 7\n0 open 9\n0 bridge 7 9\n";
 
-// 252 periods of call 7, and what is told of them.
+// 252 periods of call 7, and the report of them.
 const OF_252: [Laid; 4] = [
-    (7, Up, 252 * 40, ALL, NONE),
-    (7, Pcm, 252 * 160, ALL, NONE),
-    (7, Down, 0, ALL, NONE),
-    (7, Out, 0, ALL, NONE),
+    Laid {
+        call: 7,
+        side: Up,
+        octets: 252 * 40,
+        piece: ALL,
+        fails: NONE,
+    },
+    Laid {
+        call: 7,
+        side: Pcm,
+        octets: 252 * 160,
+        piece: ALL,
+        fails: NONE,
+    },
+    Laid {
+        call: 7,
+        side: Down,
+        octets: 0,
+        piece: ALL,
+        fails: NONE,
+    },
+    Laid {
+        call: 7,
+        side: Out,
+        octets: 0,
+        piece: ALL,
+        fails: NONE,
+    },
 ];
 
 const TEXT_OF_252: &str = "order 1 ok
@@ -65,16 +89,40 @@ static ROWS: [Row; 8] = [
         text: TEXT_OF_252,
         written: [252 * 40, 252 * 160, 0, 0],
     },
-    // Both lines of a call end inside a period, and all lines come and go in pieces.
+    // Both lines of a call end inside a period, and all lines are read and written in chunks.
     Row {
         option: "--batch",
         value: "3",
         orders: OPEN_7,
         lines: &[
-            (7, Up, 100, 1, NONE),
-            (7, Pcm, 500, 159, NONE),
-            (7, Down, 0, 33, NONE),
-            (7, Out, 0, 39, NONE),
+            Laid {
+                call: 7,
+                side: Up,
+                octets: 100,
+                piece: 1,
+                fails: NONE,
+            },
+            Laid {
+                call: 7,
+                side: Pcm,
+                octets: 500,
+                piece: 159,
+                fails: NONE,
+            },
+            Laid {
+                call: 7,
+                side: Down,
+                octets: 0,
+                piece: 33,
+                fails: NONE,
+            },
+            Laid {
+                call: 7,
+                side: Out,
+                octets: 0,
+                piece: 39,
+                fails: NONE,
+            },
         ],
         status: 0,
         text: "order 1 ok
@@ -84,20 +132,68 @@ end period 2 calls 1 left 0
 ",
         written: [80, 320, 0, 0],
     },
-    // Of two bridged calls one has 30 periods and 13 octets, and the other goes on alone.
+    // One of two bridged calls has 30 periods and 13 octets. The other goes on alone.
     Row {
         option: "--periods",
         value: "40",
         orders: BRIDGE,
         lines: &[
-            (7, Up, 30 * 40 + 13, ALL, NONE),
-            (7, Pcm, 100 * 160, ALL, NONE),
-            (7, Down, 0, ALL, NONE),
-            (7, Out, 0, ALL, NONE),
-            (9, Up, 100 * 40, ALL, NONE),
-            (9, Pcm, 100 * 160, ALL, NONE),
-            (9, Down, 0, ALL, NONE),
-            (9, Out, 0, ALL, NONE),
+            Laid {
+                call: 7,
+                side: Up,
+                octets: 30 * 40 + 13,
+                piece: ALL,
+                fails: NONE,
+            },
+            Laid {
+                call: 7,
+                side: Pcm,
+                octets: 100 * 160,
+                piece: ALL,
+                fails: NONE,
+            },
+            Laid {
+                call: 7,
+                side: Down,
+                octets: 0,
+                piece: ALL,
+                fails: NONE,
+            },
+            Laid {
+                call: 7,
+                side: Out,
+                octets: 0,
+                piece: ALL,
+                fails: NONE,
+            },
+            Laid {
+                call: 9,
+                side: Up,
+                octets: 100 * 40,
+                piece: ALL,
+                fails: NONE,
+            },
+            Laid {
+                call: 9,
+                side: Pcm,
+                octets: 100 * 160,
+                piece: ALL,
+                fails: NONE,
+            },
+            Laid {
+                call: 9,
+                side: Down,
+                octets: 0,
+                piece: ALL,
+                fails: NONE,
+            },
+            Laid {
+                call: 9,
+                side: Out,
+                octets: 0,
+                piece: ALL,
+                fails: NONE,
+            },
         ],
         status: 0,
         text: "order 1 ok
@@ -118,14 +214,62 @@ end period 40 calls 2 left 0
         value: "10",
         orders: BRIDGE,
         lines: &[
-            (7, Up, 3 * 40, ALL, NONE),
-            (7, Pcm, 3 * 160 + 1, ALL, NONE),
-            (7, Down, 0, ALL, NONE),
-            (7, Out, 0, ALL, NONE),
-            (9, Up, 5 * 40, ALL, NONE),
-            (9, Pcm, 2 * 160 + 8, ALL, NONE),
-            (9, Down, 0, ALL, NONE),
-            (9, Out, 0, ALL, NONE),
+            Laid {
+                call: 7,
+                side: Up,
+                octets: 3 * 40,
+                piece: ALL,
+                fails: NONE,
+            },
+            Laid {
+                call: 7,
+                side: Pcm,
+                octets: 3 * 160 + 1,
+                piece: ALL,
+                fails: NONE,
+            },
+            Laid {
+                call: 7,
+                side: Down,
+                octets: 0,
+                piece: ALL,
+                fails: NONE,
+            },
+            Laid {
+                call: 7,
+                side: Out,
+                octets: 0,
+                piece: ALL,
+                fails: NONE,
+            },
+            Laid {
+                call: 9,
+                side: Up,
+                octets: 5 * 40,
+                piece: ALL,
+                fails: NONE,
+            },
+            Laid {
+                call: 9,
+                side: Pcm,
+                octets: 2 * 160 + 8,
+                piece: ALL,
+                fails: NONE,
+            },
+            Laid {
+                call: 9,
+                side: Down,
+                octets: 0,
+                piece: ALL,
+                fails: NONE,
+            },
+            Laid {
+                call: 9,
+                side: Out,
+                octets: 0,
+                piece: ALL,
+                fails: NONE,
+            },
         ],
         status: 0,
         text: "order 1 ok
@@ -140,16 +284,40 @@ end period 3 calls 2 left 0
 ",
         written: [3 * 40, 3 * 160, 2 * 40, 2 * 160],
     },
-    // A read ahead that fails past the end of the other line is told, and the call ends at that end.
+    // A read that fails past the end of the other line is reported, and the call ends at that end.
     Row {
         option: "--batch",
         value: "10",
         orders: OPEN_7,
         lines: &[
-            (7, Up, 2 * 40, ALL, NONE),
-            (7, Pcm, 4 * 160, 640, 1),
-            (7, Down, 0, ALL, NONE),
-            (7, Out, 0, ALL, NONE),
+            Laid {
+                call: 7,
+                side: Up,
+                octets: 2 * 40,
+                piece: ALL,
+                fails: NONE,
+            },
+            Laid {
+                call: 7,
+                side: Pcm,
+                octets: 4 * 160,
+                piece: 640,
+                fails: 1,
+            },
+            Laid {
+                call: 7,
+                side: Down,
+                octets: 0,
+                piece: ALL,
+                fails: NONE,
+            },
+            Laid {
+                call: 7,
+                side: Out,
+                octets: 0,
+                piece: ALL,
+                fails: NONE,
+            },
         ],
         status: 6,
         text: "order 1 ok
@@ -160,20 +328,68 @@ end period 2 calls 1 left 0
 ",
         written: [80, 320, 0, 0],
     },
-    // An incoming line that fails ends its call after its whole periods, and no other call.
+    // An incoming line that fails ends its call after the call's whole periods, and no other call.
     Row {
         option: "--batch",
         value: "10",
         orders: OPEN_BOTH,
         lines: &[
-            (7, Up, 20 * 40, ALL, NONE),
-            (7, Pcm, 20 * 160, 400, 1),
-            (7, Down, 0, ALL, NONE),
-            (7, Out, 0, ALL, NONE),
-            (9, Up, 20 * 40, ALL, NONE),
-            (9, Pcm, 20 * 160, ALL, NONE),
-            (9, Down, 0, ALL, NONE),
-            (9, Out, 0, ALL, NONE),
+            Laid {
+                call: 7,
+                side: Up,
+                octets: 20 * 40,
+                piece: ALL,
+                fails: NONE,
+            },
+            Laid {
+                call: 7,
+                side: Pcm,
+                octets: 20 * 160,
+                piece: 400,
+                fails: 1,
+            },
+            Laid {
+                call: 7,
+                side: Down,
+                octets: 0,
+                piece: ALL,
+                fails: NONE,
+            },
+            Laid {
+                call: 7,
+                side: Out,
+                octets: 0,
+                piece: ALL,
+                fails: NONE,
+            },
+            Laid {
+                call: 9,
+                side: Up,
+                octets: 20 * 40,
+                piece: ALL,
+                fails: NONE,
+            },
+            Laid {
+                call: 9,
+                side: Pcm,
+                octets: 20 * 160,
+                piece: ALL,
+                fails: NONE,
+            },
+            Laid {
+                call: 9,
+                side: Down,
+                octets: 0,
+                piece: ALL,
+                fails: NONE,
+            },
+            Laid {
+                call: 9,
+                side: Out,
+                octets: 0,
+                piece: ALL,
+                fails: NONE,
+            },
         ],
         status: 6,
         text: "order 1 ok
@@ -187,16 +403,40 @@ end period 20 calls 2 left 0
 ",
         written: [80, 320, 20 * 40, 20 * 160],
     },
-    // An outgoing line that fails is passed over from then on; its call goes on.
+    // An outgoing line that fails isn't written again; its call goes on.
     Row {
         option: "--batch",
         value: "10",
         orders: OPEN_7,
         lines: &[
-            (7, Up, 20 * 40, ALL, NONE),
-            (7, Pcm, 20 * 160, ALL, NONE),
-            (7, Down, 0, ALL, 0),
-            (7, Out, 0, ALL, NONE),
+            Laid {
+                call: 7,
+                side: Up,
+                octets: 20 * 40,
+                piece: ALL,
+                fails: NONE,
+            },
+            Laid {
+                call: 7,
+                side: Pcm,
+                octets: 20 * 160,
+                piece: ALL,
+                fails: NONE,
+            },
+            Laid {
+                call: 7,
+                side: Down,
+                octets: 0,
+                piece: ALL,
+                fails: 0,
+            },
+            Laid {
+                call: 7,
+                side: Out,
+                octets: 0,
+                piece: ALL,
+                fails: NONE,
+            },
         ],
         status: 6,
         text: "order 1 ok
@@ -219,12 +459,12 @@ fn lengths(trunk: &MemTrunk) -> [usize; 4] {
     ]
 }
 
-// Whether a run answers, tells and writes what its row has.
+// Whether a run has the status and the text of its row, and writes what the row says.
 fn is_due(row: &Row, trunk: &MemTrunk, outcome: &Outcome) -> bool {
     outcome.is(row.status, row.text) && lengths(trunk) == row.written
 }
 
-// Whether of a run comes what its row has.
+// Whether a run gives what its row says.
 fn comes_of<R: Abort + Threads + Wait + Sync>(rt: &R, alloc: Global, row: &Row) -> bool {
     let mut trunk = trunk_of(rt, alloc, row.lines);
     let words = ["run", row.option, row.value];

@@ -1,4 +1,5 @@
-//! The commands `save` and `resume`, with the lines, the mark and the orders in memory: what they answer, tell and write.
+//! The commands `save` and `resume`, with the lines, the mark and the orders in memory: their status, their text and what they
+//! write.
 
 use crate::farm_top_tests::carry;
 use crate::lines::{NONE, line, quiet_lines};
@@ -9,7 +10,7 @@ use std::sync::Wait;
 use std::thread::Threads;
 use trau_io::Side::{Down, Out};
 
-// A command over the lines of call 1, and what comes of it.
+// A command over the lines of call 1, and its outcome.
 struct Row {
     words: &'static [&'static str],
     text: &'static str,
@@ -24,14 +25,14 @@ struct Row {
     written: [usize; 2],
 }
 
-// Where nothing fails.
+// Nothing fails.
 const CALM: [u32; 4] = [NONE, NONE, NONE, NONE];
 
 const SAVE_3: &[&str] = &["save", "--periods", "3"];
 
 const RESUME: &[&str] = &["resume"];
 
-// The mark of three periods, and the order behind it.
+// The mark of three periods, and the order after it.
 const MARKED: &str = "save 3
 call 1 from 0 out 102240 down 28958
 orders
@@ -88,7 +89,7 @@ static SAVES: [Row; 6] = [
         told: "save 4294967295\norders\n",
         written: [120, 480],
     },
-    // Where a line fails there is no mark; where the desk fails its text is a front.
+    // If a line fails, there is no mark. If the desk fails, the text is a prefix.
     Row {
         words: SAVE_3,
         text: "0 open 1\n",
@@ -123,7 +124,7 @@ static RESUMES: [Row; 15] = [
         told: REPORT_OF_4,
         written: [40, 160],
     },
-    // The run ends at the mark's period, though fewer are asked for: nothing is left to write.
+    // The run ends at the mark's period, though fewer periods are asked for: nothing remains to be written.
     Row {
         words: &["resume", "--periods", "1", "--batch", "2"],
         text: MARKED,
@@ -138,7 +139,7 @@ end period 3 calls 1 left 0
 ",
         written: [0, 0],
     },
-    // So it is where all calls end before the mark's period.
+    // The same if all calls end before the mark's period.
     Row {
         words: RESUME,
         text: "save 9\norders\n0 open 1\n",
@@ -149,7 +150,7 @@ end period 3 calls 1 left 0
         told: REPORT_OF_4,
         written: [0, 0],
     },
-    // Another sum, a call more, a call less; also where the desk fails while the text goes out.
+    // Another sum, a call more, a call less; and a desk that fails while the text goes out.
     Row {
         words: RESUME,
         text: "save 3\ncall 1 from 0 out 102240 down 28957\norders\n0 open 1\n",
@@ -180,7 +181,7 @@ end period 3 calls 1 left 0
         told: "",
         written: [0, 0],
     },
-    // A call whose lines end at the mark's period is in the mark, since the run's end goes before theirs.
+    // A call whose lines end at the mark's period is in the mark, since the run's end goes before the lines' end.
     Row {
         words: RESUME,
         text: MARKED,
@@ -195,7 +196,7 @@ end period 3 calls 1 left 0
 ",
         written: [0, 0],
     },
-    // A line that fails before the mark's period makes the call another, which the mark has.
+    // A line that fails before the mark's period ends its call, which the mark has.
     Row {
         words: RESUME,
         text: MARKED,
@@ -206,7 +207,7 @@ end period 3 calls 1 left 0
         told: "save differs 1\n",
         written: [0, 0],
     },
-    // Where the mark hasn't the call, its fault before the mark's period is told.
+    // If the mark hasn't the call, the line's fault before the mark's period is reported.
     Row {
         words: RESUME,
         text: "save 3\norders\n0 open 1\n2 close 1\n",
@@ -223,7 +224,7 @@ end period 0 calls 1 left 0
 ",
         written: [0, 0],
     },
-    // An outgoing line that fails behind it is told.
+    // An outgoing line that fails after the mark's period is reported.
     Row {
         words: RESUME,
         text: MARKED,
@@ -292,7 +293,7 @@ end period 4 calls 1 left 0
     },
 ];
 
-// Whether of a command comes what its row has.
+// Whether a command gives what its row says.
 fn comes_of<R: Abort + Threads + Wait + Sync>(rt: &R, alloc: Global, row: &Row) -> bool {
     let periods = row.periods.min(100);
     let mut trunk = quiet_lines(rt, alloc, periods * 40, periods * 160, row.fails);
@@ -303,7 +304,7 @@ fn comes_of<R: Abort + Threads + Wait + Sync>(rt: &R, alloc: Global, row: &Row) 
     outcome.is(row.status, row.told) && [down, out] == row.written
 }
 
-// How many rows come so, from the first on.
+// How many rows are right, from the first on.
 fn come<R: Abort + Threads + Wait + Sync>(rt: &R, alloc: Global, rows: &[Row]) -> usize {
     let mut come = 0usize;
     for row in rows {

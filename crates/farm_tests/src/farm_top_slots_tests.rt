@@ -1,4 +1,4 @@
-//! The commands on time slots, with lines in memory: whole, in pieces, and where a line or the desk fails.
+//! The commands on time slots, with lines in memory: whole, in chunks, and with a line or the desk that fails.
 use crate::farm_top_tests::carry;
 use crate::lines::{NONE, line, put};
 use pool_run::OpenGate;
@@ -9,7 +9,7 @@ use std::thread::Threads;
 use trau_io::Side::{Down, Out, Pcm, Up};
 use trau_io::{MemTrunk, Side};
 
-// A command on slot 1, and what comes of it.
+// A command on slot 1, and its outcome.
 struct Row {
     command: &'static str,
     // Lines with their octets, and which operation fails there.
@@ -42,7 +42,7 @@ static ROWS: [Row; 7] = [
             (4, Down, &[0xFF]),
         ],
     },
-    // A rest of a slot is left.
+    // The slot ends with a rest.
     Row {
         command: "split",
         lines: &[(1, Pcm, &[0x1B, 0x1B, 0x1B], NONE)],
@@ -80,7 +80,7 @@ static ROWS: [Row; 7] = [
         text: "merge octets 4 left 0 0 0 1\n",
         written: &[(1, Out, &[0x1B, 0x1B, 0x1B, 0x1B])],
     },
-    // A channel that fails, and the slot.
+    // A channel fails, or the slot.
     Row {
         command: "merge",
         lines: &[
@@ -109,7 +109,7 @@ static ROWS: [Row; 7] = [
         text: "line 1 out failed\n",
         written: &[(1, Out, &[])],
     },
-    // A desk that fails comes first.
+    // A desk that fails goes first.
     Row {
         command: "split",
         lines: &[(1, Pcm, &[0x1B, 0x1B, 0x1B, 0x1B], NONE), (1, Down, &[], 0)],
@@ -120,7 +120,7 @@ static ROWS: [Row; 7] = [
     },
 ];
 
-// Such lines, in pieces of this size.
+// These lines, in chunks of this size.
 fn lines_of(rt: &impl Abort, alloc: Global, row: &Row, cut: u32) -> MemTrunk {
     let mut trunk = MemTrunk::new(alloc).expect(rt, "memory");
     for (call, side, octets, fails) in row.lines {
@@ -138,7 +138,7 @@ fn lines_of(rt: &impl Abort, alloc: Global, row: &Row, cut: u32) -> MemTrunk {
     trunk
 }
 
-// Whether lines got what a row has.
+// Whether lines got what a row says.
 fn is_written(trunk: &MemTrunk, row: &Row) -> bool {
     for (call, side, octets) in row.written {
         if trunk.written(line(*call, *side)) != *octets {
@@ -148,7 +148,7 @@ fn is_written(trunk: &MemTrunk, row: &Row) -> bool {
     true
 }
 
-// Whether of a command comes what its row has.
+// Whether a command gives what its row says.
 fn comes_of<R: Abort + Threads + Wait + Sync>(rt: &R, alloc: Global, row: &Row, cut: u32) -> bool {
     let mut trunk = lines_of(rt, alloc, row, cut);
     let words = [row.command, "1"];

@@ -1,6 +1,6 @@
-//! The commands of one call, with its lines in memory, where one operation fails.
+//! The commands on one call, with its lines in memory. One operation fails.
 
-use crate::lines::{NONE, line, trunk_of};
+use crate::lines::{Laid, NONE, line, trunk_of};
 use farm_top::farm_top;
 use pool_run::{Gate, OpenGate};
 use std::alloc::Global;
@@ -19,7 +19,7 @@ fn words_of(rt: &impl Abort, alloc: Global, texts: &[&str]) -> Vec<String> {
     words
 }
 
-// The status of the command of these words. All that is proved of it ends here, so that no test carries it on.
+// The status of the command of these words. It has no contract, so no test carries on what is proved of `farm_top`.
 pub(crate) fn status_of<R: Abort + Threads + Wait + Sync, T: Trunk, D: Desk, G: Gate + Sync>(
     rt: &R,
     alloc: Global,
@@ -32,14 +32,14 @@ pub(crate) fn status_of<R: Abort + Threads + Wait + Sync, T: Trunk, D: Desk, G: 
     farm_top(rt, alloc, &words, trunk, desk, gate)
 }
 
-// A desk that has these orders, and room enough; this one of its writes fails.
+// A desk with these orders, and room enough. This one of its writes fails.
 fn desk_of(rt: &impl Abort, alloc: Global, orders: &str, fails: u32) -> MemDesk {
     let orders = orders.as_bytes().to_vec(alloc).expect(rt, "memory");
     let fails = vec![in alloc; fails; 1].expect(rt, "memory");
     MemDesk::new(alloc, orders, Vec::new(alloc), fails, 10_000).expect(rt, "memory")
 }
 
-// What a command answers and tells.
+// The status and the text of a command.
 #[derive(Drop)]
 pub(crate) struct Outcome {
     pub(crate) status: u8,
@@ -47,12 +47,12 @@ pub(crate) struct Outcome {
 }
 
 impl Outcome {
-    // Whether a command answers this status and tells this text.
+    // Whether a command has this status and this text.
     pub(crate) fn is(&self, status: u8, text: &str) -> bool {
         self.status == status && self.text.as_slice() == text.as_bytes()
     }
 
-    // Whether both answered this status and told the same text.
+    // Whether both have this status and the same text.
     pub(crate) fn agrees_with(&self, other: &Outcome, status: u8) -> bool {
         self.status == status
             && other.status == status
@@ -60,8 +60,7 @@ impl Outcome {
     }
 }
 
-// Carries out the command of these words with these orders, where one write of the desk fails, and with a gate for the
-// workers.
+// Runs the command of these words with these orders, and with a gate for the workers. One write of the desk fails.
 pub(crate) fn carry<R: Abort + Threads + Wait + Sync, G: Gate + Sync>(
     rt: &R,
     alloc: Global,
@@ -75,7 +74,7 @@ pub(crate) fn carry<R: Abort + Threads + Wait + Sync, G: Gate + Sync>(
     carry_at(rt, alloc, texts, trunk, &mut desk, gate)
 }
 
-// Carries out the command of these words at this desk.
+// Runs the command of these words at this desk.
 pub(crate) fn carry_at<R: Abort + Threads + Wait + Sync, G: Gate + Sync>(
     rt: &R,
     alloc: Global,
@@ -89,22 +88,46 @@ pub(crate) fn carry_at<R: Abort + Threads + Wait + Sync, G: Gate + Sync>(
     Outcome { status, text }
 }
 
-// Which call of the incoming lines fails, which of the outgoing ones, and which of the desk.
+// Which operation of the incoming lines, of the outgoing lines and of the desk fails.
 type Faults = (u32, u32, u32);
 
-// The lines of call 7, in pieces: two good frames on Up, and two periods and ten octets on Pcm. Of the incoming lines one
-// call fails, and of the outgoing ones.
+// The lines of call 7, in chunks: two good frames on Up, two periods and ten octets on Pcm. One operation fails on each incoming
+// line, and one on each outgoing line.
 fn lines(rt: &impl Abort, alloc: Global, cut: u32, incoming: u32, outgoing: u32) -> MemTrunk {
     let lines = [
-        (7, Up, 80, cut, incoming),
-        (7, Pcm, 330, cut, incoming),
-        (7, Down, 0, cut, outgoing),
-        (7, Out, 0, cut, outgoing),
+        Laid {
+            call: 7,
+            side: Up,
+            octets: 80,
+            piece: cut,
+            fails: incoming,
+        },
+        Laid {
+            call: 7,
+            side: Pcm,
+            octets: 330,
+            piece: cut,
+            fails: incoming,
+        },
+        Laid {
+            call: 7,
+            side: Down,
+            octets: 0,
+            piece: cut,
+            fails: outgoing,
+        },
+        Laid {
+            call: 7,
+            side: Out,
+            octets: 0,
+            piece: cut,
+            fails: outgoing,
+        },
     ];
     trunk_of(rt, alloc, &lines)
 }
 
-// Carries out a command on call 7. Answers what comes of it, and the lines afterwards.
+// Runs a command on call 7. Returns the outcome, and the lines afterwards.
 fn carry_tool<R: Abort + Threads + Wait + Sync>(
     rt: &R,
     alloc: Global,
@@ -118,15 +141,15 @@ fn carry_tool<R: Abort + Threads + Wait + Sync>(
     (outcome, trunk)
 }
 
-// The size of the pieces, and how many calls of each line fail in turn; how many octets are sent where read n fails, n from
-// 0, and how many where write n fails.
+// The chunk size, and how many operations of each line fail in turn; how many octets are sent if read n fails, n from 0, and how
+// many if write n fails.
 type Turn = (u32, u32, &'static [usize], &'static [usize]);
 
-// A tool with the line that it writes, and what it leaves.
+// A tool, the line that it writes, and its outcome.
 struct Row {
     tool: &'static str,
     outgoing: Side,
-    // How many octets are sent where nothing fails.
+    // How many octets are sent if nothing fails.
     sent: usize,
     text: &'static str,
     in_failed: &'static str,
@@ -186,7 +209,7 @@ static ROWS: [Row; 3] = [
 // A status, a text, and how many octets are sent.
 type Due = (u8, &'static str, usize);
 
-// What is due where call `number` fails: this status and text where it comes, and what is sent before it.
+// What is due if operation `number` fails: if it is done, this status, this text, and what is sent before it.
 fn due(row: &Row, number: u32, status: u8, text: &'static str, sent: &[usize]) -> Due {
     match sent.get(number as usize) {
         Some(sent) => (status, text, *sent),
@@ -199,7 +222,7 @@ fn is_front(octets: &[u8], length: usize, all: &[u8]) -> bool {
     octets.len() == length && all.starts_with(octets)
 }
 
-// Whether a command in which one call fails leaves what is due, of all that is sent where none fails.
+// Whether a command in which one operation fails leaves what is due. `all` is what is sent if none fails.
 fn leaves<R: Abort + Threads + Wait + Sync>(
     rt: &R,
     alloc: Global,
@@ -214,8 +237,7 @@ fn leaves<R: Abort + Threads + Wait + Sync>(
     outcome.is(status, text) && is_front(trunk.written(line(7, row.outgoing)), sent, all)
 }
 
-// Whether a command leaves what is due where call `number` of the incoming line fails, of the outgoing one, or of the
-// desk.
+// Whether a command leaves what is due if operation `number` of the incoming line, of the outgoing line or of the desk fails.
 fn fails_as_due<R: Abort + Threads + Wait + Sync>(
     rt: &R,
     alloc: Global,
@@ -233,7 +255,7 @@ fn fails_as_due<R: Abort + Threads + Wait + Sync>(
         && leaves(rt, alloc, row, *cut, (NONE, NONE, number), told, all)
 }
 
-// How many calls fail as due, in turn.
+// How many operations fail as due, in turn.
 fn failed_as_due<R: Abort + Threads + Wait + Sync>(
     rt: &R,
     alloc: Global,
@@ -265,7 +287,7 @@ fn each_operation_fails_in_turn(rt: HostRuntime) {
     }
 }
 
-// The size of the pieces of the line, a read that fails, or a write, and what is answered and told.
+// The line's chunk size, the read of the line and the write of the desk that fail, the status and the text.
 type List = (u32, u32, u32, u8, &'static str);
 
 static LISTS: [List; 9] = [
@@ -280,7 +302,7 @@ static LISTS: [List; 9] = [
     (39, 9, 9, 0, "0 good\n320 good\nframes 2 left 0\n"),
 ];
 
-// Whether the list of an uplink of two frames, where a read of the line fails, or a write of the desk, is as given.
+// Whether `frames` lists an uplink of two frames as given if a read of the line or a write of the desk fails.
 fn is_listed<R: Abort + Threads + Wait + Sync>(rt: &R, alloc: Global, list: &List) -> bool {
     let (cut, read, write, due, text) = list;
     let faults = (*read, NONE, *write);

@@ -1,18 +1,18 @@
-//! A gate that shows that jobs are stolen half done: of three calls, by two workers.
+//! A gate that shows that jobs are stolen half done: jobs of three calls, by two workers.
 
 use crate::counts::Counts;
 use pool_run::Gate;
 use std::sync::atomic::{AtomicU32, Ordering};
 use std::thread;
 
-// How often a wait looks for what it waits for.
+// How often a wait checks its condition.
 const TURNS: u32 = 5_000_000;
 
 // The pairs of calls that are held against each other.
 pub(crate) static PAIRS: [(u32, u32); 3] = [(1, 3), (1, 2), (2, 3)];
 
-// Holds back the second slice of each of the calls 1, 2 and 3 until the first slices of all were run, and of a pair of
-// them the one that comes first to its second slice until the third slice of the other was run.
+// Holds back the second slice of each of the calls 1, 2 and 3 until the first slices of all were run. Of a pair of calls, the one
+// that comes first to its second slice is held until the third slice of the other was run.
 #[derive(Drop)]
 pub(crate) struct Held {
     one: u32,
@@ -36,7 +36,7 @@ impl Held {
         }
     }
 
-    // Whether each of the three calls passed `before` and `after` once for each of its slices, and each wait was answered.
+    // Whether each of the three calls passed `before` and `after` once for each of its slices, and each wait met its condition.
     pub(crate) fn each_is_answered(&self, slices: u32) -> bool {
         self.begun.are([slices; 3])
             && self.ended.are([slices; 3])

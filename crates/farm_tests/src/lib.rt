@@ -1,7 +1,6 @@
-//! Tests of the top call and of the pool: operations of the outside that fail, runs in memory, workers that steal.
+//! Tests of the top call and of the pool: operations on lines and desk that fail, runs in memory, workers that steal.
 //!
-//! They stand apart from what they test: a crate with tests is proved a second time with them; these go through public
-//! functions only.
+//! They are in a crate of their own, since a crate with tests is proved a second time with them. They call public functions only.
 #![tactic(auto)]
 
 #[cfg(test)]

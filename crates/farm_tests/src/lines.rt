@@ -1,4 +1,4 @@
-//! Lines in memory, and what lies on them.
+//! Lines in memory, and their contents.
 
 use std::alloc::Global;
 use std::process::Abort;
@@ -10,22 +10,28 @@ pub(crate) fn line(call: u32, side: Side) -> Line {
     Line { call, side }
 }
 
-// The number of an operation that doesn't come.
+// The number of an operation that is never done.
 pub(crate) const NONE: u32 = 1000;
 
-// A line by its call and side: how many octets lie on it, in pieces of at most how many octets, and which call of the
-// outside fails there, by its number.
-pub(crate) type Laid = (u32, Side, usize, u32, u32);
+// A line by its call and side: how many octets are on it, its chunk size, and the number of the operation that fails on it.
+#[derive(Drop)]
+pub(crate) struct Laid {
+    pub(crate) call: u32,
+    pub(crate) side: Side,
+    pub(crate) octets: usize,
+    pub(crate) piece: u32,
+    pub(crate) fails: u32,
+}
 
-// A good uplink frame whose 260 data bits are those of 160 samples 0 encoded from home, as GSM 08.60 places them. Worked
-// by hand from the tables.
+// A good uplink frame whose 260 data bits are those of 160 samples 0 encoded from the initial state, as GSM 08.60 places them.
+// Calculated by hand from the tables.
 pub(crate) static UPLINK_FRAME: [u8; 40] = [
     0x00, 0x00, 0x88, 0x00, 0x82, 0x09, 0xBA, 0x1A, 0xE4, 0x28, 0x80, 0x12, 0xA4, 0x92, 0xA4, 0x92,
     0xA2, 0x80, 0x81, 0x24, 0xC9, 0x24, 0xC9, 0x24, 0xA8, 0x00, 0x92, 0x49, 0x92, 0x49, 0x92, 0x45,
     0x80, 0x02, 0xA4, 0x92, 0xA4, 0x92, 0xA6, 0xFF,
 ];
 
-// So many octets of good uplink frames on an Up line, and of silence on any other.
+// `count` octets: of good uplink frames for an Up line, of silence for any other.
 fn octets(rt: &impl Abort, alloc: Global, side: Side, count: usize) -> Vec<u8> {
     let mut octets = vec![in alloc; 0xD5; count].expect(rt, "memory");
     if side == Side::Up {
@@ -36,8 +42,8 @@ fn octets(rt: &impl Abort, alloc: Global, side: Side, count: usize) -> Vec<u8> {
     octets
 }
 
-// Octets that tell the periods and the calls apart: good uplink frames with the number of the period in their data bits, and
-// a Pcm line that changes.
+// Octets that differ by period and by call: good uplink frames with the number of the period in their data bits, or a Pcm line
+// that changes.
 pub(crate) fn numbered(
     rt: &impl Abort,
     alloc: Global,
@@ -56,7 +62,7 @@ pub(crate) fn numbered(
     octets
 }
 
-// Puts a line in place with these octets on it.
+// Sets a line, with these octets on it.
 pub(crate) fn put(
     rt: &impl Abort,
     alloc: Global,
@@ -72,14 +78,14 @@ pub(crate) fn put(
     set.expect(rt, "memory");
 }
 
-// Puts a line in place.
+// Sets a line.
 fn lay(rt: &impl Abort, alloc: Global, trunk: &mut MemTrunk, laid: &Laid) {
-    let (call, side, count, cut, fails) = laid;
-    let octets = octets(rt, alloc, *side, *count);
-    put(rt, alloc, trunk, line(*call, *side), octets, *cut, *fails);
+    let octets = octets(rt, alloc, laid.side, laid.octets);
+    let line = line(laid.call, laid.side);
+    put(rt, alloc, trunk, line, octets, laid.piece, laid.fails);
 }
 
-// Lines with these in place.
+// A trunk with these lines.
 pub(crate) fn trunk_of(rt: &impl Abort, alloc: Global, lines: &[Laid]) -> MemTrunk {
     let mut trunk = MemTrunk::new(alloc).expect(rt, "memory");
     for laid in lines {
@@ -88,8 +94,8 @@ pub(crate) fn trunk_of(rt: &impl Abort, alloc: Global, lines: &[Laid]) -> MemTru
     trunk
 }
 
-// The lines of call 1, in one piece: so many octets of an uplink without a frame, and of an idle Pcm line. By side, which
-// operation fails there.
+// The lines of call 1: `up` octets of an uplink without a frame, and `pcm` octets of an idle Pcm line. `fails` says for each side
+// which operation fails on it.
 pub(crate) fn quiet_lines(
     rt: &impl Abort,
     alloc: Global,

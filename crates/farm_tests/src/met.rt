@@ -1,16 +1,16 @@
-//! A gate that shows that two calls are at work at once: those of a bridge in both phases of a round of three periods, or the first
-//! periods that two callers post.
+//! A gate that shows that two calls are processed at once: those of a bridge in both phases of a round of three periods, or the
+//! first periods that two callers post.
 
 use crate::counts::Counts;
 use pool_run::Gate;
 use std::sync::atomic::{AtomicU32, Ordering};
 use std::thread;
 
-// Holds the first and the fourth slice of each of the calls 1 and 2 until the same slice of the other was begun. In slices
-// of one period those are the first of each phase.
+// Holds the first and the fourth slice of each of the calls 1 and 2 until the same slice of the other has begun. With slices of
+// one period these are the first ones of each phase.
 #[derive(Drop)]
 pub(crate) struct Met {
-    // How often a wait looks for what it waits for.
+    // How often a wait checks its condition.
     turns: u32,
     begun: Counts,
     ended: Counts,
@@ -27,12 +27,12 @@ impl Met {
         }
     }
 
-    // How many waits used up their turns.
+    // How many waits ended without their condition.
     pub(crate) fn used_up(&self) -> u32 {
         self.used_up.load(Ordering::SeqCst)
     }
 
-    // Whether each of both calls passed `before` and `after` once for each of its slices.
+    // Whether both calls passed `before` and `after` once for each of their slices.
     pub(crate) fn passed(&self, slices: u32) -> bool {
         self.begun.are([slices, slices, 0]) && self.ended.are([slices, slices, 0])
     }

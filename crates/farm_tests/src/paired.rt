@@ -20,7 +20,7 @@ impl Paired {
         }
     }
 
-    // Whether the calls passed this often, each time by `before` and then by `after`.
+    // Whether the calls passed this often, each time first `before` and then `after`.
     pub(crate) fn passed(&self, pairs: [u32; 3]) -> bool {
         self.wrong.load(Ordering::SeqCst) == 0 && self.begun.are(pairs) && self.ended.are(pairs)
     }

@@ -1,4 +1,4 @@
-//! The pool over jobs that write down how many places are left: each is finished in its place.
+//! The pool over jobs that write down how many places remain: each job is finished in its place.
 
 ghost use Rattle.std.specs.Prelude.{◌≡◌, ◌≤◌, length, vec_len};
 
@@ -10,7 +10,7 @@ use std::process::Abort;
 use std::sync::Wait;
 use std::thread::Threads;
 
-// Writes down the number of places left at each place, as a decimal digit.
+// Writes down at each place how many places remain, as a decimal digit.
 #[derive(Drop)]
 struct Counter {
     call: u32,
@@ -47,7 +47,7 @@ impl Work for Counter {
 }
 
 impl Counter {
-    // A job of so many places, with its call's number.
+    // A job of this number of places, with its call's number.
     fn new((call, left): (u32, u32)) -> Counter {
         Counter {
             call,
@@ -57,7 +57,7 @@ impl Counter {
     }
 }
 
-// Jobs of so many places, with their calls' numbers.
+// Jobs of these numbers of places, with their calls' numbers.
 fn counters(rt: &impl Abort, alloc: Global, jobs: &[(u32, u32)]) -> Vec<Box<Counter>>
     ensures { vec_len result ≡ length jobs.now }
 {
@@ -69,7 +69,7 @@ fn counters(rt: &impl Abort, alloc: Global, jobs: &[(u32, u32)]) -> Vec<Box<Coun
     counters
 }
 
-// What the pool answers.
+// The jobs that the pool returns.
 fn run_at_once<R: Abort + Threads + Wait + Sync, G: Gate + Sync>(
     rt: &R,
     alloc: Global,
@@ -94,7 +94,7 @@ fn are_finished(jobs: &[Box<Counter>], written: &[(u32, u32)]) -> bool {
     jobs.len() == written.len()
 }
 
-// Jobs, and what they have written down in the end.
+// Jobs, and what they have written down at the end.
 type Row = (&'static [(u32, u32)], &'static [(u32, u32)]);
 
 static ROWS: [Row; 3] = [
@@ -117,7 +117,7 @@ static ROWS: [Row; 3] = [
     ),
 ];
 
-// Whether so many workers finish them so, in slices of so many places.
+// Whether this number of workers finishes the jobs so, in slices of this number of places.
 fn finish<R: Abort + Threads + Wait + Sync>(
     rt: &R,
     alloc: Global,
@@ -153,7 +153,7 @@ fn each_job_is_finished_in_its_place(rt: HostRuntime) {
     }
 }
 
-// Whether each job passed the gate three times and each wait of the gate was answered, for three jobs of three places and
+// Whether each job passed the gate three times and each wait of the gate met its condition, for three jobs of three places and
 // two workers.
 fn each_wait_is_answered<R: Abort + Threads + Wait + Sync>(
     rt: &R,
@@ -166,8 +166,8 @@ fn each_wait_is_answered<R: Abort + Threads + Wait + Sync>(
     gate.each_is_answered(3)
 }
 
-// Jobs 1 and 3 start in one deque, and job 2 in the other. The worker that is held with one job of a pair can't run the
-// other one: so the other worker has to take it, where it was begun, and both have to be at work at once.
+// Jobs 1 and 3 start in one deque, and job 2 in the other. The worker that is held with one job of a pair can't run the other
+// job. So the other worker has to take it half done, and both have to be at work at once.
 #[test]
 fn jobs_are_stolen_half_done(rt: HostRuntime) {
     for (one, other) in &PAIRS {
@@ -197,7 +197,7 @@ fn told<'a>(
     jobs
 }
 
-// Whether this many workers run each slice of three jobs between its own two calls of the gate.
+// Whether this number of workers runs each slice of three jobs between the slice's own two calls of the gate.
 fn each_slice_is_between<R: Abort + Threads + Wait + Sync>(
     rt: &R,
     alloc: Global,
@@ -212,7 +212,7 @@ fn each_slice_is_between<R: Abort + Threads + Wait + Sync>(
     watched.each_is_between(slices)
 }
 
-// The jobs have 3, 5 and 4 places. Each slice is run after `before` and before `after`, which are told its own call.
+// The jobs have 3, 5 and 4 places. Each slice is run after `before` and before `after`, which get its own call's number.
 #[test]
 fn each_slice_passes_the_gate(rt: HostRuntime) {
     for (workers, slice, slices) in [(2, 1, [3, 5, 4]), (2, 2, [2, 3, 2]), (1, 1, [3, 5, 4])] {

@@ -1,4 +1,4 @@
-//! Two calls of 30 periods, which a bridge joins at period 4, in rounds of at most 7 periods.
+//! Two calls of 30 periods, bridged at period 4, in rounds of at most 7 periods.
 
 use crate::desk::FailingDesk;
 use crate::farm_top_tests::status_of;
@@ -20,12 +20,12 @@ pub(crate) const OF_40: usize = 1200;
 
 pub(crate) const OF_160: usize = 4800;
 
-// The most octets that a call of such a line moves.
+// The most octets that an operation on these lines moves.
 const CUT_40: u32 = 150;
 
 const CUT_160: u32 = 600;
 
-// Puts a line in place that has so many octets, and of which this call fails.
+// Sets a line with this number of octets, on which this operation fails.
 pub(crate) fn lay(
     rt: &impl Abort,
     alloc: Global,
@@ -43,7 +43,7 @@ pub(crate) fn lay(
     put(rt, alloc, trunk, line(call, side), octets, cut, fails);
 }
 
-// The lines of both calls, of which no call fails.
+// The lines of both calls. No operation fails.
 pub(crate) fn calm(rt: &impl Abort, alloc: Global) -> MemTrunk {
     let mut trunk = MemTrunk::new(alloc).expect(rt, "memory");
     for call in &[7, 9] {
@@ -55,7 +55,7 @@ pub(crate) fn calm(rt: &impl Abort, alloc: Global) -> MemTrunk {
     trunk
 }
 
-// What comes of a run: its status, its text, and the lines afterwards.
+// The outcome of a run: its status, its desk, and the lines afterwards.
 #[derive(Drop)]
 pub(crate) struct Outcome {
     pub(crate) status: u8,
@@ -63,7 +63,7 @@ pub(crate) struct Outcome {
     pub(crate) trunk: MemTrunk,
 }
 
-// Carries out a command over these lines, at this desk.
+// Runs a command over these lines, at this desk.
 pub(crate) fn carry_out<R: Abort + Threads + Wait + Sync>(
     rt: &R,
     alloc: Global,
@@ -89,7 +89,7 @@ pub(crate) fn carry<R: Abort + Threads + Wait + Sync>(
     carry_out(rt, alloc, &WORDS, trunk, desk)
 }
 
-// Carries out the run over these lines, at a desk of which no call fails.
+// Runs both calls over these lines, at a desk on which no operation fails.
 pub(crate) fn carry_calm<R: Abort + Threads + Wait + Sync>(
     rt: &R,
     alloc: Global,

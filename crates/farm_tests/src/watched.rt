@@ -1,10 +1,10 @@
-//! A gate beside jobs that count their own slices: what the pool does between `before` and `after`.
+//! A gate, and jobs that count their own slices: what the pool does between `before` and `after`.
 
 use crate::counts::Counts;
 use pool_run::{Gate, Work};
 use std::sync::atomic::{AtomicU32, Ordering};
 
-// Counts the slices that the jobs of each call have run, and compares the count with how often the call passed.
+// Counts the slices that the jobs of each call have run, and compares the count with how often the call has passed the gate.
 #[derive(Drop)]
 pub(crate) struct Watched {
     run: Counts,
@@ -48,7 +48,7 @@ impl Gate for Watched {
     }
 }
 
-// A job that counts its slices there.
+// A job that counts its slices in the gate.
 #[derive(Drop)]
 pub(crate) struct Told<'a> {
     call: u32,
@@ -57,7 +57,7 @@ pub(crate) struct Told<'a> {
 }
 
 impl<'a> Told<'a> {
-    // A job of a call with this many places.
+    // A job of a call with this number of places.
     pub(crate) fn new(call: u32, left: u32, watched: &'a Watched) -> Told<'a> {
         Told {
             call,

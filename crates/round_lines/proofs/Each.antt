@@ -23,7 +23,7 @@ pub each_more : (Touched : Side → Type 0) (Relates : (Side → LineState) → 
     Relates (b (call_at ts i)) (c (call_at ts i)) (seat_at ts i) t → KeepsBut Touched b c (call_at ts i) → Each Relates a c ss (set ts i t) (i + 1)
 each_more Touched Relates a b c ss ts i t rising same within each rest new stays k less =
     let is : seat_at ts i ≡ seat_at ss i = same.1 i (omega arith) in
-    let own : call_at ts i ≡ call_at ss i = ap (λ (s : SeatMemory). s.place.call) is in
+    let own : call_at ts i ≡ call_at ss i = ap (λ (s : SeatMemory). s.lines.call) is in
     elim (cases_lt k i) [
       | inl earlier ↦
           let other : k ≢ i = omega arith in
@@ -39,13 +39,13 @@ each_more Touched Relates a b c ss ts i t rising same within each rest new stays
           subst (λ (k : ℕ). Relates (a (call_at ss k)) (c (call_at ss k)) (seat_at ss k) (seat_at (set ts i t) k)) at
           (subst (λ (s : SeatMemory). Relates (a (call_at ss i)) (c (call_at ss i)) (seat_at ss i) s) put
           (subst (λ (lines : Side → LineState). Relates lines (c (call_at ss i)) (seat_at ss i) t) before
-          (subst (λ (s : SeatMemory). Relates (b s.place.call) (c s.place.call) s t) is new)))
+          (subst (λ (s : SeatMemory). Relates (b s.lines.call) (c s.lines.call) s t) is new)))
     ]
 
 pub keeps_more : (Touched : Side → Type 0) (a b c : States) (ss ts : List SeatMemory) (i : ℕ) → SameFrom ss ts i → KeepsButEach Touched a b ss i →
     KeepsBut Touched b c (call_at ts i) → KeepsButEach Touched a c ss (i + 1)
 keeps_more Touched a b c ss ts i same rest stays call side none =
-    stays call side (λ p touched. none i (omega arith) (p ∙ ap (λ (s : SeatMemory). s.place.call) (same.1 i (omega arith))) touched)
+    stays call side (λ p touched. none i (omega arith) (p ∙ ap (λ (s : SeatMemory). s.lines.call) (same.1 i (omega arith))) touched)
     ∙ rest call side (λ k less p touched. none k (omega arith) p touched)
 
 pub same_from_more : (ss ts : List SeatMemory) (i : ℕ) (t : SeatMemory) → SameFrom ss ts i → SameFrom ss (set ts i t) (i + 1)

@@ -5,10 +5,10 @@ use Rattle.std.proofs.lemmas.List.{map-append, get_or_default}
 use Rattle.trau_io.specs.declared.line.Line.{Line}
 use Rattle.trau_io.specs.declared.line.Side.{Side}
 use Rattle.trau_io.specs.declared.line.Side.TheVariants.{Up}
-use Rattle.round_lines.specs.Places.{PlaceMemory, fails_in, sides, line_name, name_where_failed}
+use Rattle.round_lines.specs.Memory.{LinesMemory, fails_in, sides, line_name, name_where_failed}
 use Rattle.round_lines.proofs.Listing.{listed_more}
 
-module _ (p : PlaceMemory) (i : ℕ) (base : List (ℕ × Side)) (lines : List Line) (within : i < 4) (so_far : map line_name lines
+module _ (p : LinesMemory) (i : ℕ) (base : List (ℕ × Side)) (lines : List Line) (within : i < 4) (so_far : map line_name lines
     ≡ base ++ filter_map (name_where_failed p) (take i sides)) where
   abbrev side : Side
   side = get_or sides i Up

@@ -1,5 +1,5 @@
--- What a round takes of a call's lines, what it gives to them, and where the call ends in it.
-pub mod Places
+-- What a round reads from a call's lines, what it writes to them, and where the call ends in it.
+pub mod Memory
 pub mod Rounds
 pub mod Seats
 pub mod Shifts

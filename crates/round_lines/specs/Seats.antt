@@ -1,20 +1,23 @@
--- A call's seat in a round: its place and its buffers (this project's profile).
+-- A call's seat in a round: the state of its lines, and its buffers (this project's profile).
 use Rattle.std.specs.Prelude.{◌≡◌, ℕ, ◌*◌, Bool, List, length, take, replicate}
 use Rattle.trau_io.specs.declared.line.Side.{Side}
 use Rattle.trau_io.specs.declared.line.Side.TheVariants.{Up, Pcm, Down, Out}
 use Rattle.trau_io.specs.Lines.{LineState}
-use Rattle.round_lines.specs.Places.{PlaceMemory, IsFresh, TellsFaults, new_place, whole_in}
+use Rattle.round_lines.specs.Memory.{LinesMemory, IsFresh, TellsFaults, fresh_lines, whole_in}
 use Rattle.round_lines.specs.Transfer.{Takes, TakesClean, LineGives, GivesClean}
 
--- what is seen of a seat
+-- what is known of a seat
 pub record SeatMemory : Type 0 where
-  pub place : PlaceMemory
+  pub lines : LinesMemory
   pub up : List ℕ
   pub pcm : List ℕ
   pub down : List ℕ
   pub out : List ℕ
 
--- The buffers have room for the octets of so many periods: 40 each of Up and Down, 160 each of Pcm and Out.
+abbrev pub seated : LinesMemory → List ℕ → List ℕ → List ℕ → List ℕ → SeatMemory
+seated p up pcm down out = record { lines = p; up = up; pcm = pcm; down = down; out = out }
+
+-- The buffers have room for the octets of this number of periods: 40 a period on Up and Down, 160 on Pcm and Out.
 pub record Fits (periods : ℕ) (up_octets pcm_octets down_octets out_octets : List ℕ) : Type 0 where
   pub up : length up_octets ≡ 40 * periods
   pub pcm : length pcm_octets ≡ 160 * periods
@@ -25,38 +28,38 @@ pub record Fits (periods : ℕ) (up_octets pcm_octets down_octets out_octets : L
 abbrev pub new_seat : ℕ → ℕ → Bool → Bool → SeatMemory
 new_seat call periods down_failed out_failed =
     record {
-      place = new_place call periods down_failed out_failed;
+      lines = fresh_lines call periods down_failed out_failed;
       up = replicate (40 * periods) 0;
       pcm = replicate (160 * periods) 0;
       down = replicate (40 * periods) 0;
       out = replicate (160 * periods) 0;
     }
 
--- The incoming lines of a call gave what the round could take of them, into buffers as long as before; the rest of its seat
--- is as it was. The marks tell which counts rose.
+-- The round read from the incoming lines of a call what it could, into buffers whose length stays. The rest of the seat is unchanged. The
+-- marks show which lines' counts rose.
 pub record Fills (before now : Side → LineState) (s t : SeatMemory) : Type 0 where
-  pub up : Takes (before Up) (now Up) t.place.up t.up
-  pub pcm : Takes (before Pcm) (now Pcm) t.place.pcm t.pcm
-  pub up_clean : TakesClean (before Up) (now Up) t.place.up t.up
-  pub pcm_clean : TakesClean (before Pcm) (now Pcm) t.place.pcm t.pcm
+  pub up : Takes (before Up) (now Up) t.lines.up t.up
+  pub pcm : Takes (before Pcm) (now Pcm) t.lines.pcm t.pcm
+  pub up_clean : TakesClean (before Up) (now Up) t.lines.up t.up
+  pub pcm_clean : TakesClean (before Pcm) (now Pcm) t.lines.pcm t.pcm
   pub up_length : length t.up ≡ length s.up
   pub pcm_length : length t.pcm ≡ length s.pcm
-  pub kept : t ≡ record s { place = record s.place { up = t.place.up; pcm = t.place.pcm }; up = t.up; pcm = t.pcm }
-  pub faults : IsFresh s.place → TellsFaults before now t.place
+  pub kept : t ≡ record s { lines = record s.lines { up = t.lines.up; pcm = t.lines.pcm }; up = t.up; pcm = t.pcm }
+  pub faults : IsFresh s.lines → TellsFaults before now t.lines
 
--- what goes out of a round: the octets of the whole periods that came in
+-- what goes out of a round: the octets of the whole periods that were read
 abbrev pub down_given : SeatMemory → List ℕ
-down_given s = take (40 * whole_in s.place) s.down
+down_given s = take (40 * whole_in s.lines) s.down
 
 abbrev pub out_given : SeatMemory → List ℕ
-out_given s = take (160 * whole_in s.place) s.out
+out_given s = take (160 * whole_in s.lines) s.out
 
--- The outgoing lines of a call were given what goes out; of its seat only the marks of these lines changed. If the marks told
--- which counts had risen since `first`, they still do.
+-- The outgoing lines of a call got what goes out. Only their marks changed in its seat. If the marks showed which counts had risen since
+-- `first`, they still do.
 pub record Drains (before now : Side → LineState) (s t : SeatMemory) : Type 0 where
-  pub down : LineGives (before Down) (now Down) s.place.down t.place.down (down_given s)
-  pub out : LineGives (before Out) (now Out) s.place.out t.place.out (out_given s)
-  pub down_clean : GivesClean (before Down) (now Down) s.place.down t.place.down (down_given s)
-  pub out_clean : GivesClean (before Out) (now Out) s.place.out t.place.out (out_given s)
-  pub kept : t ≡ record s { place = record s.place { down = t.place.down; out = t.place.out } }
-  pub faults : (first : Side → LineState) → TellsFaults first before s.place → TellsFaults first now t.place
+  pub down : LineGives (before Down) (now Down) s.lines.down t.lines.down (down_given s)
+  pub out : LineGives (before Out) (now Out) s.lines.out t.lines.out (out_given s)
+  pub down_clean : GivesClean (before Down) (now Down) s.lines.down t.lines.down (down_given s)
+  pub out_clean : GivesClean (before Out) (now Out) s.lines.out t.lines.out (out_given s)
+  pub kept : t ≡ record s { lines = record s.lines { down = t.lines.down; out = t.lines.out } }
+  pub faults : (first : Side → LineState) → TellsFaults first before s.lines → TellsFaults first now t.lines

@@ -1,4 +1,4 @@
-//! What a round takes of a line, and what it gives to one.
+//! One block of a line in a round: read or written.
 
 ghost use Rattle.std.specs.Prelude.{◌≡◌};
 ghost use Rattle.trau_io.specs.Lines.{OthersStay};
@@ -6,19 +6,19 @@ ghost use Rattle.round_lines.specs.Transfer.{Takes, LineGives};
 
 use trau_io::{Failed, Filled, Line, Trunk, read_block, write_all};
 
-/// What an incoming line gave in a round: how many octets, and whether it failed after them.
+/// What an incoming line gave in a round: the number of octets, and whether it failed after them.
 #[derive(Clone, Copy, Debug, PartialEq, Eq)]
 pub struct Taken {
     pub count: usize,
     pub failed: bool,
 }
 
-/// How an outgoing line stands in a round.
+/// The state of an outgoing line in a round.
 #[derive(Clone, Copy, Debug, PartialEq, Eq)]
 pub enum Outlet {
     /// It has never failed.
     Sound,
-    /// It failed in an earlier round, and is passed over.
+    /// It failed in an earlier round, and is skipped.
     FailedBefore,
     /// It failed in this round.
     FailedNow,
@@ -45,7 +45,7 @@ pub(crate) fn take_block<T: Trunk>(trunk: &mut T, line: Line, block: &mut [u8]) 
     }
 }
 
-/// Writes the octets to a line that has never failed, and answers how it stands then.
+/// Writes the octets to a line, unless it has failed, and returns the line's new state.
 pub(crate) fn give_block<T: Trunk>(trunk: &mut T, line: Line, was: Outlet, octets: &[u8]) -> Outlet
     ensures this { LineGives (T.lines trunk.old line.call line.side) (T.lines trunk.new line.call line.side) was result octets.now }
     ensures others { OthersStay (T.lines trunk.old) (T.lines trunk.new) line.call line.side }

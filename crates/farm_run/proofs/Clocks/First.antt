@@ -17,9 +17,8 @@ use Rattle.switchboard.specs.Ends.{start_of}
 use Rattle.switchboard.specs.State.{State, EndBefore, first_stamp, last_stamp, orders_of}
 use Rattle.switchboard.specs.Open.{open_now, partner_now}
 use Rattle.call_leg.specs.Who.{Who}
-use Rattle.farm_rounds.specs.declared.call.Group.{Group}
-use Rattle.farm_rounds.specs.Calls.{call_in}
-use Rattle.farm_rounds.specs.Histories.{GroupsStand}
+use Rattle.farm_rounds.specs.Calls.{Kept, call_in}
+use Rattle.farm_rounds.specs.Histories.{CallsStand}
 use Rattle.run_spec.specs.Run.{Run, done_in, periods_to, end_in, who_in, worked_to}
 use Rattle.run_spec.specs.Now.{IsSoFar}
 use Rattle.run_spec.specs.Lines.{out_line, down_octets}
@@ -95,27 +94,27 @@ clock_first b orders none untold shut alone = record {
     by (o ∷ os) = omega arith
 
 -- **A run begins with no call.**
-pub at_first : (r : Run) (b : State) (groups : List Group) (periods : ℕ) (lines : ℕ → Side → LineState) (last : Standing) → AreOrders (orders_of b) →
-    b.done ≡ [] → GroupsStand (λ c. None) groups →
-    IsRunOver (orders_of b) periods last.listed lines last.lines r → IsAtClock r 0 b groups last lines lines
-at_first r b groups periods lines last a none g run =
+pub at_first : (r : Run) (b : State) (calls : List Kept) (periods : ℕ) (lines : ℕ → Side → LineState) (last : Standing) → AreOrders (orders_of b) →
+    b.done ≡ [] → CallsStand (λ c. None) calls →
+    IsRunOver (orders_of b) periods last.listed lines last.lines r → IsAtClock r 0 b calls last lines lines
+at_first r b calls periods lines last a none g run =
     let left : b.left ≡ r.orders = sym (ap (λ (ds : List Done). map (λ (d : Done). d.order) ds ++ b.left) none) ∙ sym run.same_orders in
     record {
       follows = record {
         so_far = subst (λ (ds : List Done). IsSoFar r 0 ds b.left) (sym none)
             (subst (IsSoFar r 0 []) (sym left) (so_far_at_first r (subst AreOrders (sym run.same_orders) a)));
         tells = λ c o k. let q = sym (ap (λ (ds : List Done). is_some (opened_at c ds)) none) ∙ o in cc;
-        stands = subst (λ (ds : List Done). GroupsStand (histories_at r ds 0) groups) (sym none) g;
+        stands = subst (λ (ds : List Done). CallsStand (histories_at r ds 0) calls) (sym none) g;
       };
       lines = lines_at_first r (orders_of b) periods lines last run;
     }
 
 -- **Before the first round no line is listed.**
-pub knows_first : (b : State) (groups : List Group) → groups ≡ [] → KnowsListed b groups []
-knows_first b groups empty = record {
+pub knows_first : (b : State) (calls : List Kept) → calls ≡ [] → KnowsListed b calls []
+knows_first b calls empty = record {
   opened = λ c s l. cc;
   ended = λ c s i l. cc;
-  calls = λ c x e. (let q : None ≡ Some x = sym (ap (λ (gs : List Group). call_in gs c) empty) ∙ e in cc);
+  calls = λ c x e. (let q : None ≡ Some x = sym (ap (λ (gs : List Kept). call_in gs c) empty) ∙ e in cc);
 }
 
 -- what is listed at the run's end is what the run says

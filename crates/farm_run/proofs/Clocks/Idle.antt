@@ -10,8 +10,7 @@ use Rattle.switchboard.specs.Calls.{opened_at, closed_at, is_open, gone_at}
 use Rattle.switchboard.specs.Ends.{start_of}
 use Rattle.switchboard.specs.State.{State, told_in, first_stamp}
 use Rattle.switchboard.specs.Runs.{TellsEnds}
-use Rattle.farm_rounds.specs.declared.call.Group.{Group}
-use Rattle.farm_rounds.specs.Calls.{call_in, partner_in}
+use Rattle.farm_rounds.specs.Calls.{Kept, call_in, partner_in}
 use Rattle.farm_rounds.specs.Numbers.{is_among}
 use Rattle.farm_rounds.specs.Histories.{CallHistory, CallStands}
 use Rattle.run_spec.specs.Run.{Run, whole_in, periods_to, who_in, law_in, IsOpened, worked_to}
@@ -28,8 +27,8 @@ use Rattle.farm_run.proofs.Ordered.Due.{open_told}
 use Rattle.farm_run.proofs.Clocks.Reach.{worked_idle}
 
 -- **The clock goes on to the next order, or to the run's end.**
-pub clock_on : (t u : ℕ) (b : State) (groups : List Group) → AtClock t b groups → t ≤ u → IfSome (first_stamp b.left) (λ s. u ≤ s) → AtClock u b groups
-clock_on t u b groups a l n = record {
+pub clock_on : (t u : ℕ) (b : State) (calls : List Kept) → AtClock t b calls → t ≤ u → IfSome (first_stamp b.left) (λ s. u ≤ s) → AtClock u b calls
+clock_on t u b calls a l n = record {
   orders = a.orders;
   ahead = n;
   past = (let p = a.past in omega arith);
@@ -41,7 +40,7 @@ clock_on t u b groups a l n = record {
     by None h = tt
     by (Some at) h = omega arith
 
-module _ (r : Run) (t u : ℕ) (b : State) (groups : List Group) (last : Standing) (first now : ℕ → Side → LineState) (at : IsAtClock r t b groups last first now)
+module _ (r : Run) (t u : ℕ) (b : State) (calls : List Kept) (last : Standing) (first now : ℕ → Side → LineState) (at : IsAtClock r t b calls last first now)
     (l : t ≤ u) (w : u ≤ r.periods)
     (n : IfSome (first_stamp b.left) (λ s. u ≤ s)) (shut : (c : ℕ) → is_open (gone_at (whole_in r) t b.done) b.done c ≡ false) where
   -- no call is open at the later clock
@@ -78,12 +77,12 @@ module _ (r : Run) (t u : ℕ) (b : State) (groups : List Group) (last : Standin
   earlier c (inr q) = inr q
 
   -- **So do the board, the farm and the lines.**
-  pub goes_on : IsAtClock r u b groups last first now
+  pub goes_on : IsAtClock r u b calls last first now
   goes_on = record {
     follows = record {
       so_far = so_far_later r t u b.done b.left at.follows.so_far l n;
       tells = tells_on;
-      stands = λ c. subst (λ (x : Option CallHistory). CallStands c x (call_in groups c) (partner_in groups c)) (same_none c) (at.follows.stands c);
+      stands = λ c. subst (λ (x : Option CallHistory). CallStands c x (call_in calls c) (partner_in calls c)) (same_none c) (at.follows.stands c);
     };
     lines = record {
       up_read = λ c i q. at.lines.up_read c i (earlier c q)
@@ -109,7 +108,7 @@ none_among [] c e = refl
 none_among (x ∷ xs) c e = let l : length (x ∷ xs) ≡ 0 = eqb-true (length (x ∷ xs)) 0 e in absurd (omega arith)
 
 -- a farm with no call, beside the run
-pub none_alive : (r : Run) (t : ℕ) (b : State) (groups : List Group) → AtClock t b groups → TellsEnds (whole_in r) t b →
-    ((c : ℕ) → is_some (call_in groups c) ≡ false) →
+pub none_alive : (r : Run) (t : ℕ) (b : State) (calls : List Kept) → AtClock t b calls → TellsEnds (whole_in r) t b →
+    ((c : ℕ) → is_some (call_in calls c) ≡ false) →
     (c : ℕ) → is_open (gone_at (whole_in r) t b.done) b.done c ≡ false
-none_alive r t b groups a tells none c = sym (open_told (whole_in r) t b tells c) ∙ sym (a.matches.is_open c) ∙ none c
+none_alive r t b calls a tells none c = sym (open_told (whole_in r) t b tells c) ∙ sym (a.matches.is_open c) ∙ none c

@@ -6,7 +6,7 @@ use Rattle.trau_io.specs.declared.line.Side.TheVariants.{Up, Pcm, Down, Out}
 use Rattle.trau_io.specs.Lines.{LineState}
 use Rattle.switchboard.specs.Ends.{start_of}
 use Rattle.switchboard.specs.State.{State}
-use Rattle.farm_rounds.specs.declared.call.Group.{Group}
+use Rattle.farm_rounds.specs.Calls.{Kept}
 use Rattle.run_spec.specs.Run.{Run, done_in, periods_to, periods_in, end_in, who_in, IsOpened, cause_in, worked_to}
 use Rattle.run_spec.specs.Lines.{out_line, down_octets}
 use Rattle.farm_run.specs.Runs.{TellsFailed, NoneRose, HasWritten, IsCutOff, IsReadTo, is_listed, Leaves}
@@ -36,8 +36,8 @@ all_down r t c listed first now wrote i =
     subst (λ (k : ℕ). HasWritten (listed c Down) (first c Down) (now c Down) (drop (40 * k) (down_octets (who_in r c) (periods_to r c (worked_to r t c)))))
     (none_worked r c) (wrote.down c i)
 
-module _ (r : Run) (b : State) (groups : List Group) (failed : List Line) (first now : ℕ → Side → LineState)
-    (at : IsAtClock r r.periods b groups (standing b failed now) first now) where
+module _ (r : Run) (b : State) (calls : List Kept) (failed : List Line) (first now : ℕ → Side → LineState)
+    (at : IsAtClock r r.periods b calls (standing b failed now) first now) where
   -- **At the run's end all periods of its calls lie before the clock.**
   pub all : (c : ℕ) → worked_to r r.periods c ≡ end_in r c - start_of (done_in r) c
   all c = worked_all r r.periods b.done b.left c at.follows.so_far

@@ -22,7 +22,7 @@ use Rattle.run_spec.proofs.Ending.{end_closed, end_lacks}
 use Rattle.run_spec.proofs.Going.{opened_run}
 use Rattle.farm_run.specs.Going.{places_in, ends_within}
 use Rattle.farm_run.proofs.Rounds.Taken.{IsRound}
-use Rattle.farm_run.proofs.Rounds.Open.{open_at, no_order, has_place}
+use Rattle.farm_run.proofs.Rounds.Open.{open_at, no_order, has_period_in}
 use Rattle.farm_run.proofs.Rounds.Ends.{ends_there, start_kept}
 
 -- ---- a call that is open
@@ -51,7 +51,7 @@ end_after r t n ds left c h o = elim (cases_lt (places_in r ds t n c) n) [
         let some = h.some in
         let within = h.within in
         let at = open_at r t ds c (standing_now r t ds left h.so_far) o in
-        let has : has_period r ds (t + (n - 1)) c ≡ true = has_place r t n ds c (n - 1) at.unclosed h.within (omega arith)
+        let has : has_period r ds (t + (n - 1)) c ≡ true = has_period_in r t n ds c (n - 1) at.unclosed h.within (omega arith)
         ∙ lt-ltb (n - 1) (places_in r ds t n c) (below (places_in r ds t n c) some l) in
         let e = ends_has (given_in r) r.periods t (t + (n - 1)) ds (rest_in r ds left) c (start_of ds c) (standing_now r t ds left h.so_far) (omega arith)
         (standing_rest r t ds left h.so_far) (omega arith)

@@ -91,7 +91,7 @@ pub record GoneTo (orders : List Order) (batch : ℕ) (first now : ℕ → Side 
   pub sides : KeepsSides first now
   pub reads : ReadsOn first now
   pub at : (r : Run) (last : Standing) → IsRunOver orders r.periods last.listed first last.lines r → u.clock ≤ r.periods →
-      StandingGoesOn (standing u.board u.farm.failed now) last → IsAtClock r u.clock u.board u.farm.groups last first now
+      StandingGoesOn (standing u.board u.farm.failed now) last → IsAtClock r u.clock u.board u.farm.calls last first now
   pub known : (r : Run) (last : Standing) → IsRunOver orders r.periods last.listed first last.lines r → u.clock ≤ r.periods →
       StandingGoesOn (standing u.board u.farm.failed now) last → IsKnown r u.clock u.board u.farm.tallies u.journal
   pub short : (r : Run) (last : Standing) → IsRunOver orders r.periods last.listed first last.lines r → u.clock ≤ r.periods →
@@ -99,11 +99,11 @@ pub record GoneTo (orders : List Order) (batch : ℕ) (first now : ℕ → Side 
 
 -- the run's clock is 0 before its first order
 at_start : (orders : List Order) (o : Outgoing) (s : Stage) (lines : ℕ → Side → LineState) (r : Run) (last : Standing) → IsFirstStage orders o s →
-    IsRunOver orders r.periods last.listed lines last.lines r → IsAtClock r s.clock s.board s.farm.groups last lines lines
+    IsRunOver orders r.periods last.listed lines last.lines r → IsAtClock r s.clock s.board s.farm.calls last lines lines
 at_start orders o s lines r last f run =
     let clock = (let k = f.stage in k.clock) in
-    subst (λ (t : ℕ). IsAtClock r t s.board s.farm.groups last lines lines) (sym f.clock)
-    (at_first r s.board s.farm.groups r.periods lines last clock.orders f.none_done f.histories
+    subst (λ (t : ℕ). IsAtClock r t s.board s.farm.calls last lines lines) (sym f.clock)
+    (at_first r s.board s.farm.calls r.periods lines last clock.orders f.none_done f.histories
     (subst (λ (os : List Order). IsRunOver os r.periods last.listed lines last.lines r) (sym f.orders) run))
 
 -- **It begins.**
@@ -144,7 +144,7 @@ gone_more orders batch first before now s u g h = record {
     less r l = let b = h.later in omega arith
 
     at : (r : Run) (last : Standing) → IsRunOver orders r.periods last.listed first last.lines r → u.clock ≤ r.periods →
-        StandingGoesOn (standing u.board u.farm.failed now) last → IsAtClock r s.clock s.board s.farm.groups last first before
+        StandingGoesOn (standing u.board u.farm.failed now) last → IsAtClock r s.clock s.board s.farm.calls last first before
     at r last run within on = g.at r last run (less r within) (further _ _ _ h.goes on)
 
 -- **From its start on all is written, where nothing is held back.**

@@ -38,27 +38,27 @@ ok_both P Q R (Err e) h p q = tt
 
 -- the orders of a clock were executed
 pub record OrdersDone (s : Stage) (b : State) (farm : FarmMemory) (j : JournalMemory) : Type 0 where
-  pub clock : AtClock s.clock b farm.groups
+  pub clock : AtClock s.clock b farm.calls
   pub shut : AreShut b j.ends
   pub bridges : length j.bridges ≤ length b.done
   pub kept : orders_of b ≡ orders_of s.board
   pub ended : farm.ended ≡ s.farm.ended
   pub failed : farm.failed ≡ s.farm.failed
-  pub knows : KnowsListed s.board s.farm.groups s.farm.failed → KnowsListed b farm.groups farm.failed
+  pub knows : KnowsListed b farm.calls farm.failed
   pub over : (c : ℕ) → is_over s.board c ≡ true → is_over b c ≡ true
-  pub follows : (r : Run) → s.clock < r.periods → FollowsRun r s.clock s.board s.farm.groups → FollowsRun r s.clock b farm.groups
+  pub follows : (r : Run) → s.clock < r.periods → FollowsRun r s.clock s.board s.farm.calls → FollowsRun r s.clock b farm.calls
   pub told : b.told ≡ s.board.told
   pub openings : (n : ℕ) → s.clock < n → OpenedBefore n s.journal.calls → OpenedBefore n j.calls
-  pub noted : (r : Run) → s.clock < r.periods → FollowsRun r s.clock s.board s.farm.groups → Noted r s.board.done s.clock s.journal s.farm.tallies →
+  pub noted : (r : Run) → s.clock < r.periods → FollowsRun r s.clock s.board s.farm.calls → Noted r s.board.done s.clock s.journal s.farm.tallies →
       Noted r b.done s.clock j farm.tallies
 
 -- **The orders of the clock are done.**
-pub orders_done : (s : Stage) (b : State) (farm : FarmMemory) (j : JournalMemory) → AtClock s.clock b farm.groups → AreShut b j.ends →
+pub orders_done : (s : Stage) (b : State) (farm : FarmMemory) (j : JournalMemory) → AtClock s.clock b farm.calls → AreShut b j.ends →
     length j.bridges ≤ length b.done → orders_of b ≡ orders_of s.board → farm.ended ≡ s.farm.ended → farm.failed ≡ s.farm.failed →
-    (KnowsListed s.board s.farm.groups s.farm.failed → KnowsListed b farm.groups farm.failed) → ((c : ℕ) → is_over s.board c ≡ true → is_over b c ≡ true) →
-    ((r : Run) → s.clock < r.periods → FollowsRun r s.clock s.board s.farm.groups → FollowsRun r s.clock b farm.groups) → b.told ≡ s.board.told →
+    KnowsListed b farm.calls farm.failed → ((c : ℕ) → is_over s.board c ≡ true → is_over b c ≡ true) →
+    ((r : Run) → s.clock < r.periods → FollowsRun r s.clock s.board s.farm.calls → FollowsRun r s.clock b farm.calls) → b.told ≡ s.board.told →
     ((n : ℕ) → s.clock < n → OpenedBefore n s.journal.calls → OpenedBefore n j.calls) →
-    ((r : Run) → s.clock < r.periods → FollowsRun r s.clock s.board s.farm.groups → Noted r s.board.done s.clock s.journal s.farm.tallies →
+    ((r : Run) → s.clock < r.periods → FollowsRun r s.clock s.board s.farm.calls → Noted r s.board.done s.clock s.journal s.farm.tallies →
     Noted r b.done s.clock j farm.tallies) → OrdersDone s b farm j
 orders_done s b farm j clock shut bridges kept ended failed knows over follows told openings noted = record {
   clock = clock;
@@ -87,7 +87,7 @@ module _ (s : Stage) (b : State) (farm : FarmMemory) (j : JournalMemory) (stage 
     shut = o.shut;
     bridges = o.bridges;
     ended = (let e = stage.ended in let same = o.ended in omega (arith, e, same));
-    knows = o.knows stage.knows;
+    knows = o.knows;
     few = (let few = stage.few in let same = ap length o.kept in omega (arith, few, same));
   }
 
@@ -125,18 +125,18 @@ module _ (s : Stage) (b : State) (farm : FarmMemory) (j : JournalMemory) (stage 
       under : (r : Run) → u.clock ≤ r.periods → s.clock < r.periods
       under r within = omega (arith, less, within)
 
-      here : (r : Run) (first : ℕ → Side → LineState) (last : Standing) → u.clock ≤ r.periods → IsAtClock r s.clock s.board s.farm.groups last first before →
-          IsAtClock r s.clock b farm.groups last first before
+      here : (r : Run) (first : ℕ → Side → LineState) (last : Standing) → u.clock ≤ r.periods → IsAtClock r s.clock s.board s.farm.calls last first before →
+          IsAtClock r s.clock b farm.calls last first before
       here r first last within at = record { follows = o.follows r (under r within) at.follows; lines = at.lines }
 
 -- **Where no call is open, the clock goes on up to the next order.**
 pub idle_reaches : (batch : ℕ) (s : Stage) (u : ℕ) (lines : ℕ → Side → LineState) → IsStage s → s.clock ≤ u → IfSome (first_stamp s.board.left) (λ m. u ≤ m) →
-    ((c : ℕ) → is_some (call_in s.farm.groups c) ≡ false) →
+    ((c : ℕ) → is_some (call_in s.farm.calls c) ≡ false) →
     Reaches batch s (record s { clock = u }) lines lines
 idle_reaches batch s u lines stage later clear none = record {
   later = later;
   stage = record {
-    clock = clock_on s.clock u s.board s.farm.groups stage.clock later clear;
+    clock = clock_on s.clock u s.board s.farm.calls stage.clock later clear;
     shut = stage.shut;
     bridges = stage.bridges;
     ended = (let e = stage.ended in omega (arith, e, later));
@@ -151,15 +151,15 @@ idle_reaches batch s u lines stage later clear none = record {
   sides = sides_none lines;
   goes = stays (standing s.board s.farm.failed lines);
   back = λ held. record { lines = λ c side o. refl; listed = λ c side o. refl };
-  run = λ r first last flags within on at. goes_on r s.clock u s.board s.farm.groups last first lines at later within clear (shut r first last at);
+  run = λ r first last flags within on at. goes_on r s.clock u s.board s.farm.calls last first lines at later within clear (shut r first last at);
   known = λ r first last flags within on at known. known_idle r s.clock u s.board s.farm.tallies s.journal later (shut r first last at) known;
-  wrote = λ held from l r first last flags within on at wrote. written_on r s.clock u s.board s.farm.groups last first lines at later within clear
+  wrote = λ held from l r first last flags within on at wrote. written_on r s.clock u s.board s.farm.calls last first lines at later within clear
       (shut r first last at) from (is_listed s.farm.failed) wrote;
-  sums = λ summed r first last flags within on at sums. sums_on r s.clock u s.board s.farm.groups last first lines at later within clear
+  sums = λ summed r first last flags within on at sums. sums_on r s.clock u s.board s.farm.calls last first lines at later within clear
       (shut r first last at) _ sums;
   short = λ r first last flags within on at short. short;
 }
   where
-    shut : (r : Run) (first : ℕ → Side → LineState) (last : Standing) → IsAtClock r s.clock s.board s.farm.groups last first lines → (c : ℕ) →
+    shut : (r : Run) (first : ℕ → Side → LineState) (last : Standing) → IsAtClock r s.clock s.board s.farm.calls last first lines → (c : ℕ) →
         is_open (gone_at (whole_in r) s.clock s.board.done) s.board.done c ≡ false
-    shut r first last at = none_alive r s.clock s.board s.farm.groups stage.clock at.follows.tells none
+    shut r first last at = none_alive r s.clock s.board s.farm.calls stage.clock at.follows.tells none

@@ -10,7 +10,7 @@ use Rattle.trau_io.specs.Lines.{LineState}
 use Rattle.trau_orders.specs.declared.order.Order.{Order}
 use Rattle.switchboard.specs.Ends.{start_of}
 use Rattle.switchboard.specs.State.{State}
-use Rattle.farm_rounds.specs.declared.call.Group.{Group}
+use Rattle.farm_rounds.specs.Calls.{Kept}
 use Rattle.farm_checkpoint.specs.Marks.{MarkView}
 use Rattle.run_spec.specs.Run.{Run, done_in, end_in, worked_to}
 use Rattle.run_spec.specs.Mark.{marked_calls}
@@ -37,11 +37,11 @@ pub err_more : {T E P Q : Type 0} (o : Result T E) → (P → Q) → OnErr o P �
 err_more (Ok x) h p = tt
 err_more (Err e) h p = h p
 
--- **At a clock each outgoing line holds a front of what the run gives, one that failed a proper front.**
-fronts_at : (r : Run) (t : ℕ) (b : State) (groups : List Group) (failed : List Line) (first now : ℕ → Side → LineState) →
-    IsAtClock r t b groups (standing b failed now) first now →
+-- **At a clock each outgoing line holds a prefix of what the run gives, one that failed a proper prefix.**
+fronts_at : (r : Run) (t : ℕ) (b : State) (calls : List Kept) (failed : List Line) (first now : ℕ → Side → LineState) →
+    IsAtClock r t b calls (standing b failed now) first now →
     WrittenFrom r 0 t (is_listed failed) first now → LeavesFronts r (is_listed failed) first now
-fronts_at r t b groups failed first now at wrote = record {
+fronts_at r t b calls failed first now at wrote = record {
   out = λ c i. out_front r c (worked_to r t c) (end_in r c - start_of (done_in r) c) (is_listed failed c Out) (first c Out) (now c Out)
       (least (end_in r c) (start_of (done_in r) c)) (all_out r t c (is_listed failed) first now wrote i);
   down = λ c i. down_front r c (worked_to r t c) (end_in r c - start_of (done_in r) c) (is_listed failed c Down) (first c Down) (now c Down)
@@ -53,13 +53,13 @@ fronts_at r t b groups failed first now at wrote = record {
     least e s = omega arith
 
 -- **A run that ends at a clock is cut short there.**
-pub cut_at : (os : List Order) (periods t : ℕ) (b : State) (groups : List Group) (failed : List Line) (first now : ℕ → Side → LineState) →
-    t ≤ periods → KnowsListed b groups failed → TellsFailed first now failed → KeepsSides first now → ReadsOn first now →
-    ((r : Run) → IsRunOver os r.periods (is_listed failed) first now r → periods ≤ r.periods → IsAtClock r t b groups (standing b failed now) first now) →
+pub cut_at : (os : List Order) (periods t : ℕ) (b : State) (calls : List Kept) (failed : List Line) (first now : ℕ → Side → LineState) →
+    t ≤ periods → KnowsListed b calls failed → TellsFailed first now failed → KeepsSides first now → ReadsOn first now →
+    ((r : Run) → IsRunOver os r.periods (is_listed failed) first now r → periods ≤ r.periods → IsAtClock r t b calls (standing b failed now) first now) →
     ((r : Run) → IsRunOver os r.periods (is_listed failed) first now r → periods ≤ r.periods → WrittenFrom r 0 t (is_listed failed) first now) →
     ((r : Run) → IsRunOver os r.periods (is_listed failed) first now r → periods ≤ r.periods → FailBefore r t (is_listed failed)) →
     IsCutShort os periods first now
-cut_at os periods t b groups failed first now within knows tells sides reads goes wrote fail = record {
+cut_at os periods t b calls failed first now within knows tells sides reads goes wrote fail = record {
   fails = is_listed failed;
   told = tells.failures;
   sides = sides;
@@ -67,7 +67,7 @@ cut_at os periods t b groups failed first now within knows tells sides reads goe
   fronts = λ r run.
       let e = run.same_periods in
       let is = subst (λ (p : ℕ). IsRunOver os p (is_listed failed) first now r) (sym e) run in
-      fronts_at r t b groups failed first now (goes r is (omega (arith, e))) (wrote r is (omega (arith, e)));
+      fronts_at r t b calls failed first now (goes r is (omega (arith, e))) (wrote r is (omega (arith, e)));
   clock = t;
   within = within;
   stops = λ r run.
@@ -79,7 +79,7 @@ cut_at os periods t b groups failed first now within knows tells sides reads goe
       let e = run.same_periods in
       let is = subst (λ (p : ℕ). IsRunOver os p (is_listed failed) first now r) (sym e) run in
       let here = goes r is (omega (arith, e)) in
-      only_opened r t b groups failed here.follows.so_far knows;
+      only_opened r t b calls failed here.follows.so_far knows;
   there = λ are told. there_is os periods (is_listed failed) first now are
       (λ c s n i. let octets = told c s n i in let k = reads c s octets.0 i octets.1 in (octets.0, k.0, octets.1, k.1));
 }
@@ -143,15 +143,15 @@ cut_before os periods t mark over failed first now within early tells sides read
         (0, subst (λ (l : LineState). Appends was.written l.written []) (sym e) (Appends-nil was.written))
 
 -- **So is one that stops at a clock behind the mark's period, where the mark is the run's.**
-pub cut_behind : (os : List Order) (periods : ℕ) (mark : MarkView) (t : ℕ) (b : State) (groups : List Group) (failed : List Line)
-    (first now : ℕ → Side → LineState) → mark.period ≤ t → t ≤ periods → KnowsListed b groups failed →
+pub cut_behind : (os : List Order) (periods : ℕ) (mark : MarkView) (t : ℕ) (b : State) (calls : List Kept) (failed : List Line)
+    (first now : ℕ → Side → LineState) → mark.period ≤ t → t ≤ periods → KnowsListed b calls failed →
     TellsFailed first now failed → KeepsSides first now → ReadsOn first now →
     ((r : Run) → IsRunOver os mark.period (is_listed failed) first now r → marked_calls r ≡ mark.calls) →
-    ((r : Run) → IsRunOver os r.periods (is_listed failed) first now r → periods ≤ r.periods → IsAtClock r t b groups (standing b failed now) first now) →
+    ((r : Run) → IsRunOver os r.periods (is_listed failed) first now r → periods ≤ r.periods → IsAtClock r t b calls (standing b failed now) first now) →
     ((r : Run) → IsRunOver os r.periods (is_listed failed) first now r → periods ≤ r.periods → WrittenFrom r mark.period t (is_listed failed) first now) →
     ((r : Run) → IsRunOver os r.periods (is_listed failed) first now r → periods ≤ r.periods → FailBefore r t (is_listed failed)) →
     IsResumeCutShort os periods mark first now
-cut_behind os periods mark t b groups failed first now behind within knows tells sides reads same goes wrote fail = record {
+cut_behind os periods mark t b calls failed first now behind within knows tells sides reads same goes wrote fail = record {
   fails = is_listed failed;
   told = tells.failures;
   sides = sides;
@@ -181,7 +181,7 @@ cut_behind os periods mark t b groups failed first now behind within knows tells
       let e = run.same_periods in
       let is = subst (λ (p : ℕ). IsRunOver os p (is_listed failed) first now r) (sym e) run in
       let here = goes r is (omega (arith, e)) in
-      only_opened r t b groups failed here.follows.so_far knows;
+      only_opened r t b calls failed here.follows.so_far knows;
   held = λ r run differs. absurd (differs (same r run));
   there = λ are told n. there_is os n (is_listed failed) first now are
       (λ c s n i. let octets = told c s n i in let k = reads c s octets.0 i octets.1 in (octets.0, k.0, octets.1, k.1));

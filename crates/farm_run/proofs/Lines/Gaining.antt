@@ -15,7 +15,7 @@ use Rattle.farm_run.specs.Fronts.{HasFront}
 
 -- ---- from round to round
 
--- **A line that had failed is passed over; any other gains the octets, or a proper front of them where it fails now.**
+-- **A line that had failed is passed over; any other gains the octets, or a proper prefix of them where it fails now.**
 pub gains : (first before now : LineState) (was stands : Outlet) (front octets : List ℕ) → LineGives before now was stands octets →
     HasWritten (has_failed was) first before front → HasWritten (has_failed stands) first now (front ++ octets)
 gains first before now was stands front octets g = by (has_failed was) refl (has_failed stands) refl
@@ -40,7 +40,7 @@ gains first before now was stands front octets g = by (has_failed was) refl (has
               (subst (Appends first.written before.written) (sym (take-append-le w.0 front octets (omega (arith, l)))) w.2),
         )
 
--- what was written of the first octets is a front of all, a proper one where the line failed inside them
+-- what was written of the first octets is a prefix of all, a proper one where the line failed inside them
 front_of : (fails : Bool) (first now : LineState) (some more : List ℕ) → HasWritten fails first now some → HasFront fails first now (some ++ more)
 front_of false first now some more w = (
   length some,
@@ -53,7 +53,7 @@ front_of true first now some more w =
 
 -- ---- of more periods
 
--- **What was written of the first m periods is a front of what any more give, a proper one where the line failed.**
+-- **What was written of the first m periods is a prefix of what any more give, a proper one where the line failed.**
 pub out_front : (r : Run) (c m n : ℕ) (fails : Bool) (first now : LineState) → m ≤ n → HasWritten fails first now (out_line (who_in r c) (periods_to r c m)) →
     HasFront fails first now (out_line (who_in r c) (periods_to r c n))
 out_front r c m n fails first now l w =

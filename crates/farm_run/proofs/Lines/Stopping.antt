@@ -18,7 +18,7 @@ use Rattle.switchboard.specs.Calls.{opened_at, closed_at}
 use Rattle.switchboard.specs.Ends.{start_of, lack_of}
 use Rattle.switchboard.specs.State.{State, EndBefore, gone_in, told_in}
 use Rattle.switchboard.proofs.Whole.{end_by}
-use Rattle.farm_rounds.specs.declared.call.Group.{Group}
+use Rattle.farm_rounds.specs.Calls.{Kept}
 use Rattle.run_spec.specs.Run.{Run, given_in, whole_in, done_in, end_in, periods_to, IsOpened, cause_in, worked_to}
 use Rattle.run_spec.specs.Lines.{out_of_call, down_of_call}
 use Rattle.run_spec.specs.Now.{IsSoFar}
@@ -37,22 +37,31 @@ use Rattle.farm_run.proofs.Clocks.Reach.{worked_all}
 use Rattle.farm_run.proofs.Lines.Gaining.{out_taken, down_taken}
 
 -- **Of a call that the run opens is each line that is listed as failed.**
-pub only_opened : (r : Run) (t : ℕ) (b : State) (groups : List Group) (failed : List Line) → IsSoFar r t b.done b.left → KnowsListed b groups failed →
+pub only_opened : (r : Run) (t : ℕ) (b : State) (calls : List Kept) (failed : List Line) → IsSoFar r t b.done b.left → KnowsListed b calls failed →
     OnlyOpenedFail r (is_listed failed)
-only_opened r t b groups failed so knows = λ c side l. by c (opened_at c b.done) refl (knows.opened c side l)
+only_opened r t b calls failed so knows = λ c side l. by c (opened_at c b.done) refl (knows.opened c side l)
   where
     by : (c : ℕ) (v : Option ℕ) → opened_at c b.done ≡ v → is_some (opened_at c b.done) ≡ true → IsOpened r c
     by c (Some s) e o = ap is_some (opened_run r t b.done b.left c s so e)
     by c None e o = absurd (true≢false (sym o ∙ ap is_some e))
 
--- each incoming line that failed ended its call before t
+-- the call of each incoming line that failed ended before t, by its lines
 abbrev pub FailBefore : Run → ℕ → (ℕ → Side → Bool) → Type 0
-FailBefore r t fails = (c : ℕ) (side : Side) → IsIncoming side → fails c side ≡ true → end_in r c < t
+FailBefore r t fails = (c : ℕ) (side : Side) → IsIncoming side → fails c side ≡ true → (end_in r c < t) × (IsCutOff (cause_in r c) → ⊥)
 
--- **So did each that is listed: the end was told, and it is the run's.**
-pub fail_before : (r : Run) (t : ℕ) (b : State) (groups : List Group) (failed : List Line) → EndBefore t b → TellsTruly r b → KnowsListed b groups failed →
-    FailBefore r t (is_listed failed)
-fail_before r t b groups failed before truly knows = λ c side i l. by c (told_in b c) refl (knows.ended c side i l)
+-- a line that failed short of a round's octets is one of a call that its lines ended
+by_lines : (r : Run) (batch : ℕ) (fails : ℕ → Side → Bool) (c : ℕ) (side : Side) → FailedShort r batch fails → IsIncoming side → fails c side ≡ true →
+    IsCutOff (cause_in r c) → ⊥
+by_lines r batch fails c Up short i l = let f = short.up c l in let here = f.3 in here.by_lines
+by_lines r batch fails c Pcm short i l = let f = short.pcm c l in let here = f.3 in here.by_lines
+by_lines r batch fails c Down short i l = absurd i
+by_lines r batch fails c Out short i l = absurd i
+
+-- **So did the call of each that is listed: the end was told, and it is the run's.**
+pub fail_before : (r : Run) (t batch : ℕ) (b : State) (calls : List Kept) (failed : List Line) → EndBefore t b → TellsTruly r b →
+    KnowsListed b calls failed → FailedShort r batch (is_listed failed) → FailBefore r t (is_listed failed)
+fail_before r t batch b calls failed before truly knows short =
+    λ c side i l. (by c (told_in b c) refl (knows.ended c side i l), by_lines r batch (is_listed failed) c side short i l)
   where
     by : (c : ℕ) (v : Option ℕ) → told_in b c ≡ v → gone_in b c ≡ true → end_in r c < t
     by c (Some at) e g =
@@ -177,12 +186,15 @@ module _ (r : Run) (are : AreOrders r.orders) where
           (there (start_of (done_in r) c) _ refl)
 
   module _ (batch : ℕ) (fails : ℕ → Side → Bool) (first now : ℕ → Side → LineState) (short : FailedShort r batch fails) where
-    -- each incoming line that failed did so before it
+    -- the call of each incoming line that failed ended before it
+    before : (c : ℕ) (side : Side) → IsIncoming side → fails c side ≡ true → end_in r c < r.periods
+    before c Up i e = let f = short.up c e in let here = f.3 in omega (arith, here.over, here.within)
+    before c Pcm i e = let f = short.pcm c e in let here = f.3 in omega (arith, here.over, here.within)
+    before c Down i e = absurd i
+    before c Out i e = absurd i
+
     failed_in : FailBefore r r.periods fails
-    failed_in c Up i e = let f = short.up c e in let here = f.3 in omega (arith, here.over, here.within)
-    failed_in c Pcm i e = let f = short.pcm c e in let here = f.3 in omega (arith, here.over, here.within)
-    failed_in c Down i e = absurd i
-    failed_in c Out i e = absurd i
+    failed_in c side i e = (before c side i e, by_lines r batch fails c side short i e)
 
     -- **A run that left all that it gives stopped at its end,**
     pub stops_all : Leaves r fails first now → StopsAt r r.periods fails first now

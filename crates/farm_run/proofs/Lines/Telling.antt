@@ -55,8 +55,8 @@ module _ (os : List Order) (batch : ℕ) (first now : ℕ → Side → LineState
 
   -- **What holds of it at its last period.**
   pub at_end : (r : Run) → IsRunOver os u.clock (is_listed u.farm.failed) first now r →
-      IsAtClock r r.periods u.board u.farm.groups (standing u.board u.farm.failed now) first now
-  at_end r run = subst (λ (p : ℕ). IsAtClock r p u.board u.farm.groups (standing u.board u.farm.failed now) first now) (sym run.same_periods)
+      IsAtClock r r.periods u.board u.farm.calls (standing u.board u.farm.failed now) first now
+  at_end r run = subst (λ (p : ℕ). IsAtClock r p u.board u.farm.calls (standing u.board u.farm.failed now) first now) (sym run.same_periods)
       (g.at r last (own r run) (least r run) (stays last))
 
   -- **What is noted and kept there is the run's.**
@@ -69,7 +69,7 @@ module _ (os : List Order) (batch : ℕ) (first now : ℕ → Side → LineState
   opened_end r run =
       let here = at_end r run in
       let knows = (let s = g.stage in s.knows) in
-      only_opened r r.periods u.board u.farm.groups u.farm.failed here.follows.so_far knows
+      only_opened r r.periods u.board u.farm.calls u.farm.failed here.follows.so_far knows
 
   -- **Its incoming lines that failed did so short of a round's octets.**
   pub short_end : (r : Run) → IsRunOver os u.clock (is_listed u.farm.failed) first now r → FailedShort r batch (is_listed u.farm.failed)
@@ -77,7 +77,7 @@ module _ (os : List Order) (batch : ℕ) (first now : ℕ → Side → LineState
 
   -- **So its report is the definition's.**
   pub report_end : (count : ℕ) (report : ReportView) → count ≡ length os →
-      ((r : Run) (t : ℕ) → IsAtEnd r t u.board u.farm.groups u.farm.tallies u.journal → r.periods ≡ u.clock → length r.orders ≡ count →
+      ((r : Run) (t : ℕ) → IsAtEnd r t u.board u.farm.calls u.farm.tallies u.journal → r.periods ≡ u.clock → length r.orders ≡ count →
       report ≡ report_of r report.failed) →
       (r : Run) → IsRunOver os u.clock (is_listed u.farm.failed) first now r → report ≡ report_of r report.failed
   report_end count report number h r run =
@@ -94,7 +94,7 @@ module _ (os : List Order) (batch : ℕ) (first now : ℕ → Side → LineState
       subst (λ (p : ℕ). WrittenFrom r from p (is_listed u.farm.failed) first now) (sym run.same_periods) (wrote r last (own r run) (least r run) (stays last))
 
   -- **The entries of its live calls are those of its mark.**
-  pub marked_end : (live : (c : ℕ) → is_among u.farm.live c ≡ is_some (call_in u.farm.groups c)) → IsRising u.farm.live →
+  pub marked_end : (live : (c : ℕ) → is_among u.farm.live c ≡ is_some (call_in u.farm.calls c)) → IsRising u.farm.live →
       ((r : Run) (z : Standing) → IsRunOver os r.periods z.listed first z.lines r → u.clock ≤ r.periods →
       StandingGoesOn (standing u.board u.farm.failed now) z → SumsAt r u.clock (sum_to u.outgoing)) →
       (r : Run) → IsRunOver os u.clock (is_listed u.farm.failed) first now r → map (entry_of u) u.farm.live ≡ marked_calls r
@@ -116,7 +116,7 @@ pub runs_told : {E : Type 0} (os : List Order) (pace : Pace) (first now : ℕ �
     ((r : Run) (z : Standing) → IsRunOver os r.periods z.listed first z.lines r → u.clock ≤ r.periods → StandingGoesOn (standing u.board u.farm.failed now) z →
     WrittenFrom r 0 u.clock (is_listed u.farm.failed) first now) →
     IfOk o (λ report. report.failed ≡ u.farm.failed) → count ≡ length os →
-    IfOk o (λ report. (r : Run) (t : ℕ) → IsAtEnd r t u.board u.farm.groups u.farm.tallies u.journal → r.periods ≡ pace.periods → length r.orders ≡ count →
+    IfOk o (λ report. (r : Run) (t : ℕ) → IsAtEnd r t u.board u.farm.calls u.farm.tallies u.journal → r.periods ≡ pace.periods → length r.orders ≡ count →
     report ≡ report_of r report.failed) → IfOk o (λ report. Runs os pace first now report)
 runs_told os pace first now u count (Err x) g e wrote f number h = tt
 runs_told os pace first now u count (Ok report) g e wrote f number h = record {
@@ -126,7 +126,7 @@ runs_told os pace first now u count (Ok report) g e wrote f number h = record {
   leaves = λ r run.
       let is = over r run in
       subst (λ (ls : List Line). Leaves r (is_listed ls) first now) (sym f)
-      (leaves_all r u.board u.farm.groups u.farm.failed first now (at_end os pace.batch first now u g r is)
+      (leaves_all r u.board u.farm.calls u.farm.failed first now (at_end os pace.batch first now u g r is)
       (wrote_end os pace.batch first now u g 0 wrote r is));
   reports = λ r run. report_end os pace.batch first now u g count report number (λ r t end p. h r t end (p ∙ e)) r (over r run);
   opened = λ r run. subst (λ (ls : List Line). OnlyOpenedFail r (is_listed ls)) (sym f) (opened_end os pace.batch first now u g r (over r run));
@@ -146,7 +146,7 @@ pub saves_told : (os : List Order) (pace : Pace) (first now : ℕ → Side → L
     ((r : Run) (z : Standing) → IsRunOver os r.periods z.listed first z.lines r → u.clock ≤ r.periods → StandingGoesOn (standing u.board u.farm.failed now) z →
     SumsAt r u.clock (sum_to u.outgoing)) →
     saved.failed ≡ u.farm.failed → saved.mark.period ≡ pace.periods → saved.mark.calls ≡ map (entry_of u) u.farm.live →
-    ((c : ℕ) → is_among u.farm.live c ≡ is_some (call_in u.farm.groups c)) → IsRising u.farm.live → OpenedBefore pace.periods u.journal.calls →
+    ((c : ℕ) → is_among u.farm.live c ≡ is_some (call_in u.farm.calls c)) → IsRising u.farm.live → OpenedBefore pace.periods u.journal.calls →
     Saves os pace first now saved
 saves_told os pace first now u saved g e wrote sums f p calls live rising openings = record {
   failed = subst (λ (ls : List Line). TellsFailed first now ls) (sym f) g.tells;
@@ -155,7 +155,7 @@ saves_told os pace first now u saved g e wrote sums f p calls live rising openin
   leaves = λ r run.
       let is = over r run in
       subst (λ (ls : List Line). Leaves r (is_listed ls) first now) (sym f)
-      (leaves_all r u.board u.farm.groups u.farm.failed first now (at_end os pace.batch first now u g r is)
+      (leaves_all r u.board u.farm.calls u.farm.failed first now (at_end os pace.batch first now u g r is)
       (wrote_end os pace.batch first now u g 0 wrote r is));
   marks = λ r run.
       same saved.mark.period r.periods saved.mark.calls (marked_calls r) (p ∙ sym run.same_periods)

@@ -9,33 +9,33 @@ use Rattle.trau_io.specs.declared.line.Side.TheVariants.{Up, Pcm, Down, Out}
 use Rattle.trau_io.specs.declared.ends.CallEnd.{CallEnd}
 use Rattle.trau_io.specs.Lines.{LineState}
 use Rattle.round_lines.specs.Transfer.{has_failed}
-use Rattle.round_lines.specs.Places as places
-use Rattle.round_lines.specs.Places.{fails_in}
+use Rattle.round_lines.specs.Memory as places
+use Rattle.round_lines.specs.Memory.{fails_in}
 use Rattle.round_lines.specs.Seats.{SeatMemory}
 use Rattle.round_lines.specs.Rounds.{Rising, IsIncoming, seat_at}
 use Rattle.switchboard.specs.Calls.{Done, opened_at}
 use Rattle.switchboard.specs.State.{State, gone_in}
 use Rattle.switchboard.specs.Open.{opened_now, open_now}
-use Rattle.farm_rounds.specs.declared.call.Call.{Call}
-use Rattle.farm_rounds.specs.Calls.{call_in}
+use Rattle.farm_rounds.specs.Calls.{Call, call_in}
 use Rattle.farm_rounds.specs.Numbers.{is_among}
 use Rattle.farm_rounds.specs.Memory.{FarmMemory}
 use Rattle.farm_rounds.specs.Working.{goes_on_call}
 use Rattle.farm_rounds.specs.RoundHistories.{seat_of}
+use Rattle.farm_rounds.proofs.Naming.{Lists}
 use Rattle.run_spec.specs.Run.{Run}
 use Rattle.farm_run.specs.Going.{told_after, is_told}
 use Rattle.farm_run.specs.Match.{AtClock}
 use Rattle.farm_run.specs.Runs.{is_listed, ReadsOn}
 use Rattle.farm_run.specs.Standing.{Standing, standing, is_over, StandingGoesOn, KnowsListed, HasFlags, MeetsRun}
 use Rattle.farm_run.proofs.Listed.Boards.{over_shut, open_opened, open_gone, gone_told}
-use Rattle.farm_run.proofs.Listed.Counts.{Lists, seat_cases}
+use Rattle.farm_run.proofs.Listed.Counts.{seat_cases}
 use Rattle.farm_run.proofs.Worked.Round.{WorkedRound, among_place}
 use Rattle.farm_run.proofs.Worked.Facts.{lines_kept, incoming_after}
 use Rattle.farm_run.proofs.Worked.Seats.{seat_of_at}
 use Rattle.farm_run.proofs.Listed.Seated as its_seats
 use Rattle.farm_run.proofs.Listed.Round as its_lines
 
--- what a line gave in a round is a front
+-- what a line gave in a round is a prefix
 front_read : (u v : Option (List ℕ)) (front xs : List ℕ) → Consumes u v front → u ≡ Some xs → (k : ℕ) × (v ≡ Some (drop k xs))
 front_read None v front xs c e = cc
 front_read (Some zs) None front xs c e = absurd c
@@ -45,8 +45,8 @@ front_read (Some zs) (Some ys) front xs c e = (length front, ap Some (sym (drop-
     same zs xs e = cc
 
 module _ (t n : ℕ) (b : State) (farm after : FarmMemory) (before now : ℕ → Side → LineState) (ends : List CallEnd)
-    (w : WorkedRound t n farm after before now ends) (a : AtClock t b farm.groups)
-    (knows : KnowsListed b farm.groups farm.failed) (b' : State) (told : b' ≡ told_after b ends)
+    (w : WorkedRound t n farm after before now ends) (a : AtClock t b farm.calls)
+    (knows : KnowsListed b farm.calls farm.failed) (b' : State) (told : b' ≡ told_after b ends)
     (o : (c : ℕ) → open_now b' c ≡ (open_now b c && not (is_told c ends))) where
   -- what is known of the round's seats
   abbrev Seated : ℕ → ℕ → Type 0
@@ -71,15 +71,15 @@ module _ (t n : ℕ) (b : State) (farm after : FarmMemory) (before now : ℕ →
   over_on : (c : ℕ) → is_over b c ≡ true → is_over b' c ≡ true
   over_on = its_seats.over_on t n b farm after before now ends w a knows b' told o
 
-  lacks : (k c : ℕ) → k < length farm.live → slice_index farm.live k ≡ c → places.whole_in (seat_at w.filled k).place < n → is_over b' c ≡ true
+  lacks : (k c : ℕ) → k < length farm.live → slice_index farm.live k ≡ c → places.whole_in (seat_at w.filled k).lines < n → is_over b' c ≡ true
   lacks = its_seats.lacks t n b farm after before now ends w a knows b' told o
 
   failed_short : (k c : ℕ) (side : Side) → k < length farm.live → slice_index farm.live k ≡ c → IsIncoming side →
-      fails_in (seat_at w.filled k).place side ≡ true → places.whole_in (seat_at w.filled k).place < n
+      fails_in (seat_at w.filled k).lines side ≡ true → places.whole_in (seat_at w.filled k).lines < n
   failed_short = its_seats.failed_short t n b farm after before now ends w a knows b' told o
 
   marks_kept : (k c : ℕ) (side : Side) → k < length farm.live → slice_index farm.live k ≡ c → IsIncoming side →
-      fails_in (seat_at w.drained k).place side ≡ fails_in (seat_at w.filled k).place side
+      fails_in (seat_at w.drained k).lines side ≡ fails_in (seat_at w.filled k).lines side
   marks_kept = its_seats.marks_kept t n b farm after before now ends w a knows b' told o
 
   -- and of the listed lines
@@ -87,25 +87,25 @@ module _ (t n : ℕ) (b : State) (farm after : FarmMemory) (before now : ℕ →
   listed_cases = its_lines.listed_cases t n b farm after before now ends w a knows b' told o
 
   marked : (c : ℕ) (side : Side) (m : Lists w.drained (c, side)) →
-      (m.k < length farm.live) × (slice_index farm.live m.k ≡ c) × (fails_in (seat_at w.drained m.k).place side ≡ true)
+      (m.k < length farm.live) × (slice_index farm.live m.k ≡ c) × (fails_in (seat_at w.drained m.k).lines side ≡ true)
   marked = its_lines.marked t n b farm after before now ends w a knows b' told o
 
-  listed_kept : (c : ℕ) (side : Side) → is_some (call_in farm.groups c) ≡ false → is_listed after.failed c side ≡ is_listed farm.failed c side
+  listed_kept : (c : ℕ) (side : Side) → is_some (call_in farm.calls c) ≡ false → is_listed after.failed c side ≡ is_listed farm.failed c side
   listed_kept = its_lines.listed_kept t n b farm after before now ends w a knows b' told o
 
   listed_incoming : (k c : ℕ) (side : Side) → k < length farm.live → slice_index farm.live k ≡ c → IsIncoming side →
-      is_listed after.failed c side ≡ fails_in (seat_at w.filled k).place side
+      is_listed after.failed c side ≡ fails_in (seat_at w.filled k).lines side
   listed_incoming = its_lines.listed_incoming t n b farm after before now ends w a knows b' told o
 
   -- and of the outgoing lines as they stand
-  stands_down : (k c : ℕ) → k < length farm.live → slice_index farm.live k ≡ c → has_failed (seat_at w.drained k).place.down ≡ is_listed after.failed c Down
+  stands_down : (k c : ℕ) → k < length farm.live → slice_index farm.live k ≡ c → has_failed (seat_at w.drained k).lines.down ≡ is_listed after.failed c Down
   stands_down = its_lines.stands_down t n b farm after before now ends w a knows b' told o
 
-  stands_out : (k c : ℕ) → k < length farm.live → slice_index farm.live k ≡ c → has_failed (seat_at w.drained k).place.out ≡ is_listed after.failed c Out
+  stands_out : (k c : ℕ) → k < length farm.live → slice_index farm.live k ≡ c → has_failed (seat_at w.drained k).lines.out ≡ is_listed after.failed c Out
   stands_out = its_lines.stands_out t n b farm after before now ends w a knows b' told o
 
   -- **The same is known of the listed lines.**
-  pub knows_after : KnowsListed b' after.groups after.failed
+  pub knows_after : KnowsListed b' after.calls after.failed
   knows_after = record { opened = opened; ended = ended; calls = calls }
     where
       opened : (c : ℕ) (side : Side) → is_listed after.failed c side ≡ true → opened_now b' c ≡ true
@@ -123,7 +123,7 @@ module _ (t n : ℕ) (b : State) (farm after : FarmMemory) (before now : ℕ →
             open_gone b b' c done_is z.is_open (lacks m.k c p.0 p.1 (failed_short m.k c side p.0 p.1 i (sym (marks_kept m.k c side p.0 p.1 i) ∙ p.2)))
       ]
 
-      calls : (c : ℕ) (x : Call) → call_in after.groups c ≡ Some x → (x.down_failed ≡ is_listed after.failed c Down)
+      calls : (c : ℕ) (x : Call) → call_in after.calls c ≡ Some x → (x.down_failed ≡ is_listed after.failed c Down)
           × (x.out_failed ≡ is_listed after.failed c Out)
       calls c x e =
           let alive : is_among farm.live c ≡ true = (and_parts (is_among farm.live c) (goes_on_call w.worked c) (sym (w.is_open c) ∙ ap is_some e)).0 in
@@ -132,12 +132,12 @@ module _ (t n : ℕ) (b : State) (farm after : FarmMemory) (before now : ℕ →
           let known = w.know c x e in
           let found : seat_of w.drained c ≡ seat_at w.drained p.0 = ap (seat_of w.drained) (sym s.drained_at)
           ∙ seat_of_at w.drained p.0 rising (omega (arith, p.1, long_drained)) in (
-            known.0 ∙ ap (λ (x : SeatMemory). has_failed x.place.down) found ∙ stands_down p.0 c p.1 p.2,
-            known.1 ∙ ap (λ (x : SeatMemory). has_failed x.place.out) found ∙ stands_out p.0 c p.1 p.2,
+            known.0 ∙ ap (λ (x : SeatMemory). has_failed x.lines.down) found ∙ stands_down p.0 c p.1 p.2,
+            known.1 ∙ ap (λ (x : SeatMemory). has_failed x.lines.out) found ∙ stands_out p.0 c p.1 p.2,
           )
 
   -- a call that is over has no seat
-  no_seat_of : (c : ℕ) → is_over b c ≡ true → is_some (call_in farm.groups c) ≡ false
+  no_seat_of : (c : ℕ) → is_over b c ≡ true → is_some (call_in farm.calls c) ≡ false
   no_seat_of c e = a.matches.is_open c ∙ over_shut b c e
 
   -- **The run goes on.**

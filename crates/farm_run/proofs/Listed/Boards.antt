@@ -5,7 +5,6 @@ use Rattle.std.specs.Prelude.{◌==◌, ◌||◌, if◌then◌else◌, is_some, 
 use Rattle.std.proofs.lemmas.Bool.{cases_Bool, cases_lt, eqb-true, eq-eqb, true≢false}
 use Rattle.std.proofs.lemmas.List.{get_or-set_same, get_or-set_other}
 use Rattle.trau_io.specs.declared.line.Line.{Line}
-use Rattle.trau_io.specs.declared.line.Side.{Side}
 use Rattle.trau_io.specs.declared.line.Side.TheVariants.{Down, Out}
 use Rattle.trau_io.specs.declared.ends.CallEnd.{CallEnd}
 use Rattle.trau_orders.specs.declared.order.Order.{Order}
@@ -16,10 +15,9 @@ use Rattle.switchboard.specs.State.{State, gone_in, after_turn, told_more}
 use Rattle.switchboard.specs.Open.{opened_now, open_now, partner_now, Finds}
 use Rattle.switchboard.proofs.Appending.{or_else}
 use Rattle.run_spec.proofs.Executing.{opened-append, closed-append}
-use Rattle.farm_rounds.specs.declared.call.Call.{Call}
-use Rattle.farm_rounds.specs.declared.call.Group.{Group}
-use Rattle.farm_rounds.specs.Calls.{call_in}
+use Rattle.farm_rounds.specs.Calls.{Call, Kept, call_in}
 use Rattle.farm_rounds.specs.Acts.{new_call, bridged_call, parted, set_by, changed, freed, calls_after}
+use Rattle.farm_rounds.specs.Failed.{NoneListed}
 use Rattle.farm_run.specs.Going.{told_after}
 use Rattle.farm_run.specs.Runs.{is_listed}
 use Rattle.farm_run.specs.Standing.{is_over, KnowsListed}
@@ -167,13 +165,8 @@ module _ (failed : List Line) where
   freed_knows None g f l h c = h c
   freed_knows (Some p) g f l h c = changed_knows p g f l h c
 
-  -- no line of a call that the order opens is listed
-  abbrev IsNew : Act → Type 0
-  IsNew (act.Opened n law) = (s : Side) → is_listed failed n s ≡ false
-  IsNew _ = Unit {0}
-
   -- and after any act, if a call that it opens has no listed line
-  after_knows : (a : Act) (f : ℕ → Option Call) → IsNew a → ((c : ℕ) → IfSome (f c) (Knows c)) → (c : ℕ) → IfSome (calls_after a f c) (Knows c)
+  after_knows : (a : Act) (f : ℕ → Option Call) → NoneListed a failed → ((c : ℕ) → IfSome (f c) (Knows c)) → (c : ℕ) → IfSome (calls_after a f c) (Knows c)
   after_knows (act.Opened n law) f new h c =
       either c (n == c) (Some (new_call n law)) (f c)
       (λ e. let same =
@@ -198,29 +191,31 @@ module _ (failed : List Line) where
       some : (a b : Call) → Some a ≡ Some b → a ≡ b
       some a b r = cc
 
+-- **No line of a call that an accepted order opens is listed.**
+pub new_unlisted : (s : State) (kept : List Kept) (failed : List Line) (a : Act) → Finds a (opened_now s) (open_now s) (partner_now s) →
+    KnowsListed s kept failed → NoneListed a failed
+new_unlisted s kept failed (act.Opened m law) f k = λ side. is_false (is_listed failed m side) (λ l. true≢false (sym (k.opened m side l) ∙ f.1))
+new_unlisted s kept failed (act.Closed m p) f k = tt
+new_unlisted s kept failed (act.Bridged m p) f k = tt
+new_unlisted s kept failed (act.Unbridged m p) f k = tt
+new_unlisted s kept failed (act.LevelSet m level) f k = tt
+new_unlisted s kept failed (act.DtxSet m mode) f k = tt
+
 -- **After an accepted order the same is known of the listed lines.**
-pub knows_more : (s n : State) (o : Option Order) (groups after : List Group) (failed : List Line) (a : Act) → n ≡ after_turn s o →
+pub knows_more : (s n : State) (o : Option Order) (kept after : List Kept) (failed : List Line) (a : Act) → n ≡ after_turn s o →
     Finds a (opened_now s) (open_now s) (partner_now s) →
-    ((c : ℕ) → call_in after c ≡ calls_after a (call_in groups) c) → KnowsListed s groups failed → KnowsListed n after failed
-knows_more s n o groups after failed a e finds calls k = record {
+    ((c : ℕ) → call_in after c ≡ calls_after a (call_in kept) c) → KnowsListed s kept failed → KnowsListed n after failed
+knows_more s n o kept after failed a e finds calls k = record {
   opened = λ c side l. opened_turned s n o e c (k.opened c side l);
   ended = λ c side i l. gone_turned s n o e c (k.ended c side i l);
-  calls = λ c x q. known failed c x (calls_after a (call_in groups) c)
-      (after_knows failed a (call_in groups) (new a finds) (λ d. each failed d (call_in groups d) (k.calls d)) c) (sym (calls c) ∙ q);
+  calls = λ c x q. known failed c x (calls_after a (call_in kept) c)
+      (after_knows failed a (call_in kept) (new_unlisted s kept failed a finds k) (λ d. each failed d (call_in kept d) (k.calls d)) c) (sym (calls c) ∙ q);
 }
-  where
-    new : (a : Act) → Finds a (opened_now s) (open_now s) (partner_now s) → IsNew failed a
-    new (act.Opened m law) f = λ side. is_false (is_listed failed m side) (λ l. true≢false (sym (k.opened m side l) ∙ f.1))
-    new (act.Closed m p) f = tt
-    new (act.Bridged m p) f = tt
-    new (act.Unbridged m p) f = tt
-    new (act.LevelSet m level) f = tt
-    new (act.DtxSet m mode) f = tt
 
 -- **.. and after a refused one.**
-pub knows_same : (s n : State) (o : Option Order) (groups : List Group) (failed : List Line) → n ≡ after_turn s o → KnowsListed s groups failed →
-    KnowsListed n groups failed
-knows_same s n o groups failed e k = record {
+pub knows_same : (s n : State) (o : Option Order) (kept : List Kept) (failed : List Line) → n ≡ after_turn s o → KnowsListed s kept failed →
+    KnowsListed n kept failed
+knows_same s n o kept failed e k = record {
   opened = λ c side l. opened_turned s n o e c (k.opened c side l);
   ended = λ c side i l. gone_turned s n o e c (k.ended c side i l);
   calls = k.calls;

@@ -3,7 +3,7 @@ use Rattle.std.proofs.Common.{◌≡◌, refl, sym, ap, ◌∙◌, subst, ℕ, �
 use Rattle.std.specs.Prelude.{◌||◌, is_some, slice_index}
 use Rattle.std.specs.List.{Contains}
 use Rattle.std.specs.List.Sorted.{IsStrictlyIncreasing}
-use Rattle.std.proofs.lemmas.Bool.{cases_Bool, cases_lt, true≢false}
+use Rattle.std.proofs.lemmas.Bool.{cases_Bool, true≢false}
 use Rattle.trau_io.specs.declared.line.Side.{Side}
 use Rattle.trau_io.specs.declared.line.Side.TheVariants.{Up, Pcm, Down, Out}
 use Rattle.trau_io.specs.declared.ends.CallEnd.{CallEnd}
@@ -11,31 +11,25 @@ use Rattle.trau_io.specs.Lines.{LineState}
 use Rattle.round_lines.specs.declared.transfer.Outlet.{Outlet}
 use Rattle.round_lines.specs.declared.transfer.Outlet.TheVariants.{Sound, FailedBefore, FailedNow}
 use Rattle.round_lines.specs.Transfer.{has_failed, fails_now}
-use Rattle.round_lines.specs.Places.{fails_in, line_name, outlet_before}
+use Rattle.round_lines.specs.Memory.{fails_in, line_name, outlet_before}
 use Rattle.round_lines.specs.Seats.{SeatMemory}
-use Rattle.round_lines.specs.Rounds.{Rising, IsIncoming, IsOutgoing, seat_at, call_at}
+use Rattle.round_lines.specs.Rounds.{Rising, IsIncoming, IsOutgoing, seat_at}
 use Rattle.switchboard.specs.State.{State}
 use Rattle.switchboard.specs.Open.{open_now}
 use Rattle.farm_rounds.specs.Calls.{call_in}
 use Rattle.farm_rounds.specs.Memory.{FarmMemory}
+use Rattle.farm_rounds.proofs.Naming.{Lists, names, listed_seat, name_listed, same_test, is_false}
+use Rattle.farm_rounds.proofs.Once.{line_place, listed_once}
+use Rattle.farm_rounds.proofs.Gaining.{gained_cases, gained_still, gained_at}
 use Rattle.farm_run.specs.Going.{told_after, is_told}
 use Rattle.farm_run.specs.Outgoing.{PassesOn}
 use Rattle.farm_run.specs.Match.{AtClock}
 use Rattle.farm_run.specs.Runs.{is_listed}
 use Rattle.farm_run.specs.Standing.{KnowsListed}
 use Rattle.farm_run.proofs.Listed.Boards.{gone_over}
-use Rattle.farm_run.proofs.Listed.Tests.{listed_name, name_listed, or_cases, or_first, or_second, same_test, is_false}
-use Rattle.farm_run.proofs.Listed.Once.{line_place, listed_once}
-use Rattle.farm_run.proofs.Listed.Counts.{Lists, names, seat_listed, listed_seat, listed_before, listed_after, seat_cases}
+use Rattle.farm_run.proofs.Listed.Counts.{seat_cases}
 use Rattle.farm_run.proofs.Worked.Round.{WorkedRound, worked_down, worked_out}
 use Rattle.farm_run.proofs.Listed.Seated as its_seats
-
--- a place has one seat
-one_seat : (seats : List SeatMemory) (i j : ℕ) → Rising seats → i < length seats → j < length seats → call_at seats i ≡ call_at seats j → i ≡ j
-one_seat seats i j r l k e = elim (cases_lt i j) [
-  | inl a ↦ let m = r i j a k in absurd (omega (arith, m, e))
-  | inr b ↦ elim (cases_lt j i) [ inl a ↦ let m = r j i a l in absurd (omega (arith, m, e)) | inr a ↦ omega arith ]
-]
 
 -- how an outgoing line stands after a round
 stands_is : (b : Bool) (before now : LineState) (was stands : Outlet) (octets : List ℕ) → was ≡ outlet_before b → PassesOn before now was stands octets →
@@ -61,8 +55,8 @@ passed_over true before now was stands octets q e (inr g) = ap fails_now (g.1 �
 passed_over false before now was stands octets q e g = cc
 
 module _ (t n : ℕ) (b : State) (farm after : FarmMemory) (before now : ℕ → Side → LineState) (ends : List CallEnd)
-    (w : WorkedRound t n farm after before now ends) (a : AtClock t b farm.groups)
-    (knows : KnowsListed b farm.groups farm.failed) (b' : State) (told : b' ≡ told_after b ends)
+    (w : WorkedRound t n farm after before now ends) (a : AtClock t b farm.calls)
+    (knows : KnowsListed b farm.calls farm.failed) (b' : State) (told : b' ≡ told_after b ends)
     (o : (c : ℕ) → open_now b' c ≡ (open_now b c && not (is_told c ends))) where
   -- what is known of the round's seats
   abbrev Seated : ℕ → ℕ → Type 0
@@ -78,63 +72,40 @@ module _ (t n : ℕ) (b : State) (farm after : FarmMemory) (before now : ℕ →
   rising = its_seats.rising t n b farm after before now ends w a knows b' told o
 
   marks_kept : (k c : ℕ) (side : Side) → k < length farm.live → slice_index farm.live k ≡ c → IsIncoming side →
-      fails_in (seat_at w.drained k).place side ≡ fails_in (seat_at w.filled k).place side
+      fails_in (seat_at w.drained k).lines side ≡ fails_in (seat_at w.filled k).lines side
   marks_kept = its_seats.marks_kept t n b farm after before now ends w a knows b' told o
 
   -- ---- the listed lines
 
   -- a line that is listed behind the round was so before, or a seat names it
   pub listed_cases : (c : ℕ) (side : Side) → is_listed after.failed c side ≡ true → (is_listed farm.failed c side ≡ true) ⊎ Lists w.drained (c, side)
-  listed_cases c side e = elim (listed_after farm.failed after.failed w.drained (c, side) w.gains (listed_name after.failed c side e)) [
-    | inl m ↦ inl (name_listed farm.failed c side m)
-    | inr m ↦ inr (listed_seat w.drained (c, side) m)
-  ]
+  listed_cases = gained_cases farm.failed after.failed w.drained w.gains
 
   -- one that was listed still is
   pub listed_still : (c : ℕ) (side : Side) → is_listed farm.failed c side ≡ true → is_listed after.failed c side ≡ true
-  listed_still c side e =
-      name_listed after.failed c side (listed_before farm.failed after.failed w.drained (c, side) w.gains (inl (listed_name farm.failed c side e)))
+  listed_still = gained_still farm.failed after.failed w.drained w.gains
 
   -- the call and the side that a seat's mark names
   pub marked : (c : ℕ) (side : Side) (m : Lists w.drained (c, side)) →
-      (m.k < length farm.live) × (slice_index farm.live m.k ≡ c) × (fails_in (seat_at w.drained m.k).place side ≡ true)
+      (m.k < length farm.live) × (slice_index farm.live m.k ≡ c) × (fails_in (seat_at w.drained m.k).lines side ≡ true)
   marked c side m =
       let within : m.k < length farm.live = (let l = m.within in omega (arith, l, long_drained)) in
       let s = seated m.k (slice_index farm.live m.k) within refl in (
         within,
         sym s.drained_at ∙ sym (ap (λ (y : ℕ × Side). y.0) m.name),
-        ap (fails_in (seat_at w.drained m.k).place) (ap (λ (y : ℕ × Side). y.1) m.name) ∙ m.fails,
+        ap (fails_in (seat_at w.drained m.k).lines) (ap (λ (y : ℕ × Side). y.1) m.name) ∙ m.fails,
       )
 
   -- **Of a call with a seat a line is listed where it was, or where it failed in the round.**
   pub listed_seated : (k c : ℕ) (side : Side) → k < length farm.live → slice_index farm.live k ≡ c →
-      is_listed after.failed c side ≡ (is_listed farm.failed c side || fails_in (seat_at w.drained k).place side)
-  listed_seated k c side l e = same_test (is_listed after.failed c side) (is_listed farm.failed c side || fails_in (seat_at w.drained k).place side) front back
-    where
-      s : Seated k c
-      s = seated k c l e
-
-      front : is_listed after.failed c side ≡ true → (is_listed farm.failed c side || fails_in (seat_at w.drained k).place side) ≡ true
-      front q = elim (listed_cases c side q) [
-        | inl m ↦ or_first (is_listed farm.failed c side) (fails_in (seat_at w.drained k).place side) m
-        | inr m ↦
-            let p = marked c side m in
-            let z = seated m.k c p.0 p.1 in
-            let same : m.k ≡ k =
-            one_seat w.drained m.k k rising (omega (arith, p.0, long_drained)) (omega (arith, l, long_drained)) (z.drained_at ∙ sym s.drained_at) in
-            or_second (is_listed farm.failed c side) (fails_in (seat_at w.drained k).place side)
-            (sym (ap (λ (i : ℕ). fails_in (seat_at w.drained i).place side) same) ∙ p.2)
-      ]
-
-      back : (is_listed farm.failed c side || fails_in (seat_at w.drained k).place side) ≡ true → is_listed after.failed c side ≡ true
-      back q = elim (or_cases (is_listed farm.failed c side) (fails_in (seat_at w.drained k).place side) q) [
-        | inl m ↦ listed_still c side m
-        | inr m ↦ name_listed after.failed c side (listed_before farm.failed after.failed w.drained (c, side) w.gains
-            (inr (subst (λ (d : ℕ). Contains (names w.drained) (d, side)) s.drained_at (seat_listed w.drained k side (omega (arith, l, long_drained)) m))))
-      ]
+      is_listed after.failed c side ≡ (is_listed farm.failed c side || fails_in (seat_at w.drained k).lines side)
+  listed_seated k c side l e =
+      let s = seated k c l e in
+      subst (λ (d : ℕ). is_listed after.failed d side ≡ (is_listed farm.failed d side || fails_in (seat_at w.drained k).lines side)) s.drained_at
+      (gained_at farm.failed after.failed w.drained w.gains k side rising (omega (arith, l, long_drained)))
 
   -- **Of a call with none the same lines are listed.**
-  pub listed_kept : (c : ℕ) (side : Side) → is_some (call_in farm.groups c) ≡ false → is_listed after.failed c side ≡ is_listed farm.failed c side
+  pub listed_kept : (c : ℕ) (side : Side) → is_some (call_in farm.calls c) ≡ false → is_listed after.failed c side ≡ is_listed farm.failed c side
   listed_kept c side none = same_test (is_listed after.failed c side) (is_listed farm.failed c side) front (listed_still c side)
     where
       front : is_listed after.failed c side ≡ true → is_listed farm.failed c side ≡ true
@@ -150,12 +121,12 @@ module _ (t n : ℕ) (b : State) (farm after : FarmMemory) (before now : ℕ →
 
   -- so an open call's incoming line is listed where it failed in the round
   pub listed_incoming : (k c : ℕ) (side : Side) → k < length farm.live → slice_index farm.live k ≡ c → IsIncoming side →
-      is_listed after.failed c side ≡ fails_in (seat_at w.filled k).place side
+      is_listed after.failed c side ≡ fails_in (seat_at w.filled k).lines side
   listed_incoming k c side l e i =
-      listed_seated k c side l e ∙ ap (λ (x : Bool). x || fails_in (seat_at w.drained k).place side) (not_listed k c side l e i) ∙ marks_kept k c side l e i
+      listed_seated k c side l e ∙ ap (λ (x : Bool). x || fails_in (seat_at w.drained k).lines side) (not_listed k c side l e i) ∙ marks_kept k c side l e i
 
   -- **An open call's outgoing lines are listed before and after the round as they stand in its seat.**
-  pub was_down : (k c : ℕ) → k < length farm.live → slice_index farm.live k ≡ c → has_failed (seat_at w.worked k).place.down ≡ is_listed farm.failed c Down
+  pub was_down : (k c : ℕ) → k < length farm.live → slice_index farm.live k ≡ c → has_failed (seat_at w.worked k).lines.down ≡ is_listed farm.failed c Down
   was_down k c l e = let s = seated k c l e in ap has_failed (worked_down _ _ _ _ _ _ _ _ s.facts.front) ∙ back s.call.down_failed
       ∙ (knows.calls c s.call s.called).0
     where
@@ -163,7 +134,7 @@ module _ (t n : ℕ) (b : State) (farm after : FarmMemory) (before now : ℕ →
       back true = refl
       back false = refl
 
-  pub was_out : (k c : ℕ) → k < length farm.live → slice_index farm.live k ≡ c → has_failed (seat_at w.worked k).place.out ≡ is_listed farm.failed c Out
+  pub was_out : (k c : ℕ) → k < length farm.live → slice_index farm.live k ≡ c → has_failed (seat_at w.worked k).lines.out ≡ is_listed farm.failed c Out
   was_out k c l e = let s = seated k c l e in ap has_failed (worked_out _ _ _ _ _ _ _ _ s.facts.front) ∙ back s.call.out_failed
       ∙ (knows.calls c s.call s.called).1
     where
@@ -172,17 +143,17 @@ module _ (t n : ℕ) (b : State) (farm after : FarmMemory) (before now : ℕ →
       back false = refl
 
   -- and behind it
-  pub stands_down : (k c : ℕ) → k < length farm.live → slice_index farm.live k ≡ c → has_failed (seat_at w.drained k).place.down ≡ is_listed after.failed c Down
+  pub stands_down : (k c : ℕ) → k < length farm.live → slice_index farm.live k ≡ c → has_failed (seat_at w.drained k).lines.down ≡ is_listed after.failed c Down
   stands_down k c l e =
       let s = seated k c l e in
-      stands_is s.call.down_failed _ _ _ (seat_at w.drained k).place.down _ (worked_down _ _ _ _ _ _ _ _ s.facts.front) s.facts.drains.down
-      ∙ ap (λ (x : Bool). x || fails_now (seat_at w.drained k).place.down) (knows.calls c s.call s.called).0 ∙ sym (listed_seated k c Down l e)
+      stands_is s.call.down_failed _ _ _ (seat_at w.drained k).lines.down _ (worked_down _ _ _ _ _ _ _ _ s.facts.front) s.facts.drains.down
+      ∙ ap (λ (x : Bool). x || fails_now (seat_at w.drained k).lines.down) (knows.calls c s.call s.called).0 ∙ sym (listed_seated k c Down l e)
 
-  pub stands_out : (k c : ℕ) → k < length farm.live → slice_index farm.live k ≡ c → has_failed (seat_at w.drained k).place.out ≡ is_listed after.failed c Out
+  pub stands_out : (k c : ℕ) → k < length farm.live → slice_index farm.live k ≡ c → has_failed (seat_at w.drained k).lines.out ≡ is_listed after.failed c Out
   stands_out k c l e =
       let s = seated k c l e in
-      stands_is s.call.out_failed _ _ _ (seat_at w.drained k).place.out _ (worked_out _ _ _ _ _ _ _ _ s.facts.front) s.facts.drains.out
-      ∙ ap (λ (x : Bool). x || fails_now (seat_at w.drained k).place.out) (knows.calls c s.call s.called).1 ∙ sym (listed_seated k c Out l e)
+      stands_is s.call.out_failed _ _ _ (seat_at w.drained k).lines.out _ (worked_out _ _ _ _ _ _ _ _ s.facts.front) s.facts.drains.out
+      ∙ ap (λ (x : Bool). x || fails_now (seat_at w.drained k).lines.out) (knows.calls c s.call s.called).1 ∙ sym (listed_seated k c Out l e)
 
   -- **Where the round's octets are held back, no outgoing line more is listed.**
   pub listed_back : w.held ≡ true → (c : ℕ) (side : Side) → IsOutgoing side → is_listed after.failed c side ≡ is_listed farm.failed c side
@@ -196,23 +167,23 @@ module _ (t n : ℕ) (b : State) (farm after : FarmMemory) (before now : ℕ →
 
       by : (side : Side) → IsOutgoing side → (k : ℕ) → k < length farm.live → slice_index farm.live k ≡ c →
           is_listed after.failed c side ≡ is_listed farm.failed c side
-      by Down i k l e = sym (stands_down k c l e) ∙ ap (λ (x : SeatMemory). has_failed x.place.down) (same k) ∙ was_down k c l e
-      by Out i k l e = sym (stands_out k c l e) ∙ ap (λ (x : SeatMemory). has_failed x.place.out) (same k) ∙ was_out k c l e
+      by Down i k l e = sym (stands_down k c l e) ∙ ap (λ (x : SeatMemory). has_failed x.lines.down) (same k) ∙ was_down k c l e
+      by Out i k l e = sym (stands_out k c l e) ∙ ap (λ (x : SeatMemory). has_failed x.lines.out) (same k) ∙ was_out k c l e
       by Up i k l e = absurd i
       by Pcm i k l e = absurd i
 
   -- **A line that was listed doesn't fail in the round.**
   fails_once : (k c : ℕ) (side : Side) → k < length farm.live → slice_index farm.live k ≡ c → is_listed farm.failed c side ≡ true →
-      fails_in (seat_at w.drained k).place side ≡ false
+      fails_in (seat_at w.drained k).lines side ≡ false
   fails_once k c Up l e q = absurd (true≢false (sym q ∙ not_listed k c Up l e tt))
   fails_once k c Pcm l e q = absurd (true≢false (sym q ∙ not_listed k c Pcm l e tt))
   fails_once k c Down l e q =
       let s = seated k c l e in
-      passed_over s.call.down_failed _ _ _ (seat_at w.drained k).place.down _ (worked_down _ _ _ _ _ _ _ _ s.facts.front)
+      passed_over s.call.down_failed _ _ _ (seat_at w.drained k).lines.down _ (worked_down _ _ _ _ _ _ _ _ s.facts.front)
       ((knows.calls c s.call s.called).0 ∙ q) s.facts.drains.down
   fails_once k c Out l e q =
       let s = seated k c l e in
-      passed_over s.call.out_failed _ _ _ (seat_at w.drained k).place.out _ (worked_out _ _ _ _ _ _ _ _ s.facts.front)
+      passed_over s.call.out_failed _ _ _ (seat_at w.drained k).lines.out _ (worked_out _ _ _ _ _ _ _ _ s.facts.front)
       ((knows.calls c s.call s.called).1 ∙ q) s.facts.drains.out
 
   -- **So each is listed once.**

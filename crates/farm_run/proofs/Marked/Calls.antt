@@ -68,7 +68,7 @@ entry_more s live i old new call within front is more =
     more ∙ ap (λ (xs : List MarkCall). xs ++ call ∷ []) front ∙ ap (λ (x : MarkCall). map (entry_of s) (take i live) ++ x ∷ []) is
     ∙ sym (ap (map (entry_of s)) (take_more live i 0 within) ∙ map-append (entry_of s) (take i live) (get_or live i 0 ∷ []))
 
-module _ (s : Stage) (live : (c : ℕ) → is_among s.farm.live c ≡ is_some (call_in s.farm.groups c)) (rising : IsRising s.farm.live) (stage : IsStage s) where
+module _ (s : Stage) (live : (c : ℕ) → is_among s.farm.live c ≡ is_some (call_in s.farm.calls c)) (rising : IsRising s.farm.live) (stage : IsStage s) where
   -- **Their numbers rise.**
   pub numbers_rise : NumbersRise (map (entry_of s) s.farm.live)
   numbers_rise i j d less within =
@@ -97,7 +97,7 @@ module _ (s : Stage) (live : (c : ℕ) → is_among s.farm.live c ≡ is_some (c
 
   -- ---- they are the run's
 
-  module _ (r : Run) (last : Standing) (first now : ℕ → Side → LineState) (at : IsAtClock r s.clock s.board s.farm.groups last first now)
+  module _ (r : Run) (last : Standing) (first now : ℕ → Side → LineState) (at : IsAtClock r s.clock s.board s.farm.calls last first now)
       (e : s.clock ≡ r.periods) where
     -- the executed orders
     abbrev ds : List Done

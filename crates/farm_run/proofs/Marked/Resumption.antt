@@ -46,26 +46,27 @@ use Rattle.farm_run.proofs.Lines.Telling.{there, at_end, opened_end, short_end, 
 module _ (os : List Order) (batch periods : ℕ) (first now : ℕ → Side → LineState) (u : Stage) (g : GoneTo os batch first now u) (l : u.clock ≤ periods) where
   -- a longer run is at this clock
   at_here : (r : Run) → IsRunOver os r.periods (is_listed u.farm.failed) first now r → periods ≤ r.periods →
-      IsAtClock r u.clock u.board u.farm.groups (standing u.board u.farm.failed now) first now
+      IsAtClock r u.clock u.board u.farm.calls (standing u.board u.farm.failed now) first now
   at_here r run least = g.at r (standing u.board u.farm.failed now) run (omega (arith, l, least)) (stays (standing u.board u.farm.failed now))
 
-  -- each incoming line that failed ended its call before it
+  -- the call of each incoming line that failed ended before it, by its lines
   fail_here : (r : Run) → IsRunOver os r.periods (is_listed u.farm.failed) first now r → periods ≤ r.periods → FailBefore r u.clock (is_listed u.farm.failed)
   fail_here r run least =
       let known = g.known r (standing u.board u.farm.failed now) run (omega (arith, l, least)) (stays (standing u.board u.farm.failed now)) in
       let s = g.stage in
-      fail_before r u.clock u.board u.farm.groups u.farm.failed s.clock.ends known.truly s.knows
+      fail_before r u.clock batch u.board u.farm.calls u.farm.failed s.clock.ends known.truly s.knows
+      (g.short r (standing u.board u.farm.failed now) run (omega (arith, l, least)) (stays (standing u.board u.farm.failed now)))
 
   -- **At a clock a run is cut short.**
   pub cut_here : ((r : Run) (z : Standing) → IsRunOver os r.periods z.listed first z.lines r → u.clock ≤ r.periods →
       StandingGoesOn (standing u.board u.farm.failed now) z → WrittenFrom r 0 u.clock (is_listed u.farm.failed) first now) →
       IsCutShort os periods first now
-  cut_here wrote = cut_at os periods u.clock u.board u.farm.groups u.farm.failed first now l (let s = g.stage in s.knows) g.tells g.sides g.reads at_here
+  cut_here wrote = cut_at os periods u.clock u.board u.farm.calls u.farm.failed first now l (let s = g.stage in s.knows) g.tells g.sides g.reads at_here
       (λ r run least. wrote r (standing u.board u.farm.failed now) run (omega (arith, l, least)) (stays (standing u.board u.farm.failed now))) fail_here
 
   -- the run to there is at this clock
   at_last : (r : Run) → IsRunOver os periods (is_listed u.farm.failed) first now r →
-      IsAtClock r u.clock u.board u.farm.groups (standing u.board u.farm.failed now) first now
+      IsAtClock r u.clock u.board u.farm.calls (standing u.board u.farm.failed now) first now
   at_last r run =
       let e = run.same_periods in
       at_here r (subst (λ (p : ℕ). IsRunOver os p (is_listed u.farm.failed) first now r) (sym e) run) (omega (arith, e))
@@ -77,7 +78,7 @@ module _ (os : List Order) (batch periods : ℕ) (first now : ℕ → Side → L
       cut_before os periods u.clock mark (is_over u.board) u.farm.failed first now l early g.tells g.sides g.reads back
       (λ r run. let here = at_last r run in
       let knows = (let s = g.stage in s.knows) in
-      only_opened r u.clock u.board u.farm.groups u.farm.failed here.follows.so_far knows)
+      only_opened r u.clock u.board u.farm.calls u.farm.failed here.follows.so_far knows)
       (λ r run. (at_last r run).lines)
       (λ r run. let e = run.same_periods in
       fail_here r (subst (λ (p : ℕ). IsRunOver os p (is_listed u.farm.failed) first now r) (sym e) run) (omega (arith, e)))
@@ -89,7 +90,7 @@ module _ (os : List Order) (batch periods : ℕ) (first now : ℕ → Side → L
       StandingGoesOn (standing u.board u.farm.failed now) z → WrittenFrom r mark.period u.clock (is_listed u.farm.failed) first now) →
       IsResumeCutShort os periods mark first now
   cut_written mark behind same wrote =
-      cut_behind os periods mark u.clock u.board u.farm.groups u.farm.failed first now behind l (let s = g.stage in s.knows) g.tells g.sides g.reads same
+      cut_behind os periods mark u.clock u.board u.farm.calls u.farm.failed first now behind l (let s = g.stage in s.knows) g.tells g.sides g.reads same
       at_here
       (λ r run least. wrote r (standing u.board u.farm.failed now) run (omega (arith, l, least)) (stays (standing u.board u.farm.failed now))) fail_here
 
@@ -126,7 +127,7 @@ unbegun_cut os periods mark lines =
 module _ (os : List Order) (pace : Pace) (mark : MarkView) (o : Outgoing) (s m : Stage) (first mid : ℕ → Side → LineState) (begins : IsFirstStage os o s)
     (held : is_held o ≡ true) (summed : is_summed o ≡ true)
     (none : (c : ℕ) (side : Side) → sum_to o c side ≡ 0) (come : Reaches pace.batch s m first mid) (e : m.clock ≡ mark.period)
-    (live : (c : ℕ) → is_among m.farm.live c ≡ is_some (call_in m.farm.groups c)) (rising : IsRising m.farm.live) (calls : List MarkCall)
+    (live : (c : ℕ) → is_among m.farm.live c ≡ is_some (call_in m.farm.calls c)) (rising : IsRising m.farm.live) (calls : List MarkCall)
     (entries : calls ≡ map (entry_of m) m.farm.live) where
   -- the run to the mark's period
   g : GoneTo os pace.batch first mid m
@@ -151,8 +152,8 @@ module _ (os : List Order) (pace : Pace) (mark : MarkView) (o : Outgoing) (s m :
     unwritten = back.lines;
     differs = λ r run. subst (λ (xs : List MarkCall). IsLeastDifference mark.calls xs call)
         (entries ∙ marked_end os pace.batch first mid m g live rising sums r (over r run)) least;
-    up_read = λ r run. up_rest r m.board m.farm.groups m.farm.failed first mid (at_end os pace.batch first mid m g r (over r run));
-    pcm_read = λ r run. pcm_rest r m.board m.farm.groups m.farm.failed first mid (at_end os pace.batch first mid m g r (over r run));
+    up_read = λ r run. up_rest r m.board m.farm.calls m.farm.failed first mid (at_end os pace.batch first mid m g r (over r run));
+    pcm_read = λ r run. pcm_rest r m.board m.farm.calls m.farm.failed first mid (at_end os pace.batch first mid m g r (over r run));
     others = λ r run. let here = at_end os pace.batch first mid m g r (over r run) in here.lines.others;
     opened = λ r run. opened_end os pace.batch first mid m g r (over r run);
     short = λ r run. short_end os pace.batch first mid m g r (over r run);
@@ -234,7 +235,7 @@ module _ (os : List Order) (pace : Pace) (mark : MarkView) (o : Outgoing) (s m :
     -- **A resumed run that came to its last period leaves and reports what the run of the definition gives behind the mark.**
     pub resumes_told : mark.calls ≡ calls → u.clock ≡ max mark.period pace.periods → (count : ℕ) → count ≡ length os → (report : ReportView) →
         report.failed ≡ u.farm.failed →
-        ((r : Run) (t : ℕ) → IsAtEnd r t u.board u.farm.groups u.farm.tallies u.journal → r.periods ≡ max mark.period pace.periods → length r.orders ≡ count →
+        ((r : Run) (t : ℕ) → IsAtEnd r t u.board u.farm.calls u.farm.tallies u.journal → r.periods ≡ max mark.period pace.periods → length r.orders ≡ count →
         report ≡ report_of r report.failed) →
         ResumesRun os pace mark first now report
     resumes_told same eu count number report f told = record {
@@ -244,7 +245,7 @@ module _ (os : List Order) (pace : Pace) (mark : MarkView) (o : Outgoing) (s m :
       leaves = λ r run.
           let is = over r run in
           subst (λ (ls : List Line). LeavesFrom r mark.period (is_listed ls) first now) (sym f)
-          (leaves_from r u.board u.farm.groups u.farm.failed first now (at_end os pace.batch first now u gone_on r is) mark.period
+          (leaves_from r u.board u.farm.calls u.farm.failed first now (at_end os pace.batch first now u gone_on r is) mark.period
           (wrote_end os pace.batch first now u gone_on mark.period wrote_on r is));
       reports = λ r run. report_end os pace.batch first now u gone_on count report number (λ r t end p. told r t end (p ∙ eu)) r (over r run);
       same_mark = λ r run. sym (same ∙ entries ∙ at_mark r (subst (λ (ls : List Line). IsRunOver os mark.period (is_listed ls) first now r) f run));

@@ -19,7 +19,7 @@ use Rattle.switchboard.specs.State.{State, done_by}
 use Rattle.switchboard.specs.Open.{opened_now, open_now, partner_now, opened_after, open_after, Finds}
 use Rattle.switchboard.proofs.Appending.{or_else, after}
 use Rattle.switchboard.proofs.Steps.{closed-more}
-use Rattle.farm_rounds.specs.declared.call.Group.{Group}
+use Rattle.farm_rounds.specs.Calls.{Kept}
 use Rattle.farm_rounds.specs.declared.tally.Tally.{Tally}
 use Rattle.farm_rounds.specs.Memory.{tally_in}
 use Rattle.farm_rounds.specs.Histories.{CallHistory, kept_of, tally_of, tallies_after}
@@ -45,8 +45,8 @@ use Rattle.farm_run.proofs.Noted.Bridging.{noted_bridged}
 use Rattle.farm_run.proofs.Noted.Rounds.{kept_at_end, open_not_ended}
 use Rattle.farm_run.proofs.Noted.Orders as ordered
 
-module _ (r : Run) (t : ℕ) (s n : State) (reply : Reply) (groups groups' : List Group) (due : Due s t reply n) (under : t < r.periods)
-    (f : FollowsRun r t s groups) (g : FollowsRun r t n groups') where
+module _ (r : Run) (t : ℕ) (s n : State) (reply : Reply) (calls calls' : List Kept) (due : Due s t reply n) (under : t < r.periods)
+    (f : FollowsRun r t s calls) (g : FollowsRun r t n calls') where
   -- the order, executed
   abbrev d : Done
   d = done_by s due.order
@@ -61,42 +61,42 @@ module _ (r : Run) (t : ℕ) (s n : State) (reply : Reply) (groups groups' : Lis
 
   -- what it leaves
   done_is : n.done ≡ s.done ++ d ∷ []
-  done_is = ordered.done_is r t s n reply groups groups' due under f g
+  done_is = ordered.done_is r t s n reply calls calls' due under f g
 
   bridges_are : bridges n.done ≡ map (after d) (bridges s.done) ++ bridge_by d.order.stamp d.result []
-  bridges_are = ordered.bridges_are r t s n reply groups groups' due under f g
+  bridges_are = ordered.bridges_are r t s n reply calls calls' due under f g
 
   start_stays : (c : ℕ) → is_opened s.done c ≡ true → start_of n.done c ≡ start_of s.done c
-  start_stays = ordered.start_stays r t s n reply groups groups' due under f g
+  start_stays = ordered.start_stays r t s n reply calls calls' due under f g
 
   no_more : (x : Result Act Refusal) → d.result ≡ x → bridge_by d.order.stamp x [] ≡ [] → SameSides (bridges n.done) (bridges s.done)
-  no_more = ordered.no_more r t s n reply groups groups' due under f g
+  no_more = ordered.no_more r t s n reply calls calls' due under f g
 
   -- who has ended, who is open, and what an open call has had
   ended_was : (c : ℕ) → ended_at r s.done t c ≡ (opened_now s c && not (open_now s c))
-  ended_was = ordered.ended_was r t s n reply groups groups' due under f g
+  ended_was = ordered.ended_was r t s n reply calls calls' due under f g
 
   ended_is : (c : ℕ) → ended_at r n.done t c ≡ (opened_now n c && not (open_now n c))
-  ended_is = ordered.ended_is r t s n reply groups groups' due under f g
+  ended_is = ordered.ended_is r t s n reply calls calls' due under f g
 
   open_there : (c : ℕ) → open_now s c ≡ true → is_open (gone_at (whole_in r) t s.done) s.done c ≡ true
-  open_there = ordered.open_there r t s n reply groups groups' due under f g
+  open_there = ordered.open_there r t s n reply calls calls' due under f g
 
   history_is : (c : ℕ) (kept : Tally) → open_now s c ≡ true → kept_of (h c) kept ≡ tally_of (periods_to r c (t - start_of s.done c)) (settings_now r s.done t c)
-  history_is = ordered.history_is r t s n reply groups groups' due under f g
+  history_is = ordered.history_is r t s n reply calls calls' due under f g
 
   -- an order that changes nothing
   noted_quiet : (x : Result Act Refusal) (j : JournalMemory) (tallies tallies' : List Tally) → reply.result ≡ x → bridge_by due.order.stamp x [] ≡ [] →
       ((c : ℕ) → opened_now n c ≡ opened_now s c) → ((c : ℕ) → open_now n c ≡ open_now s c) →
       ((c : ℕ) → tally_in tallies' c ≡ tally_in tallies c) → Noted r s.done t j tallies → Noted r n.done t j tallies'
-  noted_quiet = ordered.noted_quiet r t s n reply groups groups' due under f g
+  noted_quiet = ordered.noted_quiet r t s n reply calls calls' due under f g
 
   module _ (j : JournalMemory) (tallies tallies' : List Tally) (noted : Noted r s.done t j tallies) where
     -- a call is opened
     opens_call : (m : ℕ) (law : Law) → d.result ≡ Ok (act.Opened m law) → Finds (act.Opened m law) (opened_now s) (open_now s) (partner_now s) →
         ((c : ℕ) → opened_now n c ≡ (c == m || opened_now s c)) → ((c : ℕ) → open_now n c ≡ (c == m || open_now s c)) →
         ((c : ℕ) → tally_in tallies' c ≡ tally_in tallies c) → Noted r n.done t (with_opening m t j) tallies'
-    opens_call = ordered.opens_call r t s n reply groups groups' due under f g j tallies tallies' noted
+    opens_call = ordered.opens_call r t s n reply calls calls' due under f g j tallies tallies' noted
 
     -- **A call is closed.**
     closes_call : (m : ℕ) (p : Option ℕ) → d.result ≡ Ok (act.Closed m p) → open_now s m ≡ true → ((c : ℕ) → opened_now n c ≡ opened_now s c) →

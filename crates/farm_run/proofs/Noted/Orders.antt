@@ -19,7 +19,7 @@ use Rattle.switchboard.specs.Ends.{start_of}
 use Rattle.switchboard.specs.State.{State, done_by}
 use Rattle.switchboard.specs.Open.{opened_now, open_now, partner_now, Finds}
 use Rattle.switchboard.proofs.Appending.{after, bridges-more}
-use Rattle.farm_rounds.specs.declared.call.Group.{Group}
+use Rattle.farm_rounds.specs.Calls.{Kept}
 use Rattle.farm_rounds.specs.declared.tally.Tally.{Tally}
 use Rattle.farm_rounds.specs.Memory.{tally_in}
 use Rattle.farm_rounds.specs.Histories.{CallHistory, kept_of, tally_of}
@@ -39,8 +39,8 @@ use Rattle.farm_run.proofs.Listed.Tests.{no}
 use Rattle.farm_run.proofs.Noted.Noting.{SameSides, after_sides, noted_ordered, noted_same}
 use Rattle.farm_run.proofs.Noted.Opened.{noted_opened}
 
-module _ (r : Run) (t : ℕ) (s n : State) (reply : Reply) (groups groups' : List Group) (due : Due s t reply n) (under : t < r.periods)
-    (f : FollowsRun r t s groups) (g : FollowsRun r t n groups') where
+module _ (r : Run) (t : ℕ) (s n : State) (reply : Reply) (calls calls' : List Kept) (due : Due s t reply n) (under : t < r.periods)
+    (f : FollowsRun r t s calls) (g : FollowsRun r t n calls') where
   -- the order, executed
   abbrev d : Done
   d = done_by s due.order

@@ -13,9 +13,8 @@ use Rattle.switchboard.specs.Runs.{IsRun, TellsEnds}
 use Rattle.switchboard.specs.Ends.{start_of}
 use Rattle.switchboard.specs.State.{State, gone_in, done_by}
 use Rattle.switchboard.specs.Open.{opened_now, open_now, partner_now, open_after, Finds, law_now, law_after}
-use Rattle.farm_rounds.specs.declared.call.Group.{Group}
-use Rattle.farm_rounds.specs.Histories.{CallHistory, CallStands, GroupsStand, histories_after, NoneWaits, NoneDrains}
-use Rattle.farm_rounds.specs.Calls.{call_in, partner_in}
+use Rattle.farm_rounds.specs.Histories.{CallHistory, CallStands, CallsStand, histories_after, NoneWaits, NoneDrains}
+use Rattle.farm_rounds.specs.Calls.{Kept, call_in, partner_in}
 use Rattle.call_leg.specs.Periods.{CallPeriod}
 use Rattle.call_leg.specs.Settings.{Settings, new_settings}
 use Rattle.run_spec.specs.Run.{Run, whole_in, periods_to, law_in}
@@ -40,9 +39,9 @@ past_same false false l ts ts' now now' q e f = refl
 past_same true false l ts ts' now now' q e f = cc
 past_same false true l ts ts' now now' q e f = cc
 
--- the groups stand for histories that are the same for each call
-stand_same : (h k : ℕ → Option CallHistory) (groups : List Group) → ((c : ℕ) → h c ≡ k c) → GroupsStand h groups → GroupsStand k groups
-stand_same h k groups e g = λ c. subst (λ x. CallStands c x (call_in groups c) (partner_in groups c)) (e c) (g c)
+-- the calls stand for histories that are the same for each call
+stand_same : (h k : ℕ → Option CallHistory) (calls : List Kept) → ((c : ℕ) → h c ≡ k c) → CallsStand h calls → CallsStand k calls
+stand_same h k calls e g = λ c. subst (λ x. CallStands c x (call_in calls c) (partner_in calls c)) (e c) (g c)
 
 -- the act that opens a call, or another one
 cases_act : (a : Act) (c : ℕ) → ((law : Law) × (a ≡ act.Opened c law)) ⊎ ((n : ℕ) (law : Law) → a ≡ act.Opened n law → n ≡ c → ⊥)
@@ -59,8 +58,8 @@ cases_act (act.Unbridged a b) c = inr (λ m law e f. cc)
 cases_act (act.LevelSet n level) c = inr (λ m law e f. cc)
 cases_act (act.DtxSet n mode) c = inr (λ m law e f. cc)
 
-module _ (r : Run) (t : ℕ) (s n : State) (reply : Reply) (groups : List Group) (due : Due s t reply n) (under : t < r.periods) (run : IsRun (whole_in r) n.done)
-    (f : FollowsRun r t s groups) where
+module _ (r : Run) (t : ℕ) (s n : State) (reply : Reply) (calls : List Kept) (due : Due s t reply n) (under : t < r.periods) (run : IsRun (whole_in r) n.done)
+    (f : FollowsRun r t s calls) where
   -- the order, executed
   abbrev d : Done
   d = done_by s due.order
@@ -100,7 +99,7 @@ module _ (r : Run) (t : ℕ) (s n : State) (reply : Reply) (groups : List Group)
       ]
 
   -- **A refused order.**
-  pub follows_same : (e : Refusal) → reply.result ≡ Err e → ((c : ℕ) → open_now n c ≡ open_now s c) → FollowsRun r t n groups
+  pub follows_same : (e : Refusal) → reply.result ≡ Err e → ((c : ℕ) → open_now n c ≡ open_now s c) → FollowsRun r t n calls
   follows_same e refused same =
       let res : d.result ≡ Err e = sym due.result ∙ refused in
       let never : (c : ℕ) (law : Law) → d.result ≡ Ok (act.Opened c law) → ⊥ = λ c law q. cc in
@@ -109,7 +108,7 @@ module _ (r : Run) (t : ℕ) (s n : State) (reply : Reply) (groups : List Group)
       record {
         so_far = far;
         tells = tells;
-        stands = stand_same (histories_at r s.done t) (histories_at r n.done t) groups
+        stands = stand_same (histories_at r s.done t) (histories_at r n.done t) calls
             (λ c. past_same _ _ (law_in r c) _ _ _ _ (sym (open_told (whole_in r) t s f.tells c) ∙ sym (same c) ∙ open_told (whole_in r) t n tells c)
             (λ o. ap (λ b. periods_to r c (t - b)) (start_kept c (never c) o))
             (ap (λ x. changed_by c x (settings_now r s.done t c)) (sym res) ∙ sym (settings_is c))) f.stands;
@@ -209,11 +208,11 @@ module _ (r : Run) (t : ℕ) (s n : State) (reply : Reply) (groups : List Group)
         by (act.DtxSet c mode) q g = tt
 
     -- **So farm and board follow the run behind the order, if the act carries histories over.**
-    pub follows_more : (groups' : List Group) →
-        ((h : ℕ → Option CallHistory) → NoneDrains a h → GroupsStand h groups → GroupsStand (histories_after a h) groups') → FollowsRun r t n groups'
-    follows_more groups' carries = record {
+    pub follows_more : (calls' : List Kept) →
+        ((h : ℕ → Option CallHistory) → NoneDrains a h → CallsStand h calls → CallsStand (histories_after a h) calls') → FollowsRun r t n calls'
+    follows_more calls' carries = record {
       so_far = far;
       tells = tells;
-      stands = stand_same (histories_after a (histories_at r s.done t)) (histories_at r n.done t) groups' same_history
+      stands = stand_same (histories_after a (histories_at r s.done t)) (histories_at r n.done t) calls' same_history
           (carries (histories_at r s.done t) none_drains f.stands);
     }

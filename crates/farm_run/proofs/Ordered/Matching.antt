@@ -8,10 +8,8 @@ use Rattle.switchboard.specs.Calls.{is_this, closed_at}
 use Rattle.switchboard.specs.Replies.{IsInRange}
 use Rattle.switchboard.specs.State.{State, gone_in}
 use Rattle.switchboard.specs.Open.{opened_now, open_now, partner_now, open_after, partner_after, Finds}
-use Rattle.farm_rounds.specs.declared.call.Call.{Call}
-use Rattle.farm_rounds.specs.declared.call.Group.{Group}
 use Rattle.call_number.specs.CallNumber.{IsCallNumber}
-use Rattle.farm_rounds.specs.Calls.{call_in, partner_in}
+use Rattle.farm_rounds.specs.Calls.{Call, Kept, call_in, partner_in}
 use Rattle.farm_rounds.specs.Acts.{new_call, bridged_call, parted, set_by, changed, freed, calls_after, partners_after, ActFits}
 use Rattle.farm_run.specs.Match.{Matches, AreNumbers}
 
@@ -32,13 +30,13 @@ pub unopened : (b : State) (c : ℕ) → opened_now b c ≡ false → open_now b
 unopened b c e = ap (λ t. t && not (is_some (closed_at c b.done)) && not (gone_in b c)) e
 
 -- an accepted order fits the farm
-pub fits : (b : State) (groups : List Group) (a : Act) → Matches b groups → Finds a (opened_now b) (open_now b) (partner_now b) → IsInRange a → ActFits groups a
-fits b groups (act.Opened c law) m f r = ((omega (arith, r.0), omega (arith, r.1)), none_some _ (m.is_open c ∙ unopened b c f.1))
-fits b groups (act.Closed c p) m f r = (m.is_open c ∙ f.0, m.partner c ∙ f.1)
-fits b groups (act.Bridged a d) m f r = (f.0, m.is_open a ∙ f.1.0, m.is_open d ∙ f.1.1, m.partner a ∙ f.2.0, m.partner d ∙ f.2.1)
-fits b groups (act.Unbridged a d) m f r = m.partner a ∙ f.1.0
-fits b groups (act.LevelSet c level) m f r = (m.is_open c ∙ f, r)
-fits b groups (act.DtxSet c mode) m f r = m.is_open c ∙ f
+pub fits : (b : State) (calls : List Kept) (a : Act) → Matches b calls → Finds a (opened_now b) (open_now b) (partner_now b) → IsInRange a → ActFits calls a
+fits b calls (act.Opened c law) m f r = ((omega (arith, r.0), omega (arith, r.1)), none_some _ (m.is_open c ∙ unopened b c f.1))
+fits b calls (act.Closed c p) m f r = (m.is_open c ∙ f.0, m.partner c ∙ f.1)
+fits b calls (act.Bridged a d) m f r = (f.0, m.is_open a ∙ f.1.0, m.is_open d ∙ f.1.1, m.partner a ∙ f.2.0, m.partner d ∙ f.2.1)
+fits b calls (act.Unbridged a d) m f r = m.partner a ∙ f.1.0
+fits b calls (act.LevelSet c level) m f r = (m.is_open c ∙ f, r)
+fits b calls (act.DtxSet c mode) m f r = m.is_open c ∙ f
 
 -- ---- who is open after an order
 
@@ -187,30 +185,30 @@ numbered b (act.LevelSet n level) f h c e = h c e
 numbered b (act.DtxSet n mode) f h c e = h c e
 
 -- **An accepted order keeps the board and the farm together.**
-pub matches_more : (b b' : State) (groups groups' : List Group) (a : Act) → Matches b groups → Finds a (opened_now b) (open_now b) (partner_now b) →
+pub matches_more : (b b' : State) (calls calls' : List Kept) (a : Act) → Matches b calls → Finds a (opened_now b) (open_now b) (partner_now b) →
     ((c : ℕ) → open_now b' c ≡ open_after a (open_now b) c) → ((c : ℕ) → partner_now b' c ≡ partner_after a (partner_now b) c) →
-    ((c : ℕ) → call_in groups' c ≡ calls_after a (call_in groups) c) →
-    ((c : ℕ) → partner_in groups' c ≡ partners_after a (partner_in groups) c) → Matches b' groups'
-matches_more b b' groups groups' a m f o p c q = record {
-  is_open = λ n. ap is_some (c n) ∙ live_after a (call_in groups) n ∙ open_same a (λ n. is_some (call_in groups n)) (open_now b) m.is_open n ∙ sym (o n);
-  partner = λ n. q n ∙ partners_by a (partner_in groups) n ∙ partner_same a (partner_in groups) (partner_now b) m.partner n ∙ sym (p n);
+    ((c : ℕ) → call_in calls' c ≡ calls_after a (call_in calls) c) →
+    ((c : ℕ) → partner_in calls' c ≡ partners_after a (partner_in calls) c) → Matches b' calls'
+matches_more b b' calls calls' a m f o p c q = record {
+  is_open = λ n. ap is_some (c n) ∙ live_after a (call_in calls) n ∙ open_same a (λ n. is_some (call_in calls n)) (open_now b) m.is_open n ∙ sym (o n);
+  partner = λ n. q n ∙ partners_by a (partner_in calls) n ∙ partner_same a (partner_in calls) (partner_now b) m.partner n ∙ sym (p n);
   number = λ n e. numbered b a f m.number n (sym (o n) ∙ e);
 }
 
 -- so does a refused one
-pub matches_same : (b b' : State) (groups : List Group) → Matches b groups → ((c : ℕ) → open_now b' c ≡ open_now b c) →
-    ((c : ℕ) → partner_now b' c ≡ partner_now b c) → Matches b' groups
-matches_same b b' groups m o p = record {
+pub matches_same : (b b' : State) (calls : List Kept) → Matches b calls → ((c : ℕ) → open_now b' c ≡ open_now b c) →
+    ((c : ℕ) → partner_now b' c ≡ partner_now b c) → Matches b' calls
+matches_same b b' calls m o p = record {
   is_open = λ n. m.is_open n ∙ sym (o n);
   partner = λ n. m.partner n ∙ sym (p n);
   number = λ n e. m.number n (sym (o n) ∙ e);
 }
 
 -- what an accepted order names is in range
-pub named : (b : State) (groups : List Group) (a : Act) → Matches b groups → Finds a (opened_now b) (open_now b) (partner_now b) → AreNumbers a
-named b groups (act.Opened c law) m f = (omega (arith, f.0.0), omega (arith, f.0.1))
-named b groups (act.Bridged a d) m f = (m.number a f.1.0, m.number d f.1.1)
-named b groups (act.Closed c p) m f = m.number c f.0
-named b groups (act.Unbridged a d) m f = tt
-named b groups (act.LevelSet c level) m f = tt
-named b groups (act.DtxSet c mode) m f = tt
+pub named : (b : State) (calls : List Kept) (a : Act) → Matches b calls → Finds a (opened_now b) (open_now b) (partner_now b) → AreNumbers a
+named b calls (act.Opened c law) m f = (omega (arith, f.0.0), omega (arith, f.0.1))
+named b calls (act.Bridged a d) m f = (m.number a f.1.0, m.number d f.1.1)
+named b calls (act.Closed c p) m f = m.number c f.0
+named b calls (act.Unbridged a d) m f = tt
+named b calls (act.LevelSet c level) m f = tt
+named b calls (act.DtxSet c mode) m f = tt

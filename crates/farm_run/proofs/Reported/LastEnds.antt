@@ -18,11 +18,11 @@ use Rattle.switchboard.specs.Open.{open_now}
 use Rattle.farm_report.specs.declared.report.CallLine.{CallLine}
 use Rattle.farm_report.specs.declared.report.SpanLine.{SpanLine}
 use Rattle.farm_report.specs.View.{ReportView}
-use Rattle.farm_rounds.specs.declared.call.Group.{Group}
+use Rattle.farm_rounds.specs.Calls.{Kept}
 use Rattle.farm_rounds.specs.declared.tally.Tally.{Tally}
 use Rattle.farm_rounds.specs.Memory.{tally_in}
 use Rattle.farm_rounds.specs.Numbers.{IsRising, is_among}
-use Rattle.farm_rounds.specs.Histories.{CallHistory, GroupsStand, kept_of}
+use Rattle.farm_rounds.specs.Histories.{CallHistory, CallsStand, kept_of}
 use Rattle.run_spec.specs.Run.{Run, given_in, whole_in, done_in, periods_to, law_in}
 use Rattle.run_spec.specs.Facts.{report_of}
 use Rattle.run_spec.specs.Now.{IsSoFar, settings_now}
@@ -58,8 +58,8 @@ all_among P calls h = All-from_recursion P calls (each_among P calls h)
 
 -- ---- the calls that are open
 
-module _ (r : Run) (t : ℕ) (b : State) (groups : List Group) (tallies : List Tally) (j : JournalMemory) (end : IsAtEnd r t b groups tallies j) (calls : List ℕ)
-    (among : (c : ℕ) → is_among calls c ≡ open_now b c) where
+module _ (r : Run) (t : ℕ) (b : State) (calls : List Kept) (tallies : List Tally) (j : JournalMemory) (end : IsAtEnd r t b calls tallies j) (live : List ℕ)
+    (among : (c : ℕ) → is_among live c ≡ open_now b c) where
   -- the run so far
   abbrev so : IsSoFar r t b.done b.left
   so = let follows = end.follows in follows.so_far
@@ -70,14 +70,14 @@ module _ (r : Run) (t : ℕ) (b : State) (groups : List Group) (tallies : List T
 
   -- the ends that the run's end makes
   abbrev last : List CallEnd
-  last = map (limit_at r.periods) calls
+  last = map (limit_at r.periods) live
 
   -- they are open by the definition too
-  open_is : (c : ℕ) → is_open (gone_at (whole_in r) t b.done) b.done c ≡ is_among calls c
+  open_is : (c : ℕ) → is_open (gone_at (whole_in r) t b.done) b.done c ≡ is_among live c
   open_is c = let follows = end.follows in sym (open_told (whole_in r) t b follows.tells c) ∙ sym (among c)
 
   -- the run's end is theirs
-  limit_is : (c : ℕ) → is_among calls c ≡ true → call_end_in r c ≡ limit_at r.periods c
+  limit_is : (c : ℕ) → is_among live c ≡ true → call_end_in r c ≡ limit_at r.periods c
   limit_is c q =
       let at = open_at r t b.done c (standing_now r t b.done b.left so) (open_is c ∙ q) in
       let clock = end.clock c (sym (among c) ∙ q) in
@@ -87,14 +87,14 @@ module _ (r : Run) (t : ℕ) (b : State) (groups : List Group) (tallies : List T
 
   -- each is the run's end of a call that hasn't ended before
   pub each_last : AllByRecursion (λ e. (ended_at r b.done t e.call ≡ false) × (e ≡ call_end_in r e.call)) last
-  each_last = each_map (IsNewEnd r (ended_at r b.done t)) (limit_at r.periods) calls
-      (each_among (λ c. IsNewEnd r (ended_at r b.done t) (limit_at r.periods c)) calls
+  each_last = each_map (IsNewEnd r (ended_at r b.done t)) (limit_at r.periods) live
+      (each_among (λ c. IsNewEnd r (ended_at r b.done t) (limit_at r.periods c)) live
       (λ c q. ((open_not_ended r t b.done c (open_is c ∙ q)).0, sym (limit_is c q))))
 
   -- what is kept of them is what was counted so far
   kept_is : (c : ℕ) → is_told c last ≡ true → IsKept r j.calls c (kept_in tallies (histories_at r b.done t) c)
   kept_is c q =
-      let k = sym (limits_told r.periods c calls) ∙ q in
+      let k = sym (limits_told r.periods c live) ∙ q in
       let o = open_is c ∙ k in
       let noted = end.noted in
       let places = noted.places in
@@ -106,16 +106,16 @@ module _ (r : Run) (t : ℕ) (b : State) (groups : List Group) (tallies : List T
   -- of other calls what was kept stays
   kept_same : (c : ℕ) → is_told c last ≡ false → kept_in tallies (histories_at r b.done t) c ≡ tally_in tallies c
   kept_same c q = ap (λ (s : Bool). kept_of (past_if s (law_in r c) (periods_to r c (t - start_of b.done c)) (settings_now r b.done t c)) (tally_in tallies c))
-      (open_is c ∙ sym (limits_told r.periods c calls) ∙ q)
+      (open_is c ∙ sym (limits_told r.periods c live) ∙ q)
 
   -- **Then all calls that were opened have ended, and what is noted of them is right.**
-  noted_last : IsRising calls → IsNoted r b.done (is_opened b.done) (with_ends last j) (kept_in tallies (histories_at r b.done t))
+  noted_last : IsRising live → IsNoted r b.done (is_opened b.done) (with_ends last j) (kept_in tallies (histories_at r b.done t))
   noted_last rising =
       noted_same r b.done (λ c. ended_at r b.done t c || is_told c last) (is_opened b.done) (with_ends last j) (kept_in tallies (histories_at r b.done t))
       (kept_in tallies (histories_at r b.done t))
       (noted_ends r b.done (ended_at r b.done t) j (tally_in tallies) (kept_in tallies (histories_at r b.done t)) last end.noted each_last
-      (limits_apart r.periods calls rising) kept_is kept_same)
-      (λ c. sym (ap (λ (s : Bool). ended_at r b.done t c || s) (limits_told r.periods c calls ∙ sym (open_is c))
+      (limits_apart r.periods live rising) kept_is kept_same)
+      (λ c. sym (ap (λ (s : Bool). ended_at r b.done t c || s) (limits_told r.periods c live ∙ sym (open_is c))
       ∙ all (is_opened b.done c) (is_open (gone_at (whole_in r) t b.done) b.done c) (λ o. (open_not_ended r t b.done c o).1))) (λ c. refl)
     where
       all : (o l : Bool) → (l ≡ true → o ≡ true) → ((o && not l) || l) ≡ o
@@ -138,13 +138,13 @@ module _ (r : Run) (t : ℕ) (b : State) (groups : List Group) (tallies : List T
       all : done_in r ≡ now.done
       all = all_done r t b.done b.left so end.none_left ∙ sym done_is
 
-      live : told_in now c ≡ None → open_now now c ≡ true
-      live q =
+      untold : told_in now c ≡ None → open_now now c ≡ true
+      untold q =
           ap (λ (g : Option ℕ). is_some (opened_at c now.done) && not (is_some (closed_at c now.done)) && not (is_some g)) q
           ∙ ap (λ (l : Option ℕ). is_some (opened_at c now.done) && not (is_some l) && true) l ∙ ap (λ (s : Bool). s && true && true) o
 
       by : (v : Option ℕ) → told_in now c ≡ v → told_in now c ≡ Some (ends_at (given_in r) r.periods now.done c)
-      by None q = absurd (no (open_now now c) (none c) (live q))
+      by None q = absurd (no (open_now now c) (none c) (untold q))
       by (Some at) q = q ∙ ap Some (sym (truly c at q) ∙ ap (λ (ds : List Done). ends_at (given_in r) r.periods ds c) all)
 
   -- ---- the report
@@ -166,7 +166,7 @@ module _ (r : Run) (t : ℕ) (b : State) (groups : List Group) (tallies : List T
       ∙ ap {B = ReportView} (λ (x : ℕ). record { replies = replies'; spans = spans'; calls = lines'; failed = failed; left = x }) u
 
   -- **What is reported then is the definition's report.**
-  pub reported : (now : State) (j' : JournalMemory) (report : ReportView) → IsRising calls → now ≡ told_after b last →
+  pub reported : (now : State) (j' : JournalMemory) (report : ReportView) → IsRising live → now ≡ told_after b last →
       ((c : ℕ) → open_now now c ≡ false) → j' ≡ with_ends last j →
       report.replies ≡ numbered 0 now.done → report.left ≡ length r.orders - length now.done → IsNonDecreasingBy (λ l. l.end.call) report.calls →
       IsPermutation (map (call_line j'.calls (kept_in tallies (histories_at r b.done t))) j'.ends) report.calls →
@@ -202,20 +202,20 @@ module _ (r : Run) (t : ℕ) (b : State) (groups : List Group) (tallies : List T
           omega (arith, whole, mapped, same)
 
 -- **The same of whatever the report gives.**
-pub reported_ok : {E : Type 0} (b now : State) (groups : List Group) (tallies : List Tally) (j j' : JournalMemory) (calls : List ℕ) (orders periods : ℕ)
+pub reported_ok : {E : Type 0} (b now : State) (calls : List Kept) (tallies : List Tally) (j j' : JournalMemory) (live : List ℕ) (orders periods : ℕ)
     (x : Result ReportView E) →
-    ((c : ℕ) → is_among calls c ≡ open_now b c) → IsRising calls → now ≡ told_after b (map (limit_at periods) calls) → ((c : ℕ) → open_now now c ≡ false) →
-    j' ≡ with_ends (map (limit_at periods) calls) j →
+    ((c : ℕ) → is_among live c ≡ open_now b c) → IsRising live → now ≡ told_after b (map (limit_at periods) live) → ((c : ℕ) → open_now now c ≡ false) →
+    j' ≡ with_ends (map (limit_at periods) live) j →
     IfOk x (λ v. v.replies ≡ numbered 0 now.done) → IfOk x (λ v. v.left ≡ orders - length now.done) →
     IfOk x (λ v. IsNonDecreasingBy (λ l. l.end.call) v.calls) →
-    IfOk x (λ v. (h : ℕ → Option CallHistory) → GroupsStand h groups → IsPermutation (map (call_line j'.calls (kept_in tallies h)) j'.ends) v.calls) →
-    IfOk x (λ v. (h : ℕ → Option CallHistory) (given : ℕ → Given) (last : ℕ) → GroupsStand h groups → AllEnded given last now →
+    IfOk x (λ v. (h : ℕ → Option CallHistory) → CallsStand h calls → IsPermutation (map (call_line j'.calls (kept_in tallies h)) j'.ends) v.calls) →
+    IfOk x (λ v. (h : ℕ → Option CallHistory) (given : ℕ → Given) (last : ℕ) → CallsStand h calls → AllEnded given last now →
     v.spans ≡ span_lines (spans_of given last now.done) (settled_each (kept_in tallies h) j'.ends j').bridges) →
-    IfOk x (λ v. (r : Run) (t : ℕ) → IsAtEnd r t b groups tallies j → r.periods ≡ periods → length r.orders ≡ orders → v ≡ report_of r v.failed)
-reported_ok b now groups tallies j j' calls orders periods (Err e) among rising told none noted replies left sorted lines spans = tt
-reported_ok b now groups tallies j j' calls orders periods (Ok v) among rising told none noted replies left sorted lines spans = λ r t end p o.
+    IfOk x (λ v. (r : Run) (t : ℕ) → IsAtEnd r t b calls tallies j → r.periods ≡ periods → length r.orders ≡ orders → v ≡ report_of r v.failed)
+reported_ok b now calls tallies j j' live orders periods (Err e) among rising told none noted replies left sorted lines spans = tt
+reported_ok b now calls tallies j j' live orders periods (Ok v) among rising told none noted replies left sorted lines spans = λ r t end p o.
     let follows = end.follows in
     let h = histories_at r b.done t in
-    reported r t b groups tallies j end calls among now j' v rising (told ∙ ap (λ (n : ℕ). told_after b (map (limit_at n) calls)) (sym p)) none
-    (noted ∙ ap (λ (n : ℕ). with_ends (map (limit_at n) calls) j) (sym p)) replies
+    reported r t b calls tallies j end live among now j' v rising (told ∙ ap (λ (n : ℕ). told_after b (map (limit_at n) live)) (sym p)) none
+    (noted ∙ ap (λ (n : ℕ). with_ends (map (limit_at n) live) j) (sym p)) replies
     (left ∙ ap (λ (n : ℕ). n - length now.done) (sym o)) sorted (lines h follows.stands) (spans h (given_in r) r.periods follows.stands)

@@ -9,12 +9,10 @@ use Rattle.farm_report.specs.declared.report.CallLine.{CallLine}
 use Rattle.switchboard.specs.declared.act.Span.{Span}
 use Rattle.switchboard.specs.Calls.{Done}
 use Rattle.switchboard.specs.State.{numbered}
-use Rattle.farm_rounds.specs.declared.call.Call.{Call}
-use Rattle.farm_rounds.specs.declared.call.Group.{Group}
 use Rattle.farm_rounds.specs.declared.tally.Tally.{Tally}
-use Rattle.farm_rounds.specs.Calls.{call_in, partner_in}
+use Rattle.farm_rounds.specs.Calls.{Call, Kept, call_in, partner_in}
 use Rattle.farm_rounds.specs.Memory.{tally_in}
-use Rattle.farm_rounds.specs.Histories.{CallHistory, CallStands, GroupsStand, kept_of, tally_of}
+use Rattle.farm_rounds.specs.Histories.{CallHistory, CallStands, CallsStand, kept_of, tally_of}
 use Rattle.farm_run.specs.declared.notes.Opening.{Opening}
 use Rattle.farm_run.specs.declared.notes.BridgeNote.{BridgeNote}
 use Rattle.farm_run.specs.Journal.{JournalMemory, opening_of, settled}
@@ -22,9 +20,9 @@ use Rattle.farm_run.specs.Facts.{span_lines, kept_in, call_line, settled_each}
 use Rattle.farm_run.proofs.Told.Next.{front}
 
 -- **What a farm says of an open call and of an ended one is what is kept of it.**
-pub kept_value : {X : Type 0} (f : Tally → X) (h : ℕ → Option CallHistory) (groups : List Group) (tallies : List Tally) (c : ℕ) (r : X) → GroupsStand h groups →
-    ((x : CallHistory) → h c ≡ Some x → r ≡ f (tally_of x.periods x.now)) → (call_in groups c ≡ None → r ≡ f (tally_in tallies c)) → r ≡ f (kept_in tallies h c)
-kept_value f h groups tallies c r g live ended = by (h c) refl
+pub kept_value : {X : Type 0} (f : Tally → X) (h : ℕ → Option CallHistory) (calls : List Kept) (tallies : List Tally) (c : ℕ) (r : X) → CallsStand h calls →
+    ((x : CallHistory) → h c ≡ Some x → r ≡ f (tally_of x.periods x.now)) → (call_in calls c ≡ None → r ≡ f (tally_in tallies c)) → r ≡ f (kept_in tallies h c)
+kept_value f h calls tallies c r g live ended = by (h c) refl
   where
     none_call : (x : Option Call) (p : Option ℕ) → CallStands c None x p → x ≡ None
     none_call None p s = refl
@@ -32,7 +30,7 @@ kept_value f h groups tallies c r g live ended = by (h c) refl
 
     by : (o : Option CallHistory) → h c ≡ o → r ≡ f (kept_of o (tally_in tallies c))
     by (Some x) q = live x q
-    by None q = ended (none_call (call_in groups c) (partner_in groups c) (subst (λ o. CallStands c o (call_in groups c) (partner_in groups c)) q (g c)))
+    by None q = ended (none_call (call_in calls c) (partner_in calls c) (subst (λ o. CallStands c o (call_in calls c) (partner_in calls c)) q (g c)))
 
 -- **One call's line more.**
 pub line_more : (ends xs : List CallEnd) (calls : List Opening) (kept : ℕ → Tally) (i : ℕ) (e : CallEnd) (from : ℕ) (counts : Counts)

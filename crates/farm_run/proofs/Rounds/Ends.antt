@@ -10,8 +10,8 @@ use Rattle.trau_orders.specs.declared.order.Order.{Order}
 use Rattle.switchboard.specs.State.{first_stamp}
 use Rattle.switchboard.specs.Calls.{Done, is_open, gone_at}
 use Rattle.switchboard.specs.Ends.{Given, whole_of, lack_of, end_of, start_of, ends_at}
-use Rattle.round_lines.specs.Places as places
-use Rattle.round_lines.specs.Places.{PlaceMemory, end_in_round}
+use Rattle.round_lines.specs.Memory as places
+use Rattle.round_lines.specs.Memory.{LinesMemory, end_in_round}
 use Rattle.round_lines.specs.Shifts.{with_periods}
 use Rattle.round_lines.proofs.Shifting.{lack_shifts}
 use Rattle.run_spec.specs.Run.{Run, given_in, whole_in, done_in, periods_to, periods_in}
@@ -142,12 +142,12 @@ with_behind k g l =
     given up pcm = record { up = up; pcm = pcm; up_failed = g.up_failed; pcm_failed = g.pcm_failed }
 
 -- what a seat took of its call's lines is cut out of them
-cut_of : (r : Run) (ds : List Done) (t n c : ℕ) (p : PlaceMemory) (up pcm : List ℕ) → IsTaken r ds t n c p up pcm →
+cut_of : (r : Run) (ds : List Done) (t n c : ℕ) (p : LinesMemory) (up pcm : List ℕ) → IsTaken r ds t n c p up pcm →
     IsCut n (behind (t - start_of ds c) (given_in r c)) (places.given_in p)
 cut_of r ds t n c p up pcm h = record { up = h.up_count; pcm = h.pcm_count; up_failed = h.up_failed; pcm_failed = h.pcm_failed }
 
 -- **The whole periods of a round are the places that the call's lines give.**
-pub whole_taken : (r : Run) (t n : ℕ) (ds : List Done) (left : List Order) (c : ℕ) (p : PlaceMemory) (up pcm : List ℕ) → IsRound r t n ds left →
+pub whole_taken : (r : Run) (t n : ℕ) (ds : List Done) (left : List Order) (c : ℕ) (p : LinesMemory) (up pcm : List ℕ) → IsRound r t n ds left →
     is_open (gone_at (whole_in r) t ds) ds c ≡ true → IsTaken r ds t n c p up pcm →
     places.whole_in p ≡ places_in r ds t n c
 whole_taken r t n ds left c p up pcm h o k =
@@ -159,7 +159,7 @@ whole_taken r t n ds left c p up pcm h o k =
     turned s w t l = omega arith
 
 -- **The end that a round tells of a call is the run's.**
-pub round_end : (r : Run) (t n : ℕ) (ds : List Done) (left : List Order) (c : ℕ) (p : PlaceMemory) (up pcm : List ℕ) → IsRound r t n ds left →
+pub round_end : (r : Run) (t n : ℕ) (ds : List Done) (left : List Order) (c : ℕ) (p : LinesMemory) (up pcm : List ℕ) → IsRound r t n ds left →
     is_open (gone_at (whole_in r) t ds) ds c ≡ true → IsTaken r ds t n c p up pcm →
     end_in_round t p ≡ (if ends_within r ds t n c then Some (end_of (given_in r) r.periods (done_in r) c (start_of ds c)) else None)
 round_end r t n ds left c p up pcm h o k = elim (cases_lt (places_in r ds t n c) n) [

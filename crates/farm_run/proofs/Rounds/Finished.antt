@@ -7,8 +7,8 @@ use Rattle.switchboard.specs.declared.table.Bridge.{Bridge}
 use Rattle.switchboard.specs.Calls.{Done, is_open, gone_at}
 use Rattle.switchboard.specs.Bridges.{other, bridge_of}
 use Rattle.switchboard.specs.Ends.{start_of}
-use Rattle.round_lines.specs.Places as places
-use Rattle.round_lines.specs.Places.{PlaceMemory}
+use Rattle.round_lines.specs.Memory as places
+use Rattle.round_lines.specs.Memory.{LinesMemory}
 use Rattle.call_leg.specs.Periods.{CallPeriod}
 use Rattle.call_leg.specs.Settings.{Settings}
 use Rattle.call_pair.specs.Memory.{IoMemory, HalfMemory}
@@ -38,7 +38,7 @@ taken_place m a x y z block line e l f =
         ap (λ (i : ℕ). take a (drop y (take i xs))) (sym all) ∙ ap (take a) (drop-take y (m - y) xs) ∙ take-take a (m - y) (drop y xs) (omega arith)
 
 -- **A call whose buffers were filled from its lines is fed.**
-pub fed_taken : (r : Run) (t n : ℕ) (ds : List Done) (left : List Order) (c : ℕ) (p : PlaceMemory) (io : IoMemory) → IsRound r t n ds left →
+pub fed_taken : (r : Run) (t n : ℕ) (ds : List Done) (left : List Order) (c : ℕ) (p : LinesMemory) (io : IoMemory) → IsRound r t n ds left →
     is_open (gone_at (whole_in r) t ds) ds c ≡ true → IsTaken r ds t n c p io.up io.pcm →
     io.call ≡ c → io.given ≡ places.whole_in p → io.done ≡ 0 → IsFed r ds t n c io
 fed_taken r t n ds left c p io h o k e g d =

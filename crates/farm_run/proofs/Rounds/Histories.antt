@@ -10,7 +10,7 @@ use Rattle.switchboard.specs.Ends.{start_of}
 use Rattle.call_leg.specs.Periods.{CallPeriod}
 use Rattle.call_leg.specs.Settings.{Settings, settings_later, settings_at, without_bridge, period_with}
 use Rattle.call_pair.specs.Memory.{IoMemory}
-use Rattle.call_pair.specs.Places.{up_at, pcm_at}
+use Rattle.call_pair.specs.Periods.{up_at, pcm_at}
 use Rattle.call_pair.specs.History.{period_at, alone_periods}
 use Rattle.run_spec.specs.Run.{Run, whole_in, up_in, pcm_in, ups_to, item_of, periods_to}
 use Rattle.run_spec.specs.Now.{bridge_now, handed_now, period_now, settings_now, settings_in}

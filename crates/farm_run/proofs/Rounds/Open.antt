@@ -58,9 +58,9 @@ place_tests t n last P k w l = elim (cases_lt k (min n (last - t))) [
 ]
 
 -- An open call has a period of the round exactly where it has a place for it.
-pub has_place : (r : Run) (t n : ℕ) (ds : List Done) (c k : ℕ) → closed_at c ds ≡ None → t + n ≤ r.periods → k < n →
+pub has_period_in : (r : Run) (t n : ℕ) (ds : List Done) (c k : ℕ) → closed_at c ds ≡ None → t + n ≤ r.periods → k < n →
     has_period r ds (t + k) c ≡ nat_lt k (places_in r ds t n c)
-has_place r t n ds c k e w l =
+has_period_in r t n ds c k e w l =
     ap (λ o. is_none o && nat_lt (t + k) (start_of ds c + whole_in r c) && nat_lt (t + k) r.periods) e
     ∙ place_tests t n (start_of ds c + whole_in r c) r.periods k w l
 
@@ -83,7 +83,7 @@ open_after r t n ds left c h o =
     let e : t + n ≡ t + (n - 1) + 1 = omega arith in
     ap (λ u. is_open (gone_at (whole_in r) u ds) ds c) e
     ∙ open_has (whole_in r) r.periods (t + (n - 1)) ds c (start_of ds c) at.opened (omega arith)
-    ∙ has_place r t n ds c (n - 1) at.unclosed within (omega arith)
+    ∙ has_period_in r t n ds c (n - 1) at.unclosed within (omega arith)
     ∙ all_or_fewer n (start_of ds c + whole_in r c - t) some
 
 -- **A call that isn't open isn't open later.**
@@ -125,8 +125,8 @@ bridge_at_place r t n ds left c k h l =
     by (Some x) e =
         let stand = standing_now r t ds left h.so_far in
         let b = bridge_open r t ds c x e in
-        let a : has_period r ds (t + k) x.a ≡ nat_lt k (places_in r ds t n x.a) = has_place r t n ds x.a k (open_at r t ds x.a stand b.1).unclosed h.within l in
-        let z : has_period r ds (t + k) x.b ≡ nat_lt k (places_in r ds t n x.b) = has_place r t n ds x.b k (open_at r t ds x.b stand b.2).unclosed h.within l in
+        let a : has_period r ds (t + k) x.a ≡ nat_lt k (places_in r ds t n x.a) = has_period_in r t n ds x.a k (open_at r t ds x.a stand b.1).unclosed h.within l in
+        let z : has_period r ds (t + k) x.b ≡ nat_lt k (places_in r ds t n x.b) = has_period_in r t n ds x.b k (open_at r t ds x.b stand b.2).unclosed h.within l in
         ap (λ (p : Bool). if p && has_period r ds (t + k) x.b then Some x else None) a
         ∙ ap (λ (p : Bool). if nat_lt k (places_in r ds t n x.a) && p then Some x else None) z
 

@@ -12,7 +12,7 @@ use Rattle.call_leg.specs.Uplink.{handed_fields}
 use Rattle.call_leg.specs.Periods.{CallPeriod, ups_of, effective_now}
 use Rattle.call_leg.specs.Settings.{without_bridge, settings_at}
 use Rattle.call_pair.specs.Memory.{IoMemory}
-use Rattle.call_pair.specs.Places.{up_at}
+use Rattle.call_pair.specs.Periods.{up_at}
 use Rattle.call_pair.specs.History.{period_at, handed_at, bridged_periods, settings_past}
 use Rattle.run_spec.specs.Run.{Run, whole_in, up_in, ups_to, item_of, periods_to}
 use Rattle.run_spec.specs.Now.{handed_now, settings_now}

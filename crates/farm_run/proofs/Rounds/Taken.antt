@@ -8,9 +8,9 @@ use Rattle.switchboard.specs.Calls.{Done, is_open, gone_at}
 use Rattle.switchboard.specs.Ends.{start_of}
 use Rattle.switchboard.specs.State.{first_stamp}
 use Rattle.call_pair.specs.Memory.{IoMemory}
-use Rattle.call_pair.specs.Places.{up_at, pcm_at}
+use Rattle.call_pair.specs.Periods.{up_at, pcm_at}
 use Rattle.call_pair.specs.History.{Start}
-use Rattle.round_lines.specs.Places.{PlaceMemory}
+use Rattle.round_lines.specs.Memory.{LinesMemory}
 use Rattle.round_lines.specs.Seats.{SeatMemory}
 use Rattle.run_spec.specs.Run.{Run, whole_in, up_in, pcm_in, periods_to, law_in}
 use Rattle.run_spec.specs.Now.{IsSoFar, settings_now}
@@ -37,7 +37,7 @@ start_at r ds t c io = record { law = law_in r c; past = periods_to r c (t - sta
 
 -- What the round took of a call's incoming lines into these buffers: of the octets behind the periods so far as many as
 -- the round's periods have. A line that gave fewer failed in the round where it fails at all.
-pub record IsTaken (r : Run) (ds : List Done) (t n c : ℕ) (p : PlaceMemory) (up pcm : List ℕ) : Type 0 where
+pub record IsTaken (r : Run) (ds : List Done) (t n c : ℕ) (p : LinesMemory) (up pcm : List ℕ) : Type 0 where
   pub call : p.call ≡ c
   pub periods : p.periods ≡ n
   pub up_count : let l = r.lines c in p.up.count ≡ min (40 * n) (length l.up - 40 * (t - start_of ds c))
@@ -49,9 +49,9 @@ pub record IsTaken (r : Run) (ds : List Done) (t n c : ℕ) (p : PlaceMemory) (u
 
 -- a seat in the round: its call is open at the clock, and its lines gave what they could
 pub record IsSeat (r : Run) (ds : List Done) (t n : ℕ) (s : SeatMemory) : Type 0 where
-  pub open_now : is_open (gone_at (whole_in r) t ds) ds s.place.call ≡ true
-  pub taken : IsTaken r ds t n s.place.call s.place s.up s.pcm
+  pub open_now : is_open (gone_at (whole_in r) t ds) ds s.lines.call ≡ true
+  pub taken : IsTaken r ds t n s.lines.call s.lines s.up s.pcm
 
 -- a call has one of these seats
 abbrev pub has_seat : ℕ → List SeatMemory → Bool
-has_seat c seats = list_any (λ s. c == s.place.call) seats
+has_seat c seats = list_any (λ s. c == s.lines.call) seats

@@ -9,8 +9,8 @@ use Rattle.switchboard.specs.Calls.{Done}
 use Rattle.switchboard.specs.Ends.{start_of}
 use Rattle.round_lines.specs.declared.transfer.Taken.{Taken}
 use Rattle.round_lines.specs.Transfer.{Takes}
-use Rattle.round_lines.specs.Places as places
-use Rattle.round_lines.specs.Places.{PlaceMemory, fails_in}
+use Rattle.round_lines.specs.Memory as places
+use Rattle.round_lines.specs.Memory.{LinesMemory, fails_in}
 use Rattle.round_lines.specs.Rounds.{IsIncoming}
 use Rattle.round_lines.specs.Seats.{SeatMemory, Fills}
 use Rattle.run_spec.specs.Run.{Run}
@@ -40,24 +40,24 @@ given m c s k line was now t block behind last i h long told on here listed ends
 
 -- What a round took of an open call's lines, and what is to come of them.
 pub record IsMet (r : Run) (ds : List Done) (t n c : ℕ) (now : Side → LineState) (x : SeatMemory) (last : Standing) : Type 0 where
-  pub taken : IsTaken r ds t n c x.place x.up x.pcm
+  pub taken : IsTaken r ds t n c x.lines x.up x.pcm
   pub up_left : IsToCome (now Up) (40 * (t - start_of ds c) + 40 * n) (r.lines c).up (never_given (last.listed c Up) (last.lines c Up))
   pub pcm_left : IsToCome (now Pcm) (160 * (t - start_of ds c) + 160 * n) (r.lines c).pcm (never_given (last.listed c Pcm) (last.lines c Pcm))
 
 -- **What a round took of an open call's lines is what the run says, whether a line fails in it, later or never.**
 pub met : (r : Run) (ds : List Done) (t n c : ℕ) (before now : Side → LineState) (s x : SeatMemory) (behind last : Standing) →
-    Fills before now s x → x.place.call ≡ c → x.place.periods ≡ n → length x.up ≡ 40 * n → length x.pcm ≡ 160 * n →
+    Fills before now s x → x.lines.call ≡ c → x.lines.periods ≡ n → length x.up ≡ 40 * n → length x.pcm ≡ 160 * n →
     StandingGoesOn behind last → (r.lines c).up_failed ≡ last.listed c Up → (r.lines c).pcm_failed ≡ last.listed c Pcm →
-    ((side : Side) → IsIncoming side → behind.listed c side ≡ fails_in x.place side) → (places.whole_in x.place < n → behind.over c ≡ true) →
+    ((side : Side) → IsIncoming side → behind.listed c side ≡ fails_in x.lines side) → (places.whole_in x.lines < n → behind.over c ≡ true) →
     ((side : Side) → IsIncoming side → behind.lines c side ≡ now side) →
     IsToCome (before Up) (40 * (t - start_of ds c)) (r.lines c).up (never_given (last.listed c Up) (last.lines c Up)) →
     IsToCome (before Pcm) (160 * (t - start_of ds c)) (r.lines c).pcm (never_given (last.listed c Pcm) (last.lines c Pcm)) →
     IsMet r ds t n c now x last
 met r ds t n c before now s x behind last f called long up_long pcm_long on up_flag pcm_flag listed over here up_told pcm_told =
-    let up = given (40 * n) c Up (40 * (t - start_of ds c)) (r.lines c).up (before Up) (now Up) x.place.up x.up behind last tt f.up up_long up_told on
-    (here Up tt) (listed Up tt) (λ l. over (fewer_up x.place l)) in
+    let up = given (40 * n) c Up (40 * (t - start_of ds c)) (r.lines c).up (before Up) (now Up) x.lines.up x.up behind last tt f.up up_long up_told on
+    (here Up tt) (listed Up tt) (λ l. over (fewer_up x.lines l)) in
     let pcm = given (160 * n) c Pcm (160 * (t - start_of ds c)) (r.lines c).pcm (before Pcm)
-    (now Pcm) x.place.pcm x.pcm behind last tt f.pcm pcm_long pcm_told on (here Pcm tt) (listed Pcm tt) (λ l. over (fewer_pcm x.place l)) in
+    (now Pcm) x.lines.pcm x.pcm behind last tt f.pcm pcm_long pcm_told on (here Pcm tt) (listed Pcm tt) (λ l. over (fewer_pcm x.lines l)) in
     record {
       taken = record {
         call = called;
@@ -73,13 +73,13 @@ met r ds t n c before now s x behind last f called long up_long pcm_long on up_f
       pcm_left = pcm.left;
     }
   where
-    fewer_up : (p : PlaceMemory) → p.up.count < 40 * n → places.whole_in p < n
+    fewer_up : (p : LinesMemory) → p.up.count < 40 * n → places.whole_in p < n
     fewer_up p l = by p.up.count p.pcm.count l
       where
         by : (u v : ℕ) → u < 40 * n → min (u / 40) (v / 160) < n
         by u v l = omega arith
 
-    fewer_pcm : (p : PlaceMemory) → p.pcm.count < 160 * n → places.whole_in p < n
+    fewer_pcm : (p : LinesMemory) → p.pcm.count < 160 * n → places.whole_in p < n
     fewer_pcm p l = by p.up.count p.pcm.count l
       where
         by : (u v : ℕ) → v < 160 * n → min (u / 40) (v / 160) < n

@@ -9,8 +9,7 @@ use Rattle.trau_io.specs.declared.ends.CallEnd.{CallEnd}
 use Rattle.trau_orders.specs.Lists.{AreOrders}
 use Rattle.switchboard.specs.State.{State, EndBefore, first_stamp, last_stamp, orders_of, told_more}
 use Rattle.switchboard.specs.Open.{open_now, partner_now, open_without}
-use Rattle.farm_rounds.specs.declared.call.Group.{Group}
-use Rattle.farm_rounds.specs.Calls.{call_in, partner_in}
+use Rattle.farm_rounds.specs.Calls.{Kept, call_in, partner_in}
 use Rattle.farm_rounds.specs.Numbers.{IsRising, is_among}
 use Rattle.farm_run.specs.Going.{told_after, is_told}
 use Rattle.farm_run.specs.Journal.{JournalMemory, with_ends}
@@ -125,13 +124,13 @@ none_open was now at calls h e c = limits_open was now at calls h c ∙ ap (λ b
 
 -- **After a round, whose ends were told and whose farm kept the calls that didn't end, the board and the farm stand at
 -- the clock behind it.**
-pub clock_round : (t n : ℕ) (b now : State) (groups groups' : List Group) (ends : List CallEnd) → AtClock t b groups → AllByRecursion (λ e. e.at < t + n) ends →
+pub clock_round : (t n : ℕ) (b now : State) (calls calls' : List Kept) (ends : List CallEnd) → AtClock t b calls → AllByRecursion (λ e. e.at < t + n) ends →
     IfSome (first_stamp b.left) (λ s. t + n ≤ s) →
     now ≡ told_after b ends → ((c : ℕ) → open_now now c ≡ (open_now b c && not (is_told c ends))) →
     ((c : ℕ) → partner_now now c ≡ partner_past ends (partner_now b) c) →
-    ((c : ℕ) → is_some (call_in groups' c) ≡ (is_some (call_in groups c) && not (is_told c ends))) →
-    ((c : ℕ) → partner_in groups' c ≡ partner_past ends (partner_in groups) c) → AtClock (t + n) now groups'
-clock_round t n b now groups groups' ends a before clear told o p c q =
+    ((c : ℕ) → is_some (call_in calls' c) ≡ (is_some (call_in calls c) && not (is_told c ends))) →
+    ((c : ℕ) → partner_in calls' c ≡ partner_past ends (partner_in calls) c) → AtClock (t + n) now calls'
+clock_round t n b now calls calls' ends a before clear told o p c q =
     let past = a.past in
     let m = a.matches in
     record {

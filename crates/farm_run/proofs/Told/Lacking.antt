@@ -7,7 +7,7 @@ use Rattle.std.proofs.lemmas.Bool.{cases_Bool, eqb-true, eq-eqb, ne_eqb}
 use Rattle.trau_io.specs.declared.ends.CallEnd.{CallEnd}
 use Rattle.switchboard.specs.Ends.{lack_of}
 use Rattle.round_lines.specs.Seats.{SeatMemory}
-use Rattle.round_lines.specs.Places as places
+use Rattle.round_lines.specs.Memory as places
 use Rattle.round_lines.specs.Rounds.{Rising, seat_at, call_at, seat_end}
 use Rattle.farm_rounds.specs.Settling.{goes_on_in}
 use Rattle.farm_rounds.specs.Working.{goes_on_call}
@@ -25,11 +25,11 @@ each_told Q t (s ∷ seats) h = by (seat_end t s) (h 0 (omega arith)) (each_told
 
 -- a seat of this call is among these
 abbrev pub has_call : List SeatMemory → ℕ → Bool
-has_call seats c = list_any (λ s. s.place.call == c) seats
+has_call seats c = list_any (λ s. s.lines.call == c) seats
 
 -- the end that a seat tells of its call
 abbrev end_of_seat : ℕ → SeatMemory → CallEnd
-end_of_seat t s = record { call = s.place.call; at = t + places.whole_in s.place; cause = lack_of (places.whole_in s.place) (places.given_in s.place) }
+end_of_seat t s = record { call = s.lines.call; at = t + places.whole_in s.lines; cause = lack_of (places.whole_in s.lines) (places.given_in s.lines) }
 
 -- two numbers of which one is greater aren't the same
 apart_test : (c d : ℕ) → c < d → ((c == d) ≡ false) × ((d == c) ≡ false)
@@ -41,12 +41,12 @@ none_above : (t c : ℕ) (seats : List SeatMemory) → ((j : ℕ) → j < length
 none_above t c [] h = (refl, refl)
 none_above t c (x ∷ seats) h =
     let rest = none_above t c seats (λ j l. h (suc j) (omega arith)) in
-    let test = apart_test c x.place.call (h 0 (omega arith)) in (
+    let test = apart_test c x.lines.call (h 0 (omega arith)) in (
       more (goes_on_in x) test.0 rest.0,
       ap (λ b. (b && goes_on_in x) || goes_on_call seats c) test.1 ∙ rest.1,
     )
   where
-    more : (b : Bool) → (c == x.place.call) ≡ false → is_told c (filter_map (seat_end t) seats) ≡ false →
+    more : (b : Bool) → (c == x.lines.call) ≡ false → is_told c (filter_map (seat_end t) seats) ≡ false →
         is_told c (cons_option (if b then None else Some (end_of_seat t x)) (filter_map (seat_end t) seats)) ≡ false
     more true q e = e
     more false q e = ap (λ b. b || is_told c (filter_map (seat_end t) seats)) q ∙ e
@@ -55,14 +55,14 @@ none_above t c (x ∷ seats) h =
 pub told_goes : (t : ℕ) (seats : List SeatMemory) → Rising seats → (c : ℕ) → has_call seats c ≡ true →
     is_told c (filter_map (seat_end t) seats) ≡ not (goes_on_call seats c)
 told_goes t [] r c h = cc
-told_goes t (s ∷ seats) r c h = elim (cases_Bool (s.place.call == c)) [
+told_goes t (s ∷ seats) r c h = elim (cases_Bool (s.lines.call == c)) [
   | inl q ↦
-      let e = eqb-true s.place.call c q in
+      let e = eqb-true s.lines.call c q in
       let above = none_above t c seats (λ j l. let k = r 0 (suc j) (omega arith) (omega arith) in omega (arith, k, e)) in
-      here (goes_on_in s) (s.place.call == c) q (eq-eqb c s.place.call (sym e)) above.0 above.1
-  | inr q ↦ there (goes_on_in s) (s.place.call == c) q
-      (ne_eqb c s.place.call (λ e. let f : (s.place.call == c) ≡ true = eq-eqb s.place.call c (sym e) in no (s.place.call == c) q f))
-      (told_goes t seats (λ i j l k. r (suc i) (suc j) (omega arith) (omega arith)) c (rest (s.place.call == c) q h))
+      here (goes_on_in s) (s.lines.call == c) q (eq-eqb c s.lines.call (sym e)) above.0 above.1
+  | inr q ↦ there (goes_on_in s) (s.lines.call == c) q
+      (ne_eqb c s.lines.call (λ e. let f : (s.lines.call == c) ≡ true = eq-eqb s.lines.call c (sym e) in no (s.lines.call == c) q f))
+      (told_goes t seats (λ i j l k. r (suc i) (suc j) (omega arith) (omega arith)) c (rest (s.lines.call == c) q h))
 ]
   where
     no : (b : Bool) → b ≡ false → b ≡ true → ⊥
@@ -72,13 +72,13 @@ told_goes t (s ∷ seats) r c h = elim (cases_Bool (s.place.call == c)) [
     rest false q e = e
     rest true q e = cc
 
-    here : (g u : Bool) → u ≡ true → (c == s.place.call) ≡ true → is_told c (filter_map (seat_end t) seats) ≡ false → goes_on_call seats c ≡ false →
+    here : (g u : Bool) → u ≡ true → (c == s.lines.call) ≡ true → is_told c (filter_map (seat_end t) seats) ≡ false → goes_on_call seats c ≡ false →
         is_told c (cons_option (if g then None else Some (end_of_seat t s)) (filter_map (seat_end t) seats)) ≡ not ((u && g) || goes_on_call seats c)
     here true true p q a b = a
     here false true p q a b = ap (λ x. x || is_told c (filter_map (seat_end t) seats)) q ∙ sym (ap not b)
     here g false p q a b = cc
 
-    there : (g u : Bool) → u ≡ false → (c == s.place.call) ≡ false → is_told c (filter_map (seat_end t) seats) ≡ not (goes_on_call seats c) →
+    there : (g u : Bool) → u ≡ false → (c == s.lines.call) ≡ false → is_told c (filter_map (seat_end t) seats) ≡ not (goes_on_call seats c) →
         is_told c (cons_option (if g then None else Some (end_of_seat t s)) (filter_map (seat_end t) seats)) ≡ not ((u && g) || goes_on_call seats c)
     there true false p q a = a
     there false false p q a = ap (λ x. x || is_told c (filter_map (seat_end t) seats)) q ∙ a

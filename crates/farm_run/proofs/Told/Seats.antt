@@ -9,7 +9,7 @@ use Rattle.trau_orders.specs.declared.order.Order.{Order}
 use Rattle.switchboard.specs.Calls.{Done, is_open, gone_at}
 use Rattle.switchboard.specs.Ends.{lack_of, end_of, start_of, ends_at}
 use Rattle.round_lines.specs.Seats.{SeatMemory}
-use Rattle.round_lines.specs.Places as places
+use Rattle.round_lines.specs.Memory as places
 use Rattle.round_lines.specs.Rounds.{Rising, call_at, seat_end}
 use Rattle.run_spec.specs.Run.{Run, given_in, whole_in, done_in}
 use Rattle.run_spec.proofs.Settling.{at_of}
@@ -28,8 +28,8 @@ call_of e = e.call
 
 -- a seat's end is the run's
 seat_end_is : (r : Run) (t n : ℕ) (ds : List Done) (left : List Order) (s : SeatMemory) → IsRound r t n ds left → IsSeat r ds t n s →
-    seat_end t s ≡ (if ends_within r ds t n s.place.call then Some (run_end r ds s.place.call) else None)
-seat_end_is r t n ds left s h k = round_end r t n ds left s.place.call s.place s.up s.pcm h k.open_now k.taken
+    seat_end t s ≡ (if ends_within r ds t n s.lines.call then Some (run_end r ds s.lines.call) else None)
+seat_end_is r t n ds left s h k = round_end r t n ds left s.lines.call s.lines s.up s.pcm h k.open_now k.taken
 
 -- **What holds of the run's end of each call that ends within the round holds of each end that its seats tell.**
 pub each_end : (Q : CallEnd → Type 0) (r : Run) (t n : ℕ) (ds : List Done) (left : List Order) (seats : List SeatMemory) → IsRound r t n ds left →
@@ -39,11 +39,11 @@ pub each_end : (Q : CallEnd → Type 0) (r : Run) (t n : ℕ) (ds : List Done) (
 each_end Q r t n ds left [] h a q = tt
 each_end Q r t n ds left (s ∷ seats) h a q =
     subst (λ (o : Option CallEnd). AllByRecursion Q (cons_option o (filter_map (seat_end t) seats))) (sym (seat_end_is r t n ds left s h a.0))
-    (by (ends_within r ds t n s.place.call) refl (each_end Q r t n ds left seats h a.1 q))
+    (by (ends_within r ds t n s.lines.call) refl (each_end Q r t n ds left seats h a.1 q))
   where
-    by : (b : Bool) → ends_within r ds t n s.place.call ≡ b → AllByRecursion Q (filter_map (seat_end t) seats) →
-        AllByRecursion Q (cons_option (if b then Some (run_end r ds s.place.call) else None) (filter_map (seat_end t) seats))
-    by true e k = (q s.place.call e, k)
+    by : (b : Bool) → ends_within r ds t n s.lines.call ≡ b → AllByRecursion Q (filter_map (seat_end t) seats) →
+        AllByRecursion Q (cons_option (if b then Some (run_end r ds s.lines.call) else None) (filter_map (seat_end t) seats))
+    by true e k = (q s.lines.call e, k)
     by false e k = k
 
 -- **Each end is told at the period at which the run ends its call, which lies within the round.**
@@ -75,10 +75,10 @@ told_seat : (r : Run) (t n : ℕ) (ds : List Done) (left : List Order) (c : ℕ)
 told_seat r t n ds left c [] h a = refl
 told_seat r t n ds left c (s ∷ seats) h a =
     ap (λ (o : Option CallEnd). is_told c (cons_option o (filter_map (seat_end t) seats))) (seat_end_is r t n ds left s h a.0)
-    ∙ by (told_seat r t n ds left c seats h a.1) (ends_within r ds t n s.place.call) refl
+    ∙ by (told_seat r t n ds left c seats h a.1) (ends_within r ds t n s.lines.call) refl
   where
-    same : c == s.place.call ≡ true → (b : Bool) → ends_within r ds t n s.place.call ≡ b → ends_within r ds t n c ≡ b
-    same e b f = ap (ends_within r ds t n) (eqb-true c s.place.call e) ∙ f
+    same : c == s.lines.call ≡ true → (b : Bool) → ends_within r ds t n s.lines.call ≡ b → ends_within r ds t n c ≡ b
+    same e b f = ap (ends_within r ds t n) (eqb-true c s.lines.call e) ∙ f
 
     first : (p q e : Bool) → (p ≡ true → e ≡ true) → (p || (q && e)) ≡ ((p || q) && e)
     first false q e f = refl
@@ -92,14 +92,14 @@ told_seat r t n ds left c (s ∷ seats) h a =
         nothing true = refl
         nothing false = refl
 
-    by : is_told c (filter_map (seat_end t) seats) ≡ (has_seat c seats && ends_within r ds t n c) → (b : Bool) → ends_within r ds t n s.place.call ≡ b →
-        is_told c (cons_option (if b then Some (run_end r ds s.place.call) else None) (filter_map (seat_end t) seats))
-        ≡ ((c == s.place.call || has_seat c seats) && ends_within r ds t n c)
+    by : is_told c (filter_map (seat_end t) seats) ≡ (has_seat c seats && ends_within r ds t n c) → (b : Bool) → ends_within r ds t n s.lines.call ≡ b →
+        is_told c (cons_option (if b then Some (run_end r ds s.lines.call) else None) (filter_map (seat_end t) seats))
+        ≡ ((c == s.lines.call || has_seat c seats) && ends_within r ds t n c)
     by rest true e =
-        let named : call_of (run_end r ds s.place.call) ≡ s.place.call = ap call_of (end_within r t n ds left s.place.call h e) in
-        ap (λ (d : ℕ). c == d || is_told c (filter_map (seat_end t) seats)) named ∙ ap (λ (b : Bool). c == s.place.call || b) rest
-        ∙ first (c == s.place.call) (has_seat c seats) (ends_within r ds t n c) (λ f. same f true e)
-    by rest false e = rest ∙ none (c == s.place.call) (has_seat c seats) (ends_within r ds t n c) (λ f. same f false e)
+        let named : call_of (run_end r ds s.lines.call) ≡ s.lines.call = ap call_of (end_within r t n ds left s.lines.call h e) in
+        ap (λ (d : ℕ). c == d || is_told c (filter_map (seat_end t) seats)) named ∙ ap (λ (b : Bool). c == s.lines.call || b) rest
+        ∙ first (c == s.lines.call) (has_seat c seats) (ends_within r ds t n c) (λ f. same f true e)
+    by rest false e = rest ∙ none (c == s.lines.call) (has_seat c seats) (ends_within r ds t n c) (λ f. same f false e)
 
 -- **Where each open call has a seat, the ends that are told are those of exactly the calls that end within the round.**
 pub told_seats : (r : Run) (t n : ℕ) (ds : List Done) (left : List Order) (seats : List SeatMemory) → IsRound r t n ds left →
@@ -120,31 +120,31 @@ told_seats r t n ds left seats h a all c = told_seat r t n ds left c seats h a �
 pub seats_apart : (t : ℕ) (seats : List SeatMemory) → Rising seats → AreApart (filter_map (seat_end t) seats)
 seats_apart t [] r = tt
 seats_apart t (s ∷ seats) r =
-    by (places.whole_in s.place == s.place.periods) (above s.place.call seats (λ j l. r 0 (suc j) (omega arith) (omega arith)))
+    by (places.whole_in s.lines == s.lines.periods) (above s.lines.call seats (λ j l. r 0 (suc j) (omega arith) (omega arith)))
     (seats_apart t seats (λ i j l k. r (suc i) (suc j) (omega arith) (omega arith)))
   where
-    by : (b : Bool) → is_told s.place.call (filter_map (seat_end t) seats) ≡ false → AreApart (filter_map (seat_end t) seats) →
+    by : (b : Bool) → is_told s.lines.call (filter_map (seat_end t) seats) ≡ false → AreApart (filter_map (seat_end t) seats) →
         AreApart (cons_option (if b then None else Some
-        (record { call = s.place.call; at = t + places.whole_in s.place; cause = lack_of (places.whole_in s.place) (places.given_in s.place) }))
+        (record { call = s.lines.call; at = t + places.whole_in s.lines; cause = lack_of (places.whole_in s.lines) (places.given_in s.lines) }))
         (filter_map (seat_end t) seats))
     by true e k = k
     by false e k = (e, k)
 
     above : (c : ℕ) (seats : List SeatMemory) → ((j : ℕ) → j < length seats → c < call_at seats j) → is_told c (filter_map (seat_end t) seats) ≡ false
     above c [] h = refl
-    above c (x ∷ seats) h = more (places.whole_in x.place == x.place.periods) (above c seats (λ j l. h (suc j) (omega arith)))
+    above c (x ∷ seats) h = more (places.whole_in x.lines == x.lines.periods) (above c seats (λ j l. h (suc j) (omega arith)))
       where
         more : (b : Bool) → is_told c (filter_map (seat_end t) seats) ≡ false →
             is_told c
             (cons_option
             (if b then None else Some (record {
-              call = x.place.call;
-              at = t + places.whole_in x.place;
+              call = x.lines.call;
+              at = t + places.whole_in x.lines;
               cause =
-                  lack_of (places.whole_in x.place) (places.given_in x.place);
+                  lack_of (places.whole_in x.lines) (places.given_in x.lines);
             })) (filter_map (seat_end t) seats)) ≡ false
         more true e = e
-        more false e = elim (cases_Bool (c == x.place.call)) [
-          | inl q ↦ let same = eqb-true c x.place.call q in let l = h 0 (omega arith) in absurd (omega arith)
+        more false e = elim (cases_Bool (c == x.lines.call)) [
+          | inl q ↦ let same = eqb-true c x.lines.call q in let l = h 0 (omega arith) in absurd (omega arith)
           | inr q ↦ ap (λ (b : Bool). b || is_told c (filter_map (seat_end t) seats)) q ∙ e
         ]

@@ -39,9 +39,9 @@ abbrev call_is : CallEnd → ℕ
 call_is e = e.call
 
 module _ (r : Run) (t n : ℕ) (b : State) (farm after : FarmMemory) (first before now : ℕ → Side → LineState) (ends : List CallEnd)
-    (w : WorkedRound t n farm after before now ends) (h : IsRound r t n b.done b.left) (m : Matches b farm.groups) (b' : State) (last : Standing)
-    (at : IsAtClock r t b farm.groups last first before)
-    (meets : MeetsRun r n w.filled (standing b' after.failed now) last) (a : AtClock t b farm.groups) (knows : KnowsListed b farm.groups farm.failed)
+    (w : WorkedRound t n farm after before now ends) (h : IsRound r t n b.done b.left) (m : Matches b farm.calls) (b' : State) (last : Standing)
+    (at : IsAtClock r t b farm.calls last first before)
+    (meets : MeetsRun r n w.filled (standing b' after.failed now) last) (a : AtClock t b farm.calls) (knows : KnowsListed b farm.calls farm.failed)
     (told : b' ≡ told_after b ends)
     (open_then : (c : ℕ) → open_now b' c ≡ (open_now b c && not (is_told c ends))) where
   -- whether a call is open at the clock
@@ -61,7 +61,7 @@ module _ (r : Run) (t n : ℕ) (b : State) (farm after : FarmMemory) (first befo
 
   -- and at its end, those that end in it too
   abbrev worked_at_end : ℕ → Option CallHistory
-  worked_at_end = worked_histories w.filled (partner_in farm.groups) hs
+  worked_at_end = worked_histories w.filled (partner_in farm.calls) hs
 
   -- what is known of the latter
   abbrev Past : ℕ → CallHistory → Type 0
@@ -150,7 +150,7 @@ module _ (r : Run) (t n : ℕ) (b : State) (farm after : FarmMemory) (first befo
       by : (x : Bool) → alive c ≡ x → those_that (goes_on_call w.worked) worked_at_end c ≡ histories_at r b.done (t + n) c
       by false o =
           ap (λ (y : Option CallHistory). if goes_on_call w.worked c then y else None)
-          (ap (λ (x : Bool). option_map (history_with w.filled hs c (partner_in farm.groups c))
+          (ap (λ (x : Bool). option_map (history_with w.filled hs c (partner_in farm.calls c))
           (past_if x (law_in r c) (periods_to r c (t - start_of b.done c)) (settings_now r b.done t c))) o)
           ∙ none_if (goes_on_call w.worked c)
           ∙ sym (ap (λ (x : Bool). past_if x (law_in r c) (periods_to r c (t + n - start_of b.done c)) (settings_now r b.done (t + n) c))

@@ -10,19 +10,18 @@ use Rattle.trau_io.specs.declared.ends.CallEnd.{CallEnd}
 use Rattle.trau_io.specs.declared.line.Side.{Side}
 use Rattle.trau_io.specs.declared.line.Side.TheVariants.{Up, Pcm}
 use Rattle.trau_io.specs.Lines.{LineState}
-use Rattle.round_lines.specs.Places.{PlaceMemory}
-use Rattle.round_lines.specs.Places as places
+use Rattle.round_lines.specs.Memory.{LinesMemory}
+use Rattle.round_lines.specs.Memory as places
 use Rattle.round_lines.specs.Seats.{SeatMemory}
 use Rattle.round_lines.specs.Rounds.{seat_at, call_at, seat_end, no_seat}
 use Rattle.switchboard.specs.Calls.{is_open, gone_at}
 use Rattle.switchboard.specs.Ends.{start_of}
 use Rattle.switchboard.specs.State.{State}
-use Rattle.farm_rounds.specs.declared.call.Call.{Call}
-use Rattle.farm_rounds.specs.Calls.{call_in}
+use Rattle.farm_rounds.specs.Calls.{Call, call_in}
 use Rattle.farm_rounds.specs.Memory.{FarmMemory}
 use Rattle.farm_rounds.specs.Working.{goes_on_call}
 use Rattle.farm_rounds.specs.RoundHistories.{seat_of}
-use Rattle.farm_rounds.proofs.Working.{goes_on_at}
+use Rattle.farm_rounds.proofs.GoingOn.{goes_on_at}
 use Rattle.run_spec.specs.Run.{Run, whole_in, IsOpened}
 use Rattle.run_spec.proofs.SoFar.{standing_now}
 use Rattle.run_spec.proofs.Going.{opened_run}
@@ -43,25 +42,25 @@ use Rattle.farm_run.proofs.Rounds.Taking.{met}
 use Rattle.farm_run.proofs.Worked.Seats.{seat_of_at}
 
 -- the ends that seats tell are those of their places
-pub same_ends : (t : ℕ) (ss ts : List SeatMemory) → length ss ≡ length ts → ((k : ℕ) → k < length ts → (seat_at ss k).place ≡ (seat_at ts k).place) →
+pub same_ends : (t : ℕ) (ss ts : List SeatMemory) → length ss ≡ length ts → ((k : ℕ) → k < length ts → (seat_at ss k).lines ≡ (seat_at ts k).lines) →
     filter_map (seat_end t) ss ≡ filter_map (seat_end t) ts
 same_ends t [] [] e h = refl
 same_ends t [] (x ∷ ts) e h = absurd (omega arith)
 same_ends t (s ∷ ss) [] e h = absurd (omega arith)
 same_ends t (s ∷ ss) (x ∷ ts) e h =
-    ap (λ (p : PlaceMemory). cons_option (places.end_in_round t p) (filter_map (seat_end t) ss)) (h 0 (omega arith))
+    ap (λ (p : LinesMemory). cons_option (places.end_in_round t p) (filter_map (seat_end t) ss)) (h 0 (omega arith))
     ∙ ap (cons_option (seat_end t x)) (same_ends t ss ts (omega arith) (λ k l. h (suc k) (omega arith)))
 
 module _ (r : Run) (t n : ℕ) (b : State) (farm after : FarmMemory) (first before now : ℕ → Side → LineState) (ends : List CallEnd)
-    (w : WorkedRound t n farm after before now ends) (h : IsRound r t n b.done b.left) (m : Matches b farm.groups) (b' : State) (last : Standing)
-    (at : IsAtClock r t b farm.groups last first before)
+    (w : WorkedRound t n farm after before now ends) (h : IsRound r t n b.done b.left) (m : Matches b farm.calls) (b' : State) (last : Standing)
+    (at : IsAtClock r t b farm.calls last first before)
     (meets : MeetsRun r n w.filled (standing b' after.failed now) last) where
   -- whether a call is open at the clock
   abbrev alive : ℕ → Bool
   alive = is_open (gone_at (whole_in r) t b.done) b.done
 
   -- **The farm's calls are those that are open by the definition.**
-  pub open_is : (c : ℕ) → is_some (call_in farm.groups c) ≡ alive c
+  pub open_is : (c : ℕ) → is_some (call_in farm.calls c) ≡ alive c
   open_is c = m.is_open c ∙ open_told (whole_in r) t b at.follows.tells c
 
   -- the run opens it
@@ -75,12 +74,12 @@ module _ (r : Run) (t n : ℕ) (b : State) (farm after : FarmMemory) (first befo
     pub within : k < length farm.live
     pub here : slice_index farm.live k ≡ c
     pub call : Call
-    pub called : call_in farm.groups c ≡ Some call
+    pub called : call_in farm.calls c ≡ Some call
     pub facts : SeatFacts n (before c) (w.between c) (now c) c call (seat_at w.planned k) (seat_at w.filled k) (seat_at w.worked k) (seat_at w.drained k)
     pub found : seat_of w.filled c ≡ seat_at w.filled k
-    pub number : (seat_at w.filled k).place.call ≡ c
-    pub taken : IsTaken r b.done t n c (seat_at w.filled k).place (seat_at w.filled k).up (seat_at w.filled k).pcm
-    pub whole : places.whole_in (seat_at w.filled k).place ≡ places_in r b.done t n c
+    pub number : (seat_at w.filled k).lines.call ≡ c
+    pub taken : IsTaken r b.done t n c (seat_at w.filled k).lines (seat_at w.filled k).up (seat_at w.filled k).pcm
+    pub whole : places.whole_in (seat_at w.filled k).lines ≡ places_in r b.done t n c
     pub up_left : IsToCome (now c Up) (40 * (t - start_of b.done c) + 40 * n) (r.lines c).up (never_given (last.listed c Up) (last.lines c Up))
     pub pcm_left : IsToCome (now c Pcm) (160 * (t - start_of b.done c) + 160 * n) (r.lines c).pcm (never_given (last.listed c Pcm) (last.lines c Pcm))
 
@@ -88,7 +87,7 @@ module _ (r : Run) (t n : ℕ) (b : State) (farm after : FarmMemory) (first befo
   pub open_seat : (c : ℕ) → alive c ≡ true → OpenSeat c
   open_seat c o = by (seat_cases t n farm after before now ends w c)
     where
-      by : ((k : ℕ) × (k < length farm.live) × (slice_index farm.live k ≡ c)) ⊎ (is_some (call_in farm.groups c) ≡ false) → OpenSeat c
+      by : ((k : ℕ) × (k < length farm.live) × (slice_index farm.live k ≡ c)) ⊎ (is_some (call_in farm.calls c) ≡ false) → OpenSeat c
       by (inr q) = absurd (true≢false (sym o ∙ sym (open_is c) ∙ q))
       by (inl p) =
           let f = seat_facts t n farm after before now ends w p.0 c p.1 p.2 in
@@ -120,7 +119,7 @@ module _ (r : Run) (t n : ℕ) (b : State) (farm after : FarmMemory) (first befo
             found = ap (seat_of w.filled) (sym called) ∙ seat_of_at w.filled p.0 w.rising long;
             number = called;
             taken = is_met.taken;
-            whole = whole_taken r t n b.done b.left c place.place place.up place.pcm h o is_met.taken;
+            whole = whole_taken r t n b.done b.left c place.lines place.up place.pcm h o is_met.taken;
             up_left = ap (λ (l : LineState). l.to_come) (up_after t n farm after before now ends w c) ∙ is_met.up_left;
             pcm_left = ap (λ (l : LineState). l.to_come) (pcm_after t n farm after before now ends w c) ∙ is_met.pcm_left;
           }
@@ -132,8 +131,8 @@ module _ (r : Run) (t n : ℕ) (b : State) (farm after : FarmMemory) (first befo
   long = w.filled_number ∙ w.number
 
   -- a seat that took what the run's lines give its call is one of the run's round
-  seat_is : (c : ℕ) (s : SeatMemory) → alive c ≡ true → s.place.call ≡ c → IsTaken r b.done t n c s.place s.up s.pcm → IsSeat r b.done t n s
-  seat_is c s o e k = record { open_now = ap alive e ∙ o; taken = subst (λ (d : ℕ). IsTaken r b.done t n d s.place s.up s.pcm) (sym e) k }
+  seat_is : (c : ℕ) (s : SeatMemory) → alive c ≡ true → s.lines.call ≡ c → IsTaken r b.done t n c s.lines s.up s.pcm → IsSeat r b.done t n s
+  seat_is c s o e k = record { open_now = ap alive e ∙ o; taken = subst (λ (d : ℕ). IsTaken r b.done t n d s.lines s.up s.pcm) (sym e) k }
 
   -- **Each seat is one of the run's round.**
   pub all_seats : AllByRecursion (IsSeat r b.done t n) w.filled
@@ -154,7 +153,7 @@ module _ (r : Run) (t n : ℕ) (b : State) (farm after : FarmMemory) (first befo
   all_have_seats c o =
       let s = open_seat c o in
       let l = s.within in
-      list_any_at (λ x. c == x.place.call) w.filled s.k no_seat (omega (arith, l, long)) (eq-eqb c (call_at w.filled s.k) (sym s.number))
+      list_any_at (λ x. c == x.lines.call) w.filled s.k no_seat (omega (arith, l, long)) (eq-eqb c (call_at w.filled s.k) (sym s.number))
 
   -- the ends that are told are those of the filled seats
   pub ends_filled : ends ≡ filter_map (seat_end t) w.filled
@@ -166,9 +165,9 @@ module _ (r : Run) (t n : ℕ) (b : State) (farm after : FarmMemory) (first befo
       let s = open_seat c o in
       let l = s.within in
       let within : s.k < length w.worked = omega (arith, l, long, w.worked_number) in
-      let place : (seat_at w.worked s.k).place ≡ (seat_at w.filled s.k).place = s.facts.front.place in
-      ap (goes_on_call w.worked) (sym (ap (λ (p : PlaceMemory). p.call) place ∙ s.number))
+      let place : (seat_at w.worked s.k).lines ≡ (seat_at w.filled s.k).lines = s.facts.front.lines in
+      ap (goes_on_call w.worked) (sym (ap (λ (p : LinesMemory). p.call) place ∙ s.number))
       ∙ goes_on_at w.worked s.k w.worked_rising within
-      ∙ ap (λ (p : PlaceMemory). places.whole_in p == p.periods) place
-      ∙ ap (λ (i : ℕ). i == (seat_at w.filled s.k).place.periods) s.whole
+      ∙ ap (λ (p : LinesMemory). places.whole_in p == p.periods) place
+      ∙ ap (λ (i : ℕ). i == (seat_at w.filled s.k).lines.periods) s.whole
       ∙ ap (λ (i : ℕ). places_in r b.done t n c == i) s.taken.periods

@@ -9,8 +9,8 @@ use Rattle.std.proofs.lemmas.List.Folds.{list_any_at}
 use Rattle.trau_io.specs.declared.ends.CallEnd.{CallEnd}
 use Rattle.trau_io.specs.declared.line.Side.{Side}
 use Rattle.trau_io.specs.Lines.{LineState}
-use Rattle.round_lines.specs.Places as places
-use Rattle.round_lines.specs.Places.{PlaceMemory}
+use Rattle.round_lines.specs.Memory as places
+use Rattle.round_lines.specs.Memory.{LinesMemory}
 use Rattle.round_lines.specs.Seats.{SeatMemory}
 use Rattle.round_lines.specs.Rounds.{seat_at, call_at, seat_end, no_seat}
 use Rattle.switchboard.specs.Ends.{lack_of}
@@ -40,19 +40,19 @@ pub record IsRight (t n : ℕ) (b : State) (e : CallEnd) : Type 0 where
   pub open_now : open_now b e.call ≡ true
 
 module _ (t n : ℕ) (b : State) (farm : FarmMemory) (before between : ℕ → Side → LineState) (planned filled worked : List SeatMemory) (ends : List CallEnd)
-    (w : FilledRound t n farm before between planned filled worked ends) (a : AtClock t b farm.groups) where
+    (w : FilledRound t n farm before between planned filled worked ends) (a : AtClock t b farm.calls) where
   -- no seat has more whole periods than the round
-  few : (k c : ℕ) → k < length farm.live → slice_index farm.live k ≡ c → places.whole_in (seat_at worked k).place ≤ n
+  few : (k c : ℕ) → k < length farm.live → slice_index farm.live k ≡ c → places.whole_in (seat_at worked k).lines ≤ n
   few k c l e =
       let f = front_facts t n farm before between planned filled worked ends w k c l e in
-      let place = ap places.whole_in f.2.place in
+      let place = ap places.whole_in f.2.lines in
       let up = f.2.fills.up.bound in
       let long = up_long _ _ _ _ _ _ _ _ f.2 in
       omega (arith, place, up, long)
 
   -- an end that a seat tells is right
   seat_right : (k : ℕ) → k < length worked → IfSome (seat_end t (seat_at worked k)) (IsRight t n b)
-  seat_right k l = by (places.whole_in s.place == s.place.periods) refl
+  seat_right k l = by (places.whole_in s.lines == s.lines.periods) refl
     where
       s : SeatMemory
       s = seat_at worked k
@@ -64,28 +64,28 @@ module _ (t n : ℕ) (b : State) (farm : FarmMemory) (before between : ℕ → S
       c = slice_index farm.live k
 
       end : CallEnd
-      end = record { call = s.place.call; at = t + places.whole_in s.place; cause = lack_of (places.whole_in s.place) (places.given_in s.place) }
+      end = record { call = s.lines.call; at = t + places.whole_in s.lines; cause = lack_of (places.whole_in s.lines) (places.given_in s.lines) }
 
-      right : (places.whole_in s.place ≡ s.place.periods → ⊥) → IsRight t n b end
+      right : (places.whole_in s.lines ≡ s.lines.periods → ⊥) → IsRight t n b end
       right other =
           let f = front_facts t n farm before between planned filled worked ends w k c within refl in
-          let called : s.place.call ≡ c = worked_call _ _ _ _ _ _ _ _ f.2 in
-          let all : s.place.periods ≡ n = ap (λ (p : PlaceMemory). p.periods) f.2.place ∙ filled_periods _ _ _ _ _ _ _ _ f.2 in
+          let called : s.lines.call ≡ c = worked_call _ _ _ _ _ _ _ _ f.2 in
+          let all : s.lines.periods ≡ n = ap (λ (p : LinesMemory). p.periods) f.2.lines ∙ filled_periods _ _ _ _ _ _ _ _ f.2 in
           let o : open_now b c ≡ true = sym (a.matches.is_open c) ∙ ap is_some f.1 in
-          let o' : open_now b s.place.call ≡ true = ap (open_now b) called ∙ o in
+          let o' : open_now b s.lines.call ≡ true = ap (open_now b) called ∙ o in
           record {
             from = omega arith;
-            before = less (places.whole_in s.place) (few k c within refl) (λ e. other (e ∙ sym all));
-            number = a.matches.number s.place.call o';
+            before = less (places.whole_in s.lines) (few k c within refl) (λ e. other (e ∙ sym all));
+            number = a.matches.number s.lines.call o';
             open_now = o';
           }
         where
           less : (m : ℕ) → m ≤ n → (m ≡ n → ⊥) → t + m < t + n
           less m l ne = elim (cases_lt m n) [ inl q ↦ omega arith | inr q ↦ absurd (ne (omega arith)) ]
 
-      by : (x : Bool) → (places.whole_in s.place == s.place.periods) ≡ x → IfSome (if x then None else Some end) (IsRight t n b)
+      by : (x : Bool) → (places.whole_in s.lines == s.lines.periods) ≡ x → IfSome (if x then None else Some end) (IsRight t n b)
       by true e = tt
-      by false e = right (λ q. let g = eq-eqb (places.whole_in s.place) s.place.periods q in cc)
+      by false e = right (λ q. let g = eq-eqb (places.whole_in s.lines) s.lines.periods q in cc)
 
   -- so is each that is told
   pub ends_right : AllByRecursion (IsRight t n b) ends
@@ -110,33 +110,33 @@ module _ (t n : ℕ) (b : State) (farm : FarmMemory) (before between : ℕ → S
       (each_weaker (IsRight t n b) (λ e. last_stamp b.done ≤ e.at) ends (λ e q. let f = q.from in omega arith) ends_right)
 
 module _ (t n : ℕ) (b : State) (farm after : FarmMemory) (before now : ℕ → Side → LineState) (ends : List CallEnd)
-    (w : WorkedRound t n farm after before now ends) (a : AtClock t b farm.groups) where
+    (w : WorkedRound t n farm after before now ends) (a : AtClock t b farm.calls) where
   -- ---- who is open after it
 
   -- **Of an open call the end is told exactly where it doesn't go on.**
-  pub told_is : (c : ℕ) → is_some (call_in farm.groups c) ≡ true → is_told c ends ≡ not (goes_on_call w.worked c)
+  pub told_is : (c : ℕ) → is_some (call_in farm.calls c) ≡ true → is_told c ends ≡ not (goes_on_call w.worked c)
   told_is c o = ap (is_told c) w.told ∙ told_goes t w.worked w.worked_rising c (by (seat_cases t n farm after before now ends w c))
     where
-      by : ((k : ℕ) × (k < length farm.live) × (slice_index farm.live k ≡ c)) ⊎ (is_some (call_in farm.groups c) ≡ false) → has_call w.worked c ≡ true
-      by (inl p) = list_any_at (λ s. s.place.call == c) w.worked p.0 no_seat (omega (arith, p.1, w.worked_number, w.filled_number, w.number))
+      by : ((k : ℕ) × (k < length farm.live) × (slice_index farm.live k ≡ c)) ⊎ (is_some (call_in farm.calls c) ≡ false) → has_call w.worked c ≡ true
+      by (inl p) = list_any_at (λ s. s.lines.call == c) w.worked p.0 no_seat (omega (arith, p.1, w.worked_number, w.filled_number, w.number))
           (eq-eqb (call_at w.worked p.0) c (worked_at t n farm after before now ends w p.0 p.1 ∙ p.2))
       by (inr q) = cc
 
   -- the farm keeps the calls whose ends weren't told
-  calls_left : (c : ℕ) → is_some (call_in after.groups c) ≡ (is_some (call_in farm.groups c) && not (is_told c ends))
-  calls_left c = w.is_open c ∙ ap (λ (x : Bool). x && goes_on_call w.worked c) (w.live c) ∙ by (is_some (call_in farm.groups c)) refl
+  calls_left : (c : ℕ) → is_some (call_in after.calls c) ≡ (is_some (call_in farm.calls c) && not (is_told c ends))
+  calls_left c = w.is_open c ∙ ap (λ (x : Bool). x && goes_on_call w.worked c) (w.live c) ∙ by (is_some (call_in farm.calls c)) refl
     where
       twice : (g : Bool) → g ≡ not (not g)
       twice true = refl
       twice false = refl
 
-      by : (x : Bool) → is_some (call_in farm.groups c) ≡ x → (x && goes_on_call w.worked c) ≡ (x && not (is_told c ends))
+      by : (x : Bool) → is_some (call_in farm.calls c) ≡ x → (x && goes_on_call w.worked c) ≡ (x && not (is_told c ends))
       by true q = twice (goes_on_call w.worked c) ∙ sym (ap not (told_is c q))
       by false q = refl
 
   -- and of the partners those that both go on
-  partners_left : ArePairs (open_now b) (partner_now b) → (c : ℕ) → partner_in after.groups c ≡ partner_past ends (partner_in farm.groups) c
-  partners_left pairs c = w.partners c ∙ by (partner_in farm.groups c) refl
+  partners_left : ArePairs (open_now b) (partner_now b) → (c : ℕ) → partner_in after.calls c ≡ partner_past ends (partner_in farm.calls) c
+  partners_left pairs c = w.partners c ∙ by (partner_in farm.calls c) refl
     where
       none : Option ℕ
       none = None
@@ -158,7 +158,7 @@ module _ (t n : ℕ) (b : State) (farm after : FarmMemory) (before now : ℕ →
       live : (d : ℕ) → open_now b d ≡ true → is_told d ends ≡ not (goes_on_call w.worked d)
       live d o = told_is d (a.matches.is_open d ∙ o)
 
-      by : (q : Option ℕ) → partner_in farm.groups c ≡ q →
+      by : (q : Option ℕ) → partner_in farm.calls c ≡ q →
           (if goes_on_call w.worked c then that_stays (goes_on_call w.worked) q else None) ≡ (if is_told c ends || has_left q ends then None else q)
       by None e = empty (goes_on_call w.worked c) ∙ sym (empty (is_told c ends || false))
       by (Some p) e =
@@ -168,9 +168,9 @@ module _ (t n : ℕ) (b : State) (farm after : FarmMemory) (before now : ℕ →
   -- **After the round the board and the farm stand at the clock behind it.**
   pub clock_after : (b' : State) → ArePairs (open_now b) (partner_now b) → IfSome (first_stamp b.left) (λ s. t + n ≤ s) → b' ≡ told_after b ends →
       ((c : ℕ) → open_now b' c ≡ (open_now b c && not (is_told c ends))) → ((c : ℕ) → partner_now b' c ≡ partner_past ends (partner_now b) c) →
-      AtClock (t + n) b' after.groups
+      AtClock (t + n) b' after.calls
   clock_after b' pairs clear told o p =
-      clock_round t n b b' farm.groups after.groups ends a
+      clock_round t n b b' farm.calls after.calls ends a
       (each_weaker (IsRight t n b) (λ e. e.at < t + n) ends (λ e q. q.before)
       (ends_right t n b farm before w.between w.planned w.filled w.worked ends (front t n farm after before now ends w) a)) clear told o p
       calls_left (partners_left pairs)

@@ -7,8 +7,7 @@ use Rattle.trau_io.specs.declared.line.Side.TheVariants.{Up, Pcm, Down, Out}
 use Rattle.trau_io.specs.Lines.{LineState}
 use Rattle.round_lines.specs.Seats.{SeatMemory, Drains}
 use Rattle.round_lines.specs.Rounds.{IsIncoming, IsOutgoing, seat_at, call_at}
-use Rattle.farm_rounds.specs.declared.call.Call.{Call}
-use Rattle.farm_rounds.specs.Calls.{call_in}
+use Rattle.farm_rounds.specs.Calls.{Call, call_in}
 use Rattle.farm_rounds.specs.Memory.{FarmMemory}
 use Rattle.farm_rounds.proofs.Rising.{there}
 use Rattle.farm_run.specs.Outgoing.{Settles}
@@ -32,7 +31,7 @@ module _ (t n : ℕ) (farm after : FarmMemory) (before now : ℕ → Side → Li
 
   -- **Each open call has a seat, of which this is known.**
   pub seat_facts : (k c : ℕ) → k < length farm.live → slice_index farm.live k ≡ c →
-      (x : Call) × (call_in farm.groups c ≡ Some x) × SeatFacts n (before c) (w.between c) (now c) c x (seat_at w.planned k) (seat_at w.filled k)
+      (x : Call) × (call_in farm.calls c ≡ Some x) × SeatFacts n (before c) (w.between c) (now c) c x (seat_at w.planned k) (seat_at w.filled k)
       (seat_at w.worked k) (seat_at w.drained k)
   seat_facts k c l e =
       let f = front_facts t n farm before w.between w.planned w.filled w.worked ends front k c l e in
@@ -61,7 +60,7 @@ module _ (t n : ℕ) (farm after : FarmMemory) (before now : ℕ → Side → Li
 
   -- and in the plan
   pub planned_at : (k : ℕ) → k < length farm.live → call_at w.planned k ≡ slice_index farm.live k
-  planned_at k l = let f = seat_facts k (slice_index farm.live k) l refl in ap (λ (s : SeatMemory). s.place.call) f.2.front.made
+  planned_at k l = let f = seat_facts k (slice_index farm.live k) l refl in ap (λ (s : SeatMemory). s.lines.call) f.2.front.made
 
   -- ---- the lines
 
@@ -89,11 +88,11 @@ module _ (t n : ℕ) (farm after : FarmMemory) (before now : ℕ → Side → Li
   incoming_after c s i = w.drained_others c s (λ k l e o. not_both s i o)
 
   -- **The lines of a call that isn't open stay as they were.**
-  pub lines_kept : (c : ℕ) → is_some (call_in farm.groups c) ≡ false → (s : Side) → now c s ≡ before c s
+  pub lines_kept : (c : ℕ) → is_some (call_in farm.calls c) ≡ false → (s : Side) → now c s ≡ before c s
   lines_kept c e s =
       w.drained_others c s (λ k l q h. none k (omega (arith, w.number, w.filled_number, w.worked_number))
       (q ∙ worked_at k (omega (arith, w.number, w.filled_number, w.worked_number))))
       ∙ w.filled_others c s (λ k l q h. none k (omega (arith, w.number)) (q ∙ planned_at k (omega (arith, w.number))))
     where
       none : (k : ℕ) → k < length farm.live → c ≡ slice_index farm.live k → ⊥
-      none k l q = let a : is_some (call_in farm.groups c) ≡ true = sym (w.live c) ∙ there farm.live c k l (sym q) in cc
+      none k l q = let a : is_some (call_in farm.calls c) ≡ true = sym (w.live c) ∙ there farm.live c k l (sym q) in cc

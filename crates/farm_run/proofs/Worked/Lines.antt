@@ -14,10 +14,9 @@ use Rattle.switchboard.specs.Ends.{Given, lack_of, end_of, start_of}
 use Rattle.switchboard.specs.State.{State}
 use Rattle.switchboard.specs.Open.{open_now}
 use Rattle.switchboard.specs.Runs.{TellsEnds}
-use Rattle.farm_rounds.specs.declared.call.Group.{Group}
-use Rattle.farm_rounds.specs.Calls.{call_in, partner_in}
+use Rattle.farm_rounds.specs.Calls.{Kept, call_in, partner_in}
 use Rattle.farm_rounds.specs.Memory.{FarmMemory}
-use Rattle.farm_rounds.specs.Histories.{CallHistory, CallStands, GroupsStand}
+use Rattle.farm_rounds.specs.Histories.{CallHistory, CallStands, CallsStand}
 use Rattle.farm_rounds.specs.Working.{goes_on_call}
 use Rattle.farm_rounds.specs.RoundHistories.{worked_histories, those_that}
 use Rattle.run_spec.specs.Run.{Run, given_in, whole_in, done_in, end_in, IsOpened, cause_in, worked_to}
@@ -52,14 +51,14 @@ not_by_lines k g = by (nat_lt g.up (40 * (k + 1))) g.up_failed g.pcm_failed
 abbrev cause_of : CallEnd → Cause
 cause_of e = e.cause
 
--- the groups stand for histories that are the same for each call
-stand_same : (h k : ℕ → Option CallHistory) (groups : List Group) → ((c : ℕ) → h c ≡ k c) → GroupsStand h groups → GroupsStand k groups
-stand_same h k groups e g = λ c. subst (λ x. CallStands c x (call_in groups c) (partner_in groups c)) (e c) (g c)
+-- the calls stand for histories that are the same for each call
+stand_same : (h k : ℕ → Option CallHistory) (calls : List Kept) → ((c : ℕ) → h c ≡ k c) → CallsStand h calls → CallsStand k calls
+stand_same h k calls e g = λ c. subst (λ x. CallStands c x (call_in calls c) (partner_in calls c)) (e c) (g c)
 
 module _ (r : Run) (t n : ℕ) (b : State) (farm after : FarmMemory) (first before now : ℕ → Side → LineState) (ends : List CallEnd)
-    (w : WorkedRound t n farm after before now ends) (h : IsRound r t n b.done b.left) (m : Matches b farm.groups) (b' : State) (last : Standing)
-    (at : IsAtClock r t b farm.groups last first before)
-    (meets : MeetsRun r n w.filled (standing b' after.failed now) last) (a : AtClock t b farm.groups) (knows : KnowsListed b farm.groups farm.failed)
+    (w : WorkedRound t n farm after before now ends) (h : IsRound r t n b.done b.left) (m : Matches b farm.calls) (b' : State) (last : Standing)
+    (at : IsAtClock r t b farm.calls last first before)
+    (meets : MeetsRun r n w.filled (standing b' after.failed now) last) (a : AtClock t b farm.calls) (knows : KnowsListed b farm.calls farm.failed)
     (told : b' ≡ told_after b ends)
     (open_then : (c : ℕ) → open_now b' c ≡ (open_now b c && not (is_told c ends))) where
   -- whether a call is open at the clock
@@ -79,7 +78,7 @@ module _ (r : Run) (t n : ℕ) (b : State) (farm after : FarmMemory) (first befo
 
   -- and at its end, those that end in it too
   abbrev worked_at_end : ℕ → Option CallHistory
-  worked_at_end = worked_histories w.filled (partner_in farm.groups) hs
+  worked_at_end = worked_histories w.filled (partner_in farm.calls) hs
 
   -- a call that isn't open has no period in the round, and its lines stay
   idle : (c : ℕ) → IsOpened r c → alive c ≡ false → worked_to r (t + n) c ≡ worked_to r t c
@@ -159,7 +158,7 @@ module _ (r : Run) (t n : ℕ) (b : State) (farm after : FarmMemory) (first befo
       ]
 
   -- **Board, farm and lines are those of the run behind the round.**
-  pub clock_is : IsAtClock r (t + n) b' after.groups last first now
+  pub clock_is : IsAtClock r (t + n) b' after.calls last first now
   clock_is =
       let done : b'.done ≡ b.done = ap (λ (s : State). s.done) told ∙ told_done b ends in
       let left : b'.left ≡ b.left = ap (λ (s : State). s.left) told ∙ told_left b ends in
@@ -168,7 +167,7 @@ module _ (r : Run) (t n : ℕ) (b : State) (farm after : FarmMemory) (first befo
           so_far = subst (λ (ds : List Done). IsSoFar r (t + n) ds b'.left) (sym done)
               (subst (IsSoFar r (t + n) b.done) (sym left) (round_over r t n b.done b.left h));
           tells = tells_after;
-          stands = stand_same (those_that (goes_on_call w.worked) worked_at_end) (histories_at r b'.done (t + n)) after.groups
+          stands = stand_same (those_that (goes_on_call w.worked) worked_at_end) (histories_at r b'.done (t + n)) after.calls
               (λ c. histories_after c ∙ ap (λ (ds : List Done). histories_at r ds (t + n) c) (sym done)) (w.stands hs at.follows.stands);
         };
         lines = lines_after;

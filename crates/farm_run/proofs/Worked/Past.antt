@@ -5,7 +5,7 @@ use Rattle.std.proofs.lemmas.Bool.{and_parts, and_from}
 use Rattle.trau_io.specs.declared.ends.CallEnd.{CallEnd}
 use Rattle.trau_io.specs.declared.line.Side.{Side}
 use Rattle.trau_io.specs.Lines.{LineState}
-use Rattle.round_lines.specs.Places as places
+use Rattle.round_lines.specs.Memory as places
 use Rattle.round_lines.specs.Seats.{SeatMemory}
 use Rattle.round_lines.specs.Rounds.{seat_at}
 use Rattle.switchboard.specs.declared.table.Bridge.{Bridge}
@@ -56,8 +56,8 @@ starts_past k others now = by (nat_lt others k)
     by false = refl
 
 module _ (r : Run) (t n : ℕ) (b : State) (farm after : FarmMemory) (first before now : ℕ → Side → LineState) (ends : List CallEnd)
-    (w : WorkedRound t n farm after before now ends) (h : IsRound r t n b.done b.left) (m : Matches b farm.groups) (b' : State) (last : Standing)
-    (at : IsAtClock r t b farm.groups last first before)
+    (w : WorkedRound t n farm after before now ends) (h : IsRound r t n b.done b.left) (m : Matches b farm.calls) (b' : State) (last : Standing)
+    (at : IsAtClock r t b farm.calls last first before)
     (meets : MeetsRun r n w.filled (standing b' after.failed now) last) where
   -- whether a call is open at the clock
   abbrev is_alive : ℕ → Bool
@@ -75,7 +75,7 @@ module _ (r : Run) (t n : ℕ) (b : State) (farm after : FarmMemory) (first befo
   seat c o = open_seat r t n b farm after first before now ends w h m b' last at meets c o
 
   -- **A call's partner is the other call of its bridge.**
-  partner_is : (c : ℕ) → partner_in farm.groups c ≡ option_map (other c) (bridge_at c)
+  partner_is : (c : ℕ) → partner_in farm.calls c ≡ option_map (other c) (bridge_at c)
   partner_is c =
       m.partner c ∙ ap (option_map (other c)) (bridge_same (gone_in b) (gone_at (whole_in r) t b.done) b.done c (open_told (whole_in r) t b at.follows.tells))
 
@@ -97,11 +97,11 @@ module _ (r : Run) (t n : ℕ) (b : State) (farm after : FarmMemory) (first befo
       let s = seat c o in
       let x = seat_at w.filled s.k in
       subst (λ (x : SeatMemory). IsFed r b.done t n c (io_of x)) (sym s.found)
-      (fed_taken r t n b.done b.left c x.place (io_of x) h o s.taken s.number refl refl)
+      (fed_taken r t n b.done b.left c x.lines (io_of x) h o s.taken s.number refl refl)
 
   -- for so many periods as the run says
-  pub given : (c : ℕ) → is_alive c ≡ true → places.whole_in (seat_of w.filled c).place ≡ places_in r b.done t n c
-  given c o = let s = seat c o in ap (λ (x : SeatMemory). places.whole_in x.place) s.found ∙ s.whole
+  pub given : (c : ℕ) → is_alive c ≡ true → places.whole_in (seat_of w.filled c).lines ≡ places_in r b.done t n c
+  given c o = let s = seat c o in ap (λ (x : SeatMemory). places.whole_in x.lines) s.found ∙ s.whole
 
   -- no more than the round has
   at_most : (c : ℕ) → places_in r b.done t n c ≤ n
@@ -144,8 +144,8 @@ module _ (r : Run) (t n : ℕ) (b : State) (farm after : FarmMemory) (first befo
       let k = places_in r b.done t n c in
       let l = at_most c in
       let now = settings_now r b.done t c in
-      let whole = places.whole_in (seat_of w.filled c).place in
-      let others = places.whole_in (seat_of w.filled d).place in
+      let whole = places.whole_in (seat_of w.filled c).lines in
+      let others = places.whole_in (seat_of w.filled d).lines in
       record {
         law = refl;
         periods = bridged_worked r t n b.done b.left c x (octets c) (octets d) h some (fed c o) (fed d p)
@@ -157,18 +157,18 @@ module _ (r : Run) (t n : ℕ) (b : State) (farm after : FarmMemory) (first befo
 
   -- **Each open call has had after the round what the run gives it.**
   pub worked_past : (c : ℕ) → is_alive c ≡ true →
-      (x : CallHistory) × (worked_histories w.filled (partner_in farm.groups) (histories_at r b.done t) c ≡ Some x) × IsPast c x
+      (x : CallHistory) × (worked_histories w.filled (partner_in farm.calls) (histories_at r b.done t) c ≡ Some x) × IsPast c x
   worked_past c o = by (bridge_at c) refl
     where
       hs : ℕ → Option CallHistory
       hs = histories_at r b.done t
 
-      start : (q : Option ℕ) → partner_in farm.groups c ≡ q → worked_histories w.filled (partner_in farm.groups) hs c
+      start : (q : Option ℕ) → partner_in farm.calls c ≡ q → worked_histories w.filled (partner_in farm.calls) hs c
           ≡ Some (history_with w.filled hs c q (past c))
-      start q e = ap (option_map (history_with w.filled hs c (partner_in farm.groups c))) (past_is c o)
+      start q e = ap (option_map (history_with w.filled hs c (partner_in farm.calls c))) (past_is c o)
           ∙ ap (λ (q : Option ℕ). Some (history_with w.filled hs c q (past c))) e
 
-      by : (v : Option Bridge) → bridge_at c ≡ v → (x : CallHistory) × (worked_histories w.filled (partner_in farm.groups) hs c ≡ Some x) × IsPast c x
+      by : (v : Option Bridge) → bridge_at c ≡ v → (x : CallHistory) × (worked_histories w.filled (partner_in farm.calls) hs c ≡ Some x) × IsPast c x
       by None e = (history_alone w.filled c (past c), start None (partner_is c ∙ ap (option_map (other c)) e), alone_is c o e)
       by (Some x) e =
           let parts = bridge_open r t b.done c x e in

@@ -8,14 +8,13 @@ use Rattle.trau_io.specs.declared.ends.CallEnd.{CallEnd}
 use Rattle.trau_io.specs.declared.line.Side.{Side}
 use Rattle.trau_io.specs.Lines.{LineState}
 use Rattle.round_lines.specs.Transfer.{fails_now}
-use Rattle.round_lines.specs.Places.{PlaceMemory, IsFresh, TellsFaults, outlet_before}
+use Rattle.round_lines.specs.Memory.{LinesMemory, IsFresh, TellsFaults, outlet_before}
 use Rattle.round_lines.specs.Seats.{SeatMemory, Fills, Drains, new_seat}
 use Rattle.round_lines.specs.Rounds.{Each, KeepsButEach, IsIncoming, IsOutgoing, Rising, seat_at, call_at, seat_end}
-use Rattle.farm_rounds.specs.declared.call.Call.{Call}
-use Rattle.farm_rounds.specs.Calls.{call_in, partner_in}
+use Rattle.farm_rounds.specs.Calls.{Call, call_in, partner_in}
 use Rattle.farm_rounds.specs.Numbers.{is_among}
 use Rattle.farm_rounds.specs.Memory.{FarmMemory, tally_in}
-use Rattle.farm_rounds.specs.Histories.{CallHistory, GroupsStand, kept_of}
+use Rattle.farm_rounds.specs.Histories.{CallHistory, CallsStand, kept_of}
 use Rattle.farm_rounds.specs.Working.{GainsFailed, goes_on_call, partner_past}
 use Rattle.farm_rounds.specs.RoundHistories.{seat_for, worked_histories, AreWorked, KnowFailed, those_that}
 use Rattle.farm_rounds.proofs.Rising.{there}
@@ -28,16 +27,16 @@ pub record WorkedRound (t n : ℕ) (farm after : FarmMemory) (before now : ℕ �
   pub worked : List SeatMemory
   pub drained : List SeatMemory
   pub between : ℕ → Side → LineState
-  pub live : (c : ℕ) → is_among farm.live c ≡ is_some (call_in farm.groups c)
+  pub live : (c : ℕ) → is_among farm.live c ≡ is_some (call_in farm.calls c)
   pub number : length planned ≡ length farm.live
-  pub seats : (k : ℕ) → k < length farm.live → seat_at planned k ≡ seat_for n (slice_index farm.live k) (call_in farm.groups (slice_index farm.live k))
+  pub seats : (k : ℕ) → k < length farm.live → seat_at planned k ≡ seat_for n (slice_index farm.live k) (call_in farm.calls (slice_index farm.live k))
   pub fills : Each Fills before between planned filled (length planned)
   pub filled_others : KeepsButEach IsIncoming before between planned (length planned)
   pub filled_number : length filled ≡ length planned
   pub rising : Rising filled
   pub worked_number : length worked ≡ length filled
   pub worked_rising : Rising worked
-  pub places : (k : ℕ) → k < length filled → (seat_at worked k).place ≡ (seat_at filled k).place
+  pub places : (k : ℕ) → k < length filled → (seat_at worked k).lines ≡ (seat_at filled k).lines
   pub told : ends ≡ filter_map (seat_end t) worked
   pub drains : Each Settles between now worked drained (length worked)
   pub held : Bool
@@ -46,27 +45,27 @@ pub record WorkedRound (t n : ℕ) (farm after : FarmMemory) (before now : ℕ �
   pub drained_others : KeepsButEach IsOutgoing between now worked (length worked)
   pub drained_number : length drained ≡ length worked
   pub gains : GainsFailed farm.failed after.failed drained
-  pub know : KnowFailed drained after.groups
-  pub is_open : (c : ℕ) → is_some (call_in after.groups c) ≡ (is_among farm.live c && goes_on_call worked c)
-  pub partners : (c : ℕ) → partner_in after.groups c ≡ partner_past (goes_on_call worked) (partner_in farm.groups) c
-  pub octets : (h : ℕ → Option CallHistory) → GroupsStand h farm.groups → AreWorked filled (worked_histories filled (partner_in farm.groups) h) worked
-  pub stands : (h : ℕ → Option CallHistory) → GroupsStand h farm.groups →
-      GroupsStand (those_that (goes_on_call worked) (worked_histories filled (partner_in farm.groups) h)) after.groups
-  pub tallies : (h : ℕ → Option CallHistory) → GroupsStand h farm.groups → (c : ℕ) →
-      tally_in after.tallies c ≡ (if goes_on_call worked c then tally_in farm.tallies c else kept_of (worked_histories filled (partner_in farm.groups) h c)
+  pub know : KnowFailed drained after.calls
+  pub is_open : (c : ℕ) → is_some (call_in after.calls c) ≡ (is_among farm.live c && goes_on_call worked c)
+  pub partners : (c : ℕ) → partner_in after.calls c ≡ partner_past (goes_on_call worked) (partner_in farm.calls) c
+  pub octets : (h : ℕ → Option CallHistory) → CallsStand h farm.calls → AreWorked filled (worked_histories filled (partner_in farm.calls) h) worked
+  pub stands : (h : ℕ → Option CallHistory) → CallsStand h farm.calls →
+      CallsStand (those_that (goes_on_call worked) (worked_histories filled (partner_in farm.calls) h)) after.calls
+  pub tallies : (h : ℕ → Option CallHistory) → CallsStand h farm.calls → (c : ℕ) →
+      tally_in after.tallies c ≡ (if goes_on_call worked c then tally_in farm.tallies c else kept_of (worked_histories filled (partner_in farm.calls) h c)
       (tally_in farm.tallies c))
 
 -- the same up to its work
 pub record FilledRound (t n : ℕ) (farm : FarmMemory) (before between : ℕ → Side → LineState) (planned filled worked : List SeatMemory)
     (ends : List CallEnd) : Type 0 where
-  pub live : (c : ℕ) → is_among farm.live c ≡ is_some (call_in farm.groups c)
+  pub live : (c : ℕ) → is_among farm.live c ≡ is_some (call_in farm.calls c)
   pub number : length planned ≡ length farm.live
-  pub seats : (k : ℕ) → k < length farm.live → seat_at planned k ≡ seat_for n (slice_index farm.live k) (call_in farm.groups (slice_index farm.live k))
+  pub seats : (k : ℕ) → k < length farm.live → seat_at planned k ≡ seat_for n (slice_index farm.live k) (call_in farm.calls (slice_index farm.live k))
   pub fills : Each Fills before between planned filled (length planned)
   pub filled_number : length filled ≡ length planned
   pub worked_number : length worked ≡ length filled
   pub worked_rising : Rising worked
-  pub places : (k : ℕ) → k < length filled → (seat_at worked k).place ≡ (seat_at filled k).place
+  pub places : (k : ℕ) → k < length filled → (seat_at worked k).lines ≡ (seat_at filled k).lines
   pub told : ends ≡ filter_map (seat_end t) worked
 
 -- ---- the seats
@@ -85,25 +84,25 @@ among_place (x ∷ xs) c e = by (x == c) refl e (among_place xs c)
 pub record FrontFacts (n : ℕ) (before between : Side → LineState) (c : ℕ) (call : Call) (planned filled worked : SeatMemory) : Type 0 where
   pub made : planned ≡ new_seat c n call.down_failed call.out_failed
   pub fills : Fills before between planned filled
-  pub place : worked.place ≡ filled.place
+  pub lines : worked.lines ≡ filled.lines
 
 module _ (n : ℕ) (before between : Side → LineState) (c : ℕ) (call : Call) (planned filled worked : SeatMemory)
     (f : FrontFacts n before between c call planned filled worked) where
   -- reading changes the marks of the incoming lines alone
-  kept_place : filled.place ≡ record planned.place { up = filled.place.up; pcm = filled.place.pcm }
-  kept_place = ap (λ (s : SeatMemory). s.place) f.fills.kept
+  kept_place : filled.lines ≡ record planned.lines { up = filled.lines.up; pcm = filled.lines.pcm }
+  kept_place = ap (λ (s : SeatMemory). s.lines) f.fills.kept
 
   -- the seat is this call's, before the work
-  pub filled_call : filled.place.call ≡ c
-  filled_call = ap (λ (p : PlaceMemory). p.call) kept_place ∙ ap (λ (s : SeatMemory). s.place.call) f.made
+  pub filled_call : filled.lines.call ≡ c
+  filled_call = ap (λ (p : LinesMemory). p.call) kept_place ∙ ap (λ (s : SeatMemory). s.lines.call) f.made
 
   -- and behind it
-  pub worked_call : worked.place.call ≡ c
-  worked_call = ap (λ (p : PlaceMemory). p.call) f.place ∙ filled_call
+  pub worked_call : worked.lines.call ≡ c
+  worked_call = ap (λ (p : LinesMemory). p.call) f.lines ∙ filled_call
 
   -- it is for so many periods
-  pub filled_periods : filled.place.periods ≡ n
-  filled_periods = ap (λ (p : PlaceMemory). p.periods) kept_place ∙ ap (λ (s : SeatMemory). s.place.periods) f.made
+  pub filled_periods : filled.lines.periods ≡ n
+  filled_periods = ap (λ (p : LinesMemory). p.periods) kept_place ∙ ap (λ (s : SeatMemory). s.lines.periods) f.made
 
   -- its buffers have the octets of so many
   pub up_long : length filled.up ≡ 40 * n
@@ -113,11 +112,11 @@ module _ (n : ℕ) (before between : Side → LineState) (c : ℕ) (call : Call)
   pcm_long = f.fills.pcm_length ∙ ap (λ (s : SeatMemory). length s.pcm) f.made ∙ length-replicate (160 * n) 0
 
   -- its outgoing lines stand as the call had them
-  pub worked_down : worked.place.down ≡ outlet_before call.down_failed
-  worked_down = ap (λ (p : PlaceMemory). p.down) (f.place ∙ kept_place) ∙ ap (λ (s : SeatMemory). s.place.down) f.made
+  pub worked_down : worked.lines.down ≡ outlet_before call.down_failed
+  worked_down = ap (λ (p : LinesMemory). p.down) (f.lines ∙ kept_place) ∙ ap (λ (s : SeatMemory). s.lines.down) f.made
 
-  pub worked_out : worked.place.out ≡ outlet_before call.out_failed
-  worked_out = ap (λ (p : PlaceMemory). p.out) (f.place ∙ kept_place) ∙ ap (λ (s : SeatMemory). s.place.out) f.made
+  pub worked_out : worked.lines.out ≡ outlet_before call.out_failed
+  worked_out = ap (λ (p : LinesMemory). p.out) (f.lines ∙ kept_place) ∙ ap (λ (s : SeatMemory). s.lines.out) f.made
 
 -- and up to the round's end
 pub record SeatFacts (n : ℕ) (before between now : Side → LineState) (c : ℕ) (call : Call) (planned filled worked drained : SeatMemory) : Type 0 where
@@ -127,8 +126,8 @@ pub record SeatFacts (n : ℕ) (before between now : Side → LineState) (c : �
 module _ (n : ℕ) (before between now : Side → LineState) (c : ℕ) (call : Call) (planned filled worked drained : SeatMemory)
     (f : SeatFacts n before between now c call planned filled worked drained) where
   -- the seat is this call's behind the writing too
-  pub drained_call : drained.place.call ≡ c
-  drained_call = ap (λ (s : SeatMemory). s.place.call) f.drains.kept ∙ worked_call n before between c call planned filled worked f.front
+  pub drained_call : drained.lines.call ≡ c
+  drained_call = ap (λ (s : SeatMemory). s.lines.call) f.drains.kept ∙ worked_call n before between c call planned filled worked f.front
 
   -- a line that stands as it did before the round hasn't failed in it
   not_yet : (b : Bool) → fails_now (outlet_before b) ≡ false
@@ -136,36 +135,36 @@ module _ (n : ℕ) (before between now : Side → LineState) (c : ℕ) (call : C
   not_yet false = refl
 
   -- no line of a planned seat has failed in the round
-  fresh : IsFresh planned.place
+  fresh : IsFresh planned.lines
   fresh = (
-    ap (λ (s : SeatMemory). fails_now s.place.down) f.front.made ∙ not_yet call.down_failed,
-    ap (λ (s : SeatMemory). fails_now s.place.out) f.front.made
+    ap (λ (s : SeatMemory). fails_now s.lines.down) f.front.made ∙ not_yet call.down_failed,
+    ap (λ (s : SeatMemory). fails_now s.lines.out) f.front.made
         ∙ not_yet call.out_failed,
   )
 
   -- **At the round's end its marks tell which of its lines' counts rose.**
-  pub tells_seat : TellsFaults before now drained.place
-  tells_seat = f.drains.faults before (subst (TellsFaults before between) (sym f.front.place) (f.front.fills.faults fresh))
+  pub tells_seat : TellsFaults before now drained.lines
+  tells_seat = f.drains.faults before (subst (TellsFaults before between) (sym f.front.lines) (f.front.fills.faults fresh))
 
 module _ (t n : ℕ) (farm : FarmMemory) (before between : ℕ → Side → LineState) (planned filled worked : List SeatMemory) (ends : List CallEnd)
     (w : FilledRound t n farm before between planned filled worked ends) where
   -- **Each open call has its seat.**
   pub front_facts : (k c : ℕ) → k < length farm.live → slice_index farm.live k ≡ c →
-      (x : Call) × (call_in farm.groups c ≡ Some x) × FrontFacts n (before c) (between c) c x (seat_at planned k) (seat_at filled k) (seat_at worked k)
-  front_facts k c l e = by (call_in farm.groups c) refl (sym (w.live c) ∙ there farm.live c k l e)
+      (x : Call) × (call_in farm.calls c ≡ Some x) × FrontFacts n (before c) (between c) c x (seat_at planned k) (seat_at filled k) (seat_at worked k)
+  front_facts k c l e = by (call_in farm.calls c) refl (sym (w.live c) ∙ there farm.live c k l e)
     where
-      by : (o : Option Call) → call_in farm.groups c ≡ o → is_some o ≡ true →
-          (x : Call) × (call_in farm.groups c ≡ Some x) × FrontFacts n (before c) (between c) c x (seat_at planned k) (seat_at filled k) (seat_at worked k)
+      by : (o : Option Call) → call_in farm.calls c ≡ o → is_some o ≡ true →
+          (x : Call) × (call_in farm.calls c ≡ Some x) × FrontFacts n (before c) (between c) c x (seat_at planned k) (seat_at filled k) (seat_at worked k)
       by None q h = cc
       by (Some x) q h =
-          let made : seat_at planned k ≡ new_seat c n x.down_failed x.out_failed = w.seats k l ∙ ap (λ d. seat_for n d (call_in farm.groups d)) e
+          let made : seat_at planned k ≡ new_seat c n x.down_failed x.out_failed = w.seats k l ∙ ap (λ d. seat_for n d (call_in farm.calls d)) e
           ∙ ap (seat_for n c) q in
-          let called : call_at planned k ≡ c = ap (λ (s : SeatMemory). s.place.call) made in (
+          let called : call_at planned k ≡ c = ap (λ (s : SeatMemory). s.lines.call) made in (
             x,
             q,
             record {
               made = made;
               fills = subst (λ d. Fills (before d) (between d) (seat_at planned k) (seat_at filled k)) called (w.fills k (omega (arith, w.number)));
-              place = w.places k (omega (arith, w.number, w.filled_number));
+              lines = w.places k (omega (arith, w.number, w.filled_number));
             },
           )

@@ -14,9 +14,9 @@ tail_rising s seats r = λ i j l k. r (suc i) (suc j) (omega arith) (omega arith
 pub seat_of_at : (seats : List SeatMemory) (k : ℕ) → Rising seats → k < length seats → seat_of seats (call_at seats k) ≡ seat_at seats k
 seat_of_at [] k r l = absurd (omega arith)
 seat_of_at (s ∷ seats) zero r l =
-    ap (λ (b : Bool). unwrap_or (if b then Some s else find (λ x. x.place.call == s.place.call) seats) no_seat) (eq-eqb s.place.call s.place.call refl)
+    ap (λ (b : Bool). unwrap_or (if b then Some s else find (λ x. x.lines.call == s.lines.call) seats) no_seat) (eq-eqb s.lines.call s.lines.call refl)
 seat_of_at (s ∷ seats) (suc k) r l =
     let less = r 0 (suc k) (omega arith) (omega arith) in
-    ap (λ (b : Bool). unwrap_or (if b then Some s else find (λ x. x.place.call == call_at seats k) seats) no_seat)
-    (ne_eqb s.place.call (call_at seats k) (λ e. omega (arith, less, e)))
+    ap (λ (b : Bool). unwrap_or (if b then Some s else find (λ x. x.lines.call == call_at seats k) seats) no_seat)
+    (ne_eqb s.lines.call (call_at seats k) (λ e. omega (arith, less, e)))
     ∙ seat_of_at seats k (tail_rising s seats r) (omega arith)

@@ -1,38 +1,51 @@
 -- An incoming line that fails in a round gives fewer octets than the round takes of it, and its call ends there.
-use Rattle.std.proofs.Common.{◌≡◌, sym, ap, ◌∙◌, ℕ, ◌+◌, ◌-◌, ◌*◌, ◌<◌, ◌≤◌, Bool, true, false, not, ◌&&◌, List, [], length, inl, inr, arith}
-use Rattle.std.specs.Prelude.{min}
-use Rattle.std.proofs.lemmas.Bool.{cases_Bool, true≢false}
+use Rattle.std.proofs.Common.{◌≡◌, sym, ap, ◌∙◌, subst, ℕ, ◌+◌, ◌-◌, ◌*◌, ◌<◌, ◌≤◌, Bool, true, false, not, ◌&&◌, List, [], length, inl, inr, arith}
+use Rattle.std.specs.Prelude.{min, nat_lt, if◌then◌else◌}
+use Rattle.std.proofs.lemmas.Bool.{cases_Bool, true≢false, lt-ltb}
 use Rattle.trau_io.specs.declared.ends.CallEnd.{CallEnd}
+use Rattle.trau_io.specs.declared.ends.Cause.{Cause}
+use Rattle.trau_io.specs.declared.ends.Cause.TheVariants.{End, Fault}
 use Rattle.trau_io.specs.declared.line.Line.{Line}
 use Rattle.trau_io.specs.declared.line.Side.{Side}
 use Rattle.trau_io.specs.declared.line.Side.TheVariants.{Up, Pcm}
 use Rattle.trau_io.specs.Lines.{LineState}
 use Rattle.round_lines.specs.Rounds.{seat_at}
 use Rattle.switchboard.specs.Calls.{is_open, gone_at}
-use Rattle.switchboard.specs.Ends.{start_of}
+use Rattle.switchboard.specs.Ends.{Given, start_of, end_of, lack_of}
 use Rattle.switchboard.specs.State.{State}
 use Rattle.switchboard.specs.Open.{open_now}
 use Rattle.farm_rounds.specs.Memory.{FarmMemory}
-use Rattle.run_spec.specs.Run.{Run, whole_in, start_in, end_in}
+use Rattle.run_spec.specs.Run.{Run, given_in, whole_in, done_in, start_in, end_in, cause_in}
 use Rattle.run_spec.proofs.SoFar.{standing_now}
 use Rattle.farm_run.specs.Going.{places_in, told_after, is_told}
-use Rattle.farm_run.specs.Runs.{FailedIn, FailedShort, is_listed}
+use Rattle.farm_run.specs.Runs.{FailedIn, FailedShort, IsCutOff, is_listed}
 use Rattle.farm_run.specs.Match.{AtClock, Matches}
 use Rattle.farm_run.specs.Standing.{Standing, standing, KnowsListed, MeetsRun}
 use Rattle.farm_run.specs.Clock.{IsAtClock, FailedInRound}
 use Rattle.farm_run.proofs.Rounds.Taken.{IsRound}
 use Rattle.farm_run.proofs.Rounds.Open.{open_at}
-use Rattle.farm_run.proofs.Rounds.Ends.{start_kept}
+use Rattle.farm_run.proofs.Rounds.Ends.{end_within, start_kept}
 use Rattle.farm_run.proofs.Clocks.Reach.{end_after, open_before_end}
 use Rattle.farm_run.proofs.Worked.Round.{WorkedRound, up_long, pcm_long}
 use Rattle.farm_run.proofs.Listed.Round.{listed_kept, listed_incoming}
-use Rattle.farm_run.proofs.Listed.Seated.{fewer_up, fewer_pcm}
+use Rattle.farm_rounds.proofs.Gaining.{fewer_up, fewer_pcm}
 use Rattle.farm_run.proofs.Worked.Calls.{OpenSeat, open_seat, open_is}
 
+-- a call that lacks a period isn't ended by an order, nor by the run's end
+lines_end : (n : ℕ) (g : Given) → IsCutOff (lack_of n g) → ⊥
+lines_end n g = by (nat_lt g.up (40 * (n + 1))) g.up_failed g.pcm_failed
+  where
+    by : (up up_failed pcm_failed : Bool) →
+        IsCutOff (if up then (if up_failed then Fault Up else End Up (g.up - 40 * n)) else if pcm_failed then Fault Pcm else End Pcm (g.pcm - 160 * n)) → ⊥
+    by true true f q = q
+    by true false f q = q
+    by false u true q = q
+    by false u false q = q
+
 module _ (r : Run) (t n : ℕ) (b : State) (farm after : FarmMemory) (first before now : ℕ → Side → LineState) (ends : List CallEnd)
-    (w : WorkedRound t n farm after before now ends) (h : IsRound r t n b.done b.left) (m : Matches b farm.groups) (b' : State) (last : Standing)
-    (at : IsAtClock r t b farm.groups last first before)
-    (meets : MeetsRun r n w.filled (standing b' after.failed now) last) (a : AtClock t b farm.groups) (knows : KnowsListed b farm.groups farm.failed)
+    (w : WorkedRound t n farm after before now ends) (h : IsRound r t n b.done b.left) (m : Matches b farm.calls) (b' : State) (last : Standing)
+    (at : IsAtClock r t b farm.calls last first before)
+    (meets : MeetsRun r n w.filled (standing b' after.failed now) last) (a : AtClock t b farm.calls) (knows : KnowsListed b farm.calls farm.failed)
     (told : b' ≡ told_after b ends)
     (open_then : (c : ℕ) → open_now b' c ≡ (open_now b c && not (is_told c ends))) where
   -- whether a call is open at the clock
@@ -53,12 +66,19 @@ module _ (r : Run) (t n : ℕ) (b : State) (farm after : FarmMemory) (first befo
     begun = open_before_end r t n b.done b.left c h o;
     over = over (end_in r c) (places_in r b.done t n c) less (end_after r t n b.done b.left c h o);
     within = h.within;
+    by_lines = subst (λ (e : Cause). IsCutOff e → ⊥) (sym cause) (lines_end (whole_in r c) (given_in r c));
     short = (let e : t + n - start_in r c ≡ t + n - start_of b.done c = ap (λ (s : ℕ). t + n - s) (start_kept r t n b.done b.left c h o) in
         omega (arith, few, ap (λ (k : ℕ). octets * k) e));
   }
     where
       over : (e k : ℕ) → k < n → min (t + n) e ≡ t + k → e < t + n
       over e k l q = omega arith
+
+      cause : cause_in r c ≡ lack_of (whole_in r c) (given_in r c)
+      cause =
+          ap (λ (s : ℕ). let e : CallEnd = end_of (given_in r) r.periods (done_in r) c s in e.cause) (start_kept r t n b.done b.left c h o)
+          ∙ ap (λ (e : CallEnd). e.cause)
+          (end_within r t n b.done b.left c h (ap (λ (x : Bool). x && nat_lt (places_in r b.done t n c) n) o ∙ lt-ltb (places_in r b.done t n c) n less))
 
   -- an open call began before the clock
   begun : (c : ℕ) → alive c ≡ true → start_of b.done c ≤ t
@@ -73,13 +93,13 @@ module _ (r : Run) (t n : ℕ) (b : State) (farm after : FarmMemory) (first befo
   up_failed : (c : ℕ) → alive c ≡ true → is_listed after.failed c Up ≡ true → FailedIn r c 40 (r.lines c).up t (t + n)
   up_failed c o listed =
       let s = seat c o in
-      let failed : (seat_at w.filled s.k).place.up.failed ≡ true =
+      let failed : (seat_at w.filled s.k).lines.up.failed ≡ true =
       sym (listed_incoming t n b farm after before now ends w a knows b' told open_then s.k c Up s.within s.here tt) ∙ listed in
-      let less : (seat_at w.filled s.k).place.up.count < 40 * n =
+      let less : (seat_at w.filled s.k).lines.up.count < 40 * n =
       (let l = s.facts.front.fills.up.short failed in omega (arith, l, up_long _ _ _ _ _ _ _ _ s.facts.front)) in
-      let lacks : places_in r b.done t n c < n = (let l = fewer_up (seat_at w.filled s.k).place n less in omega (arith, l, s.whole)) in
+      let lacks : places_in r b.done t n c < n = (let l = fewer_up (seat_at w.filled s.k).lines n less in omega (arith, l, s.whole)) in
       let start = begun c o in
-      ends_here c 40 (r.lines c).up o lacks (few_in_all 40 (seat_at w.filled s.k).place.up.count (length (r.lines c).up)
+      ends_here c 40 (r.lines c).up o lacks (few_in_all 40 (seat_at w.filled s.k).lines.up.count (length (r.lines c).up)
       (start_of b.done c) s.taken.up_count less start (spread (start_of b.done c) start))
     where
       spread : (s : ℕ) → s ≤ t → 40 * (t - s) + 40 * n ≡ 40 * (t + n - s)
@@ -88,13 +108,13 @@ module _ (r : Run) (t n : ℕ) (b : State) (farm after : FarmMemory) (first befo
   pcm_failed : (c : ℕ) → alive c ≡ true → is_listed after.failed c Pcm ≡ true → FailedIn r c 160 (r.lines c).pcm t (t + n)
   pcm_failed c o listed =
       let s = seat c o in
-      let failed : (seat_at w.filled s.k).place.pcm.failed ≡ true =
+      let failed : (seat_at w.filled s.k).lines.pcm.failed ≡ true =
       sym (listed_incoming t n b farm after before now ends w a knows b' told open_then s.k c Pcm s.within s.here tt) ∙ listed in
-      let less : (seat_at w.filled s.k).place.pcm.count < 160 * n =
+      let less : (seat_at w.filled s.k).lines.pcm.count < 160 * n =
       (let l = s.facts.front.fills.pcm.short failed in omega (arith, l, pcm_long _ _ _ _ _ _ _ _ s.facts.front)) in
-      let lacks : places_in r b.done t n c < n = (let l = fewer_pcm (seat_at w.filled s.k).place n less in omega (arith, l, s.whole)) in
+      let lacks : places_in r b.done t n c < n = (let l = fewer_pcm (seat_at w.filled s.k).lines n less in omega (arith, l, s.whole)) in
       let start = begun c o in
-      ends_here c 160 (r.lines c).pcm o lacks (few_in_all 160 (seat_at w.filled s.k).place.pcm.count (length (r.lines c).pcm)
+      ends_here c 160 (r.lines c).pcm o lacks (few_in_all 160 (seat_at w.filled s.k).lines.pcm.count (length (r.lines c).pcm)
       (start_of b.done c) s.taken.pcm_count less start (spread (start_of b.done c) start))
     where
       spread : (s : ℕ) → s ≤ t → 160 * (t - s) + 160 * n ≡ 160 * (t + n - s)

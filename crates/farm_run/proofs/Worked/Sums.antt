@@ -40,9 +40,9 @@ added : (old more : List ℕ) → (sum_of old + sum more) % 2 ^ 32 ≡ sum_of (o
 added old more = mod-add-mod (sum old) (2 ^ 32) (sum more) ∙ ap (λ (n : ℕ). n % 2 ^ 32) (sym (sum_both old more))
 
 module _ (r : Run) (t n : ℕ) (b : State) (farm after : FarmMemory) (first before now : ℕ → Side → LineState) (ends : List CallEnd)
-    (w : WorkedRound t n farm after before now ends) (h : IsRound r t n b.done b.left) (m : Matches b farm.groups) (b' : State) (last : Standing)
-    (at : IsAtClock r t b farm.groups last first before)
-    (meets : MeetsRun r n w.filled (standing b' after.failed now) last) (a : AtClock t b farm.groups) (knows : KnowsListed b farm.groups farm.failed)
+    (w : WorkedRound t n farm after before now ends) (h : IsRound r t n b.done b.left) (m : Matches b farm.calls) (b' : State) (last : Standing)
+    (at : IsAtClock r t b farm.calls last first before)
+    (meets : MeetsRun r n w.filled (standing b' after.failed now) last) (a : AtClock t b farm.calls) (knows : KnowsListed b farm.calls farm.failed)
     (told : b' ≡ told_after b ends)
     (open_then : (c : ℕ) → open_now b' c ≡ (open_now b c && not (is_told c ends))) (was is : ℕ → Side → ℕ) (adds : Adds w.worked was is) where
   -- whether a call is open at the clock
@@ -53,7 +53,7 @@ module _ (r : Run) (t n : ℕ) (b : State) (farm after : FarmMemory) (first befo
   stay : (c : ℕ) → alive c ≡ false → (s : Side) → is c s ≡ was c s
   stay c o s = adds.others c s (λ k l e i.
       let within : k < length farm.live = omega (arith, l, w.number, w.filled_number, w.worked_number) in
-      let live : is_some (call_in farm.groups c) ≡ true = sym (w.live c)
+      let live : is_some (call_in farm.calls c) ≡ true = sym (w.live c)
       ∙ there farm.live c k within (sym (e ∙ worked_at t n farm after before now ends w k within)) in
       true≢false (sym live ∙ open_is r t n b farm after first before now ends w h m b' last at meets c ∙ o))
 

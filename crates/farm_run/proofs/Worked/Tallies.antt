@@ -28,8 +28,8 @@ use Rattle.farm_run.proofs.Worked.Calls.{goes_on_is}
 use Rattle.farm_run.proofs.Worked.Past.{worked_past}
 
 module _ (r : Run) (t n : ℕ) (b : State) (farm after : FarmMemory) (first before now : ℕ → Side → LineState) (ends : List CallEnd)
-    (w : WorkedRound t n farm after before now ends) (h : IsRound r t n b.done b.left) (m : Matches b farm.groups) (b' : State) (last : Standing)
-    (at : IsAtClock r t b farm.groups last first before)
+    (w : WorkedRound t n farm after before now ends) (h : IsRound r t n b.done b.left) (m : Matches b farm.calls) (b' : State) (last : Standing)
+    (at : IsAtClock r t b farm.calls last first before)
     (meets : MeetsRun r n w.filled (standing b' after.failed now) last) where
   -- whether a call is open at the clock
   abbrev alive : ℕ → Bool
@@ -37,7 +37,7 @@ module _ (r : Run) (t n : ℕ) (b : State) (farm after : FarmMemory) (first befo
 
   -- what each call has had at the round's end
   abbrev worked_at_end : ℕ → Option CallHistory
-  worked_at_end = worked_histories w.filled (partner_in farm.groups) (histories_at r b.done t)
+  worked_at_end = worked_histories w.filled (partner_in farm.calls) (histories_at r b.done t)
 
   -- what was kept of each before it
   abbrev was : ℕ → Tally
@@ -85,7 +85,7 @@ module _ (r : Run) (t n : ℕ) (b : State) (farm after : FarmMemory) (first befo
           (goes c o ∙ all (places_in r b.done t n c) refl (sym (ap (λ (x : Bool). x && nat_lt (places_in r b.done t n c) n) o) ∙ e))
       by false o =
           ap (λ (y : Option CallHistory). if goes_on_call w.worked c then was c else kept_of y (was c))
-          (ap (λ (x : Bool). option_map (history_with w.filled (histories_at r b.done t) c (partner_in farm.groups c))
+          (ap (λ (x : Bool). option_map (history_with w.filled (histories_at r b.done t) c (partner_in farm.calls c))
           (past_if x (law_in r c) (periods_to r c (t - start_of b.done c)) (settings_now r b.done t c))) o)
           ∙ either (goes_on_call w.worked c)
 

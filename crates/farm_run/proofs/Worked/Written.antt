@@ -23,7 +23,8 @@ use Rattle.call_pair.specs.Memory.{IoMemory}
 use Rattle.farm_rounds.specs.Calls.{call_in, partner_in}
 use Rattle.farm_rounds.specs.Memory.{FarmMemory}
 use Rattle.farm_rounds.specs.Histories.{CallHistory, whose}
-use Rattle.farm_rounds.specs.Rounds.{io_of, seat_with}
+use Rattle.farm_rounds.specs.Opens.{seat_with}
+use Rattle.farm_rounds.specs.Rounds.{io_of}
 use Rattle.farm_rounds.specs.RoundHistories.{worked_histories}
 use Rattle.run_spec.specs.Run.{Run, whole_in, done_in, periods_to, end_in, who_in, IsOpened, worked_to}
 use Rattle.run_spec.specs.Lines.{out_line, down_octets}
@@ -46,9 +47,9 @@ use Rattle.farm_run.proofs.Worked.Calls.{OpenSeat, open_seat, open_is, opened_is
 use Rattle.farm_run.proofs.Worked.Past.{IsPast, worked_past}
 
 module _ (r : Run) (t n : ℕ) (b : State) (farm after : FarmMemory) (first before now : ℕ → Side → LineState) (ends : List CallEnd)
-    (w : WorkedRound t n farm after before now ends) (h : IsRound r t n b.done b.left) (m : Matches b farm.groups) (b' : State) (last : Standing)
-    (at : IsAtClock r t b farm.groups last first before)
-    (meets : MeetsRun r n w.filled (standing b' after.failed now) last) (a : AtClock t b farm.groups) (knows : KnowsListed b farm.groups farm.failed)
+    (w : WorkedRound t n farm after before now ends) (h : IsRound r t n b.done b.left) (m : Matches b farm.calls) (b' : State) (last : Standing)
+    (at : IsAtClock r t b farm.calls last first before)
+    (meets : MeetsRun r n w.filled (standing b' after.failed now) last) (a : AtClock t b farm.calls) (knows : KnowsListed b farm.calls farm.failed)
     (told : b' ≡ told_after b ends)
     (open_then : (c : ℕ) → open_now b' c ≡ (open_now b c && not (is_told c ends))) where
   -- whether a call is open at the clock
@@ -68,7 +69,7 @@ module _ (r : Run) (t n : ℕ) (b : State) (farm after : FarmMemory) (first befo
 
   -- and at its end, those that end in it too
   abbrev worked_at_end : ℕ → Option CallHistory
-  worked_at_end = worked_histories w.filled (partner_in farm.groups) hs
+  worked_at_end = worked_histories w.filled (partner_in farm.calls) hs
 
   -- what is known of the latter
   abbrev Past : ℕ → CallHistory → Type 0
@@ -78,7 +79,7 @@ module _ (r : Run) (t n : ℕ) (b : State) (farm after : FarmMemory) (first befo
   past c o = worked_past r t n b farm after first before now ends w h m b' last at meets c o
 
   -- a call that isn't open has no seat,
-  shut : (c : ℕ) → alive c ≡ false → is_some (call_in farm.groups c) ≡ false
+  shut : (c : ℕ) → alive c ≡ false → is_some (call_in farm.calls c) ≡ false
   shut c o = open_is r t n b farm after first before now ends w h m b' last at meets c ∙ o
 
   -- no period in the round,
@@ -97,18 +98,18 @@ module _ (r : Run) (t n : ℕ) (b : State) (farm after : FarmMemory) (first befo
       seat_at w.filled s.k in io_after (who_in r c) (places_in r b.done t n c) (periods_to r c (t + places_in r b.done t n c - start_of b.done c)) (io_of x)
 
   -- the seat behind the work has that
-  seat_left : (c : ℕ) (o : alive c ≡ true) → let s = seat c o in seat_at w.worked s.k ≡ seat_with (seat_at w.filled s.k).place (left_io c o)
+  seat_left : (c : ℕ) (o : alive c ≡ true) → let s = seat c o in seat_at w.worked s.k ≡ seat_with (seat_at w.filled s.k).lines (left_io c o)
   seat_left c o =
       let s = seat c o in
       let p = past c o in
       let l = s.within in
       let x = seat_at w.filled s.k in
       w.octets hs at.follows.stands s.k p.0 (omega (arith, l, w.filled_number, w.number)) (ap worked_at_end s.number ∙ p.1)
-      ∙ ap (λ (k : ℕ). seat_with x.place (io_after (whose (call_at w.filled s.k) p.0) k p.0.periods (io_of x))) s.whole
-      ∙ ap (λ (ts : List CallPeriod). seat_with x.place (io_after (whose (call_at w.filled s.k) p.0) (places_in r b.done t n c) ts (io_of x))) p.2.periods
-      ∙ ap (λ (d : ℕ). seat_with x.place (io_after (whose d p.0) (places_in r b.done t n c)
+      ∙ ap (λ (k : ℕ). seat_with x.lines (io_after (whose (call_at w.filled s.k) p.0) k p.0.periods (io_of x))) s.whole
+      ∙ ap (λ (ts : List CallPeriod). seat_with x.lines (io_after (whose (call_at w.filled s.k) p.0) (places_in r b.done t n c) ts (io_of x))) p.2.periods
+      ∙ ap (λ (d : ℕ). seat_with x.lines (io_after (whose d p.0) (places_in r b.done t n c)
       (periods_to r c (t + places_in r b.done t n c - start_of b.done c)) (io_of x))) s.number
-      ∙ ap (λ (l : Law). seat_with x.place (io_after (record { number = c; law = l }) (places_in r b.done t n c)
+      ∙ ap (λ (l : Law). seat_with x.lines (io_after (record { number = c; law = l }) (places_in r b.done t n c)
       (periods_to r c (t + places_in r b.done t n c - start_of b.done c)) (io_of x))) p.2.law
 
   -- **What a line is to have gained grows by what goes out of the call's seat.**
@@ -150,7 +151,7 @@ module _ (r : Run) (t n : ℕ) (b : State) (farm after : FarmMemory) (first befo
       by : (e s : ℕ) → min from e - s ≤ min t e - s
       by e s = omega arith
 
-  -- **A line gains that, or a proper front of it.**
+  -- **A line gains that, or a proper prefix of it.**
   wrote_out : w.held ≡ false → (from : ℕ) → from ≤ t → WrittenFrom r from t (is_listed farm.failed) first before → (c : ℕ) → alive c ≡ true →
       HasWritten (is_listed after.failed c Out) (first c Out) (now c Out)
       (drop (160 * worked_to r from c) (out_line (who_in r c) (periods_to r c (worked_to r (t + n) c))))
@@ -164,9 +165,9 @@ module _ (r : Run) (t n : ℕ) (b : State) (farm after : FarmMemory) (first befo
       let was = wrote.out c (opened_is r t n b farm after first before now ends w h m b' last at meets c o) in
       subst (λ (x : Bool). HasWritten x (first c Out) (now c Out) (drop k (out_line (who_in r c) (periods_to r c (worked_to r (t + n) c)))))
       (stands_out t n b farm after before now ends w a knows b' told open_then s.k c s.within s.here)
-      (subst (HasWritten (has_failed (seat_at w.drained s.k).place.out) (first c Out) (now c Out))
+      (subst (HasWritten (has_failed (seat_at w.drained s.k).lines.out) (first c Out) (now c Out))
       (sym (ap (drop k) (grown_out c o) ∙ drop-append-le k old (seats.out_given (seat_at w.worked s.k)) fits))
-      (gains (first c Out) (w.between c Out) (now c Out) (seat_at w.worked s.k).place.out (seat_at w.drained s.k).place.out front
+      (gains (first c Out) (w.between c Out) (now c Out) (seat_at w.worked s.k).lines.out (seat_at w.drained s.k).lines.out front
       (seats.out_given (seat_at w.worked s.k)) (writes_at t n farm after before now ends w s.k c s.within s.here written).out
       (subst (λ (x : Bool). HasWritten x (first c Out) (w.between c Out) front)
       (sym (was_out t n b farm after before now ends w a knows b' told open_then s.k c s.within s.here))
@@ -186,9 +187,9 @@ module _ (r : Run) (t n : ℕ) (b : State) (farm after : FarmMemory) (first befo
       let was = wrote.down c (opened_is r t n b farm after first before now ends w h m b' last at meets c o) in
       subst (λ (x : Bool). HasWritten x (first c Down) (now c Down) (drop k (down_octets (who_in r c) (periods_to r c (worked_to r (t + n) c)))))
       (stands_down t n b farm after before now ends w a knows b' told open_then s.k c s.within s.here)
-      (subst (HasWritten (has_failed (seat_at w.drained s.k).place.down) (first c Down) (now c Down))
+      (subst (HasWritten (has_failed (seat_at w.drained s.k).lines.down) (first c Down) (now c Down))
       (sym (ap (drop k) (grown_down c o) ∙ drop-append-le k old (seats.down_given (seat_at w.worked s.k)) fits))
-      (gains (first c Down) (w.between c Down) (now c Down) (seat_at w.worked s.k).place.down (seat_at w.drained s.k).place.down front
+      (gains (first c Down) (w.between c Down) (now c Down) (seat_at w.worked s.k).lines.down (seat_at w.drained s.k).lines.down front
       (seats.down_given (seat_at w.worked s.k)) (writes_at t n farm after before now ends w s.k c s.within s.here written).down
       (subst (λ (x : Bool). HasWritten x (first c Down) (w.between c Down) front)
       (sym (was_down t n b farm after before now ends w a knows b' told open_then s.k c s.within s.here))

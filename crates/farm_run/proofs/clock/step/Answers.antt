@@ -14,6 +14,9 @@ execute_orders-requires-clause-clock g c = c.requires.stage.clock
 pub execute_orders-requires-clause-shut : goal.execute_orders-requires-clause-shut
 execute_orders-requires-clause-shut g c = c.requires.stage.shut
 
+pub execute_orders-requires-clause-knows : goal.execute_orders-requires-clause-knows
+execute_orders-requires-clause-knows g c = c.requires.stage.knows
+
 pub execute_orders-requires-clause-few : goal.execute_orders-requires-clause-few
 execute_orders-requires-clause-few g c = c.requires.stage.few
 

@@ -1,6 +1,10 @@
-use Rattle.std.proofs.Common.{refl, sym, ap, ◌∙◌, subst, ℕ, ◌+◌, ◌≤◌, length, arith}
+use Rattle.std.proofs.Common.{rules, refl, sym, ap, ◌∙◌, subst, ℕ, ◌+◌, ◌<◌, ◌≤◌, Option, None, Some, length, slice_index, arith}
+use Rattle.round_lines.specs.Seats.{SeatMemory}
+use Rattle.farm_rounds.specs.Calls.{Call, call_in}
+use Rattle.farm_rounds.specs.RoundHistories.{seat_for}
+use Rattle.farm_rounds.specs.Rounds.{IsUnread}
 use Rattle.std.specs.List.{filter_map}
-use Rattle.round_lines.specs.Rounds.{seat_end}
+use Rattle.round_lines.specs.Rounds.{seat_at, seat_end}
 use Rattle.trau_io.specs.declared.line.Side.{Side}
 use Rattle.trau_io.specs.Lines.{LineState}
 use Rattle.switchboard.specs.State.{State, orders_of}
@@ -57,6 +61,22 @@ front g c =
           (ap (λ (p : RoundMemory). p.start) fill.kept ∙ plan.start);
     }
 
+-- a seat that was planned has nothing of its incoming lines
+unread : (periods c : ℕ) (call : Option Call) → IsUnread (seat_for periods c call).lines
+unread periods c None = (refl, refl)
+unread periods c (Some call) = (refl, refl)
+
+pub fill-requires : goal.fill-requires
+fill-requires g c =
+    let plan = c.in_ok-round.ensures in
+    let seats = c.in_ok-round.round.seats in
+    let live = c.args.stage.farm.live in
+    let calls = c.args.stage.farm.calls in
+    let once : (k : ℕ) → k < length seats → IsUnread (seat_at seats k).lines = λ k within.
+    subst (λ (s : SeatMemory). IsUnread s.lines) (sym (plan.seats k (subst (λ (n : ℕ). k < n) plan.number within)))
+    (unread c.args.periods (slice_index live k) (call_in calls (slice_index live k))) in
+    search rules
+
 pub tell_ends-requires-clause-numbers : goal.tell_ends-requires-clause-numbers
 tell_ends-requires-clause-numbers g c = tells_numbers _ _ c.args.stage.board _ _ _ _ _ _ _ (front g c) c.requires.stage.clock
 
@@ -86,11 +106,10 @@ round g c =
       kept = fill.kept;
       live = plan.live;
       tallies = plan.tallies;
+      calls = plan.calls;
       live_worked = work.live;
       tallies_worked = work.tallies;
-      partners = plan.partners;
       partners_worked = work.partners;
-      begins = plan.stands;
       stands = work.stands;
       octets = work.octets;
       alive = drain.live;
@@ -138,7 +157,7 @@ returns-clause-clock g c = refl
 
 -- where the run goes on, the round is one of it
 in_run : (g : Over) (c : goal.After-settle-farm g) (r : Run) (first : _) (last : Standing) → c.args.stage.clock + c.args.periods ≤ r.periods →
-    IsAtClock r c.args.stage.clock c.args.stage.board c.args.stage.farm.groups last first (g.T.Trunk.lines c.args.trunk.now) →
+    IsAtClock r c.args.stage.clock c.args.stage.board c.args.stage.farm.calls last first (g.T.Trunk.lines c.args.trunk.now) →
     IsRound r c.args.stage.clock c.args.periods c.args.stage.board.done c.args.stage.board.left
 in_run g c r first last l at = record { so_far = at.follows.so_far; some = c.requires.some; within = l; clear = c.requires.clear }
 
@@ -154,7 +173,7 @@ meets g c r last flags on =
 -- what it tells, notes and keeps of the calls that end in it
 ends : (g : Over) (c : goal.After-settle-farm g) (r : Run) (first : _) (last : Standing) → HasFlags r last → c.args.stage.clock + c.args.periods ≤ r.periods →
     StandingGoesOn (standing c.tell_ends.new.board c.settle-farm.result.failed (g.T.Trunk.lines c.settle-farm.new.trunk)) last →
-    IsAtClock r c.args.stage.clock c.args.stage.board c.args.stage.farm.groups last first (g.T.Trunk.lines c.args.trunk.now) →
+    IsAtClock r c.args.stage.clock c.args.stage.board c.args.stage.farm.calls last first (g.T.Trunk.lines c.args.trunk.now) →
     EndsRound r c.args.stage.clock c.args.periods c.args.stage.board c.tell_ends.new.board c.args.stage.journal c.tell_ends.new.journal
     c.args.stage.farm.tallies c.settle-farm.result.tallies
 ends g c r first last flags l on at =

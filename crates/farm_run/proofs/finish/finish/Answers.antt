@@ -21,7 +21,7 @@ returns-clause-reports c =
     let ended = c.end_all.ensures in
     let h = c.report.ensures in
     let among : (d : ℕ) → is_among calls d ≡ open_now c.args.board.now d = λ d. c.live_calls.ensures.calls d ∙ c.requires.matches.is_open d in
-    reported_ok c.args.board.now c.end_all.new.board farm.groups farm.tallies c.args.journal.now c.end_all.new.journal calls c.args.orders
+    reported_ok c.args.board.now c.end_all.new.board farm.calls farm.tallies c.args.journal.now c.end_all.new.journal calls c.args.orders
     c.args.periods c.report.result
     among c.live_calls.ensures.rising ended.told (ended.none among) ended.noted h.replies h.left h.sorted h.calls h.whole
 

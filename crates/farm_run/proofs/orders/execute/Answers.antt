@@ -15,7 +15,7 @@ use Rattle.farm_run.proofs.Ordered.Following.{follows_more, follows_same}
 use Rattle.farm_run.specs.Standing.{KnowsListed}
 use Rattle.farm_run.specs.Ending.{AreShut}
 use Rattle.farm_run.proofs.Told.Few.{closes_once, one_more, shut_ordered, shut_same}
-use Rattle.farm_run.proofs.Listed.Boards.{over_turned, knows_more, knows_same}
+use Rattle.farm_run.proofs.Listed.Boards.{over_turned, new_unlisted, knows_more, knows_same}
 use Rattle.trau_io.specs.declared.line.Line.{Line}
 use Rattle.switchboard.specs.State.{State}
 use Rattle.farm_run.specs.Match.{AtClock, FollowsRun}
@@ -24,7 +24,7 @@ use Rattle.farm_run.proofs.orders.execute.Goals as goal
 
 pub note-requires-clause-numbers : goal.note-requires-clause-numbers
 note-requires-clause-numbers c =
-    named c.args.board.now c.args.farm.now.groups c.in-Ok.act c.requires.clock.matches
+    named c.args.board.now c.args.farm.now.calls c.in-Ok.act c.requires.clock.matches
     (subst (λ x. IfOk x (λ (a : Act). Finds a (opened_now c.args.board.now) (open_now c.args.board.now) (partner_now c.args.board.now))) c.in-Ok.is
     c.in-Some.ensures.finds)
 
@@ -61,12 +61,18 @@ turn-requires-clause-orders c = c.requires.clock.ahead
 pub turn-requires-clause-ends : goal.turn-requires-clause-ends
 turn-requires-clause-ends c = c.requires.clock.ends
 
-pub apply-requires : goal.apply-requires
-apply-requires c =
-    fits c.args.board.now c.args.farm.now.groups c.in-Ok.act c.requires.clock.matches
+pub apply-requires-clause-fits : goal.apply-requires-clause-fits
+apply-requires-clause-fits c =
+    fits c.args.board.now c.args.farm.now.calls c.in-Ok.act c.requires.clock.matches
     (subst (λ x. IfOk x (λ (a : Act). Finds a (opened_now c.args.board.now) (open_now c.args.board.now) (partner_now c.args.board.now))) c.in-Ok.is
     c.in-Some.ensures.finds)
     (subst (λ x. IfOk x IsInRange) c.in-Ok.is c.in-Some.ensures.range)
+
+pub apply-requires-clause-fresh : goal.apply-requires-clause-fresh
+apply-requires-clause-fresh c =
+    new_unlisted c.args.board.now c.args.farm.now.calls c.args.farm.now.failed c.in-Ok.act
+    (subst (λ x. IfOk x (λ (a : Act). Finds a (opened_now c.args.board.now) (open_now c.args.board.now) (partner_now c.args.board.now))) c.in-Ok.is
+    c.in-Some.ensures.finds) c.requires.knows
 
 pub returns-in_ok-apply-clause-clock : goal.returns-in_ok-apply-clause-clock
 returns-in_ok-apply-clause-clock c =
@@ -78,7 +84,7 @@ returns-in_ok-apply-clause-clock c =
           (due_of b c.turn.new.self c.args.clock c.in-Some.reply (sym c.in-Some.is ∙ c.turn.ensures.answer) c.turn.ensures.state);
       past = omega (arith, e.last refl);
       ends = c.turn.ensures.told c.args.clock c.requires.clock.ends;
-      matches = matches_more b c.turn.new.self c.args.farm.now.groups c.apply.new.self.groups c.in-Ok.act c.requires.clock.matches
+      matches = matches_more b c.turn.new.self c.args.farm.now.calls c.apply.new.self.calls c.in-Ok.act c.requires.clock.matches
           (subst (λ x. IfOk x (λ (a : Act). Finds a (opened_now b) (open_now b) (partner_now b))) c.in-Ok.is e.finds)
           (subst (λ x. IfOk x (λ (a : Act). (c' : ℕ) → open_now c.turn.new.self c' ≡ open_after a (open_now b) c')) c.in-Ok.is e.open)
           (subst (λ x. IfOk x (λ (a : Act). (c' : ℕ) → partner_now c.turn.new.self c' ≡ partner_after a (partner_now b) c')) c.in-Ok.is e.partner)
@@ -89,13 +95,13 @@ pub returns-in_ok-apply-clause-follows : goal.returns-in_ok-apply-clause-follows
 returns-in_ok-apply-clause-follows c = λ r under f.
     let b = c.args.board.now in
     let e = c.in-Some.ensures in
-    follows_more r c.args.clock b c.turn.new.self c.in-Some.reply c.args.farm.now.groups
+    follows_more r c.args.clock b c.turn.new.self c.in-Some.reply c.args.farm.now.calls
     (due_of b c.turn.new.self c.args.clock c.in-Some.reply (sym c.in-Some.is ∙ c.turn.ensures.answer) c.turn.ensures.state)
     under (c.turn.ensures.run _ f.so_far.replies f.tells) f c.in-Ok.act c.in-Ok.is
     (subst (λ x. IfOk x (λ (a : Act). Finds a (opened_now b) (open_now b) (partner_now b))) c.in-Ok.is e.finds)
     (subst (λ x. IfOk x (λ (a : Act). (c' : ℕ) → open_now c.turn.new.self c' ≡ open_after a (open_now b) c')) c.in-Ok.is e.open)
     (subst (λ x. IfOk x (λ (a : Act). (c' : ℕ) → law_now c.turn.new.self c' ≡ law_after a (law_now b) c')) c.in-Ok.is e.law)
-    c.apply.new.self.groups c.in_ok-apply.ensures.history
+    c.apply.new.self.calls c.in_ok-apply.ensures.history
 
 pub returns-in_default-result-clause-clock : goal.returns-in_default-result-clause-clock
 returns-in_default-result-clause-clock c =
@@ -108,7 +114,7 @@ returns-in_default-result-clause-clock c =
           (due_of b c.turn.new.self c.args.clock c.in-Some.reply (sym c.in-Some.is ∙ c.turn.ensures.answer) c.turn.ensures.state);
       past = omega (arith, e.last refl);
       ends = c.turn.ensures.told c.args.clock c.requires.clock.ends;
-      matches = matches_same b c.turn.new.self c.args.farm.now.groups c.requires.clock.matches same.is_open same.partner;
+      matches = matches_same b c.turn.new.self c.args.farm.now.calls c.requires.clock.matches same.is_open same.partner;
     }
 
 pub returns-in_default-result-clause-follows : goal.returns-in_default-result-clause-follows
@@ -116,7 +122,7 @@ returns-in_default-result-clause-follows c = λ r under f.
     let b = c.args.board.now in
     let e = c.in-Some.ensures in
     let same : IsAsBefore b c.turn.new.self = subst (λ x. OnErr x (IsAsBefore b c.turn.new.self)) c.in_default-result.is e.stays in
-    follows_same r c.args.clock b c.turn.new.self c.in-Some.reply c.args.farm.now.groups
+    follows_same r c.args.clock b c.turn.new.self c.in-Some.reply c.args.farm.now.calls
     (due_of b c.turn.new.self c.args.clock c.in-Some.reply (sym c.in-Some.is ∙ c.turn.ensures.answer) c.turn.ensures.state)
     under (c.turn.ensures.run _ f.so_far.replies f.tells) f c.in_default-result.field-0 c.in_default-result.is same.is_open
 
@@ -128,7 +134,7 @@ returns-in_ok-apply-clause-noted c = λ r under f noted.
     let farm = c.args.farm.now in
     let h = histories_at r b.done c.args.clock in
     subst (λ (j : JournalMemory). Noted r n.done c.args.clock j c.apply.new.self.tallies) (sym (c.note.ensures.noted h f.stands))
-    (noted_accepted r c.args.clock b n c.in-Some.reply farm.groups c.apply.new.self.groups
+    (noted_accepted r c.args.clock b n c.in-Some.reply farm.calls c.apply.new.self.calls
     (due_of b n c.args.clock c.in-Some.reply (sym c.in-Some.is ∙ c.turn.ensures.answer) c.turn.ensures.state)
     under f (returns-in_ok-apply-clause-follows c r under f) c.args.journal.now farm.tallies c.apply.new.self.tallies noted c.in-Ok.act c.in-Ok.is
     (subst (λ x. IfOk x (λ (a : Act). Finds a (opened_now b) (open_now b) (partner_now b))) c.in-Ok.is e.finds)
@@ -142,19 +148,19 @@ returns-in_default-result-clause-noted c = λ r under f noted.
     let n = c.turn.new.self in
     let farm = c.args.farm.now in
     let same : IsAsBefore b n = subst (λ x. OnErr x (IsAsBefore b n)) c.in_default-result.is c.in-Some.ensures.stays in
-    noted_quiet r c.args.clock b n c.in-Some.reply farm.groups farm.groups
+    noted_quiet r c.args.clock b n c.in-Some.reply farm.calls farm.calls
     (due_of b n c.args.clock c.in-Some.reply (sym c.in-Some.is ∙ c.turn.ensures.answer) c.turn.ensures.state)
     under f (returns-in_default-result-clause-follows c r under f) (Err c.in_default-result.field-0) c.args.journal.now farm.tallies farm.tallies
     c.in_default-result.is refl same.opened same.is_open (λ d. refl) noted
 
 pub returns-in_ok-apply-clause-knows : goal.returns-in_ok-apply-clause-knows
-returns-in_ok-apply-clause-knows c = λ knows.
+returns-in_ok-apply-clause-knows c =
     let b = c.args.board.now in
     let e = c.in-Some.ensures in
     let farm = c.args.farm.now in
-    subst (λ (ls : List Line). KnowsListed c.turn.new.self c.apply.new.self.groups ls) (sym c.apply.ensures.failed)
-    (knows_more b c.turn.new.self _ farm.groups c.apply.new.self.groups farm.failed c.in-Ok.act c.turn.ensures.state
-    (subst (λ x. IfOk x (λ (a : Act). Finds a (opened_now b) (open_now b) (partner_now b))) c.in-Ok.is e.finds) c.in_ok-apply.ensures.calls knows)
+    subst (λ (ls : List Line). KnowsListed c.turn.new.self c.apply.new.self.calls ls) (sym c.apply.ensures.failed)
+    (knows_more b c.turn.new.self _ farm.calls c.apply.new.self.calls farm.failed c.in-Ok.act c.turn.ensures.state
+    (subst (λ x. IfOk x (λ (a : Act). Finds a (opened_now b) (open_now b) (partner_now b))) c.in-Ok.is e.finds) c.in_ok-apply.ensures.calls c.requires.knows)
 
 pub returns-in_ok-apply-clause-over : goal.returns-in_ok-apply-clause-over
 returns-in_ok-apply-clause-over c = over_turned c.args.board.now c.turn.new.self _ c.turn.ensures.state
@@ -196,7 +202,7 @@ returns-in_default-result-clause-failed c = refl
 
 pub returns-in_default-result-clause-knows : goal.returns-in_default-result-clause-knows
 returns-in_default-result-clause-knows c =
-    λ knows. knows_same c.args.board.now c.turn.new.self _ c.args.farm.now.groups c.args.farm.now.failed c.turn.ensures.state knows
+    knows_same c.args.board.now c.turn.new.self _ c.args.farm.now.calls c.args.farm.now.failed c.turn.ensures.state c.requires.knows
 
 pub returns-in_default-result-clause-over : goal.returns-in_default-result-clause-over
 returns-in_default-result-clause-over c = over_turned c.args.board.now c.turn.new.self _ c.turn.ensures.state
@@ -212,7 +218,7 @@ returns-in_default-clause-failed c = refl
 
 pub returns-in_default-clause-knows : goal.returns-in_default-clause-knows
 returns-in_default-clause-knows c =
-    λ knows. knows_same c.args.board.now c.turn.new.self _ c.args.farm.now.groups c.args.farm.now.failed c.turn.ensures.state knows
+    knows_same c.args.board.now c.turn.new.self _ c.args.farm.now.calls c.args.farm.now.failed c.turn.ensures.state c.requires.knows
 
 pub returns-in_default-clause-over : goal.returns-in_default-clause-over
 returns-in_default-clause-over c = over_turned c.args.board.now c.turn.new.self _ c.turn.ensures.state
@@ -244,7 +250,7 @@ same_board : (c : goal.In_default) → c.args.board.now ≡ c.turn.new.self
 same_board c = sym (c.turn.ensures.nothing (ap is_some c.in_default.is))
 
 pub returns-in_default-clause-clock : goal.returns-in_default-clause-clock
-returns-in_default-clause-clock c = subst (λ (s : State). AtClock c.args.clock s c.args.farm.now.groups) (same_board c) c.requires.clock
+returns-in_default-clause-clock c = subst (λ (s : State). AtClock c.args.clock s c.args.farm.now.calls) (same_board c) c.requires.clock
 
 pub returns-in_default-clause-shut : goal.returns-in_default-clause-shut
 returns-in_default-clause-shut c = subst (λ (s : State). AreShut s c.args.journal.now.ends) (same_board c) c.requires.shut
@@ -259,7 +265,7 @@ pub returns-in_default-clause-told : goal.returns-in_default-clause-told
 returns-in_default-clause-told c = told_kept c.args.board.now c.turn.new.self _ c.turn.ensures.state
 
 pub returns-in_default-clause-follows : goal.returns-in_default-clause-follows
-returns-in_default-clause-follows c = λ r under f. subst (λ (s : State). FollowsRun r c.args.clock s c.args.farm.now.groups) (same_board c) f
+returns-in_default-clause-follows c = λ r under f. subst (λ (s : State). FollowsRun r c.args.clock s c.args.farm.now.calls) (same_board c) f
 
 pub returns-in_default-clause-noted : goal.returns-in_default-clause-noted
 returns-in_default-clause-noted c =
@@ -277,7 +283,7 @@ returns-in_err-apply c =
       left = IfOk-from_err _ _ no;
       ended = IfOk-from_err _ _ no;
       failed = IfOk-from_err _ _ no;
-      knows = λ knows. IfOk-from_err _ _ no;
+      knows = IfOk-from_err _ _ no;
       over = over_turned c.args.board.now c.turn.new.self _ c.turn.ensures.state;
       follows = λ r under f. IfOk-from_err _ _ no;
       told = told_kept c.args.board.now c.turn.new.self _ c.turn.ensures.state;

@@ -10,7 +10,7 @@ loop-init c = record {
   kept = refl;
   ended = refl;
   failed = refl;
-  knows = λ knows. knows;
+  knows = c.requires.knows;
   over = λ d o. o;
   follows = λ r under follows. follows;
   told = refl;
@@ -29,7 +29,7 @@ loop-preserved c =
       kept = c.execute.ensures.kept ∙ inv.kept;
       ended = e.ended ∙ inv.ended;
       failed = e.failed ∙ inv.failed;
-      knows = λ knows. e.knows (inv.knows knows);
+      knows = e.knows;
       over = λ d o. c.execute.ensures.over d (inv.over d o);
       follows = λ r under follows. e.follows r under (inv.follows r under follows);
       told = c.execute.ensures.told ∙ inv.told;
@@ -46,6 +46,9 @@ execute-requires-clause-few c = omega (arith, ap length c.loop.invariant.kept, c
 pub execute-requires-clause-bridges : goal.execute-requires-clause-bridges
 execute-requires-clause-bridges c = c.loop.invariant.bridges
 
+pub execute-requires-clause-knows : goal.execute-requires-clause-knows
+execute-requires-clause-knows c = c.loop.invariant.knows
+
 pub execute-requires-clause-shut : goal.execute-requires-clause-shut
 execute-requires-clause-shut c = c.loop.invariant.shut
 
@@ -61,7 +64,7 @@ returns c =
       done = e.done c.if-branch.false;
       ended = e.ended ∙ inv.ended;
       failed = e.failed ∙ inv.failed;
-      knows = λ knows. e.knows (inv.knows knows);
+      knows = e.knows;
       over = λ d o. c.execute.ensures.over d (inv.over d o);
       follows = λ r under follows. e.follows r under (inv.follows r under follows);
       told = c.execute.ensures.told ∙ inv.told;
@@ -80,7 +83,7 @@ returns-in_err-execute c =
       done = IfOk-from_err _ _ no;
       ended = IfOk-from_err _ _ no;
       failed = IfOk-from_err _ _ no;
-      knows = λ knows. IfOk-from_err _ _ no;
+      knows = IfOk-from_err _ _ no;
       over = λ d o. c.execute.ensures.over d (c.loop.invariant.over d o);
       follows = λ r under follows. IfOk-from_err _ _ no;
       told = c.execute.ensures.told ∙ c.loop.invariant.told;

@@ -13,9 +13,9 @@ returns-in-Bridged-clause-noted c = λ h g.
     let farm = c.args.farm.now in
     let start = c.args.journal.now in
     let sent_a : c.sent.result ≡ (kept_in farm.tallies h a).sent =
-    kept_value (λ (t : Tally). t.sent) h farm.groups farm.tallies a c.sent.result g (λ x. c.sent.ensures.live h x g) c.sent.ensures.ended in
+    kept_value (λ (t : Tally). t.sent) h farm.calls farm.tallies a c.sent.result g (λ x. c.sent.ensures.live h x g) c.sent.ensures.ended in
     let sent_b : c.sent-in-Bridged.result ≡ (kept_in farm.tallies h b).sent =
-    kept_value (λ (t : Tally). t.sent) h farm.groups farm.tallies b c.sent-in-Bridged.result g
+    kept_value (λ (t : Tally). t.sent) h farm.calls farm.tallies b c.sent-in-Bridged.result g
     (λ x. c.sent-in-Bridged.ensures.live h x g) c.sent-in-Bridged.ensures.ended in
     c.bridge.ensures ∙ ap (with_bridge_noted a b) (c.settle-in-Bridged.ensures
     ∙ ap (settled b c.sent-in-Bridged.result) (c.settle.ensures ∙ ap (λ (v : ℕ). settled a v start) sent_a)

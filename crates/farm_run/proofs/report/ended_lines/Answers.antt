@@ -21,7 +21,7 @@ loop-end-preserved c =
       lines = λ h g.
           line_more c.args.journal.now.ends xs c.args.journal.now.calls (kept_in farm.tallies h) i e c.from.result c.counts.result c.loop-end.lines.items
           c.push.new.self.items c.ends-end-items.ensures.ends c.loop-end-test.true is c.from.ensures
-          (kept_value (λ (t : Tally). t.counts) h farm.groups farm.tallies e.call c.counts.result g (λ x. c.counts.ensures.live h x g) c.counts.ensures.ended)
+          (kept_value (λ (t : Tally). t.counts) h farm.calls farm.tallies e.call c.counts.result g (λ x. c.counts.ensures.live h x g) c.counts.ensures.ended)
           (c.loop-end.invariant.lines h g) c.in_ok-push.ensures.items;
     }
 

@@ -17,7 +17,7 @@ pub returns-clause-replies : goal.returns-clause-replies
 returns-clause-replies c = c.in_ok-to_vec.ensures.items_if_clones_equal (λ x y h. h) ∙ c.replies.ensures
 
 pub returns-clause-failed : goal.returns-clause-failed
-returns-clause-failed c = c.in_ok-to_vec-2.ensures.items_if_clones_equal (λ x y h. h) ∙ c.failed.ensures
+returns-clause-failed c = c.in_ok-to_vec-2.ensures.items_if_clones_equal (λ x y h. h) ∙ c.failed.ensures.value
 
 pub returns-clause-sorted : goal.returns-clause-sorted
 returns-clause-sorted c = c.by_number.ensures.sorted

@@ -20,7 +20,7 @@ loop-k-preserved c =
       settled = λ h g.
           settled_more (kept_in farm.tallies h) c.args.journal.now.ends xs k e c.sent.result c.args.journal.now c.loop-k.journal c.settle.new.self same within
           (sym (get_or_default xs k e no_end within))
-          (kept_value (λ (t : Tally). t.sent) h farm.groups farm.tallies e.call c.sent.result g (λ x. c.sent.ensures.live h x g) c.sent.ensures.ended)
+          (kept_value (λ (t : Tally). t.sent) h farm.calls farm.tallies e.call c.sent.result g (λ x. c.sent.ensures.live h x g) c.sent.ensures.ended)
           c.settle.ensures (c.loop-k.invariant.settled h g);
       ends = ap (λ (j : JournalMemory). j.ends) c.settle.ensures ∙ c.loop-k.invariant.ends;
       calls = ap (λ (j : JournalMemory). j.calls) c.settle.ensures ∙ c.loop-k.invariant.calls;

@@ -52,7 +52,7 @@ returns-clause-saves g c =
     c.in_ok-last.ensures.clock
     (wrote_first os batch (Summed c.in_ok-new.field-0) s u first now f refl h)
     (summed_first os batch (Summed c.in_ok-new.field-0) s u first now f refl (λ d side. ap (λ (sums : ℕ → Side → ℕ). sums d side) c.in_ok-new.ensures) h)
-    (c.in_ok-to_vec.ensures.items_if_clones_equal (λ x y h. h) ∙ c.failed.ensures)
+    (c.in_ok-to_vec.ensures.items_if_clones_equal (λ x y h. h) ∙ c.failed.ensures.value)
     refl
     c.in_ok-mark_calls.ensures.calls
     c.in_ok-mark_calls.ensures.live

@@ -1,5 +1,5 @@
 use Rattle.std.proofs.Common.{◌≡◌, ◌<◌, ◌∙◌, true, sym, ap, arith}
-use Rattle.call_pair.specs.Places.{has_place}
+use Rattle.call_pair.specs.Periods.{has_period}
 use Rattle.call_pair.specs.Phases.{CallMemory, periods_left}
 use Rattle.call_pair.proofs.Turns.{some_left, call_turn_left, call_turn_finish, call_turn_call}
 use Rattle.call_pair.proofs.call_job.CallJobWork.slice.Goals as goal
@@ -8,7 +8,7 @@ pub loop-preserved : goal.loop-preserved
 loop-preserved c =
     let j = c.loop.self in
     let old = c.loop.invariant in
-    let place : has_place j.io ≡ true = ap (λ (m : CallMemory). has_place m.io) (sym c.self.view_is) ∙ sym c.has_place.ensures ∙ c.if-not-has_place.false in
+    let place : has_period j.io ≡ true = ap (λ (m : CallMemory). has_period m.io) (sym c.self.view_is) ∙ sym c.has_period.ensures ∙ c.if-not-has_period.false in
     let some : 0 < periods_left j = some_left j.io.done j.io.given place in
     rw c.turn.ensures (record {
       left = omega (arith, old.left, call_turn_left j some);

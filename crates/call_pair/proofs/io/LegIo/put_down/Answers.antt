@@ -3,7 +3,7 @@ use Rattle.std.proofs.lemmas.List.{get_or_default}
 use Rattle.trau_bits.proofs.BitList.{bits_of-below}
 use Rattle.trau_bits.proofs.Octets.{octets_of-bits_of}
 use Rattle.call_pair.specs.Memory.{IoMemory}
-use Rattle.call_pair.specs.Places.{with_place}
+use Rattle.call_pair.specs.Periods.{with_period}
 use Rattle.call_pair.proofs.Places.{with_items-written}
 use Rattle.call_pair.proofs.io.LegIo.put_down.Goals as goal
 
@@ -16,7 +16,7 @@ returns-clause-io c =
     c.copy_from_slice.ensures.after c.told-octets in
     ap (λ (xs : List ℕ). record { call = io.call; up = io.up.items; pcm = io.pcm.items; out = io.out.items; down = xs; given = io.given; done = io.done + 1 })
     down ∙
-    ap (λ (was : IoMemory). with_place was octets) c.self.view_is
+    ap (λ (was : IoMemory). with_period was octets) c.self.view_is
 
 pub returns-clause-packed : goal.returns-clause-packed
 returns-clause-packed c =

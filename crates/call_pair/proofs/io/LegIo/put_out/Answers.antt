@@ -1,6 +1,6 @@
 use Rattle.std.proofs.Common.{◌∙◌, ◌*◌, ap, List, ℕ}
 use Rattle.call_pair.specs.Memory.{IoMemory}
-use Rattle.call_pair.specs.Places.{with_out}
+use Rattle.call_pair.specs.Periods.{with_out}
 use Rattle.call_pair.proofs.Places.{with_items-written}
 use Rattle.call_pair.proofs.io.LegIo.put_out.Goals as goal
 

@@ -1,6 +1,6 @@
 use Rattle.std.proofs.Common.{ap, ◌∙◌, List, ℕ, ◌*◌, take, drop}
 use Rattle.call_pair.specs.Memory.{IoMemory}
-use Rattle.call_pair.specs.Places.{up_at}
+use Rattle.call_pair.specs.Periods.{up_at}
 use Rattle.call_pair.proofs.Lent.{lent_from}
 use Rattle.call_pair.proofs.io.LegIo.up_next.Goals as goal
 

@@ -1,75 +1,64 @@
-use Rattle.std.proofs.Common.{◌≡◌, ◌<◌, ◌∙◌, ap, sym, subst, Some, length, arith}
+use Rattle.std.proofs.Common.{◌≡◌, ◌<◌, ◌∙◌, ap, sym, subst, ℕ, List, length, map, arith}
 use Rattle.switchboard.specs.declared.act.Act.TheVariants as act
 use Rattle.std.proofs.Math.ListN.{set}
 use Rattle.std.proofs.lemmas.List.{length-set, get_or-set_same, get_or-set_other}
-use Rattle.farm_rounds.specs.declared.call.Call.{Call}
+use Rattle.std.specs.List.{All}
+use Rattle.farm_rounds.specs.declared.open.OpenCall.{OpenCall}
+use Rattle.farm_rounds.specs.declared.tally.Tally.{Tally}
 use Rattle.farm_rounds.specs.Calls.{partner_in, call_in}
-use Rattle.farm_rounds.specs.Groups.{AreGroups}
 use Rattle.farm_rounds.specs.Memory.{FarmMemory, no_tally, tally_in}
 use Rattle.farm_rounds.specs.Acts.{IsOpen, Applied}
-use Rattle.call_leg.specs.Stands.{Stands}
-use Rattle.farm_rounds.proofs.Farms.{close_live, open_number}
+use Rattle.farm_rounds.specs.Opens.{opens_in, calls_of, kept_of, IsOpenCall, AreMutual}
+use Rattle.farm_rounds.proofs.Placed.{open_number}
+use Rattle.farm_rounds.proofs.Failing.{known_after}
 use Rattle.farm_rounds.proofs.farm.Farm.close.Goals as goal
 
-pub end-requires : goal.end-requires
-end-requires c = subst (λ (f : FarmMemory). IsOpen f.groups c.args.call) (sym c.self.view_is) c.requires
+pub end-tally-requires-clause-sound : goal.end-tally-requires-clause-sound
+end-tally-requires-clause-sound c = (c.self.inside.end, c.self.invariant.0)
 
-pub remove_number-requires-clause-rising : goal.remove_number-requires-clause-rising
-remove_number-requires-clause-rising c = c.self.invariant.1.rising
+pub end-tally-requires-clause-fits : goal.end-tally-requires-clause-fits
+end-tally-requires-clause-fits c = subst (λ (f : FarmMemory). IsOpen f.calls c.args.call) (sym c.self.view_is) c.requires
 
-pub remove_number-requires-clause-present : goal.remove_number-requires-clause-present
-remove_number-requires-clause-present c =
-    c.self.invariant.1.numbers c.args.call ∙ subst (λ (f : FarmMemory). IsOpen f.groups c.args.call) (sym c.self.view_is) c.requires
+number_fits : (most : ℕ) (os : List OpenCall) (call : ℕ) (ts : List Tally) → All (IsOpenCall most) os →
+    IsOpen (map kept_of os) call → length ts ≡ 4097 → call < length ts
+number_fits most os call ts all isopen long = let n = open_number most os call all isopen in omega (arith, n.1, long)
 
 pub index_mut-requires : goal.index_mut-requires
 index_mut-requires c =
     let n =
-    open_number c.self.inside.end c.self.inside.groups.items c.args.call c.self.invariant.0
-    (subst (λ (f : FarmMemory). IsOpen f.groups c.args.call) (sym c.self.view_is) c.requires) in
-    omega (arith, n.1, c.self.invariant.2)
+    number_fits c.self.inside.end (opens_in c.self.inside.calls.items) c.args.call c.self.inside.tallies.items c.self.invariant.0.each
+    (subst (λ (f : FarmMemory). IsOpen f.calls c.args.call) (sym c.self.view_is) c.requires) c.self.invariant.1 in
+    omega (arith, n)
 
 pub invariant_of-self : goal.invariant_of-self
-invariant_of-self c =
-    let i = c.self.invariant in
-    let p = c.end.ensures.applied c.self.inside.end i.0 in
-    let live = close_live c.self.inside.end c.args.call
-    (partner_in c.self.inside.groups.items c.args.call) c.self.inside.live.items c.remove_number.new.numbers.items c.self.inside.groups.items
-    c.end.new.groups.items i.1 p
-    c.remove_number.ensures.numbers c.remove_number.ensures.rising (omega (arith, c.remove_number.ensures.len)) in (
-      p.groups,
-      live,
-      length-set c.self.inside.tallies.items c.args.call c.tally.result ∙ i.2,
-      omega (arith, i.3, c.end.ensures.capacity, c.remove_number.ensures.len),
-    )
+invariant_of-self c = (
+  c.end-tally.ensures.sound c.self.inside.end c.self.invariant.0,
+  length-set c.self.inside.tallies.items c.args.call c.end-tally.result ∙ c.self.invariant.1,
+  known_after (act.Closed c.args.call (partner_in (calls_of c.self.inside.calls.items) c.args.call)) c.self.inside.failed.items
+      (calls_of c.self.inside.calls.items) (calls_of c.end-tally.new.calls.items) tt c.end-tally.ensures.applied c.self.invariant.2,
+)
 
-pub returns-in-Some-clause-before : goal.returns-in-Some-clause-before
-returns-in-Some-clause-before c = subst (λ (f : FarmMemory). AreGroups f.ended f.groups) c.self.view_is c.self.invariant.0
+pub returns-clause-before : goal.returns-clause-before
+returns-clause-before c = subst (λ (f : FarmMemory). AreMutual f.calls) c.self.view_is c.self.invariant.0.both
 
-pub returns-in-Some-clause-applied : goal.returns-in-Some-clause-applied
-returns-in-Some-clause-applied c =
-    subst (λ (f : FarmMemory). Applied f.ended (act.Closed c.args.call (partner_in f.groups c.args.call)) f.groups c.end.new.groups.items) c.self.view_is
-    (c.end.ensures.applied c.self.inside.end c.self.invariant.0)
+pub returns-clause-applied : goal.returns-clause-applied
+returns-clause-applied c =
+    subst (λ (f : FarmMemory). Applied (act.Closed c.args.call (partner_in f.calls c.args.call)) f.calls (calls_of c.end-tally.new.calls.items)) c.self.view_is
+    c.end-tally.ensures.applied
 
-pub returns-in-Some-clause-others : goal.returns-in-Some-clause-others
-returns-in-Some-clause-others c =
-    let tallies = set c.self.inside.tallies.items c.args.call c.tally.result in
+pub returns-clause-others : goal.returns-clause-others
+returns-clause-others c =
+    let tallies = set c.self.inside.tallies.items c.args.call c.end-tally.result in
     ap (λ (f : FarmMemory).
-    record { groups = c.end.new.groups.items; live = c.remove_number.new.numbers.items; tallies = tallies; failed = f.failed; ended = f.ended }) c.self.view_is
+    record f { calls = calls_of c.end-tally.new.calls.items; live = c.end-tally.new.live.items; tallies = tallies }) c.self.view_is
 
-pub returns-in-Some-clause-tallies : goal.returns-in-Some-clause-tallies
-returns-in-Some-clause-tallies c d n =
-    get_or-set_other c.self.inside.tallies.items c.args.call d c.tally.result no_tally n ∙ ap (λ (f : FarmMemory). tally_in f.tallies d) c.self.view_is
+pub returns-clause-tallies : goal.returns-clause-tallies
+returns-clause-tallies c d n =
+    get_or-set_other c.self.inside.tallies.items c.args.call d c.end-tally.result no_tally n ∙ ap (λ (f : FarmMemory). tally_in f.tallies d) c.self.view_is
 
-pub returns-in-Some-clause-tally : goal.returns-in-Some-clause-tally
-returns-in-Some-clause-tally c x n ts now e s =
-    let l =
-    open_number c.self.inside.end c.self.inside.groups.items c.args.call c.self.invariant.0
-    (subst (λ (f : FarmMemory). IsOpen f.groups c.args.call) (sym c.self.view_is) c.requires) in
-    let within : c.args.call < length c.self.inside.tallies.items = omega (arith, l.1, c.self.invariant.2) in
-    let found : call_in c.self.inside.groups.items c.args.call ≡ Some x = ap (λ (f : FarmMemory). call_in f.groups c.args.call) c.self.view_is ∙ e in
-    let same : c.in-Some.ended ≡ x = some_call _ _ (sym c.in-Some.is ∙ c.end.ensures.call ∙ found) in
-    get_or-set_same c.self.inside.tallies.items c.args.call c.tally.result no_tally within
-    ∙ c.tally.ensures n ts now (subst (λ (u : Call). Stands n ts now u.leg) (sym same) s)
-  where
-    some_call : (u v : Call) → Some u ≡ Some v → u ≡ v
-    some_call u v e = cc
+pub returns-clause-tally : goal.returns-clause-tally
+returns-clause-tally c x n ts now e s =
+    get_or-set_same c.self.inside.tallies.items c.args.call c.end-tally.result no_tally
+    (number_fits c.self.inside.end (opens_in c.self.inside.calls.items) c.args.call c.self.inside.tallies.items c.self.invariant.0.each
+    (subst (λ (f : FarmMemory). IsOpen f.calls c.args.call) (sym c.self.view_is) c.requires) c.self.invariant.1)
+    ∙ c.end-tally.ensures.tally x n ts now (ap (λ (f : FarmMemory). call_in f.calls c.args.call) c.self.view_is ∙ e) s

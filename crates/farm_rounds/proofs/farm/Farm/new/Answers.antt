@@ -1,13 +1,13 @@
-use Rattle.std.proofs.Common.{ap, length, arith}
-use Rattle.farm_rounds.proofs.Farms.{farm_new, new_groups, none_live, none_stand}
+use Rattle.std.proofs.Common.{arith}
+use Rattle.farm_rounds.proofs.Farms.{farm_new, none_open, none_stand}
+use Rattle.farm_rounds.proofs.Failing.{none_failed}
 use Rattle.farm_rounds.proofs.farm.Farm.new.Goals as goal
 
 pub invariant_of-result : goal.invariant_of-result
 invariant_of-result c = (
-  new_groups _ c.new.ensures.items,
-  none_live _ _ c.new-2.ensures.items c.new.ensures.items,
+  none_open _ _ c.new-2.ensures.items c.new.ensures.items,
   omega (arith, c.in_ok-vec.ensures.len),
-  omega (arith, ap length c.new-2.ensures.items),
+  none_failed _ _ c.new-3.ensures.items c.new.ensures.items,
 )
 
 pub returns-clause-value : goal.returns-clause-value

@@ -1,137 +1,229 @@
-use Rattle.std.proofs.Common.{sym, ap, ◌∙◌, subst, ℕ, List, length, arith, rules}
-use Rattle.farm_rounds.specs.declared.entry.Entry.{Entry}
-use Rattle.farm_rounds.specs.Groups.{ListsOpenCalls}
-use Rattle.farm_rounds.specs.Rounds.{HaveJobs, HaveTime, Works, groups_from}
-use Rattle.farm_rounds.specs.WorkRooms.{HasRoom}
-use Rattle.farm_rounds.specs.Working.{RoundMemory, IsRound}
-use Rattle.farm_rounds.proofs.JobSeats.{worked_rising}
-use Rattle.farm_rounds.proofs.Works.{worked_round, worked_partner, worked_call, worked_octets}
-use Rattle.farm_rounds.proofs.Rooms.{fresh_for}
-use Rattle.farm_rounds.proofs.Starting.{same_groups}
-use Rattle.farm_rounds.proofs.Running.{worked_jobs, worked_buffers}
+use Rattle.std.proofs.Common.{◌≡◌, sym, ap, ◌∙◌, subst, ℕ, List, length, arith}
+use Rattle.std.specs.Prelude.{map}
+use Rattle.std.specs.List.{All}
+use Rattle.std.specs.Global.{Box}
+use Rattle.round_lines.specs.Rounds.{EndsWithin}
+use Rattle.farm_rounds.specs.declared.open.OpenCall.{OpenCall}
+use Rattle.farm_rounds.specs.Opens.{opens_in, seats_of, seat_of_open}
+use Rattle.farm_rounds.specs.Opened.{standing, standings, ArePaired, IsReady, IsTold}
+use Rattle.farm_rounds.specs.Working.{RoundMemory, IsWorkedRound}
+use Rattle.farm_rounds.specs.Failed.{AreFailedBefore}
+use Rattle.farm_rounds.proofs.Planning.{live_long}
+use Rattle.farm_rounds.proofs.Boxes.{opens_long}
+use Rattle.farm_rounds.proofs.Rounded.{all_told, all_done, paired, ready, told_standings, told_ready}
+use Rattle.farm_rounds.proofs.Works.{IsSound, ends_within, worked_round}
+use Rattle.farm_rounds.proofs.Outcome.{first_run, second_run, told_long, done_long, number_after, places_after, calls_after, rising_after, partners_after}
+use Rattle.farm_rounds.proofs.Outcome.{legs_after, buffers_after, stands_after, octets_after}
+use Rattle.farm_rounds.proofs.Known.{known_done}
 use Rattle.farm_rounds.proofs.round.Round.work.Goals as goal
 
-pub work_jobs-jobs-requires-clause-entries : goal.work_jobs-jobs-requires-clause-entries
-work_jobs-jobs-requires-clause-entries g c κs lives = ap length c.deref-2.ensures.value ∙ c.self.invariant.0.long
+pub begin_all-requires-clause-paired : goal.begin_all-requires-clause-paired
+begin_all-requires-clause-paired g c =
+    let i = c.self.inside in
+    subst (λ (bs : List (Box OpenCall)). ArePaired c.deref.result.now (standings bs)) (sym c.deref_mut.ensures.value)
+    (subst (λ (ns : List ℕ). ArePaired ns (standings i.calls.items)) (sym c.deref.ensures.value)
+    (paired i.start i.end i.live.items (opens_in i.calls.items) c.self.invariant.0))
 
-pub work_jobs-jobs-requires-clause-jobs : goal.work_jobs-jobs-requires-clause-jobs
-work_jobs-jobs-requires-clause-jobs g c κs lives =
-    subst (λ (es : List Entry). HaveJobs c.self.inside.jobs.items es c.self.inside.seats.items) (sym c.deref-2.ensures.value) c.self.invariant.0.have
+pub begin_all-requires-clause-ready : goal.begin_all-requires-clause-ready
+begin_all-requires-clause-ready g c =
+    let i = c.self.inside in
+    subst (λ (bs : List (Box OpenCall)). All IsReady (opens_in bs)) (sym c.deref_mut.ensures.value)
+    (ready i.start i.end i.live.items (opens_in i.calls.items) c.self.invariant.0)
 
-pub work_jobs-jobs-requires-clause-time : goal.work_jobs-jobs-requires-clause-time
-work_jobs-jobs-requires-clause-time g c κs lives =
-    subst (λ (es : List Entry). HaveTime c.self.inside.jobs.items es c.self.inside.seats.items) (sym c.deref-2.ensures.value)
-    (λ k l. omega (arith, c.self.invariant.0.time k l, c.self.invariant.0.last))
+pub meet_all-requires-clause-paired : goal.meet_all-requires-clause-paired
+meet_all-requires-clause-paired g c =
+    let i = c.self.inside in
+    let told : opens_in c.run_pool-told.result.items ≡ all_told (opens_in i.calls.items) =
+    first_run i.calls.len i.calls.items c.deref_mut.result.now c.begin_all.new.calls c.run_pool-told.result.items (omega (arith, i.calls.ok.0))
+    c.deref_mut.ensures.value c.begin_all.ensures c.run_pool-told.ensures in
+    let was = told_standings i.start i.end i.live.items (opens_in i.calls.items) c.self.invariant.0 in
+    subst (λ (ns : List ℕ). ArePaired ns (standings c.deref_mut-2.result.now)) (sym c.deref-2.ensures.value)
+    (subst (λ ss. ArePaired i.live.items ss) (sym (ap standings c.deref_mut-2.ensures.value ∙ ap (map standing) told ∙ was))
+    (paired i.start i.end i.live.items (opens_in i.calls.items) c.self.invariant.0))
 
-pub work_jobs-jobs-requires-clause-rising : goal.work_jobs-jobs-requires-clause-rising
-work_jobs-jobs-requires-clause-rising g c κs lives = c.self.invariant.0.rising
+pub meet_all-requires-clause-told : goal.meet_all-requires-clause-told
+meet_all-requires-clause-told g c =
+    let i = c.self.inside in
+    let told : opens_in c.run_pool-told.result.items ≡ all_told (opens_in i.calls.items) =
+    first_run i.calls.len i.calls.items c.deref_mut.result.now c.begin_all.new.calls c.run_pool-told.result.items (omega (arith, i.calls.ok.0))
+    c.deref_mut.ensures.value c.begin_all.ensures c.run_pool-told.ensures in
+    subst (λ (os : List OpenCall). All (IsTold os) os) (sym (ap opens_in c.deref_mut-2.ensures.value ∙ told))
+    (told_ready i.start i.end i.live.items (opens_in i.calls.items) c.self.invariant.0)
 
-pub work_jobs-jobs-requires-clause-room : goal.work_jobs-jobs-requires-clause-room
-work_jobs-jobs-requires-clause-room g c κs lives =
-    subst (λ (n : ℕ). HasRoom n c.self.inside.room.phases.periods c.self.inside.room) (sym c.self.invariant.0.numbers) c.self.invariant.7
+pub run_pool-calls-requires-clause-room : goal.run_pool-calls-requires-clause-room
+run_pool-calls-requires-clause-room g c κs within =
+    let i = c.self.inside in
+    let told : opens_in c.run_pool-told.result.items ≡ all_told (opens_in i.calls.items) =
+    first_run i.calls.len i.calls.items c.deref_mut.result.now c.begin_all.new.calls c.run_pool-told.result.items (omega (arith, i.calls.ok.0))
+    c.deref_mut.ensures.value c.begin_all.ensures c.run_pool-told.ensures in
+    omega (
+      arith,
+      c.run_pool-told.result.ok.0,
+      told_long i.calls.items c.run_pool-told.result.items told,
+      opens_long i.calls.items,
+      live_long i.start i.live.items (opens_in i.calls.items) c.self.invariant.0.opened,
+      c.self.invariant.4,
+    )
 
-pub work_jobs-jobs-requires-clause-calls : goal.work_jobs-jobs-requires-clause-calls
-work_jobs-jobs-requires-clause-calls g c κs lives = ap length c.deref.ensures.value ∙ ap length c.self.invariant.2 ∙ sym c.self.invariant.0.numbers
+pub list_ends-requires-clause-within : goal.list_ends-requires-clause-within
+list_ends-requires-clause-within g c =
+    let i = c.self.inside in
+    let told : opens_in c.run_pool-told.result.items ≡ all_told (opens_in i.calls.items) =
+    first_run i.calls.len i.calls.items c.deref_mut.result.now c.begin_all.new.calls c.run_pool-told.result.items (omega (arith, i.calls.ok.0))
+    c.deref_mut.ensures.value c.begin_all.ensures c.run_pool-told.ensures in
+    let done : opens_in c.run_pool-calls.result.items ≡ all_done (opens_in i.calls.items) =
+    second_run c.run_pool-told.result.len (opens_in i.calls.items) c.run_pool-told.result.items c.deref_mut-2.result.now c.meet_all.new.calls
+    c.run_pool-calls.result.items (omega (arith, c.run_pool-told.result.ok.0)) c.deref_mut-2.ensures.value told c.meet_all.ensures c.run_pool-calls.ensures in
+    subst (λ (bs : List (Box OpenCall)). EndsWithin i.start (seats_of bs)) (sym c.deref-4.ensures.value)
+    (subst (λ (os : List OpenCall). EndsWithin i.start (map seat_of_open os)) (sym done)
+    (ends_within i.start i.end i.live.items (opens_in i.calls.items) c.self.invariant.0))
 
-pub work_jobs-jobs-requires-clause-groups : goal.work_jobs-jobs-requires-clause-groups
-work_jobs-jobs-requires-clause-groups g c κs lives =
-    same_groups c.self.inside.end 4294967295 (groups_from c.self.inside.jobs.items) c.self.invariant.0.last c.self.invariant.0.groups
-
-pub work_jobs-jobs-requires-clause-live : goal.work_jobs-jobs-requires-clause-live
-work_jobs-jobs-requires-clause-live g c κs lives =
-    subst (λ (ns : List ℕ). ListsOpenCalls ns (groups_from c.self.inside.jobs.items))
-    (sym (c.deref.ensures.value ∙ c.self.invariant.2)) c.self.invariant.0.alive
-
-pub work_jobs-jobs-requires-clause-fresh : goal.work_jobs-jobs-requires-clause-fresh
-work_jobs-jobs-requires-clause-fresh g c κs lives = fresh_for c.self.inside.room.phases.periods _ c.self.invariant.0.fresh
-
-pub work_jobs-jobs-requires-clause-within : goal.work_jobs-jobs-requires-clause-within
-work_jobs-jobs-requires-clause-within g c κs lives k l = let w = c.self.invariant.0.within k l in omega (arith, w, c.self.invariant.6)
-
-pub returns-clause-ended : goal.returns-clause-ended
-returns-clause-ended g c = ap (λ (r : RoundMemory). r.ended) c.self.view_is
-
-pub returns-clause-live : goal.returns-clause-live
-returns-clause-live g c = ap (λ (r : RoundMemory). r.live) c.self.view_is
-
-pub returns-clause-failed : goal.returns-clause-failed
-returns-clause-failed g c = ap (λ (r : RoundMemory). r.failed) c.self.view_is
-
-pub returns-clause-tallies : goal.returns-clause-tallies
-returns-clause-tallies g c = ap (λ (r : RoundMemory). r.tallies) c.self.view_is
+pub list_ends-requires-clause-room : goal.list_ends-requires-clause-room
+list_ends-requires-clause-room g c =
+    let i = c.self.inside in
+    let told : opens_in c.run_pool-told.result.items ≡ all_told (opens_in i.calls.items) =
+    first_run i.calls.len i.calls.items c.deref_mut.result.now c.begin_all.new.calls c.run_pool-told.result.items (omega (arith, i.calls.ok.0))
+    c.deref_mut.ensures.value c.begin_all.ensures c.run_pool-told.ensures in
+    let done : opens_in c.run_pool-calls.result.items ≡ all_done (opens_in i.calls.items) =
+    second_run c.run_pool-told.result.len (opens_in i.calls.items) c.run_pool-told.result.items c.deref_mut-2.result.now c.meet_all.new.calls
+    c.run_pool-calls.result.items (omega (arith, c.run_pool-told.result.ok.0)) c.deref_mut-2.ensures.value told c.meet_all.ensures c.run_pool-calls.ensures in
+    omega (
+      arith,
+      i.ends.ok.0,
+      ap length c.self.invariant.1,
+      c.self.invariant.2,
+      ap length c.deref-4.ensures.value,
+      done_long i.calls.items c.run_pool-calls.result.items done,
+      opens_long i.calls.items,
+      live_long i.start i.live.items (opens_in i.calls.items) c.self.invariant.0.opened,
+    )
 
 pub invariant_of-result : goal.invariant_of-result
 invariant_of-result g c =
     let i = c.self.inside in
-    let after = c.work_jobs-jobs.result.0.items in
-    let worked = c.work_jobs-jobs.result.1.items in
-    let w : Works i.jobs.items i.entries.items i.seats.items after worked =
-    subst (λ (es : List Entry). Works i.jobs.items es i.seats.items after worked) c.deref-2.ensures.value c.work_jobs-jobs.ensures in (
-      worked_round _ after worked c.self.invariant.0 w c.list_ends.new.ends.items,
-      c.self.invariant.1,
-      c.self.invariant.2,
-      c.self.invariant.4,
-      c.self.invariant.8,
+    let told : opens_in c.run_pool-told.result.items ≡ all_told (opens_in i.calls.items) =
+    first_run i.calls.len i.calls.items c.deref_mut.result.now c.begin_all.new.calls c.run_pool-told.result.items (omega (arith, i.calls.ok.0))
+    c.deref_mut.ensures.value c.begin_all.ensures c.run_pool-told.ensures in
+    let done : opens_in c.run_pool-calls.result.items ≡ all_done (opens_in i.calls.items) =
+    second_run c.run_pool-told.result.len (opens_in i.calls.items) c.run_pool-told.result.items c.deref_mut-2.result.now c.meet_all.new.calls
+    c.run_pool-calls.result.items (omega (arith, c.run_pool-told.result.ok.0)) c.deref_mut-2.ensures.value told c.meet_all.ensures c.run_pool-calls.ensures in
+    let sound : All IsSound (opens_in c.run_pool-calls.result.items) =
+    subst (λ (bs : List (Box OpenCall)). All IsSound (opens_in bs)) c.deref-3.ensures.value c.all_octets_fit.ensures in (
+      subst (λ (os : List OpenCall). IsWorkedRound i.end i.live.items os) (sym done)
+          (worked_round i.start i.end i.live.items (opens_in i.calls.items) c.self.invariant.0 (subst (λ (os : List OpenCall). All IsSound os) done sound)),
+      c.self.invariant.5,
+      c.self.invariant.6,
+      subst (λ (os : List OpenCall). AreFailedBefore i.failed.items os) (sym done) (known_done i.failed.items (opens_in i.calls.items) c.self.invariant.7),
     )
+
+pub returns-clause-number : goal.returns-clause-number
+returns-clause-number g c =
+    let i = c.self.inside in
+    let told : opens_in c.run_pool-told.result.items ≡ all_told (opens_in i.calls.items) =
+    first_run i.calls.len i.calls.items c.deref_mut.result.now c.begin_all.new.calls c.run_pool-told.result.items (omega (arith, i.calls.ok.0))
+    c.deref_mut.ensures.value c.begin_all.ensures c.run_pool-told.ensures in
+    let done : opens_in c.run_pool-calls.result.items ≡ all_done (opens_in i.calls.items) =
+    second_run c.run_pool-told.result.len (opens_in i.calls.items) c.run_pool-told.result.items c.deref_mut-2.result.now c.meet_all.new.calls
+    c.run_pool-calls.result.items (omega (arith, c.run_pool-told.result.ok.0)) c.deref_mut-2.ensures.value told c.meet_all.ensures c.run_pool-calls.ensures in
+    number_after i.start i.end i.live.items i.calls.items c.run_pool-calls.result.items c.self.invariant.0 done c.args.self
+    (sym (ap (λ (r : RoundMemory). r.calls) c.self.view_is)) (sym (ap (λ (r : RoundMemory). r.seats) c.self.view_is))
+
+pub returns-clause-places : goal.returns-clause-places
+returns-clause-places g c =
+    let i = c.self.inside in
+    let told : opens_in c.run_pool-told.result.items ≡ all_told (opens_in i.calls.items) =
+    first_run i.calls.len i.calls.items c.deref_mut.result.now c.begin_all.new.calls c.run_pool-told.result.items (omega (arith, i.calls.ok.0))
+    c.deref_mut.ensures.value c.begin_all.ensures c.run_pool-told.ensures in
+    let done : opens_in c.run_pool-calls.result.items ≡ all_done (opens_in i.calls.items) =
+    second_run c.run_pool-told.result.len (opens_in i.calls.items) c.run_pool-told.result.items c.deref_mut-2.result.now c.meet_all.new.calls
+    c.run_pool-calls.result.items (omega (arith, c.run_pool-told.result.ok.0)) c.deref_mut-2.ensures.value told c.meet_all.ensures c.run_pool-calls.ensures in
+    places_after i.start i.end i.live.items i.calls.items c.run_pool-calls.result.items c.self.invariant.0 done c.args.self
+    (sym (ap (λ (r : RoundMemory). r.calls) c.self.view_is)) (sym (ap (λ (r : RoundMemory). r.seats) c.self.view_is))
+
+pub returns-clause-calls : goal.returns-clause-calls
+returns-clause-calls g c =
+    let i = c.self.inside in
+    let told : opens_in c.run_pool-told.result.items ≡ all_told (opens_in i.calls.items) =
+    first_run i.calls.len i.calls.items c.deref_mut.result.now c.begin_all.new.calls c.run_pool-told.result.items (omega (arith, i.calls.ok.0))
+    c.deref_mut.ensures.value c.begin_all.ensures c.run_pool-told.ensures in
+    let done : opens_in c.run_pool-calls.result.items ≡ all_done (opens_in i.calls.items) =
+    second_run c.run_pool-told.result.len (opens_in i.calls.items) c.run_pool-told.result.items c.deref_mut-2.result.now c.meet_all.new.calls
+    c.run_pool-calls.result.items (omega (arith, c.run_pool-told.result.ok.0)) c.deref_mut-2.ensures.value told c.meet_all.ensures c.run_pool-calls.ensures in
+    calls_after i.start i.end i.live.items i.calls.items c.run_pool-calls.result.items c.self.invariant.0 done c.args.self
+    (sym (ap (λ (r : RoundMemory). r.calls) c.self.view_is)) (sym (ap (λ (r : RoundMemory). r.seats) c.self.view_is))
 
 pub returns-clause-rising : goal.returns-clause-rising
 returns-clause-rising g c =
     let i = c.self.inside in
-    let after = c.work_jobs-jobs.result.0.items in
-    let worked = c.work_jobs-jobs.result.1.items in
-    let w : Works i.jobs.items i.entries.items i.seats.items after worked =
-    subst (λ (es : List Entry). Works i.jobs.items es i.seats.items after worked) c.deref-2.ensures.value c.work_jobs-jobs.ensures in
-    worked_rising _ after worked c.self.invariant.0 w
+    let told : opens_in c.run_pool-told.result.items ≡ all_told (opens_in i.calls.items) =
+    first_run i.calls.len i.calls.items c.deref_mut.result.now c.begin_all.new.calls c.run_pool-told.result.items (omega (arith, i.calls.ok.0))
+    c.deref_mut.ensures.value c.begin_all.ensures c.run_pool-told.ensures in
+    let done : opens_in c.run_pool-calls.result.items ≡ all_done (opens_in i.calls.items) =
+    second_run c.run_pool-told.result.len (opens_in i.calls.items) c.run_pool-told.result.items c.deref_mut-2.result.now c.meet_all.new.calls
+    c.run_pool-calls.result.items (omega (arith, c.run_pool-told.result.ok.0)) c.deref_mut-2.ensures.value told c.meet_all.ensures c.run_pool-calls.ensures in
+    rising_after i.start i.end i.live.items i.calls.items c.run_pool-calls.result.items c.self.invariant.0 done c.args.self
+    (sym (ap (λ (r : RoundMemory). r.calls) c.self.view_is)) (sym (ap (λ (r : RoundMemory). r.seats) c.self.view_is))
 
 pub returns-clause-partners : goal.returns-clause-partners
 returns-clause-partners g c =
     let i = c.self.inside in
-    let after = c.work_jobs-jobs.result.0.items in
-    let worked = c.work_jobs-jobs.result.1.items in
-    let w : Works i.jobs.items i.entries.items i.seats.items after worked =
-    subst (λ (es : List Entry). Works i.jobs.items es i.seats.items after worked) c.deref-2.ensures.value c.work_jobs-jobs.ensures in
-    worked_partner c.args.self after worked (subst (λ (r : RoundMemory). IsRound r) c.self.view_is c.self.invariant.0)
-    (subst (λ (r : RoundMemory). Works r.jobs r.entries r.seats after worked) c.self.view_is w)
+    let told : opens_in c.run_pool-told.result.items ≡ all_told (opens_in i.calls.items) =
+    first_run i.calls.len i.calls.items c.deref_mut.result.now c.begin_all.new.calls c.run_pool-told.result.items (omega (arith, i.calls.ok.0))
+    c.deref_mut.ensures.value c.begin_all.ensures c.run_pool-told.ensures in
+    let done : opens_in c.run_pool-calls.result.items ≡ all_done (opens_in i.calls.items) =
+    second_run c.run_pool-told.result.len (opens_in i.calls.items) c.run_pool-told.result.items c.deref_mut-2.result.now c.meet_all.new.calls
+    c.run_pool-calls.result.items (omega (arith, c.run_pool-told.result.ok.0)) c.deref_mut-2.ensures.value told c.meet_all.ensures c.run_pool-calls.ensures in
+    partners_after i.start i.end i.live.items i.calls.items c.run_pool-calls.result.items c.self.invariant.0 done c.args.self
+    (sym (ap (λ (r : RoundMemory). r.calls) c.self.view_is)) (sym (ap (λ (r : RoundMemory). r.seats) c.self.view_is))
 
-pub returns-clause-stands : goal.returns-clause-stands
-returns-clause-stands g c =
+pub returns-clause-legs : goal.returns-clause-legs
+returns-clause-legs g c =
     let i = c.self.inside in
-    let after = c.work_jobs-jobs.result.0.items in
-    let worked = c.work_jobs-jobs.result.1.items in
-    let w : Works i.jobs.items i.entries.items i.seats.items after worked =
-    subst (λ (es : List Entry). Works i.jobs.items es i.seats.items after worked) c.deref-2.ensures.value c.work_jobs-jobs.ensures in
-    worked_call c.args.self after worked (subst (λ (r : RoundMemory). IsRound r) c.self.view_is c.self.invariant.0)
-    (subst (λ (r : RoundMemory). Works r.jobs r.entries r.seats after worked) c.self.view_is w)
-
-pub returns-clause-octets : goal.returns-clause-octets
-returns-clause-octets g c =
-    let i = c.self.inside in
-    let after = c.work_jobs-jobs.result.0.items in
-    let worked = c.work_jobs-jobs.result.1.items in
-    let w : Works i.jobs.items i.entries.items i.seats.items after worked =
-    subst (λ (es : List Entry). Works i.jobs.items es i.seats.items after worked) c.deref-2.ensures.value c.work_jobs-jobs.ensures in
-    worked_octets c.args.self after worked (subst (λ (r : RoundMemory). IsRound r) c.self.view_is c.self.invariant.0)
-    (subst (λ (r : RoundMemory). Works r.jobs r.entries r.seats after worked) c.self.view_is w)
-
-pub returns-clause-ends : goal.returns-clause-ends
-returns-clause-ends g c = search rules
-
-pub returns-clause-jobs : goal.returns-clause-jobs
-returns-clause-jobs g c =
-    let i = c.self.inside in
-    let after = c.work_jobs-jobs.result.0.items in
-    let worked = c.work_jobs-jobs.result.1.items in
-    let w : Works i.jobs.items i.entries.items i.seats.items after worked =
-    subst (λ (es : List Entry). Works i.jobs.items es i.seats.items after worked) c.deref-2.ensures.value c.work_jobs-jobs.ensures in
-    worked_jobs c.args.self after worked (subst (λ (r : RoundMemory). IsRound r) c.self.view_is c.self.invariant.0)
-    (subst (λ (r : RoundMemory). Works r.jobs r.entries r.seats after worked) c.self.view_is w)
+    let told : opens_in c.run_pool-told.result.items ≡ all_told (opens_in i.calls.items) =
+    first_run i.calls.len i.calls.items c.deref_mut.result.now c.begin_all.new.calls c.run_pool-told.result.items (omega (arith, i.calls.ok.0))
+    c.deref_mut.ensures.value c.begin_all.ensures c.run_pool-told.ensures in
+    let done : opens_in c.run_pool-calls.result.items ≡ all_done (opens_in i.calls.items) =
+    second_run c.run_pool-told.result.len (opens_in i.calls.items) c.run_pool-told.result.items c.deref_mut-2.result.now c.meet_all.new.calls
+    c.run_pool-calls.result.items (omega (arith, c.run_pool-told.result.ok.0)) c.deref_mut-2.ensures.value told c.meet_all.ensures c.run_pool-calls.ensures in
+    legs_after i.start i.end i.live.items i.calls.items c.run_pool-calls.result.items c.self.invariant.0 done c.args.self
+    (sym (ap (λ (r : RoundMemory). r.calls) c.self.view_is)) (sym (ap (λ (r : RoundMemory). r.seats) c.self.view_is))
 
 pub returns-clause-buffers : goal.returns-clause-buffers
 returns-clause-buffers g c =
     let i = c.self.inside in
-    let after = c.work_jobs-jobs.result.0.items in
-    let worked = c.work_jobs-jobs.result.1.items in
-    let w : Works i.jobs.items i.entries.items i.seats.items after worked =
-    subst (λ (es : List Entry). Works i.jobs.items es i.seats.items after worked) c.deref-2.ensures.value c.work_jobs-jobs.ensures in
-    worked_buffers c.args.self after worked (subst (λ (r : RoundMemory). IsRound r) c.self.view_is c.self.invariant.0)
-    (subst (λ (r : RoundMemory). Works r.jobs r.entries r.seats after worked) c.self.view_is w)
+    let told : opens_in c.run_pool-told.result.items ≡ all_told (opens_in i.calls.items) =
+    first_run i.calls.len i.calls.items c.deref_mut.result.now c.begin_all.new.calls c.run_pool-told.result.items (omega (arith, i.calls.ok.0))
+    c.deref_mut.ensures.value c.begin_all.ensures c.run_pool-told.ensures in
+    let done : opens_in c.run_pool-calls.result.items ≡ all_done (opens_in i.calls.items) =
+    second_run c.run_pool-told.result.len (opens_in i.calls.items) c.run_pool-told.result.items c.deref_mut-2.result.now c.meet_all.new.calls
+    c.run_pool-calls.result.items (omega (arith, c.run_pool-told.result.ok.0)) c.deref_mut-2.ensures.value told c.meet_all.ensures c.run_pool-calls.ensures in
+    buffers_after i.start i.end i.live.items i.calls.items c.run_pool-calls.result.items c.self.invariant.0 done c.args.self
+    (sym (ap (λ (r : RoundMemory). r.calls) c.self.view_is)) (sym (ap (λ (r : RoundMemory). r.seats) c.self.view_is))
+
+pub returns-clause-stands : goal.returns-clause-stands
+returns-clause-stands g c =
+    let i = c.self.inside in
+    let told : opens_in c.run_pool-told.result.items ≡ all_told (opens_in i.calls.items) =
+    first_run i.calls.len i.calls.items c.deref_mut.result.now c.begin_all.new.calls c.run_pool-told.result.items (omega (arith, i.calls.ok.0))
+    c.deref_mut.ensures.value c.begin_all.ensures c.run_pool-told.ensures in
+    let done : opens_in c.run_pool-calls.result.items ≡ all_done (opens_in i.calls.items) =
+    second_run c.run_pool-told.result.len (opens_in i.calls.items) c.run_pool-told.result.items c.deref_mut-2.result.now c.meet_all.new.calls
+    c.run_pool-calls.result.items (omega (arith, c.run_pool-told.result.ok.0)) c.deref_mut-2.ensures.value told c.meet_all.ensures c.run_pool-calls.ensures in
+    let sound : All IsSound (opens_in c.run_pool-calls.result.items) =
+    subst (λ (bs : List (Box OpenCall)). All IsSound (opens_in bs)) c.deref-3.ensures.value c.all_octets_fit.ensures in
+    stands_after i.start i.end i.live.items i.calls.items c.run_pool-calls.result.items c.self.invariant.0 done c.args.self
+    (sym (ap (λ (r : RoundMemory). r.calls) c.self.view_is)) (sym (ap (λ (r : RoundMemory). r.seats) c.self.view_is)) sound
+
+pub returns-clause-octets : goal.returns-clause-octets
+returns-clause-octets g c =
+    let i = c.self.inside in
+    let told : opens_in c.run_pool-told.result.items ≡ all_told (opens_in i.calls.items) =
+    first_run i.calls.len i.calls.items c.deref_mut.result.now c.begin_all.new.calls c.run_pool-told.result.items (omega (arith, i.calls.ok.0))
+    c.deref_mut.ensures.value c.begin_all.ensures c.run_pool-told.ensures in
+    let done : opens_in c.run_pool-calls.result.items ≡ all_done (opens_in i.calls.items) =
+    second_run c.run_pool-told.result.len (opens_in i.calls.items) c.run_pool-told.result.items c.deref_mut-2.result.now c.meet_all.new.calls
+    c.run_pool-calls.result.items (omega (arith, c.run_pool-told.result.ok.0)) c.deref_mut-2.ensures.value told c.meet_all.ensures c.run_pool-calls.ensures in
+    let sound : All IsSound (opens_in c.run_pool-calls.result.items) =
+    subst (λ (bs : List (Box OpenCall)). All IsSound (opens_in bs)) c.deref-3.ensures.value c.all_octets_fit.ensures in
+    octets_after i.start i.end i.live.items i.calls.items c.run_pool-calls.result.items c.self.invariant.0 done c.args.self
+    (sym (ap (λ (r : RoundMemory). r.calls) c.self.view_is)) (sym (ap (λ (r : RoundMemory). r.seats) c.self.view_is)) sound

@@ -1,19 +1,44 @@
-use Rattle.std.proofs.Common.{◌≡◌, ◌<◌, ap, ◌∙◌, subst, List, length, get_or}
-use Rattle.std.proofs.lemmas.List.{get_or_default}
+use Rattle.std.proofs.Common.{◌≡◌, ◌<◌, sym, ap, ◌∙◌, subst, List, length, get_or, arith}
+use Rattle.std.specs.Global.{Box}
+use Rattle.std.proofs.lemmas.List.Elements.{All-get_or, All-weaker}
 use Rattle.round_lines.specs.Seats.{SeatMemory}
-use Rattle.round_lines.specs.Rounds.{Rising, no_seat}
+use Rattle.round_lines.specs.Rounds.{Rising, seat_at}
+use Rattle.farm_rounds.specs.declared.open.OpenCall.{OpenCall}
+use Rattle.farm_rounds.specs.Numbers.{IsRising}
+use Rattle.farm_rounds.specs.Opens.{opens_in, seats_of, seat_of_open}
+use Rattle.farm_rounds.specs.Opened.{HasBuffers, no_open, open_at}
 use Rattle.farm_rounds.specs.Sums.{AddsSeat, sum_in}
-use Rattle.farm_rounds.specs.Working.{WorkedMemory}
+use Rattle.farm_rounds.specs.Working.{WorkedMemory, IsWorkedCall}
+use Rattle.farm_rounds.proofs.Boxes.{at_read, opens_long, seat_read, seats_long}
+use Rattle.farm_rounds.proofs.Listed.{seats_rise}
 use Rattle.farm_rounds.proofs.Summing.{added_more}
 use Rattle.farm_rounds.proofs.worked.Worked.add.Goals as goal
 
-pub loop-seat-preserved : goal.loop-seat-preserved
-loop-seat-preserved c =
-    let n = c.loop-seat.seat-index in
+pub add_call-requires : goal.add_call-requires
+add_call-requires c =
+    let calls = c.self.inside.calls.items in
+    let n = c.loop-call.call-index in
+    let here = c.deref-call-items.ensures.value in
+    let l : n < length calls = subst (λ (bs : List (Box OpenCall)). n < length bs) here c.loop-call-test.true in
+    let own : c.deref.result.now ≡ open_at calls n = c.deref.ensures ∙ ap (λ (b : Box OpenCall). b.value) c.call-item.is
+    ∙ ap (λ (bs : List (Box OpenCall)). (get_or bs n c.call-item.result).value) here ∙ at_read calls n c.call-item.result l in
+    let sound = All-get_or (IsWorkedCall c.self.inside.end) (opens_in calls) n no_open (omega (arith, l, opens_long calls)) c.self.invariant.0.each in
+    subst HasBuffers (sym own) sound.fits
+
+pub loop-call-preserved : goal.loop-call-preserved
+loop-call-preserved c =
+    let calls = c.self.inside.calls.items in
+    let n = c.loop-call.call-index in
     let seats = c.args.self.now.seats in
-    let here : c.deref-seat-items.result.now ≡ seats = c.deref-seat-items.ensures.value ∙ ap (λ (r : WorkedMemory). r.seats) c.self.view_is in
-    let rising = subst (λ (r : WorkedMemory). Rising r.seats) c.self.view_is c.self.invariant.0.rising in
-    let within = subst (λ (ss : List SeatMemory). n < length ss) here c.loop-seat-test.true in
-    let seat = c.seat-item.is ∙ ap (λ (ss : List SeatMemory). get_or ss n c.seat-item.result) here ∙ get_or_default seats n c.seat-item.result no_seat within in
-    let new = subst (λ (s : SeatMemory). AddsSeat s (sum_in c.loop-seat.sums) (sum_in c.add_seat.new.self)) seat c.add_seat.ensures in
-    added_more n seats (sum_in c.args.sums.now) (sum_in c.loop-seat.sums) (sum_in c.add_seat.new.self) rising within c.loop-seat.invariant new
+    let round = c.self.invariant.0 in
+    let here = c.deref-call-items.ensures.value in
+    let l : n < length calls = subst (λ (bs : List (Box OpenCall)). n < length bs) here c.loop-call-test.true in
+    let own : c.deref.result.now ≡ open_at calls n = c.deref.ensures ∙ ap (λ (b : Box OpenCall). b.value) c.call-item.is
+    ∙ ap (λ (bs : List (Box OpenCall)). (get_or bs n c.call-item.result).value) here ∙ at_read calls n c.call-item.result l in
+    let are : seats_of calls ≡ seats = ap (λ (r : WorkedMemory). r.seats) c.self.view_is in
+    let rising : Rising seats = subst Rising are (seats_rise calls (subst IsRising round.listed round.rising)
+    (All-weaker (IsWorkedCall c.self.inside.end) (λ o. o.lines.call ≡ o.job.io.call) (λ o w. w.lines) (opens_in calls) round.each)) in
+    let within : n < length seats = subst (λ (ss : List SeatMemory). n < length ss) are (omega (arith, l, seats_long calls)) in
+    let seat : seat_of_open c.deref.result.now ≡ seat_at seats n = ap seat_of_open own ∙ seat_read calls n l ∙ ap (λ (ss : List SeatMemory). seat_at ss n) are in
+    let new = subst (λ (s : SeatMemory). AddsSeat s (sum_in c.loop-call.sums) (sum_in c.add_call.new.self)) seat c.add_call.ensures in
+    added_more n seats (sum_in c.args.sums.now) (sum_in c.loop-call.sums) (sum_in c.add_call.new.self) rising within c.loop-call.invariant new

@@ -1,110 +1,149 @@
-use Rattle.std.proofs.Common.{◌≡◌, sym, ap, ◌∙◌, subst, ℕ, Bool, List, ◌++◌, length, take, drop, arith}
+use Rattle.std.proofs.Common.{◌≡◌, sym, ap, ◌∙◌, subst, ℕ, Bool, Option, List, ◌++◌, length, take, drop, arith}
 use Rattle.std.specs.Prelude.{if◌then◌else◌, ◌&&◌}
+use Rattle.std.specs.List.{All}
+use Rattle.std.specs.Global.{Box}
+use Rattle.std.proofs.lemmas.List.{length-map}
 use Rattle.round_lines.specs.Seats.{SeatMemory, Drains}
 use Rattle.round_lines.specs.Rounds.{Each, KeepsButEach, IsOutgoing, Rising}
+use Rattle.farm_rounds.specs.declared.open.OpenCall.{OpenCall}
 use Rattle.farm_rounds.specs.Calls.{partner_in}
-use Rattle.farm_rounds.specs.Histories.{GroupsStand, kept_of}
-use Rattle.farm_rounds.specs.Memory.{tally_in}
 use Rattle.farm_rounds.specs.Numbers.{is_among}
-use Rattle.farm_rounds.specs.Rounds.{groups_from}
-use Rattle.farm_rounds.specs.RoundHistories.{WorkedStand, KnowFailed, those_that}
+use Rattle.farm_rounds.specs.Memory.{tally_in}
+use Rattle.farm_rounds.specs.Opens.{opens_in, calls_of, seats_of, same_call}
+use Rattle.farm_rounds.specs.Opened.{HasBuffers, same_calls}
+use Rattle.farm_rounds.specs.Histories.{CallHistory, CallsStand, kept_of}
 use Rattle.farm_rounds.specs.Working.{WorkedMemory, IsWorkedRound, GainsFailed, goes_on_call, partner_past}
-use Rattle.farm_rounds.proofs.Working.{back}
-use Rattle.farm_rounds.proofs.Drained.{drained_as_before, same_going, still_worked, still_stand}
+use Rattle.farm_rounds.specs.RoundHistories.{WorkedStand, KnowFailed, those_that}
+use Rattle.farm_rounds.specs.Failed.{AreFailedBefore}
+use Rattle.farm_rounds.proofs.Boxes.{opens_long, seats_long}
+use Rattle.farm_rounds.proofs.Marked.{still_worked, still_stand, same_going, same_partners, buffered, seats_rise}
+use Rattle.farm_rounds.proofs.Written.{back}
+use Rattle.farm_rounds.proofs.Known.{known_drained}
 use Rattle.farm_rounds.proofs.worked.Worked.drain.Given as given
 use Rattle.farm_rounds.proofs.worked.Worked.drain.Goals as goal
 
--- the seats, as they were given
-seats_were : (g : given.Over) (c : goal.After-pass g) → c.deref_mut.result.now ≡ c.args.self.seats
-seats_were g c = c.deref_mut.ensures.value ∙ ap (λ (r : WorkedMemory). r.seats) c.self.view_is
+-- the calls are the same but for the marks of their outgoing lines
+kept : (was here now : List (Box OpenCall)) → here ≡ was → same_calls now ≡ same_calls here → same_calls now ≡ same_calls was
+kept was here now e k = k ∙ ap (λ (bs : List (Box OpenCall)). same_calls bs) e
 
-drains : (g : given.Over) (c : goal.After-pass g) →
-    Each Drains (g.T.Trunk.lines c.args.trunk.now) (g.T.Trunk.lines c.drain_seats.new.trunk) c.args.self.seats c.drain_seats.new.seats
-    (length c.args.self.seats)
-drains g c =
-    subst (λ (ss : List SeatMemory). Each Drains (g.T.Trunk.lines c.args.trunk.now) (g.T.Trunk.lines c.drain_seats.new.trunk) ss c.drain_seats.new.seats
-    (length ss)) (seats_were g c) c.drain_seats.ensures.drains
+many : (was now : List (Box OpenCall)) → same_calls now ≡ same_calls was → length now ≡ length was
+many was now k =
+    sym (opens_long now) ∙ sym (length-map (opens_in now) same_call) ∙ ap length k ∙ length-map (opens_in was) same_call ∙ opens_long was
 
-number : (g : given.Over) (c : goal.After-pass g) → length c.drain_seats.new.seats ≡ length c.args.self.seats
-number g c = c.drain_seats.ensures.number ∙ ap length (seats_were g c)
+-- .. and they are given on whole
+written : (n : ℕ) (was here now : List (Box OpenCall)) → here ≡ was → length here ≡ n → same_calls now ≡ same_calls here →
+    take n (now ++ drop (length now) was) ≡ now
+written n was here now e l k = back n now was (omega (arith, l, ap length e)) (many was now (kept was here now e k))
 
--- the round that is passed on: the same, with the drained seats
+same : (g : given.Over) (c : goal.After-pass g) → same_calls c.drain_all.new.calls ≡ same_calls c.self.inside.calls.items
+same g c = kept c.self.inside.calls.items c.deref_mut.result.now c.drain_all.new.calls c.deref_mut.ensures.value c.drain_all.ensures.kept
+
+-- the round that is passed on
 after : (g : given.Over) (c : goal.After-pass g) →
     let i = c.self.inside in
+    let calls = take i.calls.len (c.drain_all.new.calls ++ drop (length c.drain_all.new.calls) i.calls.items) in
     record {
       ended = i.end;
-      live = i.rest.live.items;
-      tallies = i.rest.tallies.items;
-      failed = i.rest.failed.items;
-      jobs = i.jobs.items;
-      seats = take i.seats.len (c.drain_seats.new.seats ++ drop (length c.drain_seats.new.seats) i.seats.items);
+      live = i.live.items;
+      tallies = i.tallies.items;
+      failed = i.failed.items;
+      calls = calls_of calls;
+      seats = seats_of calls;
       ends = i.ends.items;
-    } ≡ record c.args.self { seats = c.drain_seats.new.seats }
+    } ≡ record c.args.self { calls = calls_of c.drain_all.new.calls; seats = seats_of c.drain_all.new.calls }
 after g c =
     let i = c.self.inside in
-    let now = c.drain_seats.new.seats in
-    let here : c.deref_mut.result.now ≡ i.seats.items = c.deref_mut.ensures.value in
-    let whole = back i.seats.len now i.seats.items (omega (arith, c.deref_mut.ensures.len, ap length here)) (c.drain_seats.ensures.number ∙ ap length here) in
-    ap (λ (ss : List SeatMemory).
+    ap (λ (bs : List (Box OpenCall)).
     record {
       ended = i.end;
-      live = i.rest.live.items;
-      tallies = i.rest.tallies.items;
-      failed = i.rest.failed.items;
-      jobs = i.jobs.items;
-      seats = ss;
+      live = i.live.items;
+      tallies = i.tallies.items;
+      failed = i.failed.items;
+      calls = calls_of bs;
+      seats = seats_of bs;
       ends = i.ends.items;
-    }) whole
-    ∙ ap (λ (r : WorkedMemory). record r { seats = now }) c.self.view_is
+    })
+    (written i.calls.len i.calls.items c.deref_mut.result.now c.drain_all.new.calls c.deref_mut.ensures.value c.deref_mut.ensures.len
+    c.drain_all.ensures.kept)
+    ∙ ap (λ (r : WorkedMemory). record r { calls = calls_of c.drain_all.new.calls; seats = seats_of c.drain_all.new.calls }) c.self.view_is
 
--- the same calls go on
-goes : (g : given.Over) (c : goal.After-pass g) → goes_on_call c.drain_seats.new.seats ≡ goes_on_call c.args.self.seats
+-- the same calls go on, with the same partners
+goes : (g : given.Over) (c : goal.After-pass g) → goes_on_call (seats_of c.drain_all.new.calls) ≡ goes_on_call c.args.self.seats
 goes g c =
-    same_going c.args.self.seats c.drain_seats.new.seats (number g c)
-    (drained_as_before (g.T.Trunk.lines c.args.trunk.now) (g.T.Trunk.lines c.drain_seats.new.trunk) c.args.self.seats c.drain_seats.new.seats (drains g c))
+    same_going (opens_in c.self.inside.calls.items) (opens_in c.drain_all.new.calls) (same g c)
+    ∙ ap (λ (r : WorkedMemory). goes_on_call r.seats) c.self.view_is
 
-pub drain_seats-requires : goal.drain_seats-requires
-drain_seats-requires g c = subst (λ (ss : List SeatMemory). Rising ss) (sym c.deref_mut.ensures.value) c.self.invariant.0.rising
+partners : (g : given.Over) (c : goal.After-pass g) → partner_in (calls_of c.drain_all.new.calls) ≡ partner_in c.args.self.calls
+partners g c =
+    same_partners (opens_in c.self.inside.calls.items) (opens_in c.drain_all.new.calls) (same g c)
+    ∙ ap (λ (r : WorkedMemory). partner_in r.calls) c.self.view_is
+
+-- the calls stand for the same periods
+stands : (g : given.Over) (c : goal.After-pass g) (h : ℕ → Option CallHistory) → WorkedStand h c.args.self →
+    WorkedStand h (record c.args.self { calls = calls_of c.drain_all.new.calls; seats = seats_of c.drain_all.new.calls })
+stands g c h stand =
+    still_stand (opens_in c.self.inside.calls.items) (opens_in c.drain_all.new.calls) (same g c) h
+    (subst (λ (r : WorkedMemory). WorkedStand h r) (sym c.self.view_is) stand)
+
+pub drain_all-requires-clause-rising : goal.drain_all-requires-clause-rising
+drain_all-requires-clause-rising g c =
+    subst (λ (bs : List (Box OpenCall)). Rising (seats_of bs)) (sym c.deref_mut.ensures.value) (seats_rise _ _ _ c.self.invariant.0)
+
+pub drain_all-requires-clause-fits : goal.drain_all-requires-clause-fits
+drain_all-requires-clause-fits g c =
+    subst (λ (bs : List (Box OpenCall)). All HasBuffers (opens_in bs)) (sym c.deref_mut.ensures.value) (buffered _ _ _ c.self.invariant.0)
 
 pub invariant_of-self : goal.invariant_of-self
 invariant_of-self g c =
     let i = c.self.inside in
-    let now = c.drain_seats.new.seats in
-    let here : c.deref_mut.result.now ≡ i.seats.items = c.deref_mut.ensures.value in
-    let whole = back i.seats.len now i.seats.items (omega (arith, c.deref_mut.ensures.len, ap length here)) (c.drain_seats.ensures.number ∙ ap length here) in
-    let before : WorkedMemory =
-    record {
-      ended = i.end;
-      live = i.rest.live.items;
-      tallies = i.rest.tallies.items;
-      failed = i.rest.failed.items;
-      jobs = i.jobs.items;
-      seats = i.seats.items;
-      ends = i.ends.items;
-    } in
-    let each =
-    subst (λ (ss : List SeatMemory). Each Drains (g.T.Trunk.lines c.args.trunk.now) (g.T.Trunk.lines c.drain_seats.new.trunk) ss now
-    (length ss)) here c.drain_seats.ensures.drains in (
-      subst (λ (ss : List SeatMemory). IsWorkedRound (record before { seats = ss })) (sym whole)
-          (still_worked before now c.self.invariant.0 (c.drain_seats.ensures.number ∙ ap length here)
-          (drained_as_before (g.T.Trunk.lines c.args.trunk.now) (g.T.Trunk.lines c.drain_seats.new.trunk) i.seats.items now each) c.drain_seats.ensures.rising),
+    let now = c.drain_all.new.calls in
+    let here = c.deref_mut.result.now in
+    let before = g.T.Trunk.lines c.args.trunk.now in
+    let behind = g.T.Trunk.lines c.drain_all.new.trunk in (
+      subst (λ (bs : List (Box OpenCall)). IsWorkedRound i.end i.live.items (opens_in bs))
+          (sym (written i.calls.len i.calls.items here now c.deref_mut.ensures.value c.deref_mut.ensures.len c.drain_all.ensures.kept))
+          (still_worked (opens_in i.calls.items) (opens_in now) (kept i.calls.items here now c.deref_mut.ensures.value c.drain_all.ensures.kept) i.end
+          i.live.items c.self.invariant.0),
       c.self.invariant.1,
       c.self.invariant.2,
-      c.self.invariant.3,
-      c.self.invariant.4,
+      subst (λ (bs : List (Box OpenCall)). AreFailedBefore i.failed.items (opens_in bs))
+          (sym (written i.calls.len i.calls.items here now c.deref_mut.ensures.value c.deref_mut.ensures.len c.drain_all.ensures.kept))
+          (known_drained i.failed.items before behind now i.calls.items
+          (many i.calls.items now (kept i.calls.items here now c.deref_mut.ensures.value c.drain_all.ensures.kept))
+          (subst (λ (bs : List (Box OpenCall)). Each Drains before behind (seats_of bs) (seats_of now) (length bs)) c.deref_mut.ensures.value
+          c.drain_all.ensures.drains) c.self.invariant.3),
     )
+
+-- what is said of the calls' places is said of the seats
+seated : (g : given.Over) (c : goal.After-pass g) (P : List SeatMemory → ℕ → Type 0) → P (seats_of c.deref_mut.result.now) (length c.deref_mut.result.now) →
+    P c.args.self.seats (length c.args.self.seats)
+seated g c P said =
+    let was = c.self.inside.calls.items in
+    subst (λ (r : WorkedMemory). P r.seats (length r.seats)) c.self.view_is
+    (subst (λ (n : ℕ). P (seats_of was) n) (sym (seats_long was))
+    (subst (λ (bs : List (Box OpenCall)). P (seats_of bs) (length bs)) c.deref_mut.ensures.value said))
 
 pub returns-clause-drains : goal.returns-clause-drains
 returns-clause-drains g c =
+    let now = c.drain_all.new.calls in
+    let before = g.T.Trunk.lines c.args.trunk.now in
+    let behind = g.T.Trunk.lines c.drain_all.new.trunk in
     let passes =
-    subst (λ (r : WorkedMemory). GainsFailed r.failed c.pass.result.failed r.seats × KnowFailed r.seats c.pass.result.groups)
-    (after g c) c.pass.ensures.passes in
-    (c.drain_seats.new.seats, drains g c, passes.0, passes.1, number g c)
+    subst (λ (r : WorkedMemory). GainsFailed r.failed c.pass.result.failed r.seats × KnowFailed r.seats c.pass.result.calls) (after g c)
+    c.pass.ensures.passes in (
+      seats_of now,
+      seated g c (λ ss n. Each Drains before behind ss (seats_of now) n) c.drain_all.ensures.drains,
+      passes.0,
+      passes.1,
+      seats_long now ∙ many c.self.inside.calls.items now (same g c) ∙ sym (seats_long c.self.inside.calls.items) ∙ ap (λ (r : WorkedMemory). length r.seats) c.self.view_is,
+    )
 
 pub returns-clause-others : goal.returns-clause-others
 returns-clause-others g c =
-    subst (λ (ss : List SeatMemory). KeepsButEach IsOutgoing (g.T.Trunk.lines c.args.trunk.now) (g.T.Trunk.lines c.drain_seats.new.trunk) ss (length ss))
-    (seats_were g c) c.drain_seats.ensures.others
+    seated g c (λ ss n. KeepsButEach IsOutgoing (g.T.Trunk.lines c.args.trunk.now) (g.T.Trunk.lines c.drain_all.new.trunk) ss n) c.drain_all.ensures.others
+
+pub returns-clause-ended : goal.returns-clause-ended
+returns-clause-ended g c = c.pass.ensures.ended ∙ ap (λ (r : WorkedMemory). r.ended) c.self.view_is
 
 pub returns-clause-live : goal.returns-clause-live
 returns-clause-live g c =
@@ -113,23 +152,23 @@ returns-clause-live g c =
 
 pub returns-clause-partners : goal.returns-clause-partners
 returns-clause-partners g c =
-    subst (λ (f : ℕ → Bool). (d : ℕ) → partner_in c.pass.result.groups d ≡ partner_past f (partner_in (groups_from c.args.self.jobs)) d) (goes g c)
-    (subst (λ (r : WorkedMemory). (d : ℕ) → partner_in c.pass.result.groups d ≡ partner_past (goes_on_call r.seats) (partner_in (groups_from r.jobs)) d)
-    (after g c) c.pass.ensures.partners)
+    let result = c.pass.result.calls in
+    subst (λ (p : ℕ → Option ℕ). (d : ℕ) → partner_in result d ≡ partner_past (goes_on_call c.args.self.seats) p d) (partners g c)
+    (subst (λ (f : ℕ → Bool). (d : ℕ) → partner_in result d ≡ partner_past f (partner_in (calls_of c.drain_all.new.calls)) d) (goes g c)
+    (subst (λ (r : WorkedMemory). (d : ℕ) → partner_in result d ≡ partner_past (goes_on_call r.seats) (partner_in r.calls) d) (after g c)
+    c.pass.ensures.partners))
 
 pub returns-clause-history : goal.returns-clause-history
 returns-clause-history g c h stand =
-    let now = c.drain_seats.new.seats in
-    subst (λ (f : ℕ → Bool). GroupsStand (those_that f h) c.pass.result.groups) (goes g c)
-    (subst (λ (r : WorkedMemory). WorkedStand h r → GroupsStand (those_that (goes_on_call r.seats) h) c.pass.result.groups) (after g c)
-    (c.pass.ensures.history h) (still_stand h c.args.self now (goes g c) stand))
+    subst (λ (f : ℕ → Bool). CallsStand (those_that f h) c.pass.result.calls) (goes g c)
+    (subst (λ (r : WorkedMemory). WorkedStand h r → CallsStand (those_that (goes_on_call r.seats) h) c.pass.result.calls) (after g c)
+    (c.pass.ensures.history h) (stands g c h stand))
 
 pub returns-clause-tallies : goal.returns-clause-tallies
 returns-clause-tallies g c h stand =
-    let now = c.drain_seats.new.seats in
     let told = c.pass.result.tallies in
     let was = c.args.self.tallies in
     subst (λ (f : ℕ → Bool). (d : ℕ) → tally_in told d ≡ (if f d then tally_in was d else kept_of (h d) (tally_in was d))) (goes g c)
     (subst (λ (r : WorkedMemory).
     WorkedStand h r → (d : ℕ) → tally_in told d ≡ (if goes_on_call r.seats d then tally_in r.tallies d else kept_of (h d) (tally_in r.tallies d))) (after g c)
-    (c.pass.ensures.tallies h) (still_stand h c.args.self now (goes g c) stand))
+    (c.pass.ensures.tallies h) (stands g c h stand))

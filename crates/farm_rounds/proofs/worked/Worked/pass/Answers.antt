@@ -1,106 +1,102 @@
-use Rattle.std.proofs.Common.{rules, ◌≡◌, sym, ap, ◌∙◌, subst, List, ◌++◌, length, take, drop, arith}
-use Rattle.std.specs.Prelude.{map, flat_map}
+use Rattle.std.proofs.Common.{rules, ◌≡◌, sym, ap, ◌∙◌, subst, ℕ, List, ◌++◌, length, map, take, drop, arith}
+use Rattle.std.specs.Prelude.{flat_map}
+use Rattle.std.specs.Global.{Box}
+use Rattle.std.specs.List.{All}
+use Rattle.std.proofs.lemmas.List.{length-map}
 use Rattle.std.proofs.lemmas.List.Sorted.{IsNonDecreasingBy-from_sort_by_key}
 use Rattle.trau_io.specs.declared.line.Line.{Line}
-use Rattle.trau_io.specs.Places.{place_of}
-use Rattle.round_lines.specs.Places.{line_name, failed_in_round}
+use Rattle.trau_io.specs.Indices.{index_of_line}
+use Rattle.round_lines.specs.Memory.{line_name, failed_in_round}
 use Rattle.round_lines.specs.Seats.{SeatMemory}
+use Rattle.farm_rounds.specs.declared.open.OpenCall.{OpenCall}
 use Rattle.farm_rounds.specs.declared.tally.Tally.{Tally}
-use Rattle.farm_rounds.specs.Groups.{AreGroups}
+use Rattle.farm_rounds.specs.Numbers.{IsRising}
 use Rattle.farm_rounds.specs.Memory.{tally_in}
-use Rattle.farm_rounds.specs.Rounds.{groups_from}
-use Rattle.farm_rounds.specs.Settling.{Settled, groups_left}
-use Rattle.farm_rounds.specs.Working.{WorkedMemory, IsWorkedRound, goes_on_call}
-use Rattle.farm_rounds.specs.RoundHistories.{seat_of}
-use Rattle.farm_rounds.proofs.Working.{back}
-use Rattle.farm_rounds.proofs.Starting.{same_groups}
-use Rattle.farm_rounds.proofs.Drained.{IsPassed, passed, have_seats}
+use Rattle.farm_rounds.specs.Opens.{opens_in, seats_of, calls_of}
+use Rattle.farm_rounds.specs.Opened.{TallyKept}
+use Rattle.farm_rounds.specs.Working.{WorkedMemory, GainsFailed}
+use Rattle.farm_rounds.proofs.Boxes.{opens_long}
+use Rattle.farm_rounds.proofs.Passing.{IsPassed, own, passed, still_left}
+use Rattle.farm_rounds.proofs.Written.{back}
+use Rattle.farm_rounds.proofs.Gaining.{failed_passed}
 use Rattle.farm_rounds.proofs.worked.Worked.pass.Goals as goal
 
--- the seats that are looked at are the round's
-seats_are : (c : goal.After-drop-self-inside) → c.deref-2.result.now ≡ c.args.self.seats
-seats_are c = c.deref-2.ensures.value ∙ ap (λ (r : WorkedMemory). r.seats) c.self.view_is
+-- each call is listed
+long : (c : goal.After-failed-1) → length c.self.inside.live.items ≡ length c.self.inside.calls.items
+long c =
+    let boxes = c.self.inside.calls.items in
+    ap length c.self.invariant.0.listed ∙ length-map (opens_in boxes) (λ (o : OpenCall). o.job.io.call) ∙ opens_long boxes
 
-whole : (c : goal.After-drop-self-inside) → IsPassed c.args.self c.settle_all.new.groups.items c.settle_all.new.live.items c.settle_all.new.tallies
-whole c =
-    let i = c.self.inside in
-    let r = c.args.self in
-    let here =
-    subst (λ (ss : List SeatMemory). c.settle_all.new.groups.items ≡ groups_left (goes_on_call ss) (seat_of ss) (groups_from i.jobs.items))
-    (seats_are c) c.settle_all.ensures.groups in
-    let left =
-    subst (λ (m : WorkedMemory). c.settle_all.new.groups.items ≡ groups_left (goes_on_call r.seats) (seat_of r.seats)
-    (groups_from m.jobs)) c.self.view_is here in
-    let first =
-    subst (λ (ss : List SeatMemory). Settled (goes_on_call ss)
-    (groups_from i.jobs.items) i.rest.live.items c.settle_all.new.live.items c.deref_mut.result.now c.settle_all.new.tallies)
-    (seats_are c) c.settle_all.ensures.settled in
-    let second =
-    subst (λ (ts : List Tally). Settled (goes_on_call r.seats)
-    (groups_from i.jobs.items) i.rest.live.items c.settle_all.new.live.items ts c.settle_all.new.tallies) c.deref_mut.ensures.value first in
-    let settled =
-    subst (λ (m : WorkedMemory). Settled (goes_on_call r.seats)
-    (groups_from m.jobs) m.live c.settle_all.new.live.items m.tallies c.settle_all.new.tallies) c.self.view_is second in
-    passed r c.settle_all.new.groups.items c.settle_all.new.live.items c.settle_all.new.tallies
-    (subst IsWorkedRound c.self.view_is c.self.invariant.0) left settled
+pub list_failed-requires : goal.list_failed-requires
+list_failed-requires c = record { room = omega (arith, c.self.invariant.2, ap length c.deref.ensures.value, long c) }
+
+pub keep_tallies-requires-clause-rising : goal.keep_tallies-requires-clause-rising
+keep_tallies-requires-clause-rising c =
+    subst (λ (bs : List (Box OpenCall)). IsRising (map (λ (o : OpenCall). o.job.io.call) (opens_in bs))) (sym c.deref-2.ensures.value)
+    (subst IsRising c.self.invariant.0.listed c.self.invariant.0.rising)
+
+pub keep_tallies-requires-clause-places : goal.keep_tallies-requires-clause-places
+keep_tallies-requires-clause-places c =
+    subst (λ (bs : List (Box OpenCall)). All (λ (o : OpenCall). o.lines.call ≡ o.job.io.call) (opens_in bs)) (sym c.deref-2.ensures.value)
+    (own _ _ _ c.self.invariant.0)
+
+pub keep_tallies-requires-clause-number : goal.keep_tallies-requires-clause-number
+keep_tallies-requires-clause-number c = ap length c.deref_mut.ensures.value ∙ c.self.invariant.1
+
+pub keep_open-requires : goal.keep_open-requires
+keep_open-requires c =
+    let boxes = c.self.inside.calls.items in
+    let each = ap length c.self.invariant.0.listed ∙ length-map (opens_in boxes) (λ (o : OpenCall). o.job.io.call) ∙ opens_long boxes in
+    record { room = omega (arith, each) }
 
 -- the tallies, as they are given on
 tallies_back : (c : goal.After-drop-self-inside) →
-    take c.self.inside.rest.tallies.len (c.settle_all.new.tallies ++ drop (length c.settle_all.new.tallies) c.self.inside.rest.tallies.items)
-    ≡ c.settle_all.new.tallies
+    take c.self.inside.tallies.len (c.keep_tallies.new.tallies ++ drop (length c.keep_tallies.new.tallies) c.self.inside.tallies.items)
+    ≡ c.keep_tallies.new.tallies
 tallies_back c =
-    let here : c.deref_mut.result.now ≡ c.self.inside.rest.tallies.items = c.deref_mut.ensures.value in
-    back c.self.inside.rest.tallies.len c.settle_all.new.tallies c.self.inside.rest.tallies.items (omega (arith, c.deref_mut.ensures.len, ap length here))
-    (c.settle_all.ensures.settled.same ∙ ap length here)
+    let here = ap length c.deref_mut.ensures.value in
+    back c.self.inside.tallies.len c.keep_tallies.new.tallies c.self.inside.tallies.items (omega (arith, c.deref_mut.ensures.len, here))
+    (c.keep_tallies.ensures.number ∙ sym c.self.invariant.1)
 
-pub list_failed-requires : goal.list_failed-requires
-list_failed-requires c = omega (arith, c.self.invariant.4, ap length c.deref.ensures.value, c.self.invariant.0.numbers)
+whole : (c : goal.After-drop-self-inside) → IsPassed c.args.self (calls_of c.keep_open.new.calls.items) c.keep_open.new.live.items c.keep_tallies.new.tallies
+whole c =
+    let i = c.self.inside in
+    let keeps = c.keep_tallies.new.tallies in
+    let first =
+    subst (λ (bs : List (Box OpenCall)). (d : ℕ) → TallyKept (opens_in bs) d (tally_in c.deref_mut.result.now d) (tally_in keeps d))
+    c.deref-2.ensures.value c.keep_tallies.ensures.kept in
+    let kept =
+    subst (λ (ts : List Tally). (d : ℕ) → TallyKept (opens_in i.calls.items) d (tally_in ts d) (tally_in keeps d)) c.deref_mut.ensures.value first in
+    subst (λ (r : WorkedMemory). IsPassed r (calls_of c.keep_open.new.calls.items) c.keep_open.new.live.items keeps) c.self.view_is
+    (passed i.end i.live.items (opens_in i.calls.items) i.tallies.items keeps i.failed.items i.ends.items c.keep_open.new.live.items
+    (opens_in c.keep_open.new.calls.items) c.self.invariant.0 c.keep_open.ensures.live c.keep_open.ensures.calls kept)
 
-pub settle_all-requires-clause-seats : goal.settle_all-requires-clause-seats
-settle_all-requires-clause-seats c =
-    have_seats _ c.deref-3.result.now c.deref-2.result.now c.self.invariant.0 (c.deref-3.ensures.value ∙ c.self.invariant.2) c.deref-2.ensures.value
-
-pub settle_all-requires-clause-numbers : goal.settle_all-requires-clause-numbers
-settle_all-requires-clause-numbers c = c.deref-3.ensures.value ∙ c.self.invariant.2
-
-pub settle_all-requires-clause-none : goal.settle_all-requires-clause-none
-settle_all-requires-clause-none c = c.self.invariant.1
-
-pub settle_all-requires-clause-groups : goal.settle_all-requires-clause-groups
-settle_all-requires-clause-groups c =
-    same_groups c.self.inside.end 4294967295 (groups_from c.self.inside.jobs.items) c.self.invariant.0.last c.self.invariant.0.groups
-
-pub settle_all-requires-clause-live : goal.settle_all-requires-clause-live
-settle_all-requires-clause-live c = c.self.invariant.0.alive
-
-pub settle_all-requires-clause-room : goal.settle_all-requires-clause-room
-settle_all-requires-clause-room c = c.self.invariant.3
-
-pub settle_all-requires-clause-tallies : goal.settle_all-requires-clause-tallies
-settle_all-requires-clause-tallies c = ap length c.deref_mut.ensures.value ∙ c.self.invariant.0.kept
+-- the lines that are listed after the round
+gains : (c : goal.After-drop-self-inside) →
+    GainsFailed c.self.inside.failed.items c.sort_unstable_by_key.new.self.items (seats_of c.self.inside.calls.items)
+gains c = record {
+  lines = c.list_failed.new.failed.items;
+  told =
+      c.list_failed.ensures
+      ∙ ap (λ (bs : List (Box OpenCall)). map line_name c.self.inside.failed.items ++ flat_map (λ (s : SeatMemory). failed_in_round s.lines) (seats_of bs))
+      c.deref.ensures.value;
+  same = c.sort_unstable_by_key.ensures.permutation;
+  order = IsNonDecreasingBy-from_sort_by_key (λ (l : Line). index_of_line l.call l.side) _ c.sort_unstable_by_key.ensures.sorted (λ a r q k. search rules);
+}
 
 pub invariant_of-result : goal.invariant_of-result
 invariant_of-result c =
-    let d = whole c in (
-      subst (λ (r : WorkedMemory). AreGroups r.ended c.settle_all.new.groups.items) (sym c.self.view_is) d.groups,
-      d.alive,
-      ap length (tallies_back c) ∙ d.kept,
-      omega (arith, d.fewer, ap (λ (r : WorkedMemory). length r.live) c.self.view_is, c.settle_all.ensures.capacity, c.self.invariant.3),
+    let i = c.self.inside in (
+      still_left i.end i.live.items (opens_in i.calls.items) c.keep_open.new.live.items (opens_in c.keep_open.new.calls.items) c.self.invariant.0
+          c.keep_open.ensures.live c.keep_open.ensures.calls,
+      ap length (tallies_back c) ∙ c.keep_tallies.ensures.number,
+      failed_passed i.end i.live.items (opens_in i.calls.items) i.failed.items c.sort_unstable_by_key.new.self.items c.keep_open.new.live.items
+          (opens_in c.keep_open.new.calls.items) c.self.invariant.0 c.self.invariant.3 (gains c) c.keep_open.ensures.live c.keep_open.ensures.calls,
     )
 
 pub returns-clause-passes : goal.returns-clause-passes
 returns-clause-passes c = (
-  record {
-    lines = c.list_failed.new.failed.items;
-    told =
-        c.list_failed.ensures.listed
-        ∙ ap (λ (xs : List Line). map line_name xs ++ flat_map (λ (s : SeatMemory). failed_in_round s.place) c.deref.result.now)
-        (ap (λ (r : WorkedMemory). r.failed) c.self.view_is)
-        ∙ ap (λ (ss : List SeatMemory). map line_name c.args.self.failed ++ flat_map (λ (s : SeatMemory). failed_in_round s.place) ss)
-        (c.deref.ensures.value ∙ ap (λ (r : WorkedMemory). r.seats) c.self.view_is);
-    same = c.sort_unstable_by_key.ensures.permutation;
-    order = IsNonDecreasingBy-from_sort_by_key (λ (l : Line). place_of l.call l.side) _ c.sort_unstable_by_key.ensures.sorted (λ a r q k. search rules);
-  },
+  subst (λ (r : WorkedMemory). GainsFailed r.failed c.sort_unstable_by_key.new.self.items r.seats) c.self.view_is (gains c),
   (whole c).failed,
 )
 
@@ -111,7 +107,7 @@ pub returns-clause-live : goal.returns-clause-live
 returns-clause-live c = (whole c).live
 
 pub returns-clause-open : goal.returns-clause-open
-returns-clause-open c d = sym ((whole c).alive.numbers d)
+returns-clause-open c = (whole c).opened
 
 pub returns-clause-partners : goal.returns-clause-partners
 returns-clause-partners c = (whole c).partners

@@ -1,0 +1,139 @@
+-- The open calls by their numbers: the one with a number, in whatever list is made of them.
+use Rattle.std.proofs.Common.{◌≡◌, refl, sym, ap, ◌∙◌, subst, ℕ, zero, suc, ◌<◌, Bool, true, Option, Some, None, List, [], ◌∷◌, length, get_or, arith, inl, inr}
+use Rattle.std.specs.Prelude.{◌==◌, map}
+use Rattle.std.specs.Option.{option_map, option_and_then}
+use Rattle.std.specs.List.{All, find}
+use Rattle.std.proofs.lemmas.Bool.{cases_Bool, eqb-true, eq-eqb, ne_eqb}
+use Rattle.std.proofs.lemmas.List.{get_or-map, length-map}
+use Rattle.std.proofs.lemmas.List.Elements.{All-nil, All-cons, All-head, All-tail, All-get_or}
+use Rattle.farm_rounds.specs.declared.open.OpenCall.{OpenCall}
+use Rattle.farm_rounds.specs.Calls.{Kept, kept_in, partner_in}
+use Rattle.farm_rounds.specs.Numbers.{IsRising, is_among}
+use Rattle.farm_rounds.specs.Opens.{kept_of, seat_of_open}
+use Rattle.farm_rounds.specs.Opened.{standing, no_open}
+use Rattle.farm_rounds.proofs.Rising.{there}
+
+abbrev pub number_of : OpenCall → ℕ
+number_of o = o.job.io.call
+
+-- the call with a number
+abbrev pub open_in : List OpenCall → ℕ → Option OpenCall
+open_in os c = find (λ o. o.job.io.call == c) os
+
+-- what holds of whatever it is
+pub all_of : {A : Type 0} (P : A → Type 0) (xs : List A) → ((x : A) → P x) → All P xs
+all_of P [] h = All-nil P
+all_of P (x ∷ xs) h = All-cons P x xs (h x) (all_of P xs h)
+
+-- ---- one that is found
+
+pub record IsFound (os : List OpenCall) (c : ℕ) (o : OpenCall) : Type 0 where
+  pub index : ℕ
+  pub inside : index < length os
+  pub there : get_or os index no_open ≡ o
+  pub number : o.job.io.call ≡ c
+
+some_same : (x y : OpenCall) → Some x ≡ Some y → x ≡ y
+some_same x y e = cc
+
+none_some : (y : OpenCall) → None ≡ Some y → ⊥
+none_some y e = cc
+
+pub is_found : (os : List OpenCall) (c : ℕ) (o : OpenCall) → open_in os c ≡ Some o → IsFound os c o
+is_found [] c o e = absurd (none_some o e)
+is_found (x ∷ os) c o e = elim (cases_Bool (x.job.io.call == c)) [
+  | inl t ↦
+      let same : x ≡ o = some_same x o (rw t at e) in
+      record { index = 0; inside = omega arith; there = same; number = ap number_of (sym same) ∙ eqb-true x.job.io.call c t }
+  | inr f ↦
+      let r = is_found os c o (rw f at e) in
+      let l = r.inside in
+      record { index = suc r.index; inside = omega (arith, l); there = r.there; number = r.number }
+]
+
+-- what holds of all calls holds of it
+pub found_all : (P : OpenCall → Type 0) (os : List OpenCall) (c : ℕ) (o : OpenCall) → open_in os c ≡ Some o → All P os → P o
+found_all P os c o e a = let r = is_found os c o e in subst P r.there (All-get_or P os r.index no_open r.inside a)
+
+-- its number is there
+pub found_among : (os : List OpenCall) (c : ℕ) (o : OpenCall) → open_in os c ≡ Some o → is_among (map number_of os) c ≡ true
+found_among os c o e =
+    let r = is_found os c o e in
+    let l = r.inside in
+    there (map number_of os) c r.index (omega (arith, l, length-map os number_of))
+    (get_or-map number_of os r.index no_open 0 r.inside ∙ ap number_of r.there ∙ r.number)
+
+-- each call is found by its own number
+pub find_at : (os : List OpenCall) (k : ℕ) → IsRising (map number_of os) → k < length os →
+    open_in os (get_or os k no_open).job.io.call ≡ Some (get_or os k no_open)
+find_at [] k rising l = absurd (omega arith)
+find_at (x ∷ os) zero rising l = rw (eq-eqb x.job.io.call x.job.io.call refl) refl
+find_at (x ∷ os) (suc k) rising l =
+    let tail : IsRising (map number_of os) = λ i j b m. rising (suc i) (suc j) (omega (arith, b)) (omega (arith, m)) in
+    let up : x.job.io.call < get_or (map number_of os) k 0 = rising 0 (suc k) (omega arith) (omega (arith, l, length-map os number_of)) in
+    let same : get_or (map number_of os) k 0 ≡ (get_or os k no_open).job.io.call = get_or-map number_of os k no_open 0 (omega (arith, l)) in
+    rw (ne_eqb x.job.io.call (get_or os k no_open).job.io.call (λ q. absurd (omega (arith, up, same, q)))) (find_at os k tail (omega (arith, l)))
+
+-- ---- what is made of each call
+
+pub find_made : {A B : Type 0} (f : A → B) (p : B → Bool) (q : A → Bool) (xs : List A) → All (λ x. p (f x) ≡ q x) xs →
+    find p (map f xs) ≡ option_map f (find q xs)
+find_made f p q [] a = refl
+find_made f p q (x ∷ xs) a =
+    let here = All-head (λ y. p (f y) ≡ q y) x xs a in
+    let rest = find_made f p q xs (All-tail (λ y. p (f y) ≡ q y) x xs a) in
+    elim (cases_Bool (q x)) [ inl t ↦ rw (here, t) refl | inr e ↦ rw (here, e) rest ]
+
+pub kept_by : (os : List OpenCall) (c : ℕ) → kept_in (map kept_of os) c ≡ option_map kept_of (open_in os c)
+kept_by os c = find_made kept_of (λ k. k.call.number == c) (λ o. o.job.io.call == c) os
+    (all_of (λ (o : OpenCall). ((kept_of o).call.number == c) ≡ (o.job.io.call == c)) os (λ o. refl))
+
+pub standing_by : (os : List OpenCall) (c : ℕ) → find (λ s. s.number == c) (map standing os) ≡ option_map standing (open_in os c)
+standing_by os c = find_made standing (λ s. s.number == c) (λ o. o.job.io.call == c) os
+    (all_of (λ (o : OpenCall). ((standing o).number == c) ≡ (o.job.io.call == c)) os (λ o. refl))
+
+pub seat_by : (os : List OpenCall) (c : ℕ) → All (λ o. o.lines.call ≡ o.job.io.call) os →
+    find (λ s. s.lines.call == c) (map seat_of_open os) ≡ option_map seat_of_open (open_in os c)
+seat_by os c same = find_made seat_of_open (λ s. s.lines.call == c) (λ o. o.job.io.call == c) os (by os same)
+  where
+    by : (xs : List OpenCall) → All (λ o. o.lines.call ≡ o.job.io.call) xs → All (λ o. ((seat_of_open o).lines.call == c) ≡ (o.job.io.call == c)) xs
+    by [] a = All-nil (λ o. ((seat_of_open o).lines.call == c) ≡ (o.job.io.call == c))
+    by (x ∷ xs) a = All-cons (λ o. ((seat_of_open o).lines.call == c) ≡ (o.job.io.call == c)) x xs
+        (ap (λ (n : ℕ). n == c) (All-head (λ o. o.lines.call ≡ o.job.io.call) x xs a)) (by xs (All-tail (λ o. o.lines.call ≡ o.job.io.call) x xs a))
+
+-- calls that keep their numbers
+pub changed_by : (g : OpenCall → OpenCall) (os : List OpenCall) (c : ℕ) → All (λ o. (g o).job.io.call ≡ o.job.io.call) os →
+    open_in (map g os) c ≡ option_map g (open_in os c)
+changed_by g os c same = find_made g (λ o. o.job.io.call == c) (λ o. o.job.io.call == c) os (by os same)
+  where
+    by : (xs : List OpenCall) → All (λ o. (g o).job.io.call ≡ o.job.io.call) xs → All (λ o. ((g o).job.io.call == c) ≡ (o.job.io.call == c)) xs
+    by [] a = All-nil (λ o. ((g o).job.io.call == c) ≡ (o.job.io.call == c))
+    by (x ∷ xs) a = All-cons (λ o. ((g o).job.io.call == c) ≡ (o.job.io.call == c)) x xs
+        (ap (λ (n : ℕ). n == c) (All-head (λ o. (g o).job.io.call ≡ o.job.io.call) x xs a))
+        (by xs (All-tail (λ o. (g o).job.io.call ≡ o.job.io.call) x xs a))
+
+-- ---- partners
+
+pub partner_by : (os : List OpenCall) (c : ℕ) → partner_in (map kept_of os) c ≡ option_and_then (λ k. k.partner) (option_map kept_of (open_in os c))
+partner_by os c = ap (option_and_then (λ (k : Kept). k.partner)) (kept_by os c)
+
+pub partner_found : (os : List OpenCall) (c : ℕ) (o : OpenCall) → open_in os c ≡ Some o → partner_in (map kept_of os) c ≡ o.partner
+partner_found os c o e = partner_by os c ∙ ap (λ (x : Option OpenCall). option_and_then (λ (k : Kept). k.partner) (option_map kept_of x)) e
+
+pub partner_none : (os : List OpenCall) (c : ℕ) → open_in os c ≡ None → partner_in (map kept_of os) c ≡ None
+partner_none os c e = partner_by os c ∙ ap (λ (x : Option OpenCall). option_and_then (λ (k : Kept). k.partner) (option_map kept_of x)) e
+
+-- a call with a partner is open
+pub record HasPartner (os : List OpenCall) (c d : ℕ) : Type 0 where
+  pub call : OpenCall
+  pub found : open_in os c ≡ Some call
+  pub partner : call.partner ≡ Some d
+
+pub has_partner : (os : List OpenCall) (c d : ℕ) → partner_in (map kept_of os) c ≡ Some d → HasPartner os c d
+has_partner os c d e = by (open_in os c) refl where
+  none : None ≡ Some d → ⊥
+  none q = cc
+
+  by : (x : Option OpenCall) → open_in os c ≡ x → HasPartner os c d
+  by None q = absurd (none (sym (partner_none os c q) ∙ e))
+  by (Some o) q = record { call = o; found = q; partner = sym (partner_found os c o q) ∙ e }

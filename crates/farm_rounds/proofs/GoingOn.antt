@@ -1,0 +1,32 @@
+-- The calls that go on after a round.
+use Rattle.std.proofs.Common.{◌≡◌, refl, sym, ◌∙◌, ℕ, ◌<◌, false, List, length, arith, inl, inr}
+use Rattle.std.specs.Prelude.{◌==◌, ◌&&◌}
+use Rattle.std.proofs.lemmas.Bool.{cases_Bool, cases_order, eq-eqb, ne_eqb, and_from, and_left, and_right}
+use Rattle.std.proofs.lemmas.List.Elements.{All-from_get_or}
+use Rattle.std.proofs.lemmas.List.Folds.{list_any_at, list_any_none}
+use Rattle.round_lines.specs.Seats.{SeatMemory}
+use Rattle.round_lines.specs.Rounds.{Rising, no_seat, seat_at, call_at}
+use Rattle.farm_rounds.specs.Settling.{goes_on_in}
+use Rattle.farm_rounds.specs.Working.{goes_on_call}
+
+-- a call goes on by its own seat
+pub goes_on_at : (seats : List SeatMemory) (k : ℕ) → Rising seats → k < length seats → goes_on_call seats (call_at seats k) ≡ goes_on_in (seat_at seats k)
+goes_on_at seats k rising l = elim (cases_Bool (goes_on_in (seat_at seats k))) [
+  | inl t ↦
+      list_any_at (λ s. (s.lines.call == call_at seats k) && goes_on_in s) seats k no_seat l
+      (and_from (call_at seats k == call_at seats k) (goes_on_in (seat_at seats k)) (eq-eqb (call_at seats k) (call_at seats k) refl) t)
+      ∙ sym t
+  | inr f ↦
+      list_any_none (λ s. (s.lines.call == call_at seats k) && goes_on_in s) seats
+      (All-from_get_or (λ s. ((s.lines.call == call_at seats k) && goes_on_in s) ≡ false) seats no_seat (λ i li. elim (cases_order i k) [
+        | inl e ↦ rw e (and_right (call_at seats k == call_at seats k) (goes_on_in (seat_at seats k)) f)
+        | inr (inl b) ↦
+            let less = rising i k b l in
+            and_left (call_at seats i == call_at seats k) (goes_on_in (seat_at seats i))
+            (ne_eqb (call_at seats i) (call_at seats k) (λ q. absurd (omega (arith, less, q))))
+        | inr (inr a) ↦
+            let more = rising k i a li in
+            and_left (call_at seats i == call_at seats k) (goes_on_in (seat_at seats i))
+            (ne_eqb (call_at seats i) (call_at seats k) (λ q. absurd (omega (arith, more, q))))
+      ])) ∙ sym f
+]

@@ -1,0 +1,54 @@
+use Rattle.std.proofs.Common.{◌≡◌, ◌<◌, sym, ap, ◌∙◌, subst, length, Some, Option, ℕ, arith}
+use Rattle.std.proofs.lemmas.List.{length-map}
+use Rattle.std.proofs.lemmas.List.Elements.{All-get_or}
+use Rattle.call_pair.specs.declared.call_job.Phase.TheVariants.{First}
+use Rattle.farm_rounds.specs.declared.open.OpenCall.{OpenCall}
+use Rattle.farm_rounds.specs.Calls.{Call, Kept}
+use Rattle.farm_rounds.specs.Acts.{bridged_call}
+use Rattle.farm_rounds.specs.Opens.{opens_in, kept_of, IsOpenCall}
+use Rattle.farm_rounds.specs.Opened.{open_at, no_open}
+use Rattle.farm_rounds.proofs.Boxes.{at_read, opens_long}
+use Rattle.farm_rounds.proofs.Acting.{changed_at}
+use Rattle.farm_rounds.proofs.acts.join.Goals as goal
+
+abbrev kept : Call → Option ℕ → Kept
+kept x p = record { call = x; partner = p }
+
+pub join-requires : goal.join-requires
+join-requires c =
+    let calls = c.args.calls.now in
+    let k = c.index_of.result in
+    let within : k < length calls =
+    omega (
+      arith,
+      c.index_of.ensures.within,
+      ap length c.requires.listed.listed,
+      length-map (opens_in calls) (λ (o : OpenCall). o.job.io.call),
+      opens_long calls,
+    ) in
+    let own : c.deref_mut.result.now ≡ open_at calls k = c.deref_mut.ensures.value ∙ at_read calls k _ within in
+    subst (λ (o : OpenCall). o.job.phase ≡ First) (sym own)
+    (All-get_or (λ o. o.job.phase ≡ First) (opens_in calls) k no_open (omega (arith, within, opens_long calls)) c.requires.listed.first)
+
+pub returns : goal.returns
+returns c =
+    let calls = c.args.calls.now in
+    let k = c.index_of.result in
+    let within : k < length calls =
+    omega (
+      arith,
+      c.index_of.ensures.within,
+      ap length c.requires.listed.listed,
+      length-map (opens_in calls) (λ (o : OpenCall). o.job.io.call),
+      opens_long calls,
+    ) in
+    let own : c.deref_mut.result.now ≡ open_at calls k = c.deref_mut.ensures.value ∙ at_read calls k _ within in
+    let new = c.join.new.self in
+    let partner = Some c.args.partner in
+    let called = c.join.ensures.call ∙ ap (λ (o : OpenCall). bridged_call (kept_of o).call) own in
+    changed_at calls c.args.live.now k c.args.call _ (λ x. kept (bridged_call x.call) partner) c.requires.listed within c.index_of.ensures.within
+    c.index_of.ensures.number
+    (ap (λ (x : Call). kept x new.partner) called ∙ ap (λ (p : Option ℕ). kept (bridged_call (kept_of (open_at calls k)).call) p) c.join.ensures.partner)
+    (ap (λ (x : Call). x.number) called)
+    (λ most sound. c.join.ensures.kept most (subst (IsOpenCall most) (sym own) sound))
+    (λ most all. All-get_or (IsOpenCall most) (opens_in calls) k no_open (omega (arith, within, opens_long calls)) all)

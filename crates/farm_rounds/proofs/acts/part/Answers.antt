@@ -1,0 +1,46 @@
+use Rattle.std.proofs.Common.{◌≡◌, ◌∙◌, ap, None}
+use Rattle.farm_rounds.specs.Calls.{Call}
+use Rattle.farm_rounds.specs.Acts.{parted}
+use Rattle.farm_rounds.specs.Opened.{open_at}
+use Rattle.farm_rounds.proofs.Boxes.{at_read}
+use Rattle.farm_rounds.proofs.Changing.{kept, kept_same, listed_within, first_at, up_at, down_at, changed_there}
+use Rattle.farm_rounds.proofs.Placed.{paired_at}
+use Rattle.farm_rounds.proofs.acts.part.Goals as goal
+
+pub part-requires-clause-first : goal.part-requires-clause-first
+part-requires-clause-first c =
+    let calls = c.args.calls.now in
+    let k = c.index_of.result in
+    first_at calls c.args.live.now k _ c.requires.listed c.index_of.ensures.within
+    (c.deref_mut.ensures.value ∙ at_read calls k _ (listed_within calls c.args.live.now k c.requires.listed c.index_of.ensures.within))
+
+pub part-requires-clause-up : goal.part-requires-clause-up
+part-requires-clause-up c =
+    let calls = c.args.calls.now in
+    let live = c.args.live.now in
+    let k = c.index_of.result in
+    let own : c.deref_mut.result.now ≡ open_at calls k =
+    c.deref_mut.ensures.value ∙ at_read calls k _ (listed_within calls live k c.requires.listed c.index_of.ensures.within) in
+    up_at calls live k _ c.requires.listed c.index_of.ensures.within own
+    (paired_at live calls k c.args.call _ c.requires.listed.listed c.requires.listed.rising c.index_of.ensures.within c.index_of.ensures.number own
+    ∙ c.requires.partner)
+
+pub part-requires-clause-down : goal.part-requires-clause-down
+part-requires-clause-down c =
+    let calls = c.args.calls.now in
+    let live = c.args.live.now in
+    let k = c.index_of.result in
+    let own : c.deref_mut.result.now ≡ open_at calls k =
+    c.deref_mut.ensures.value ∙ at_read calls k _ (listed_within calls live k c.requires.listed c.index_of.ensures.within) in
+    down_at calls live k _ c.requires.listed c.index_of.ensures.within own
+    (paired_at live calls k c.args.call _ c.requires.listed.listed c.requires.listed.rising c.index_of.ensures.within c.index_of.ensures.number own
+    ∙ c.requires.partner)
+
+pub returns : goal.returns
+returns c =
+    let calls = c.args.calls.now in
+    let k = c.index_of.result in
+    changed_there calls c.args.live.now k c.args.call _ _ (λ x. kept (parted x.call) None) c.requires.listed
+    c.index_of.ensures.within c.index_of.ensures.number
+    (c.deref_mut.ensures.value ∙ at_read calls k _ (listed_within calls c.args.live.now k c.requires.listed c.index_of.ensures.within))
+    (kept_same _ _ _ _ c.part.ensures.call c.part.ensures.partner) (ap (λ (x : Call). x.number) c.part.ensures.call) c.part.ensures.kept

@@ -1,0 +1,24 @@
+use Rattle.std.proofs.Common.{ap, ◌∙◌, ◌++◌, arith, map}
+use Rattle.round_lines.specs.Memory.{failed_in_round, line_name}
+use Rattle.round_lines.specs.Seats.{SeatMemory}
+use Rattle.round_lines.proofs.Listing.{appended_more}
+use Rattle.farm_rounds.specs.declared.open.OpenCall.{OpenCall}
+use Rattle.farm_rounds.specs.Opens.{seats_of, seat_of_open}
+use Rattle.farm_rounds.proofs.Boxes.{seats_long}
+use Rattle.farm_rounds.proofs.Listed.{seat_listed}
+use Rattle.farm_rounds.proofs.calls.list_failed.Goals as goal
+
+pub loop-call-preserved : goal.loop-call-preserved
+loop-call-preserved c =
+    let i = c.loop-call.invariant in
+    let new = c.list_failed.ensures in
+    let calls = c.args.calls.now in
+    let k = c.loop-call.call-index in
+    let seat = seat_of_open c.call-item.result.value in
+    record {
+      listed = appended_more (λ (s : SeatMemory). failed_in_round s.lines) (seats_of calls) k _ _ _ seat (omega (arith, c.loop-call-test.true, seats_long calls))
+          (seat_listed calls k c.call-item.result seat c.loop-call-test.true c.call-item.is)
+          (new.listed ∙ ap (λ (o : OpenCall). map line_name c.loop-call.failed.items ++ failed_in_round o.lines) c.deref.ensures) i.listed;
+      few = omega (arith, new.length, i.few);
+      room = new.capacity ∙ i.room;
+    }

@@ -1,0 +1,15 @@
+use Rattle.std.proofs.Common.{ap, ◌∙◌, ℕ, List, ◌+◌, ◌%◌, ◌^◌, sum}
+use Rattle.trau_io.specs.declared.line.Side.TheVariants.{Down, Out}
+use Rattle.farm_rounds.specs.Opens.{seat_of_open}
+use Rattle.farm_rounds.specs.Sums.{sum_in}
+use Rattle.farm_rounds.proofs.Summing.{both_added}
+use Rattle.farm_rounds.proofs.sums.Sums.add_call.Goals as goal
+
+pub returns : goal.returns
+returns c =
+    let call = c.call-number.result in
+    both_added (seat_of_open c.args.call.now) (sum_in c.args.self.now) (sum_in c.add.new.self) (sum_in c.add-2.new.self) call c.call-number.ensures.value
+    (c.add.ensures.this ∙ ap (λ (octets : List ℕ). (sum_in c.args.self.now call Down + sum octets) % 2 ^ 32) c.given.ensures.down)
+    c.add.ensures.others
+    (c.add-2.ensures.this ∙ ap (λ (octets : List ℕ). (sum_in c.add.new.self call Out + sum octets) % 2 ^ 32) c.given.ensures.out)
+    c.add-2.ensures.others
