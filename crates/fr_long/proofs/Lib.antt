@@ -3,6 +3,7 @@ pub mod Histories
 pub mod Lags
 pub mod Lanes
 pub mod Predictions
+pub mod Rows
 pub mod Search
 pub mod Tops
 pub mod Words

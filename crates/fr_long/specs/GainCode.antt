@@ -8,7 +8,7 @@ use Rattle.fr_long.specs.Synthesis.{sample_before}
 abbrev pub energy_of : ℤ → ℤ
 energy_of x = let v = floor_shr x 3 in l_mult_of v v
 
--- L_power: the energy of the 40 residuals a lag before
+-- L_power: the energy of the 40 residuals at this lag
 unfoldable pub power_of : List ℤ → ℕ → ℤ
 power_of earlier lag = fold ◌+ℤ◌ (pos 0) (map (λ k. energy_of (sample_before earlier lag k)) (range_with_len 0 40))
 
@@ -20,7 +20,7 @@ decision_levels = pos 6554 ∷ pos 16384 ∷ pos 26214 ∷ []
 abbrev pub is_within : ℤ → ℤ → ℕ → Bool
 is_within r s bc = int_le r (mult_of s (entry decision_levels bc))
 
--- the least of 0, 1 and 2 within whose level R lies, or 3 where there is none
+-- the first of 0, 1 and 2 with R within its level, or 3 if there is none
 unfoldable pub gain_code_of_words : ℤ → ℤ → ℕ
 gain_code_of_words r s = if is_within r s 0 then 0 else if is_within r s 1 then 1 else if is_within r s 2 then 2 else 3
 
@@ -28,7 +28,7 @@ gain_code_of_words r s = if is_within r s 0 then 0 else if is_within r s 1 then 
 unfoldable pub high_word_of : ℤ → ℕ → ℤ
 high_word_of v shifts = floor_shr (v *ℤ pos (2 ^ shifts)) 16
 
--- bc, of L_max and L_power: both are shifted up by the norm of L_power, and compared by their upper words
+-- bc, from L_max and L_power: both are shifted up by the norm of L_power, and their upper words are compared
 unfoldable pub gain_code_of : ℤ → ℤ → ℕ
 gain_code_of l_max l_power =
     if int_le l_max (pos 0) then 0

@@ -6,6 +6,6 @@ pub record LtpMemory : Type 0 where
   pub lag : ℕ
   pub residuals : List ℤ
 
--- the memory at home
+-- the memory in the home state
 abbrev pub home_memory : LtpMemory
 home_memory = record { lag = 40; residuals = replicate 120 (pos 0) }

@@ -1,4 +1,4 @@
--- The prediction of a block, and the residual that is reconstructed after it (GSM 06.10, sections 4.2.11, 4.2.12 and 4.2.18).
+-- The prediction of a block, and the residual that is reconstructed from it (GSM 06.10, sections 4.2.11, 4.2.12 and 4.2.18).
 use Rattle.std.specs.Prelude.{ℕ, ◌-◌, ◌≡◌, ℤ, List, map}
 use Rattle.fr_long.specs.Synthesis.{sample_before}
 use Rattle.std.specs.List.{range_with_len}
@@ -13,11 +13,11 @@ use Rattle.fr_long.specs.GainCode.{power_of, gain_code_of}
 abbrev pub correlation_of_block : List ℤ → List ℤ → ℕ → ℤ
 correlation_of_block d earlier = correlation_of (scaled_block d (block_scaling_of d)) earlier
 
--- L_max: the greatest correlation, or 0 where none is positive, shifted down by 6 - scal
+-- L_max: the greatest correlation, or 0 if none is positive, shifted down by 6 - scal
 abbrev pub l_max_of : List ℤ → List ℤ → ℕ → ℤ
 l_max_of d earlier nc = floor_shr (greatest_of (correlation_of_block d earlier) nc) (6 - block_scaling_of d)
 
--- dpp[0] to dpp[39]: the gain times the residual that lies a lag before
+-- dpp[0] to dpp[39]: the gain times the residual a lag earlier
 unfoldable pub predicted_of : List ℤ → ℕ → ℕ → List ℤ
 predicted_of earlier nc bc = map (λ k. mult_r_of (gain_of bc) (sample_before earlier nc k)) (range_with_len 0 40)
 
@@ -25,14 +25,14 @@ predicted_of earlier nc bc = map (λ k. mult_r_of (gain_of bc) (sample_before ea
 unfoldable pub rest_of : List ℤ → List ℤ → List ℤ
 rest_of d dpp = map (λ k. sub_of (entry d k) (entry dpp k)) (range_with_len 0 40)
 
--- what is predicted of a block: its lag, its coded gain, the prediction, and what that leaves of it
+-- the prediction of a block: its lag, its coded gain, the predicted samples, and the remainder
 pub record Prediction : Type 0 where
   pub nc : ℕ
   pub bc : ℕ
   pub dpp : List ℤ
   pub e : List ℤ
 
--- the same of what the encoder gives
+-- the same, from the encoder's result
 abbrev pub fields_of_ltp : Ltp → Prediction
 fields_of_ltp ltp = record { nc = ltp.nc; bc = ltp.bc; dpp = ltp.dpp; e = ltp.e }
 
@@ -44,13 +44,13 @@ prediction_of d earlier =
     let dpp = predicted_of earlier nc bc in
     record { nc = nc; bc = bc; dpp = dpp; e = rest_of d dpp }
 
--- the same as a property of a prediction
+-- the same as properties of a prediction
 pub record IsPrediction (d earlier : List ℤ) (p : Prediction) : Type 0 where
   pub lag : IsLag (correlation_of_block d earlier) p.nc
   pub gain : p.bc ≡ gain_code_of (l_max_of d earlier p.nc) (power_of earlier p.nc)
   pub predicted : p.dpp ≡ predicted_of earlier p.nc p.bc
   pub rest : p.e ≡ rest_of d p.dpp
 
--- dp[0] to dp[39]: the pulses of a block, and its prediction
+-- dp[0] to dp[39]: the sums of the pulses of a block and its prediction
 unfoldable pub reconstructed_of : List ℤ → List ℤ → List ℤ
 reconstructed_of dpp ep = map (λ k. add_of (entry ep k) (entry dpp k)) (range_with_len 0 40)

@@ -8,7 +8,7 @@ use Rattle.trau_num.specs.Num.{abs_of, norm_of, floor_shr, entry}
 unfoldable pub block_peak_of : List ℤ → ℤ
 block_peak_of d = fold int_max (pos 0) (map (λ k. abs_of (entry d k)) (range_with_len 0 40))
 
--- scal, by dmax: 6 - norm(dmax * 2^16) where norm is at most 6, and 0 where it is greater or dmax is 0
+-- scal, by dmax: 6 - norm(dmax * 2^16) if norm is at most 6; 0 if it is greater or dmax is 0
 unfoldable pub scaling_of_block_peak : ℕ → ℕ
 scaling_of_block_peak dmax = if dmax == 0 then 0 else 6 - norm_of (dmax * 2 ^ 16)
 

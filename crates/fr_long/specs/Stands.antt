@@ -1,4 +1,4 @@
--- What the memory of synthesis and the residuals that the encoder keeps stand for.
+-- The past that the memory of synthesis, or the encoder's residuals, stand for.
 use Rattle.std.specs.Prelude.{◌-◌, ◌≡◌, ℤ, pos, List, ◌++◌, length, drop, replicate}
 use Rattle.fr_long.specs.Synthesis.{LtpBlock, lag_in_force, residuals_of}
 use Rattle.fr_long.specs.Memory.{LtpMemory}
@@ -7,7 +7,7 @@ use Rattle.fr_long.specs.Memory.{LtpMemory}
 abbrev pub last_120 : List ℤ → List ℤ
 last_120 xs = drop (length xs - 120) xs
 
--- the memory is that of these blocks from home
+-- the memory is the one after these blocks from the home state
 pub record Stands (past : List LtpBlock) (memory : LtpMemory) : Type 0 where
   pub lag : memory.lag ≡ lag_in_force past
   pub residuals : memory.residuals ≡ last_120 (residuals_of past)

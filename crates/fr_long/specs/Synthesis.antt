@@ -1,4 +1,4 @@
--- Long-term synthesis of all blocks from home (GSM 06.10, section 4.3.2). A history has the newest block first.
+-- Long-term synthesis of all blocks from the home state (GSM 06.10, section 4.3.2). A history has the newest block first.
 use Rattle.std.specs.Prelude.{ℕ, ◌+◌, ◌-◌, Bool, ◌&&◌, nat_le, if◌then◌else◌, ℤ, pos, List, [], ◌∷◌, ◌++◌, length, map, replicate}
 use Rattle.std.specs.List.{range_with_len}
 use Rattle.trau_num.specs.Num.{add_of, mult_r_of, entry}
@@ -13,11 +13,11 @@ pub record LtpBlock : Type 0 where
 abbrev pub block : ℕ → ℕ → List ℤ → LtpBlock
 block nc bc erp = record { nc = nc; bc = bc; erp = erp }
 
--- a received lag that can be used
+-- whether a received lag can be used
 abbrev pub is_lag : ℕ → Bool
 is_lag nc = nat_le 40 nc && nat_le nc 120
 
--- Nr: the latest lag that can be used, and 40 where there is none
+-- Nr: the latest lag that can be used, or 40 if there is none
 unfoldable pub lag_in_force : List LtpBlock → ℕ
 lag_in_force [] = 40
 lag_in_force (b ∷ past) = if is_lag b.nc then b.nc else lag_in_force past
@@ -26,7 +26,7 @@ lag_in_force (b ∷ past) = if is_lag b.nc then b.nc else lag_in_force past
 abbrev pub sample_before : List ℤ → ℕ → ℕ → ℤ
 sample_before earlier lag k = entry earlier (length earlier + k - lag)
 
--- drp[0] to drp[39]: each sample of the pulses, and the gain times the sample that lies a lag before
+-- drp[0] to drp[39]: each sample of the pulses, plus the gain times the sample a lag earlier
 unfoldable pub residual_after : List ℤ → ℕ → ℕ → List ℤ → List ℤ
 residual_after earlier lag bc erp =
     map (λ k. add_of (entry erp k) (mult_r_of (gain_of bc) (sample_before earlier lag k))) (range_with_len 0 40)

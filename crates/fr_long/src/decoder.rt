@@ -8,7 +8,7 @@ use crate::memory::remember;
 use std::marker::Model;
 use trau_num::plus;
 
-/// The decoding side of long-term prediction: what it keeps from block to block.
+/// The decoding side of long-term prediction: the state that it keeps from block to block.
 #[derive(Drop)]
 #[repr(C)]
 pub struct LtpDecoder {
@@ -48,9 +48,8 @@ impl LtpDecoder {
         }
     }
 
-    /// The reconstructed residual of the next block, 40 samples of 16 bits: its lag `nc` of 7 bits, its
-    /// coded gain `bc` of 2 bits, and its pulses `erp`. A lag that no encoder sends gives way to the last
-    /// used one.
+    /// Reconstructs the residual of the next block, 40 samples of 16 bits, from its lag `nc` of 7 bits, its coded gain
+    /// `bc` of 2 bits, and its pulses `erp`. A lag outside 40 to 120 is replaced by the last used one.
     #[tactic(auto, unfolding(crate::specs::Step::synthesised))]
     pub fn synth(&mut self, nc: u8, bc: u8, erp: &[i16; 40]) -> [i16; 40]
         requires lag { nc ≤ 127 }
@@ -77,7 +76,7 @@ fn usable_lag(nc: u8, last: u8) -> u8
     if 40 <= nc && nc <= 120 { nc } else { last }
 }
 
-// The residual of a block after the last 120.
+// The residual of a block, after the last 120 residuals.
 fn reconstructed(earlier: &[i16; 120], lag: u8, bc: u8, erp: &[i16; 40]) -> [i16; 40]
     requires at_least { 40 ≤ lag }
     requires at_most { lag ≤ 120 }

@@ -31,7 +31,7 @@ impl Model for LtpHistory {
 
     ghost inverse = { λ dp. record { dp = dp } };
 
-    // What a read of lanes doesn't tell.
+    // A read of lanes doesn't prove that residuals are words.
     ghost invariant = { λ history. AreSigned16 history.dp };
 }
 
@@ -50,8 +50,8 @@ impl LtpHistory {
         LtpHistory { dp: [0; 120] }
     }
 
-    /// The lag and gain by which a block of 40 samples of the short-term residual is predicted, the
-    /// prediction, and what is left to be coded.
+    /// The long-term prediction of a block of 40 samples of the short-term residual: the lag, the gain, the predicted
+    /// samples, and the remainder to be coded.
     pub fn predict(&self, d: &[i16; 40]) -> Ltp
         ensures lag { result.nc ≡ lag_of (correlation_of_block d.now self.now) }
         ensures step { fields_of_ltp result ≡ prediction_of d.now self.now }
@@ -74,7 +74,7 @@ impl LtpHistory {
         }
     }
 
-    /// Takes in a coded block: its prediction `dpp`, and its pulses `ep` as a decoder has them.
+    /// Adds the residual of a coded block, from its prediction `dpp` and its pulses `ep` as a decoder has them.
     #[tactic(auto, unfolding(crate::specs::Step::updated))]
     pub fn update(&mut self, dpp: &[i16; 40], ep: &[i16; 40])
         ensures step { self.new ≡ updated self.old dpp.now ep.now }

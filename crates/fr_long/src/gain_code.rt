@@ -9,8 +9,7 @@ use trau_num::{mult, norm};
 // DLB of table 4.3a.
 const DECISION_LEVELS: [i16; 3] = [6554, 16384, 26214];
 
-/// The greatest correlation of a block that was shifted down by `scal`, shifted down to the scale of the
-/// residuals' energy.
+/// The greatest correlation of a block that was shifted down by `scal`, brought to the scale of the residuals' energy.
 pub(crate) fn unscaled(correlation: i32, scal: u8) -> i32
     requires { scal ≤ 6 }
     ensures { result ≡ floor_shr correlation (6 - scal) }
@@ -18,7 +17,7 @@ pub(crate) fn unscaled(correlation: i32, scal: u8) -> i32
     correlation >> (6 - scal)
 }
 
-/// The coded gain, 2 bits, of the greatest correlation and the energy of the residuals there.
+/// The coded gain, 2 bits, from the greatest correlation and the energy of the residuals at its lag.
 #[tactic(auto, unfolding(crate::specs::GainCode::gain_code_of))]
 pub(crate) fn gain_code(l_max: i32, l_power: i32) -> u8
     ensures value { result ≡ gain_code_of l_max l_power }
@@ -50,7 +49,7 @@ fn code_by_words(r: i16, s: i16) -> u8
     }
 }
 
-// Whether the first word lies within the level of a code.
+// Whether R is within the decision level of a code, relative to S.
 fn is_within_level(r: i16, s: i16, bc: u8) -> bool
     requires { bc < 3 }
     ensures { result ≡ is_within r s bc }
@@ -58,7 +57,7 @@ fn is_within_level(r: i16, s: i16, bc: u8) -> bool
     r <= mult(s, DECISION_LEVELS[bc as usize])
 }
 
-// The upper 16 bits of a long word shifted up, where that leaves it below 2^31.
+// The upper 16 bits of a long word shifted up, which must stay below 2^31.
 #[tactic(auto, unfolding(crate::specs::GainCode::high_word_of))]
 fn high_word(v: i32, shifts: u8) -> i16
     requires not_negative { pos 0 ≤ℤ v }

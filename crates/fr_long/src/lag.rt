@@ -10,14 +10,14 @@ ghost use Rattle.fr_long.specs.Lag.{correlation_of, AreSigned16, IsLag, greatest
 use crate::correlations::correlations;
 use std::simd::prelude::*;
 
-/// A lag of 40 to 120 samples, and the correlation there, or 0 where none is positive.
+/// A lag of 40 to 120 samples, and the correlation there, or 0 if none is positive.
 #[derive(Clone, Copy)]
 pub(crate) struct Best {
     pub(crate) lag: u8,
     pub(crate) correlation: i32,
 }
 
-/// The lag of a scaled block after the last 120 residuals.
+/// The lag of a scaled block, after the last 120 residuals.
 pub(crate) fn search(wt: &[i16; 40], earlier: &[i16; 120]) -> Best
     requires scaled { AreScaled wt.now }
     requires words { AreSigned16 earlier.now }
@@ -40,9 +40,10 @@ pub(crate) fn search(wt: &[i16; 40], earlier: &[i16; 120]) -> Best
     }
 }
 
-// The greatest of the correlations, or 0 where none is positive.
+// The greatest of the correlations, or 0 if none is positive.
 //
-// Eight at a time; the last eight begin seven places early, and so have seven that were there before.
+// It takes eight at a time. The last group of eight begins seven places early, so seven of its values were in the group
+// before.
 fn greatest(correlations: &[i32; 81]) -> i32
     requires { (k : ℕ) → FitsSigned w32 (entry correlations.now k) }
     ensures { IsTop correlations.now 81 result }
@@ -69,7 +70,7 @@ fn eight(correlations: &[i32], at: usize) -> i32x8
     i32x8::from_slice(&correlations[at..])
 }
 
-// The greater of each two lanes.
+// The greater values, lane by lane.
 fn greater(a: i32x8, b: i32x8) -> i32x8
     requires length_a { length a ≡ 8 }
     requires length_b { length b ≡ 8 }
@@ -80,7 +81,7 @@ fn greater(a: i32x8, b: i32x8) -> i32x8
     a.simd_max(b)
 }
 
-// The first place of a value that is there.
+// The first place of `value` among the correlations.
 fn first_at(correlations: &[i32; 81], value: i32) -> u8
     requires { (place : ℕ) × (place < 81) × (entry correlations.now place ≡ value) }
     ensures below { result < 81 }

@@ -1,19 +1,20 @@
 //! Long-term prediction of the full rate codec (GSM 06.10, sections 4.2.11, 4.2.12, 4.2.18 and 4.3.2).
 //!
-//! Between short-term filtering and pulse coding: a block of 40 samples of the residual is predicted from
-//! the reconstructed residual a lag of 40 to 120 samples before, times a gain of 2 bits.
+//! Long-term prediction works between short-term filtering and pulse coding: it predicts a block of 40 samples of the
+//! residual as the reconstructed residual a lag of 40 to 120 samples earlier, times a gain of 2 bits.
 //!
-//! The encoding side is `LtpHistory`. It takes a block of the residual from short-term analysis, finds its
-//! lag and gain, and leaves `fr_rpe` the block less its prediction; the pulses of `fr_rpe` then go back
-//! into the history. `scaling`, `lag` over `correlations`, `sums` and `gain_code` are its steps. The
-//! decoding side is `LtpDecoder`. It takes a block of pulses from `fr_rpe` and adds the prediction back;
-//! short-term synthesis takes the reconstructed residual from there. Both use the gains of `gain` and the
-//! `memory` of 120 samples. `laws` says that a block has one lag and one prediction.
+//! `LtpHistory` is the encoding side. It takes a block of the residual from short-term analysis, finds its lag and
+//! gain, and gives `fr_rpe` the block less its prediction. The pulses of `fr_rpe` then go back into the history.
+//! `scaling`, `lag` with `correlations`, `sums` and `gain_code` are its steps.
 //!
-//! Definitions: `specs/Prediction.antt` is what the encoder answers, made of `specs/Scaling.antt`, `specs/Lag.antt` and
-//! `specs/GainCode.antt`; `specs/Synthesis.antt` is the decoder over all blocks from home; `specs/Memory.antt`,
-//! `specs/Step.antt` and `specs/Stands.antt` are what each keeps, one block, and what that stands for; `specs/Gain.antt`
-//! has the gains.
+//! `LtpDecoder` is the decoding side. It adds the prediction to a block of pulses from `fr_rpe`, and gives the
+//! reconstructed residual to short-term synthesis. Both sides use the gains of `gain` and the `memory` of 120 samples.
+//! `laws` says that a block has exactly one lag and one prediction.
+//!
+//! Definitions: `specs/Prediction.antt` (the encoder's prediction), which uses `specs/Scaling.antt`, `specs/Lag.antt`
+//! and `specs/GainCode.antt`; `specs/Synthesis.antt` (the decoder over all blocks from the home state);
+//! `specs/Memory.antt`, `specs/Step.antt` and `specs/Stands.antt` (the state of each side, one block, and the past that
+//! a state stands for); `specs/Gain.antt` (the gains).
 #![tactic(auto)]
 
 mod correlations;

@@ -2,7 +2,7 @@
 
 ghost use Rattle.std.specs.Prelude.{◌≡◌, ℕ, ◌++◌, drop};
 
-/// Keeps a block in place of the oldest 40 samples.
+/// Drops the oldest 40 samples and appends a block.
 pub(crate) fn remember(residuals: &mut [i16; 120], block: &[i16; 40])
     ensures { residuals.new ≡ drop 40 residuals.old ++ block.now }
 {

@@ -1,7 +1,7 @@
 //! Scaling of a block before the search for its lag (GSM 06.10, section 4.2.11).
 //!
-//! A block is shifted down until no magnitude is above 512. So the correlation with 40 words of 16 bits
-//! stays within 32 bits.
+//! A block is shifted down until no magnitude is above 512, so that its correlation with 40 words of 16 bits fits 32
+//! bits.
 
 ghost use Rattle.std.specs.Prelude.{◌≡◌, ℕ, ◌*◌, ◌^◌, ◌<◌, ◌≤◌, pos, ◌≤ℤ◌, unsigned_abs};
 ghost use Rattle.trau_num.specs.Num.{abs_of, entry};
@@ -22,7 +22,7 @@ pub(crate) fn peak(d: &[i16; 40]) -> i16
     peak
 }
 
-/// By how many places a block of this peak is shifted down.
+/// The number of places by which a block with this peak is shifted down.
 #[tactic(auto, unfolding(crate::specs::Scaling::scaling_of_block_peak))]
 pub(crate) fn scaling(peak: i16) -> u8
     requires { pos 0 ≤ℤ peak }
@@ -36,7 +36,7 @@ pub(crate) fn scaling(peak: i16) -> u8
     6u8.saturating_sub(norm(i32::from(peak) * 65536))
 }
 
-/// The block shifted down, where the greatest magnitude leaves room.
+/// The block shifted down by `scal` places, which must bring its peak below 512.
 pub(crate) fn scaled(d: &[i16; 40], peak: i16, scal: u8) -> [i16; 40]
     requires peak { (k : ℕ) → k < 40 → abs_of (entry d.now k) ≤ℤ peak }
     requires at_most_6 { scal ≤ 6 }

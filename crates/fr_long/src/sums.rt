@@ -6,7 +6,7 @@ ghost use Rattle.std.specs.Prelude.{◌≡◌, ℕ, ◌*◌, ◌≤◌, pos, ◌
 ghost use Rattle.trau_num.specs.Num.{l_mult_of};
 ghost use Rattle.fr_long.specs.GainCode.{energy_of, power_of};
 
-// The product of two words, of which 40 fit a sum.
+// The product of two words that are so small that 40 such products fit a sum.
 fn small_product(a: i16, b: i16) -> i32
     requires { unsigned_abs a * unsigned_abs b ≤ 16777216 }
     ensures doubled { result *ℤ pos 2 ≡ l_mult_of a b }
@@ -15,7 +15,7 @@ fn small_product(a: i16, b: i16) -> i32
     i32::from(a) * i32::from(b)
 }
 
-/// The energy of the residuals that lie `lag` samples before a block.
+/// The energy of the 40 residuals from `lag` samples before a block on.
 pub(crate) fn power(earlier: &[i16; 120], lag: u8) -> i32
     requires at_least { 40 ≤ lag }
     requires at_most { lag ≤ 120 }

@@ -6,7 +6,7 @@ abbrev pub invariant-loop-group : goal.invariant-loop-group
 invariant-loop-group l = record {
   long : length l.all ≡ 81;
   longs : (k : ℕ) → FitsSigned w32 (get_or l.all k (pos 0));
-  value : (k : ℕ) → k < 4 * l.group → k < 81 → get_or l.all k (pos 0) ≡ correlation_of l.wt l.earlier (40 + k);
+  value : (k : ℕ) → k < 8 * l.group → k < 81 → get_or l.all k (pos 0) ≡ correlation_of l.wt l.earlier (40 + k);
 }
 
 abbrev pub invariant-loop-lane : goal.invariant-loop-lane

@@ -1,4 +1,4 @@
-use Rattle.std.proofs.Common.{◌≡◌, ◌+◌, pos, arith, ap, sym, subst, ◌∙◌, ◌*ℤ◌, ◌+ℤ◌, fold, ◌++◌, get_or, add-zero, length}
+use Rattle.std.proofs.Common.{◌≡◌, ◌+◌, ◌-◌, pos, arith, ap, sym, subst, ◌∙◌, ◌*ℤ◌, ◌++◌, get_or, add-zero, length}
 use Rattle.std.specs.Simd.Lanes.{Each1}
 use Rattle.std.proofs.lemmas.List.{length-map}
 use Rattle.fr_long.specs.Lag.{correlation_of}
@@ -63,23 +63,28 @@ returns-clause-value c =
     ap (λ zs. sums_of_pairs (sums_of_pairs (c.lag_sums-first.result ++ c.lag_sums-second.result) ++ zs)) back ∙
     four_totals c.lag_sums-first.result c.lag_sums-second.result c.lag_sums-third.result c.lag_sums-fourth.result c.lag_sums-first.ensures.length
     c.lag_sums-second.ensures.length c.lag_sums-third.ensures.length c.lag_sums-fourth.ensures.length in
-    let start = subst (λ n. fold ◌+ℤ◌ (pos 0) c.lag_sums-first.result *ℤ pos 2 ≡ correlation_of c.args.wt.now c.args.earlier.now n)
-    (sym (add-zero c.args.lag)) c.lag_sums-first.ensures.value in
-    λ k h. subst (λ zs. get_or zs k (pos 0) *ℤ pos 2 ≡ correlation_of c.args.wt.now c.args.earlier.now (c.args.lag + k)) (sym totals)
-    (four_lanes (λ k v. v *ℤ pos 2 ≡ correlation_of c.args.wt.now c.args.earlier.now (c.args.lag + k)) _ _ _ _ start c.lag_sums-second.ensures.value
-    c.lag_sums-third.ensures.value c.lag_sums-fourth.ensures.value k h)
+    let w = c.args.wt.now in
+    let e = c.args.earlier.now in
+    let one : 120 - (c.args.start - 1) ≡ 120 - c.args.start + 1 = omega arith in
+    let two : 120 - (c.args.start - 2) ≡ 120 - c.args.start + 2 = omega arith in
+    let three : 120 - (c.args.start - 3) ≡ 120 - c.args.start + 3 = omega arith in
+    λ k h. subst (λ zs. get_or zs k (pos 0) *ℤ pos 2 ≡ correlation_of w e (120 - c.args.start + k)) (sym totals)
+    (four_lanes (λ k v. v *ℤ pos 2 ≡ correlation_of w e (120 - c.args.start + k)) _ _ _ _
+    (c.lag_sums-first.ensures.value ∙ ap (correlation_of w e) (sym (add-zero (120 - c.args.start))))
+    (c.lag_sums-second.ensures.value ∙ ap (correlation_of w e) one) (c.lag_sums-third.ensures.value ∙ ap (correlation_of w e) two)
+    (c.lag_sums-fourth.ensures.value ∙ ap (correlation_of w e) three) k h)
 
 pub lag_sums-first-requires : goal.lag_sums-first-requires
-lag_sums-first-requires c = record { scaled = c.requires.scaled; words = c.requires.words; at_least = omega arith; at_most = omega arith }
+lag_sums-first-requires c = record { scaled = c.requires.scaled; words = c.requires.words; at_most = omega arith }
 
 pub lag_sums-second-requires : goal.lag_sums-second-requires
-lag_sums-second-requires c = record { scaled = c.requires.scaled; words = c.requires.words; at_least = omega arith; at_most = omega arith }
+lag_sums-second-requires c = record { scaled = c.requires.scaled; words = c.requires.words; at_most = omega arith }
 
 pub lag_sums-third-requires : goal.lag_sums-third-requires
-lag_sums-third-requires c = record { scaled = c.requires.scaled; words = c.requires.words; at_least = omega arith; at_most = omega arith }
+lag_sums-third-requires c = record { scaled = c.requires.scaled; words = c.requires.words; at_most = omega arith }
 
 pub lag_sums-fourth-requires : goal.lag_sums-fourth-requires
-lag_sums-fourth-requires c = record { scaled = c.requires.scaled; words = c.requires.words; at_least = omega arith; at_most = omega arith }
+lag_sums-fourth-requires c = record { scaled = c.requires.scaled; words = c.requires.words; at_most = omega arith }
 
 pub both-front-requires-clause-length_a : goal.both-front-requires-clause-length_a
 both-front-requires-clause-length_a c = simp length-map c.lag_sums-first.ensures.length
