@@ -12,9 +12,9 @@ use Rattle.rx_muting.specs.Draws.{draws_from}
 use Rattle.rx_noise.specs.Mix.{mix_of}
 use Rattle.rx_handler.specs.Heard.{Heard, Good, Sid, Idle, Lost}
 use Rattle.rx_handler.specs.Origin.{GoodFrame, LostFrame, NoFrame, NoiseFrame, frame_of, draws_of}
-use Rattle.rx_handler.specs.Effective.{is_anchor, latest_anchor, missed_since, fall_at, approached, start_after, old_at, origin_after, origin_at, draws_before}
+use Rattle.rx_handler.specs.Effective.{is_anchor, latest_anchor, missed_since, fall_at, approached_at, start_after, approach_start_at, origin_after, origin_at, draws_before}
 use Rattle.rx_handler.specs.Effective.{effective_at, heard_in}
-use Rattle.rx_handler.specs.Past.{Anchor, AtGood, anchor_of, periods_of_fall, moved_to, start_from, old_of, origin_from, origin_of, drawn, effective_of}
+use Rattle.rx_handler.specs.Past.{Anchor, AtGood, anchor_of, periods_of_fall, approached_of, start_from, approach_start_of, origin_from, origin_of, drawn, effective_of}
 use Rattle.rx_handler.proofs.Missed.{Second, begun_same}
 use Rattle.rx_handler.proofs.Anchors.{periods_before, Since, TellsAt, Tells, tells}
 
@@ -36,7 +36,7 @@ good_same p k g (y ∷ since) h e old =
     let count : k - g ≡ suc (length since) = sym e in rw (other, count)
 
 -- how far the noise has moved
-moved_same : (old q : Fields) (k g : ℕ) (since : List Heard) → length since ≡ k - g → approached old q g k ≡ moved_to old q since
+moved_same : (old q : Fields) (k g : ℕ) (since : List Heard) → length since ≡ k - g → approached_at old q g k ≡ approached_of old q since
 moved_same old q k g since e = ap (λ n. mix_of old q (min (n + 1) 8)) (sym e)
 
 -- from where a further descriptor is approached, by the anchor before
@@ -46,9 +46,9 @@ unfolding TellsAt fall_at
 start_same_at heard k now past q g (Good p) a e t = ap (λ a. start_from a past q) (sym t.1)
 start_same_at heard k now past q g (Sid r) a e t =
     let since : Since heard k g t.0 = t.2 in
-    ap (λ f. if f == 0 then approached (now r) r g k else q) (fall_same k t.0 (missed_since heard g k) since.second) ∙
-    ap (λ b. if b then approached (now r) r g k else q) (begun_same (periods_of_fall t.0)) ∙
-    ap (λ old. if periods_of_fall t.0 == 0 then approached old r g k else q) (e r) ∙
+    ap (λ f. if f == 0 then approached_at (now r) r g k else q) (fall_same k t.0 (missed_since heard g k) since.second) ∙
+    ap (λ b. if b then approached_at (now r) r g k else q) (begun_same (periods_of_fall t.0)) ∙
+    ap (λ old. if periods_of_fall t.0 == 0 then approached_at old r g k else q) (e r) ∙
     ap (λ base. if periods_of_fall t.0 == 0 then base else q) (moved_same (past r) r k g t.0 since.count) ∙
     ap (λ a. start_from a past q) (sym t.1)
 start_same_at heard k now past q g Idle a e t = ap (λ a. start_from a past q) (sym t)
@@ -70,31 +70,31 @@ either true s = refl
 either false s = refl
 
 -- from where the latest descriptor is approached
-pub old-history : (heard : ℕ → Heard) (k : ℕ) (q : Fields) → old_at heard k q ≡ old_of (periods_before heard (suc k)) q
-unfolding old_at old_of anchor_of
+pub old-history : (heard : ℕ → Heard) (k : ℕ) (q : Fields) → approach_start_at heard k q ≡ approach_start_of (periods_before heard (suc k)) q
+unfolding approach_start_at approach_start_of anchor_of
 old-history heard zero q = either (is_anchor (heard 0)) q
 old-history heard (suc k) q =
     both (is_anchor (heard (suc k))) _ _ _ _
-    (start_same heard k (λ r. old_at heard k r) (λ r. old_of (periods_before heard (suc k)) r) q (latest_anchor heard k)
+    (start_same heard k (λ r. approach_start_at heard k r) (λ r. approach_start_of (periods_before heard (suc k)) r) q (latest_anchor heard k)
     (anchor_of (periods_before heard (suc k)))
     (old-history heard k) (tells heard k))
     (old-history heard k q)
 
 -- what the frame of a period is made from
-origin_same_at : (heard : ℕ → Heard) (k g : ℕ) (y : Heard) (old : Fields → Fields) (a : Anchor) → ((q : Fields) → old_at heard k q ≡ old q) →
+origin_same_at : (heard : ℕ → Heard) (k g : ℕ) (y : Heard) (old : Fields → Fields) (a : Anchor) → ((q : Fields) → approach_start_at heard k q ≡ old q) →
     g ≤ k → TellsAt heard k g y a → origin_after heard k g y ≡ origin_from old a
 unfolding TellsAt fall_at
 origin_same_at heard k g (Good p) old a e h t = let since : Since heard k g t.0 = t.2 in good_same p k g t.0 h since.count old ∙ ap (origin_from old) (sym t.1)
 origin_same_at heard k g (Sid q) old a e h t =
     let since : Since heard k g t.0 = t.2 in
-    ap (NoiseFrame (approached (old_at heard k q) q g k)) (fall_same k t.0 (missed_since heard g k) since.second) ∙
-    ap (λ o. NoiseFrame (approached o q g k) (min (periods_of_fall t.0) 17)) (e q) ∙
+    ap (NoiseFrame (approached_at (approach_start_at heard k q) q g k)) (fall_same k t.0 (missed_since heard g k) since.second) ∙
+    ap (λ o. NoiseFrame (approached_at o q g k) (min (periods_of_fall t.0) 17)) (e q) ∙
     ap (λ base. NoiseFrame base (min (periods_of_fall t.0) 17)) (moved_same (old q) q k g t.0 since.count) ∙
     ap (origin_from old) (sym t.1)
 origin_same_at heard k g Idle old a e h t = ap (origin_from old) (sym t)
 origin_same_at heard k g (Lost missed) old a e h t = absurd t
 
-origin_same : (heard : ℕ → Heard) (k : ℕ) (old : Fields → Fields) (o : Option ℕ) (a : Anchor) → ((q : Fields) → old_at heard k q ≡ old q) →
+origin_same : (heard : ℕ → Heard) (k : ℕ) (old : Fields → Fields) (o : Option ℕ) (a : Anchor) → ((q : Fields) → approach_start_at heard k q ≡ old q) →
     Tells heard k o a → option_map_or (λ g. origin_after heard k g (heard g)) o NoFrame ≡ origin_from old a
 unfolding Tells
 origin_same heard k old None a e t = ap (origin_from old) (sym t)
@@ -103,7 +103,7 @@ origin_same heard k old (Some g) a e t = origin_same_at heard k g (heard g) old 
 pub origin-history : (heard : ℕ → Heard) (k : ℕ) → origin_at heard k ≡ origin_of (periods_before heard (suc k))
 unfolding origin_at
 origin-history heard k =
-    origin_same heard k (λ q. old_of (periods_before heard (suc k)) q) (latest_anchor heard k) (anchor_of (periods_before heard (suc k)))
+    origin_same heard k (λ q. approach_start_of (periods_before heard (suc k)) q) (latest_anchor heard k) (anchor_of (periods_before heard (suc k)))
     (old-history heard k) (tells heard k)
 
 -- the draws before a period

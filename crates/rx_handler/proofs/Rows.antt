@@ -10,7 +10,7 @@ use Rattle.rx_noise.specs.Mix.{mix_of}
 use Rattle.rx_noise.specs.Noise.{noise_of, noise_at}
 use Rattle.rx_handler.specs.Heard.{Heard, Good, Sid, Lost}
 use Rattle.rx_handler.specs.Origin.{EffectiveFields, Quiet, Speech, Made}
-use Rattle.rx_handler.specs.Effective.{latest_anchor, missed_since, fall_at, old_at, origin_at, draws_before, effective_at, effectives, heard_in}
+use Rattle.rx_handler.specs.Effective.{latest_anchor, missed_since, fall_at, approach_start_at, origin_at, draws_before, effective_at, effectives, heard_in}
 
 -- a frame with each block maximum 20
 abbrev loud : Fields
@@ -64,7 +64,7 @@ abbrev pause : List Heard
 pause = Sid loud ∷ Lost false ∷ Lost true ∷ Lost true ∷ Good loud ∷ []
 
 pause_levels : map maxima (effectives 7 pause) ≡ replicate 4 20 ∷ replicate 4 20 ∷ replicate 4 20 ∷ replicate 4 16 ∷ replicate 4 20 ∷ []
-unfolding effective_at origin_at old_at mix_of latest_anchor missed_since fall_at draws_before noise_of noise_at lowered_maxima
+unfolding effective_at origin_at approach_start_at mix_of latest_anchor missed_since fall_at draws_before noise_of noise_at lowered_maxima
 pause_levels = refl
 
 pause_ends : effective_at 7 (heard_in pause) 4 ≡ Speech loud
@@ -93,16 +93,16 @@ low = record loud { xmaxc = replicate 4 4 }
 -- 20, then 4, then nothing
 down : map maxima (effectives 7 (Sid loud ∷ Sid low ∷ replicate 8 (Lost false))) ≡
     map (replicate 4) (20 ∷ 18 ∷ 16 ∷ 14 ∷ 12 ∷ 10 ∷ 8 ∷ 6 ∷ 4 ∷ 4 ∷ [])
-unfolding effective_at origin_at old_at mix_of latest_anchor missed_since fall_at draws_before noise_of noise_at lowered_maxima
+unfolding effective_at origin_at approach_start_at mix_of latest_anchor missed_since fall_at draws_before noise_of noise_at lowered_maxima
 down = refl
 
 -- 20, then 4, nothing, then 20 again, before the first is reached
 turned : map maxima (effectives 7 (Sid loud ∷ Sid low ∷ Lost false ∷ Sid loud ∷ replicate 7 (Lost false))) ≡
     map (replicate 4) (20 ∷ 18 ∷ 16 ∷ 16 ∷ 17 ∷ 17 ∷ 18 ∷ 18 ∷ 19 ∷ 19 ∷ 20 ∷ [])
-unfolding effective_at origin_at old_at mix_of latest_anchor missed_since fall_at draws_before noise_of noise_at lowered_maxima
+unfolding effective_at origin_at approach_start_at mix_of latest_anchor missed_since fall_at draws_before noise_of noise_at lowered_maxima
 turned = refl
 
 -- a fall that has begun: the next descriptor is there at once
 fallen : map maxima (effectives 7 (Sid loud ∷ Lost true ∷ Lost true ∷ Sid low ∷ Sid loud ∷ [])) ≡ map (replicate 4) (20 ∷ 20 ∷ 16 ∷ 4 ∷ 6 ∷ [])
-unfolding effective_at origin_at old_at mix_of latest_anchor missed_since fall_at draws_before noise_of noise_at lowered_maxima
+unfolding effective_at origin_at approach_start_at mix_of latest_anchor missed_since fall_at draws_before noise_of noise_at lowered_maxima
 fallen = refl

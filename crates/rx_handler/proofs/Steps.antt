@@ -10,11 +10,11 @@ use Rattle.rx_muting.specs.Draws.{state_after, draw_of, draws_from}
 use Rattle.rx_muting.proofs.Numbered.{draw_of-state_after, state_after-state_after}
 use Rattle.rx_handler.specs.Heard.{Heard, Good, Sid, Idle, Lost}
 use Rattle.rx_handler.specs.Origin.{Origin, NoiseFrame, frame_of, draws_of, EffectiveFields}
-use Rattle.rx_handler.specs.Past.{Anchor, NoAnchor, AtGood, AtSid, anchor_of, anchored, missed_in, periods_of_fall, moved_to, start_from, old_of, origin_from}
+use Rattle.rx_handler.specs.Past.{Anchor, NoAnchor, AtGood, AtSid, anchor_of, anchored, missed_in, periods_of_fall, approached_of, start_from, approach_start_of, origin_from}
 use Rattle.rx_handler.specs.Past.{origin_of, drawn, effective_of}
 use Rattle.rx_handler.specs.Memory.{RxState, Speech, Noise, RxMemory}
 use Rattle.rx_handler.specs.Step.{missed_after, fall_after, state_after_loss, state_after_sid, next_state, origin_by, received}
-use Rattle.rx_handler.specs.Stands.{first_step, step_of, state_from, state_at, Stands}
+use Rattle.rx_handler.specs.Stands.{first_step, step_of, state_from, state_after_past, Stands}
 use Rattle.rx_handler.proofs.Missed.{begun_same}
 
 -- the counts of the table after one more lost period
@@ -61,17 +61,17 @@ near_more missed old step (AtSid q since) n = elim n [
   | inr s ↦ inr (s.0, omega arith)
 ]
 
-near : (past : List Heard) → Near (λ q. old_of past q) (step_of past) (anchor_of past)
-unfolding anchor_of old_of step_of
+near : (past : List Heard) → Near (λ q. approach_start_of past q) (step_of past) (anchor_of past)
+unfolding anchor_of approach_start_of step_of
 near [] = tt
 near (Good p ∷ past) = tt
-near (Sid q ∷ past) = near_first q (anchor_of past) (λ r. old_of past r)
+near (Sid q ∷ past) = near_first q (anchor_of past) (λ r. approach_start_of past r)
 near (Idle ∷ past) = tt
-near (Lost missed ∷ past) = near_more missed (λ q. old_of past q) (step_of past) (anchor_of past) (near past)
+near (Lost missed ∷ past) = near_more missed (λ q. approach_start_of past q) (step_of past) (anchor_of past) (near past)
 
 -- so the noise stands where it does by numbers
 moved_same : (old q : Fields) (step : ℕ) (since : List Heard) → (step ≡ min (length since + 1) 8) ⊎ ((old ≡ q) × (step ≤ 8)) →
-    mix_of old q step ≡ moved_to old q since
+    mix_of old q step ≡ approached_of old q since
 moved_same old q step since n = elim n [
   | inl e ↦ ap (mix_of old q) e
   | inr s ↦
@@ -91,12 +91,12 @@ sid_more q (AtSid r since) old step n =
     ap (λ b. Noise (if b then mix_of (old r) r step else q) q 1 0 0) (sym (begun_same (periods_of_fall since)))
 
 -- after any period
-pub state-more : (y : Heard) (past : List Heard) → state_at (y ∷ past) ≡ next_state (state_at past) y
-unfolding anchor_of periods_of_fall old_of step_of
+pub state-more : (y : Heard) (past : List Heard) → state_after_past (y ∷ past) ≡ next_state (state_after_past past) y
+unfolding anchor_of periods_of_fall approach_start_of step_of
 state-more (Good p) past = refl
-state-more (Sid q) past = sid_more q (anchor_of past) (λ r. old_of past r) (step_of past) (near past)
+state-more (Sid q) past = sid_more q (anchor_of past) (λ r. approach_start_of past r) (step_of past) (near past)
 state-more Idle past = refl
-state-more (Lost missed) past = loss_more missed (λ q. old_of past q) (step_of past) (anchor_of past)
+state-more (Lost missed) past = loss_more missed (λ q. approach_start_of past q) (step_of past) (anchor_of past)
 
 -- the frame of a period is made from the same by its anchor and by the state after it
 origin_same : (old : Fields → Fields) (step : ℕ) (a : Anchor) → Near old step a → origin_by (state_from old step a) ≡ origin_from old a
@@ -115,9 +115,9 @@ pub received_more : (call : ℕ) (past : List Heard) (memory : RxMemory) (y : He
 unfolding received drawn effective_of
 received_more call past memory y answer after step stands =
     let origin : Origin = origin_of (y ∷ past) in
-    let state : next_state memory.state y ≡ state_at (y ∷ past) = ap (λ s. next_state s y) stands.state ∙ sym (state-more y past) in
+    let state : next_state memory.state y ≡ state_after_past (y ∷ past) = ap (λ s. next_state s y) stands.state ∙ sym (state-more y past) in
     let same : origin_by (next_state memory.state y) ≡ origin = ap origin_by state ∙
-    origin_same (λ q. old_of (y ∷ past) q) (step_of (y ∷ past)) (anchor_of (y ∷ past)) (near (y ∷ past)) in
+    origin_same (λ q. approach_start_of (y ∷ past) q) (step_of (y ∷ past)) (anchor_of (y ∷ past)) (near (y ∷ past)) in
     let source : memory.source ≡ state_after call (drawn past) = stands.source in
     let frame : frame_of (origin_by (next_state memory.state y)) (draw_of memory.source) ≡ frame_of origin (draws_from call (drawn past)) =
     ap (λ o. frame_of o (draw_of memory.source)) same ∙ ap (λ r. frame_of origin (draw_of r)) source ∙ from_here origin call (drawn past) in

@@ -7,14 +7,14 @@ use Rattle.trau_frame.specs.declared.frames.Class.{Class}
 use Rattle.trau_frame.specs.declared.frames.Class.TheVariants as classes
 use Rattle.trau_frame.specs.declared.frames.UpFrame.{UpFrame}
 
--- good speech, a valid silence descriptor, an idle frame, or nothing of these; then whether an unusable speech frame
--- came where a silence descriptor was due
+-- Good: good speech. Sid: a valid silence descriptor. Idle: an idle frame. Lost: all else, and whether it was an unusable
+-- speech frame where a silence descriptor was due
 pub data Heard : Type 0 where
   Good Sid : Fields → Heard
   Idle : Heard
   Lost : Bool → Heard
 
--- a speech frame by its class, with its parameters and its TAF
+-- a speech frame by its class, its parameters and its TAF (1 where a silence descriptor is due)
 abbrev pub heard_speech : Class → Fields → Bool → Heard
 heard_speech classes.Good p taf = Good p
 heard_speech classes.Sid p taf = Sid p
@@ -27,7 +27,7 @@ heard_frame kinds.Speech class taf d = heard_speech class (fields_in d) taf
 heard_frame kinds.Idle class taf d = Idle
 heard_frame kinds.Other class taf d = Lost false
 
--- what a period yields: a frame, or none for a miss and for a period without a yield
+-- a period: a frame, or None for a miss and for a period without a yield
 abbrev pub heard_of : Option UpFrame → Heard
 heard_of None = Lost false
 heard_of (Some f) = heard_frame f.kind f.class f.taf f.d

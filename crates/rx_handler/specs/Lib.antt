@@ -1,3 +1,4 @@
+pub mod Profile
 pub mod Heard
 pub mod Origin
 pub mod Effective

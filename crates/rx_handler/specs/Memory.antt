@@ -3,15 +3,15 @@
 use Rattle.std.specs.Prelude.{ℕ}
 use Rattle.trau_params.specs.Fields.{Fields}
 
--- in speech, how many periods ago the last good frame came, 17 at most; in noise, from where a descriptor is
--- approached, that descriptor, how many of the eight steps are done, how many descriptors were missed, two at most, and for
--- how many periods the level has fallen, 17 at most
+-- Speech: the last good frame, and how many periods ago it came.
+-- Noise: where the approach began, the latest descriptor, how many steps of the approach are done, how many descriptors
+-- were missed since, and for how many periods the level has fallen. All counts stop at the numbers of `Profile`.
 pub data RxState : Type 0 where
   Quiet : RxState
   Speech : Fields → ℕ → RxState
   Noise : Fields → Fields → ℕ → ℕ → ℕ → RxState
 
--- what the receive side keeps: its state, and that of the call's random source
+-- the state of the table, and that of the random source
 pub record RxMemory : Type 0 where
   pub state : RxState
   pub source : ℕ

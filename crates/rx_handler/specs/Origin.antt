@@ -9,21 +9,23 @@ pub data EffectiveFields : Type 0 where
   Quiet : EffectiveFields
   Speech Made : Fields → EffectiveFields
 
--- what it is made from: nothing; a good speech frame; the last good speech frame, and how many periods ago it came;
--- or where the noise stands on its way to the last silence descriptor, and for how many periods its level has fallen
+-- what it is made from. GoodFrame: this good speech frame. LostFrame: the last good speech frame, and how many periods ago
+-- it came. NoiseFrame: the base of the noise, which approaches the latest silence descriptor, and for how many periods the
+-- level has fallen. Base: the frame before its level is lowered and its lags, gains and random parts are set; so only its
+-- ratios and block maxima count.
 pub data Origin : Type 0 where
   NoFrame : Origin
   GoodFrame : Fields → Origin
   LostFrame NoiseFrame : Fields → ℕ → Origin
 
--- how many draws it takes
+-- how many draws the frame takes
 abbrev pub draws_of : Origin → ℕ
 draws_of NoFrame = 0
 draws_of (GoodFrame p) = 0
 draws_of (LostFrame p n) = lost_draws n
 draws_of (NoiseFrame q fall) = noise_draws fall
 
--- the frame, where `draw k m` is number k, from 0, of its draws, below m
+-- the frame; `draw k m` is its draw number k, from 0, below m
 abbrev pub frame_of : Origin → (ℕ → ℕ → ℕ) → EffectiveFields
 frame_of NoFrame draw = Quiet
 frame_of (GoodFrame p) draw = Speech p

@@ -1,22 +1,26 @@
--- The same with the newest period first: what was heard after an anchor is the front of the list.
+-- The effective frame again, over a history with the newest period first, so that a proof can add one period at a time.
 use Rattle.std.specs.Prelude.{ℕ, ◌+◌, min, if◌then◌else◌, ◌==◌, nat_le, List, [], ◌∷◌, length, filter}
 use Rattle.trau_params.specs.Fields.{Fields}
 use Rattle.rx_muting.specs.Draws.{draws_from}
 use Rattle.rx_noise.specs.Mix.{mix_of}
+use Rattle.rx_handler.specs.Profile.{silent_after, approach_steps, fall_from_missed}
 use Rattle.rx_handler.specs.Heard.{Heard, Good, Sid, Idle, Lost}
 use Rattle.rx_handler.specs.Origin.{Origin, NoFrame, GoodFrame, LostFrame, NoiseFrame, draws_of, frame_of, EffectiveFields, Quiet}
 use Rattle.rx_handler.specs.Effective.{is_anchor, is_missed}
 
--- the latest good speech or silence descriptor, with what was heard since; or none, also after an idle frame
+-- the latest anchor. AtGood, AtSid: good speech or a silence descriptor, with what was heard since, the newest first.
+-- NoAnchor: there was none yet, or it is an idle frame, from which no frame is made
 pub data Anchor : Type 0 where
   NoAnchor : Anchor
   AtGood AtSid : Fields → List Heard → Anchor
 
+-- the latest anchor after one more period, which is no anchor itself
 abbrev pub anchored : Heard → Anchor → Anchor
 anchored y NoAnchor = NoAnchor
 anchored y (AtGood p since) = AtGood p (y ∷ since)
 anchored y (AtSid q since) = AtSid q (y ∷ since)
 
+-- the latest anchor of a history
 unfoldable pub anchor_of : List Heard → Anchor
 anchor_of [] = NoAnchor
 anchor_of (Good p ∷ past) = AtGood p []
@@ -28,37 +32,38 @@ anchor_of (Lost missed ∷ past) = anchored (Lost missed) (anchor_of past)
 abbrev pub missed_in : List Heard → ℕ
 missed_in since = length (filter is_missed since)
 
--- how many periods there are from the second missed descriptor on
+-- for how many periods the level has fallen: 1 in that of the second missed descriptor
 unfoldable pub periods_of_fall : List Heard → ℕ
 periods_of_fall [] = 0
-periods_of_fall (y ∷ since) = periods_of_fall since + (if nat_le 2 (missed_in (y ∷ since)) then 1 else 0)
+periods_of_fall (y ∷ since) = periods_of_fall since + (if nat_le fall_from_missed (missed_in (y ∷ since)) then 1 else 0)
 
--- where the noise stands that approaches descriptor q from `old`
-abbrev pub moved_to : Fields → Fields → List Heard → Fields
-moved_to old q since = mix_of old q (min (length since + 1) 8)
+-- the base of the noise, if it approaches descriptor q from `old` and this was heard after q
+abbrev pub approached_of : Fields → Fields → List Heard → Fields
+approached_of old q since = mix_of old q (min (length since + 1) approach_steps)
 
--- from where a further descriptor q is approached
+-- where the approach of a further descriptor q starts, by the latest anchor before it. `old r` is where the approach of a
+-- descriptor r there began
 abbrev pub start_from : Anchor → (Fields → Fields) → Fields → Fields
 start_from NoAnchor old q = q
 start_from (AtGood p since) old q = q
-start_from (AtSid r since) old q = if periods_of_fall since == 0 then moved_to (old r) r since else q
+start_from (AtSid r since) old q = if periods_of_fall since == 0 then approached_of (old r) r since else q
 
--- from where descriptor q, the latest anchor, is approached
-unfoldable pub old_of : List Heard → Fields → Fields
-old_of [] q = q
-old_of (y ∷ past) q = if is_anchor y then start_from (anchor_of past) (λ r. old_of past r) q else old_of past q
+-- where the approach of descriptor q, the latest anchor, began
+unfoldable pub approach_start_of : List Heard → Fields → Fields
+approach_start_of [] q = q
+approach_start_of (y ∷ past) q = if is_anchor y then start_from (anchor_of past) (λ r. approach_start_of past r) q else approach_start_of past q
 
--- what the frame of the newest period is made from
+-- what the frame of the newest period is made from, by the latest anchor
 abbrev pub origin_from : (Fields → Fields) → Anchor → Origin
 origin_from old NoAnchor = NoFrame
 origin_from old (AtGood p []) = GoodFrame p
-origin_from old (AtGood p (y ∷ since)) = LostFrame p (min (length (y ∷ since)) 17)
-origin_from old (AtSid q since) = NoiseFrame (moved_to (old q) q since) (min (periods_of_fall since) 17)
+origin_from old (AtGood p (y ∷ since)) = LostFrame p (min (length (y ∷ since)) silent_after)
+origin_from old (AtSid q since) = NoiseFrame (approached_of (old q) q since) (min (periods_of_fall since) silent_after)
 
 abbrev pub origin_of : List Heard → Origin
-origin_of past = origin_from (λ q. old_of past q) (anchor_of past)
+origin_of past = origin_from (λ q. approach_start_of past q) (anchor_of past)
 
--- the draws of all periods
+-- how many draws all periods took
 unfoldable pub drawn : List Heard → ℕ
 drawn [] = 0
 drawn (y ∷ past) = drawn past + draws_of (origin_of (y ∷ past))

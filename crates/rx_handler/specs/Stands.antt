@@ -1,33 +1,35 @@
--- What the memory of the receive side stands for.
+-- The memory that a history leads to, the newest period first.
 use Rattle.std.specs.Prelude.{◌≡◌, ℕ, ◌+◌, min, if◌then◌else◌, List, [], ◌∷◌, length}
 use Rattle.trau_params.specs.Fields.{Fields}
 use Rattle.rx_muting.specs.Draws.{state_after}
+use Rattle.rx_handler.specs.Profile.{silent_after, approach_steps, fall_from_missed}
 use Rattle.rx_handler.specs.Heard.{Heard}
 use Rattle.rx_handler.specs.Effective.{is_anchor}
-use Rattle.rx_handler.specs.Past.{Anchor, NoAnchor, AtGood, AtSid, anchor_of, missed_in, periods_of_fall, old_of, drawn}
+use Rattle.rx_handler.specs.Past.{Anchor, NoAnchor, AtGood, AtSid, anchor_of, missed_in, periods_of_fall, approach_start_of, drawn}
 use Rattle.rx_handler.specs.Memory.{RxState, Quiet, Speech, Noise, RxMemory}
 
--- the step of the table: the first one of a descriptor is 1 in noise, and else the last one, 8
+-- the step in the period of a descriptor, by the latest anchor before it: 1 in noise; the last otherwise, as nothing is approached
 abbrev pub first_step : Anchor → ℕ
-first_step NoAnchor = 8
-first_step (AtGood p since) = 8
+first_step NoAnchor = approach_steps
+first_step (AtGood p since) = approach_steps
 first_step (AtSid q since) = 1
 
+-- the step in the newest period
 unfoldable pub step_of : List Heard → ℕ
-step_of [] = 8
-step_of (y ∷ past) = if is_anchor y then first_step (anchor_of past) else min (step_of past + 1) 8
+step_of [] = approach_steps
+step_of (y ∷ past) = if is_anchor y then first_step (anchor_of past) else min (step_of past + 1) approach_steps
 
--- the state that stands for an anchor
+-- the state by the latest anchor; `old q` is where the approach of a descriptor q there began
 abbrev pub state_from : (Fields → Fields) → ℕ → Anchor → RxState
 state_from old step NoAnchor = Quiet
-state_from old step (AtGood p since) = Speech p (min (length since) 17)
-state_from old step (AtSid q since) = Noise (old q) q step (min (missed_in since) 2) (min (periods_of_fall since) 17)
+state_from old step (AtGood p since) = Speech p (min (length since) silent_after)
+state_from old step (AtSid q since) = Noise (old q) q step (min (missed_in since) fall_from_missed) (min (periods_of_fall since) silent_after)
 
--- the state that stands for a history
-abbrev pub state_at : List Heard → RxState
-state_at past = state_from (λ q. old_of past q) (step_of past) (anchor_of past)
+-- the state that this history leads to
+abbrev pub state_after_past : List Heard → RxState
+state_after_past past = state_from (λ q. approach_start_of past q) (step_of past) (anchor_of past)
 
--- the memory is that of a call in which this was heard, the newest first
+-- the memory is the one that this history of the call leads to
 pub record Stands (call : ℕ) (past : List Heard) (memory : RxMemory) : Type 0 where
-  pub state : memory.state ≡ state_at past
+  pub state : memory.state ≡ state_after_past past
   pub source : memory.source ≡ state_after call (drawn past)

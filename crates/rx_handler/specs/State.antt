@@ -9,8 +9,8 @@ use Rattle.rx_handler.specs.Memory as table
 
 abbrev pub state_of : State → table.RxState
 state_of states.Quiet = table.Quiet
-state_of (states.Speech lost) = table.Speech (fields_of lost.last) lost.periods
-state_of (states.Noise pause) = table.Noise (fields_of pause.old) (fields_of pause.sid) pause.step pause.fall.missed pause.fall.periods
+state_of (states.Speech since) = table.Speech (fields_of since.last) since.periods
+state_of (states.Noise pause) = table.Noise (fields_of pause.from) (fields_of pause.sid) pause.step pause.fall.missed_sids pause.fall.periods
 
 abbrev pub effective_fields : Effective → EffectiveFields
 effective_fields answers.Quiet = Quiet

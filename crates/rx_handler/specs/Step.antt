@@ -1,33 +1,37 @@
--- The table of states (this project's profile, where GSM 06.11, 06.12 and 06.31 leave it open): one period.
+-- The table of states, one period at a time (this project's profile, where GSM 06.11, 06.12 and 06.31 leave it open).
 use Rattle.std.specs.Prelude.{ℕ, ◌+◌, min, Bool, if◌then◌else◌, ◌==◌, List, [], ◌∷◌}
 use Rattle.trau_params.specs.Fields.{Fields}
 use Rattle.rx_muting.specs.Draws.{state_after, draw_of}
 use Rattle.rx_noise.specs.Mix.{mix_of}
+use Rattle.rx_handler.specs.Profile.{silent_after, approach_steps, fall_from_missed}
 use Rattle.rx_handler.specs.Heard.{Heard, Good, Sid, Idle, Lost}
 use Rattle.rx_handler.specs.Origin.{Origin, NoFrame, GoodFrame, LostFrame, NoiseFrame, draws_of, frame_of, EffectiveFields}
 use Rattle.rx_handler.specs.Memory.{RxState, Quiet, Speech, Noise, RxMemory}
 
--- one more descriptor, if it is missed
+-- how many descriptors were missed, after one more period
 abbrev pub missed_after : ℕ → Bool → ℕ
-missed_after count missed = min (count + (if missed then 1 else 0)) 2
+missed_after count missed = min (count + (if missed then 1 else 0)) fall_from_missed
 
--- one more period of a fall, if it has begun
+-- for how many periods the level has fallen, after one more; `count` descriptors were missed by then
 abbrev pub fall_after : ℕ → ℕ → ℕ
-fall_after count fall = if count == 2 then min (fall + 1) 17 else fall
+fall_after count fall = if count == fall_from_missed then min (fall + 1) silent_after else fall
 
--- a period in which none of good speech, a silence descriptor and an idle frame was heard
+-- after a lost period; `missed`: a silence descriptor was due and didn't come
 abbrev pub state_after_loss : RxState → Bool → RxState
 state_after_loss Quiet missed = Quiet
-state_after_loss (Speech p n) missed = Speech p (min (n + 1) 17)
+state_after_loss (Speech p n) missed = Speech p (min (n + 1) silent_after)
 state_after_loss (Noise old q step count fall) missed =
-    let after = missed_after count missed in Noise old q (min (step + 1) 8) after (fall_after after fall)
+    let after = missed_after count missed in Noise old q (min (step + 1) approach_steps) after (fall_after after fall)
 
--- a silence descriptor: noise that hasn't begun to fall goes on from where it stands, all other noise is there at once
+-- After silence descriptor r. In noise, its period is step 1 of the approach. It starts at the noise of the period before,
+-- or at r itself if the level of that noise has begun to fall. After speech or quiet nothing is approached, so all steps are
+-- done.
 abbrev pub state_after_sid : RxState → Fields → RxState
-state_after_sid Quiet r = Noise r r 8 0 0
-state_after_sid (Speech p n) r = Noise r r 8 0 0
+state_after_sid Quiet r = Noise r r approach_steps 0 0
+state_after_sid (Speech p n) r = Noise r r approach_steps 0 0
 state_after_sid (Noise old q step count fall) r = Noise (if fall == 0 then mix_of old q step else r) r 1 0 0
 
+-- after any period
 abbrev pub next_state : RxState → Heard → RxState
 next_state state (Good p) = Speech p 0
 next_state state (Sid q) = state_after_sid state q

@@ -1,14 +1,14 @@
-//! What the receive side hands on.
+//! The effective frame of a period.
 
 use trau_params::Params;
 
-/// What the receive side hands on for a period.
+/// The frame that is decoded for a period or, in a bridge, handed to the partner.
 #[derive(Clone, Copy, Debug, PartialEq, Eq)]
 pub enum Effective {
-    /// No good speech and no silence descriptor came yet, or none since the last idle frame.
+    /// Neither good speech nor a silence descriptor came yet, or none since the last idle frame.
     Quiet,
-    /// A good speech frame, unchanged.
+    /// The good speech frame that came in this period, unchanged.
     Speech(Params),
-    /// A frame that stands for lost speech, or comfort noise.
+    /// A frame that replaces lost speech, or comfort noise.
     Made(Params),
 }

@@ -1,4 +1,4 @@
-//! What a period changes.
+//! How a period changes the state.
 
 ghost use Rattle.std.specs.Prelude.{◌≡◌};
 ghost use Rattle.std.specs.Option.{option_copied};
@@ -8,18 +8,18 @@ ghost use Rattle.rx_handler.specs.Step.{missed_after, fall_after, state_after_lo
 ghost use Rattle.rx_handler.specs.Memory.{Speech};
 ghost use Rattle.rx_handler.specs.State.{state_of};
 
-use crate::state::{Fall, LostRow, Pause, State};
+use crate::state::{APPROACH_STEPS, FALL_FROM_MISSED, Fall, Pause, SILENT_AFTER, SinceGood, State};
 use rx_noise::mix;
 use trau_frame::{Class, Kind, UpFrame};
 use trau_params::Params;
 
-/// Takes what a period yields: a frame, or none.
+/// Changes the state by one period. None stands for a miss and for a period without a yield.
 pub(crate) fn hear(state: &mut State, y: Option<&UpFrame>)
     ensures { state_of state.new ≡ next_state (state_of state.old) (heard_of (option_copied y.entry)) }
 {
     match y {
         Some(f) => hear_frame(state, f),
-        None => lose(state, false),
+        None => count_lost(state, false),
     }
 }
 
@@ -27,45 +27,48 @@ fn hear_frame(state: &mut State, f: &UpFrame)
     ensures { state_of state.new ≡ next_state (state_of state.old) (heard_frame f.now.kind f.now.class f.now.taf f.now.d) }
 {
     match (f.kind, f.class) {
-        (Kind::Speech, Class::Good) => *state = speech(Params::from_bits(&f.d)),
-        (Kind::Speech, Class::Sid) => *state = noise(state, Params::from_bits(&f.d)),
-        (Kind::Speech, Class::InvalidSid) => lose(state, false),
-        (Kind::Speech, Class::Unusable) => lose(state, f.taf),
+        (Kind::Speech, Class::Good) => *state = after_speech(Params::from_bits(&f.d)),
+        (Kind::Speech, Class::Sid) => *state = after_sid(state, Params::from_bits(&f.d)),
+        (Kind::Speech, Class::InvalidSid) => count_lost(state, false),
+        // TAF 1: a silence descriptor was due in this period.
+        (Kind::Speech, Class::Unusable) => count_lost(state, f.taf),
         (Kind::Idle, _) => *state = State::Quiet,
-        (Kind::Other, _) => lose(state, false),
+        (Kind::Other, _) => count_lost(state, false),
     }
 }
 
-// Good speech ends any row of lost periods.
-fn speech(last: Params) -> State
+// Good speech: the count of lost periods starts again.
+fn after_speech(last: Params) -> State
     ensures { state_of result ≡ Speech (fields_of last) 0 }
 {
-    State::Speech(LostRow { last, periods: 0 })
+    State::Speech(SinceGood { last, periods: 0 })
 }
 
-// A new descriptor: noise that hasn't begun to fall goes on from where it stands, all other noise is there at once.
-fn noise(before: &State, sid: Params) -> State
+// A silence descriptor. In noise, this period is step 1 of the approach. It starts at the noise of the period before, or at
+// the descriptor itself if the level of that noise has begun to fall. After speech or quiet nothing is approached, so all
+// steps are done.
+fn after_sid(before: &State, sid: Params) -> State
     ensures { state_of result ≡ state_after_sid (state_of before.now) (fields_of sid) }
 {
     let fall = Fall {
-        missed: 0,
+        missed_sids: 0,
         periods: 0,
     };
     match before {
         State::Quiet | State::Speech(_) => State::Noise(Pause {
-            old: sid,
+            from: sid,
             sid,
-            step: 8,
+            step: APPROACH_STEPS,
             fall,
         }),
         State::Noise(pause) => {
-            let old = if pause.fall.periods == 0 {
-                mix(&pause.old, &pause.sid, pause.step)
+            let from = if pause.fall.periods == 0 {
+                mix(&pause.from, &pause.sid, pause.step)
             } else {
                 sid
             };
             State::Noise(Pause {
-                old,
+                from,
                 sid,
                 step: 1,
                 fall,
@@ -74,34 +77,33 @@ fn noise(before: &State, sid: Params) -> State
     }
 }
 
-// A period in which none of good speech, a silence descriptor and an idle frame came. `missed` tells whether it was
-// an unusable speech frame where a silence descriptor was due.
-fn lose(state: &mut State, missed: bool)
-    ensures { state_of state.new ≡ state_after_loss (state_of state.old) missed }
+// A lost period. `sid_missed`: it brought an unusable speech frame where a silence descriptor was due.
+fn count_lost(state: &mut State, sid_missed: bool)
+    ensures { state_of state.new ≡ state_after_loss (state_of state.old) sid_missed }
 {
     match state {
         State::Quiet => {}
-        State::Speech(row) => row.periods = (row.periods + 1).min(17),
+        State::Speech(since) => since.periods = (since.periods + 1).min(SILENT_AFTER),
         State::Noise(pause) => {
-            pause.step = (pause.step + 1).min(8);
-            pause.fall = fall_on(pause.fall, missed);
+            pause.step = (pause.step + 1).min(APPROACH_STEPS);
+            pause.fall = next_fall(pause.fall, sid_missed);
         }
     }
 }
 
-// One more period of a pause without a descriptor.
-fn fall_on(fall: Fall, missed: bool) -> Fall
-    ensures missed { result.missed ≡ missed_after fall.missed missed }
-    ensures periods { result.periods ≡ fall_after result.missed fall.periods }
+// The fall after one more lost period: it begins in the period of the second missed descriptor.
+fn next_fall(fall: Fall, sid_missed: bool) -> Fall
+    ensures missed { result.missed_sids ≡ missed_after fall.missed_sids sid_missed }
+    ensures periods { result.periods ≡ fall_after result.missed_sids fall.periods }
 {
-    let count = (fall.missed + u8::from(missed)).min(2);
-    let periods = if count == 2 {
-        (fall.periods + 1).min(17)
+    let count = (fall.missed_sids + u8::from(sid_missed)).min(FALL_FROM_MISSED);
+    let periods = if count == FALL_FROM_MISSED {
+        (fall.periods + 1).min(SILENT_AFTER)
     } else {
         fall.periods
     };
     Fall {
-        missed: count,
+        missed_sids: count,
         periods,
     }
 }

@@ -23,17 +23,17 @@ use trau_num::Draw;
 #[derive(Drop)]
 pub struct Rx {
     state: State,
-    draw: Draw,
+    source: Draw,
 }
 
 impl Model for Rx {
     ghost Value = { RxMemory };
 
-    ghost view = { λ rx. record { state = state_of rx.state; source = rx.draw.r } };
+    ghost view = { λ rx. record { state = state_of rx.state; source = rx.source.r } };
 }
 
 impl Rx {
-    /// The receive side at the start of a call with this number, 1 to 4,096, at which its random source starts.
+    /// The receive side at the start of a call. Its random source starts at the call's number, 1 to 4,096.
     #[tactic(auto, unfolding(crate::specs::Past::anchor_of, crate::specs::Past::drawn, rx_muting::specs::Draws::state_after))]
     pub fn new(call: u32) -> Rx
         requires { IsCallNumber call }
@@ -42,25 +42,27 @@ impl Rx {
     {
         Rx {
             state: State::Quiet,
-            draw: Draw { r: call as u16 },
+            source: Draw { r: call as u16 },
         }
     }
 
-    /// Takes what the next period yields, and answers its effective frame. None stands for a miss and for a period
-    /// without a yield; these and a frame of another kind than speech and idle count as lost.
+    /// Processes one period and returns its effective frame. Good speech, a valid silence descriptor and an idle frame are
+    /// heard as such. All else is lost: no frame (a miss, or a period without a yield), an invalid descriptor, unusable
+    /// speech, a frame of another kind.
     pub fn take(&mut self, y: Option<&UpFrame>) -> Effective
         ensures step { received self.old (heard_of (option_copied y.entry)) ≡ (effective_fields result, self.new) }
 
-        // After any past of a call, the answer is the effective frame of its newest period ..
+        // If a past of the call leads to the memory before, the past with this period leads to the memory after, and the answer
+        // is the effective frame of this period.
         ensures history { (call : ℕ) (past : List Heard) → Stands call past self.old →
             Stands call (heard_of (option_copied y.entry) ∷ past) self.new
             × (effective_fields result ≡ effective_of call (heard_of (option_copied y.entry) ∷ past)) }
 
-        // .. which is that of its last period, by the look back over all periods from the first.
+        // The same frame, by looking back over numbered periods.
         ensures last { (call : ℕ) (past : List Heard) → Stands call past self.old →
             effective_fields result ≡ effective_at call (heard_in (reverse (heard_of (option_copied y.entry) ∷ past))) (length past) }
     {
         hear(&mut self.state, y);
-        frame(&self.state, &mut self.draw)
+        frame(&self.state, &mut self.source)
     }
 }

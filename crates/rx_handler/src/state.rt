@@ -1,42 +1,60 @@
-//! What the receive side keeps from period to period, beside the random source.
+//! What the receive side keeps from period to period, besides the random source.
 
 ghost use Rattle.std.specs.Prelude.{◌≤◌};
+ghost use Rattle.rx_handler.specs.Profile.{silent_after, approach_steps, fall_from_missed};
 
 use trau_params::Params;
 
-/// A row of lost periods: the last good frame, and how many periods ago it came, 17 at most.
+/// Counts of periods since good speech, and of the periods of a fall, stop here. `rx_subst` and `rx_noise` give silence for it.
+pub(crate) const SILENT_AFTER: u8 = 17;
+
+/// The step with which noise has reached a silence descriptor. It takes one in each period (`rx_noise`).
+pub(crate) const APPROACH_STEPS: u8 = 8;
+
+/// The number of missed descriptors with which the level of noise begins to fall.
+pub(crate) const FALL_FROM_MISSED: u8 = 2;
+
+/// The last good frame and how many periods ago it came: 0 in its own, counted up to SILENT_AFTER.
 #[derive(Clone, Copy)]
-pub(crate) struct LostRow {
+pub(crate) struct SinceGood {
     pub(crate) last: Params,
     pub(crate) periods: u8,
-    ghost stops: { periods ≤ 17 },
+    ghost stops: { periods ≤ silent_after },
 }
 
-/// How the level of noise falls: the silence descriptors that were missed, two at most, and the periods from the
-/// second of them on, 17 at most.
+/// How far the level of noise has fallen. The fall begins in the period of the second missed descriptor.
 #[derive(Clone, Copy)]
 pub(crate) struct Fall {
-    pub(crate) missed: u8,
+    /// Descriptors missed since the latest one, counted up to FALL_FROM_MISSED.
+    pub(crate) missed_sids: u8,
+    /// For how many periods the level has fallen, counted up to SILENT_AFTER.
     pub(crate) periods: u8,
-    ghost missed_stops: { missed ≤ 2 },
-    ghost periods_stop: { periods ≤ 17 },
+    ghost missed_stops: { missed_sids ≤ fall_from_missed },
+    ghost periods_stop: { periods ≤ silent_after },
 }
 
-/// A pause of the far side: from where its noise approaches which descriptor, the step of eight, and how it falls.
+/// A pause in speech: its noise approaches the latest silence descriptor.
 #[derive(Clone, Copy)]
 pub(crate) struct Pause {
-    pub(crate) old: Params,
+    /// Where the approach began.
+    pub(crate) from: Params,
+    /// The latest descriptor.
     pub(crate) sid: Params,
+    /// How many steps are done, 1 to APPROACH_STEPS.
     pub(crate) step: u8,
+    /// How far the level has fallen.
     pub(crate) fall: Fall,
     ghost begun: { 1 ≤ step },
-    ghost step_stops: { step ≤ 8 },
+    ghost step_stops: { step ≤ approach_steps },
 }
 
-/// Where the call is: in neither speech nor noise, in speech, or in a pause.
+/// The state by the latest anchor (good speech, a silence descriptor or an idle frame).
 #[derive(Clone, Copy)]
 pub(crate) enum State {
+    /// No anchor yet, or an idle frame.
     Quiet,
-    Speech(LostRow),
+    /// Good speech.
+    Speech(SinceGood),
+    /// A silence descriptor.
     Noise(Pause),
 }

@@ -11,6 +11,6 @@ state_after r (suc i) = state_after_draw (state_after r i)
 unfoldable pub draw_of : ℕ → ℕ → ℕ → ℕ
 draw_of r i m = drawn_number (state_after r i) m
 
--- the draws that are numbered from `first` on: number k of these
+-- draw number k of those from number `first` on
 abbrev pub draws_from : ℕ → ℕ → ℕ → ℕ → ℕ
 draws_from r first k m = draw_of r (first + k) m

@@ -3,7 +3,7 @@
 ghost use Rattle.std.specs.Prelude.{◌≡◌, ℕ, ◌+◌, ◌<◌};
 ghost use Rattle.rx_muting.specs.Draws.{state_after, draw_of};
 
-/// A source that goes on after some draws gives those that are numbered from there on.
+/// After some draws, a source gives the draws that are numbered from there on.
 pub fn go_on()
     ensures states { (r i k : ℕ) → state_after (state_after r i) k ≡ state_after r (i + k) }
     ensures numbers { (r i k m : ℕ) → draw_of (state_after r i) k m ≡ draw_of r (i + k) m }

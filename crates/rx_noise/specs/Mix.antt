@@ -1,4 +1,4 @@
--- Noise on its way from one silence descriptor to the next, in eight steps (this project's profile).
+-- The eight steps from one silence descriptor to the next (this project's profile).
 use Rattle.std.specs.Prelude.{ℕ, ◌+◌, ◌-◌, ◌*◌, ◌/◌, List, map, zip}
 use Rattle.trau_params.specs.Fields.{Fields}
 
@@ -6,7 +6,7 @@ use Rattle.trau_params.specs.Fields.{Fields}
 abbrev pub mixed : ℕ → ℕ → ℕ → ℕ
 mixed i old new = (old * (8 - i) + new * i) / 8
 
--- each of them
+-- each of two lists of codes after i of the eight steps
 abbrev pub all_mixed : ℕ → List ℕ → List ℕ → List ℕ
 all_mixed i old new = map (λ codes. mixed i codes.0 codes.1) (zip old new)
 

@@ -10,7 +10,7 @@ use Rattle.rx_muting.specs.Muting.{lowered_maxima}
 unfoldable pub noise_grids : (ℕ → ℕ → ℕ) → List ℕ
 noise_grids draw = map (λ j. draw (14 * j) 4) (range_with_len 0 4)
 
--- the thirteen pulses of a block, 1 to 6 each, by the draws from this number on
+-- the thirteen pulses of a block, 1 to 6 each, by the draws from number `first` on
 unfoldable pub noise_pulses : (ℕ → ℕ → ℕ) → ℕ → List ℕ
 noise_pulses draw first = map (λ i. 1 + draw (first + i) 6) (range_with_len 0 13)
 
@@ -30,10 +30,10 @@ noise_at sid steps draw = record {
   xmc = all_noise_pulses draw;
 }
 
--- the noise frame of a silence descriptor whose level has fallen for so many periods
+-- the noise frame of a silence descriptor whose level has fallen for `fall` periods
 unfoldable pub noise_of : Fields → ℕ → (ℕ → ℕ → ℕ) → Fields
 noise_of sid fall draw = if nat_le fall 16 then noise_at sid fall draw else silent_fields
 
--- how many draws it has
+-- the number of its draws
 abbrev pub noise_draws : ℕ → ℕ
 noise_draws fall = if nat_le fall 16 then 56 else 0

@@ -1,4 +1,4 @@
-//! A descriptor on its way to the next one.
+//! The steps from one silence descriptor to the next.
 
 ghost use Rattle.std.specs.Prelude.{◌≡◌, ◌≤◌, ◌<◌, ℕ};
 ghost use Rattle.trau_params.specs.Fields.{fields_of};
@@ -7,7 +7,7 @@ ghost use Rattle.rx_noise.specs.Mix.{mixed, all_mixed, mix_of};
 
 use trau_params::Params;
 
-// One code after `i` of the eight steps. It fits where both do.
+// One code after `i` of the eight steps. It is below each limit that both codes are below.
 fn code(old: u8, new: u8, i: u8) -> u8
     requires steps { i ≤ 8 }
     ensures value { result ≡ mixed i old new }

@@ -4,7 +4,7 @@ ghost use Rattle.std.specs.Prelude.{◌≡◌, ◌≤◌, ℕ, length};
 ghost use Rattle.trau_params.specs.Fields.{Fields};
 ghost use Rattle.rx_noise.specs.Mix.{mix_of};
 
-/// A descriptor that is approached from itself is there at once.
+/// Mixing a descriptor with itself gives the same descriptor, at each step.
 pub fn mix_of_one()
     ensures { (q : Fields) (i : ℕ) → i ≤ 8 → mix_of q q i ≡ q }
 {}

@@ -1,14 +1,14 @@
 //! Comfort noise: the frames that the receive side makes from a silence descriptor (GSM 06.12).
 //!
-//! While the far side is silent its base station sends a silence descriptor (SID) now and then, whose log area ratios
-//! and block maxima say how the noise there sounds. Takes the latest one as a frame of parameters (`trau_params`), how
-//! far its level has fallen since descriptors stopped coming, and the call's random source, and makes a frame that the
-//! decoder takes in the place of speech. Used by `rx_handler`, which says how far the level has fallen.
+//! While the far side is silent, its base station sends a silence descriptor (SID) from time to time. The SID's log
+//! area ratios and block maxima describe the noise there. From the latest SID, this crate makes a frame that the
+//! decoder takes in the place of speech. It takes the SID as a frame of parameters (`trau_params`), the fall of its
+//! level since descriptors stopped coming, and the call's random source. `rx_handler` counts the fall.
 //!
-//! A further descriptor of a pause is approached in eight steps: `mix` gives the one that is reached after some of them.
+//! A further descriptor of a pause is approached in eight steps; `mix` gives the descriptor after each of them.
 //!
-//! Definitions: `specs/Noise.antt` (a noise frame), `specs/Mix.antt` (the way from one descriptor to the next). GSM 06.12
-//! says what a noise frame is made from; the numbers are this project's profile.
+//! Definitions: `specs/Noise.antt` (a noise frame), `specs/Mix.antt` (the steps from one descriptor to the next). GSM
+//! 06.12 says what a noise frame is made from; the numbers are this project's profile.
 #![tactic(auto)]
 
 mod approach;

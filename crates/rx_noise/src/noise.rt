@@ -10,12 +10,12 @@ use rx_muting::lowered;
 use trau_num::Draw;
 use trau_params::{Params, silence};
 
-// The fall at which noise has become silence.
+// The fall at which noise becomes silence.
 const SILENT: u8 = 17;
 
-/// The noise frame of the silence descriptor `sid`, whose level has fallen for `fall` periods, at most 17: the
-/// spectrum and the level of the descriptor, 4 off each block maximum for each period of the fall, and grids and
-/// pulses that `draw` gives. From 17 periods on it is silence, for which nothing is drawn.
+/// The noise frame of the silence descriptor `sid`, whose level has fallen for `fall` periods, at most 17. It has the
+/// descriptor's ratios, and its block maxima lowered by 4 for each period of the fall; `draw` gives the grids and
+/// pulses. After 17 periods it is silence, and nothing is drawn.
 #[tactic(auto, unfolding(crate::specs::Noise::noise_of))]
 pub fn noise_frame(sid: &Params, fall: u8, draw: &mut Draw) -> Params
     requires { fall ≤ 17 }

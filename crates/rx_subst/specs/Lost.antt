@@ -28,6 +28,6 @@ lost_of last n draw =
     else if nat_le n 16 then muted_of last (n - 1) draw
     else silent_fields
 
--- how many draws it has
+-- the number of its draws
 abbrev pub lost_draws : ℕ → ℕ
 lost_draws n = if nat_le n 1 then 0 else if nat_le n 16 then 4 else 0

@@ -10,12 +10,12 @@ use rx_muting::lowered;
 use trau_num::Draw;
 use trau_params::{Params, silence};
 
-// The first period in a row that is silent.
+// The number of the lost period whose frame is silence.
 const SILENT: u8 = 17;
 
-/// The frame for the `n`-th lost period after the good frame `last`, 1 to 17: the good frame itself in the first; in
-/// the next its block maxima less by 4 for each period since, with grids that `draw` gives; silence in the 17th. In
-/// the first and the 17th nothing is drawn.
+/// The frame for the `n`-th lost period, 1 to 17, after the good frame `last`. In the first it is the good frame
+/// itself. From the second on its block maxima are lowered by 4 for each period since the first, and `draw` gives its
+/// grids. In the 17th it is silence. Nothing is drawn in the first and the 17th.
 #[tactic(auto, unfolding(crate::specs::Lost::lost_of, rx_muting::specs::Draws::state_after))]
 pub fn lost_frame(last: &Params, n: u8, draw: &mut Draw) -> Params
     requires low { 1 ≤ n }
@@ -30,7 +30,7 @@ pub fn lost_frame(last: &Params, n: u8, draw: &mut Draw) -> Params
     }
 }
 
-// The good frame with its level lowered by these steps and with random grids.
+// The good frame with its level lowered by these steps, and with random grids.
 #[tactic(auto, unfolding(crate::specs::Lost::muted_of))]
 fn muted(last: &Params, steps: u8, draw: &mut Draw) -> Params
     requires { steps ≤ 17 }
