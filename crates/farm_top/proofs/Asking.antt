@@ -31,7 +31,7 @@ asked_of tool.Relay c = Relay c
 asked_of tool.Decode c = Decode c
 asked_of tool.Encode c = Encode c
 
-asks_tool : (words : List (List ℕ)) (t : Tool) (c : ℕ) → AsksFor words t c → Asks words (asked_of t c)
+pub asks_tool : (words : List (List ℕ)) (t : Tool) (c : ℕ) → AsksFor words t c → Asks words (asked_of t c)
 asks_tool words tool.Relay c asks = asks
 asks_tool words tool.Decode c asks = asks
 asks_tool words tool.Encode c asks = asks

@@ -1,5 +1,5 @@
 -- From what a run leaves to its lines by whole calls.
-use Rattle.std.proofs.Common.{◌≡◌, refl, sym, ap, ℕ, ◌*◌, Bool, List, [], ◌∷◌, map, drop, Ok, subst}
+use Rattle.std.proofs.Common.{◌≡◌, sym, ℕ, ◌*◌, Bool, List, drop, Ok, subst}
 use Rattle.trau_bits.specs.Bits.{octets_of}
 use Rattle.trau_io.specs.declared.line.Side.{Side}
 use Rattle.trau_io.specs.declared.line.Side.TheVariants.{Down, Out}
@@ -9,7 +9,6 @@ use Rattle.trau_orders.specs.declared.order.Order.{Order}
 use Rattle.trau_orders.specs.Lists.{AreOrders}
 use Rattle.trau_orders.specs.Text.{text_lines}
 use Rattle.trau_orders.proofs.Known.{orders_known}
-use Rattle.switchboard.specs.declared.act.Span.{Span}
 use Rattle.call_spec.specs.Out.{out}
 use Rattle.call_spec.specs.Down.{down}
 use Rattle.farm_orders.specs.declared.marked.MarkedOrders.{MarkedOrders}
@@ -17,7 +16,6 @@ use Rattle.farm_orders.specs.Marked.{ReadsMarked}
 use Rattle.farm_orders.specs.Reading.{ReadsOrders}
 use Rattle.run_spec.specs.Run.{Run, IsOpened, worked_to}
 use Rattle.run_spec.specs.Lines.{down_of_call, out_of_call}
-use Rattle.run_spec.specs.Facts.{span_line}
 use Rattle.run_calls_spec.specs.Whole.{whole_call}
 use Rattle.farm_report.specs.View.{ReportView}
 use Rattle.farm_run.specs.declared.pace.Pace.{Pace}
@@ -26,14 +24,10 @@ use Rattle.farm_run.specs.Resuming.{LeavesFrom, ResumesRun}
 use Rattle.farm_run.specs.Saving.{SavedView, Saves}
 use Rattle.command_words.specs.declared.asked.Settings.{Settings}
 use Rattle.farm_top.specs.Farm.{RunsAndTells, TellsReport, TellsRun, pace_of}
-use Rattle.farm_top.specs.Headline.{GoesOut, HandsOver, Headline, HeadlineFrom}
+use Rattle.run_calls_spec.specs.Handed.{GoesOut, HandsOver}
+use Rattle.farm_top.specs.Headline.{Headline, HeadlineFrom}
 use Rattle.farm_top.specs.Resume.{ResumesAndTells}
 use Rattle.farm_top.specs.Save.{SavesAndTells, saved_text}
-
--- the report has a line for each span
-pub spans_told : (r : Run) (spans : List Span) → map (λ l. l.span) (map (span_line r) spans) ≡ spans
-spans_told r [] = refl
-spans_told r (x ∷ spans) = ap (λ (xs : List Span). x ∷ xs) (spans_told r spans)
 
 -- where the outgoing lines of each opened call are those of a whole call
 pub headline_of : (r : Run) (fails : ℕ → Side → Bool) (before now : ℕ → Side → LineState) → ((c : ℕ) → IsOpened r c → out_of_call r c ≡ out (whole_call r c)) →

@@ -7,6 +7,7 @@ mod FarmCausing
 mod FarmCleaning
 mod Living
 mod Headlining
+mod Promising
 mod ResumeCausing
 mod ResumeCutting
 mod ResumeReading

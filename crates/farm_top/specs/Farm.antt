@@ -19,22 +19,21 @@ use Rattle.farm_run.specs.Fronts.{IsCutShort}
 use Rattle.command_words.specs.declared.asked.Settings.{Settings}
 use Rattle.farm_top.specs.Headline.{Headline}
 
--- a text went out, or a proper front of it before the desk failed
+-- a text went out, or a proper prefix of it before the desk failed
 pub record TextOut (before now : DeskState) (text : List ℕ) : Type 0 where
   pub result : Result (Unit {0}) Failed
   pub tells : Tells before now result text
 
--- every line is as it was, its count of faults included
+-- every line is unchanged, its fault count included
 abbrev pub AllStay : (ℕ → Side → LineState) → (ℕ → Side → LineState) → Type 0
 AllStay before now = (c : ℕ) (s : Side) → now c s ≡ before c s
 
--- the command ends with this text and this status; a desk that fails while the text goes out changes nothing of the
--- status
+-- the command ends with this text and this status; a desk that fails while the text goes out doesn't change the status
 pub record EndsWith (desk desk' : DeskState) (text : List ℕ) (due status : ℕ) : Type 0 where
   pub status_is : status ≡ due
   pub text_out : TextOut desk desk' text
 
--- there was no memory
+-- memory ran out
 abbrev pub LacksMemory : DeskState → DeskState → ℕ → Type 0
 LacksMemory desk desk' status = EndsWith desk desk' (codes "no memory\n") 5 status
 
@@ -46,7 +45,7 @@ pace_of s = record { workers = s.workers; batch = s.batch; slice = s.slice; peri
 abbrev pub line_text : ℕ → List ℕ
 line_text n = codes "orders line " ++ (decimal n ++ codes "\n")
 
--- orders that aren't taken end the command by why they aren't
+-- how the command ends if its orders are refused, by the reason
 abbrev pub RefusesOrders : OrdersFault → DeskState → DeskState → ℕ → Type 0
 RefusesOrders Unread desk desk' status = EndsWith desk desk' (codes "orders unread\n") 3 status
 RefusesOrders TooLong desk desk' status = EndsWith desk desk' (codes "orders too long\n") 7 status
@@ -58,11 +57,12 @@ abbrev pub status_of_run : List TheLine → ℕ
 status_of_run [] = 0
 status_of_run (line ∷ lines) = 6
 
--- a text went out whole, and the status is the one that is due; or a proper front of it before the desk failed
+-- a text went out whole, and the status is the one that is due; or a proper prefix of it before the desk failed, and the status
+-- is 4
 abbrev pub TellsDue : ℕ → List ℕ → DeskState → DeskState → ℕ → Type 0
 TellsDue due text desk desk' status = ((status ≡ due) × Tells desk desk' (Ok tt) text) ⊎ ((status ≡ 4) × Tells desk desk' (Err (record {})) text)
 
--- a text of a run in which these lines failed, or there was no memory for it
+-- the text of a run in which these lines failed is printed, or memory ran out
 abbrev pub TellsRun : List TheLine → List ℕ → DeskState → DeskState → ℕ → Type 0
 TellsRun failed text desk desk' status = TellsDue (status_of_run failed) text desk desk' status ⊎ LacksMemory desk desk' status
 
@@ -70,21 +70,21 @@ TellsRun failed text desk desk' status = TellsDue (status_of_run failed) text de
 abbrev pub TellsReport : ReportView → DeskState → DeskState → ℕ → Type 0
 TellsReport report desk desk' status = TellsRun report.failed (report_text report) desk desk' status
 
--- Orders that were taken are run over the lines, and the report is told, whatever failed. The outgoing lines have the headline,
--- whatever the desk did.
+-- The orders are run over the lines, and the report is printed, whatever failed. The outgoing lines have the headline, whatever the
+-- desk did.
 pub record RunsAndTells (orders : List Order) (pace : Pace) (before now : ℕ → Side → LineState) (desk desk' : DeskState) (status : ℕ) : Type 0 where
   pub report : ReportView
   pub runs : Runs orders pace before now report
   pub headline : (r : Run) → IsRunOver orders pace.periods (is_listed report.failed) before now r → Headline r (is_listed report.failed) before now
   pub tells : TellsReport report desk desk' status
 
--- What follows the reading: what is done with the orders; or the refusal of the orders, and no line was used.
+-- What follows the reading of the orders: either `done`, or the orders are refused and no line is used.
 abbrev pub FollowsReading : (List Order → DeskState → Type 0) → Result (List Order) OrdersFault → (ℕ → Side → LineState) → (ℕ → Side → LineState) → DeskState →
     DeskState → ℕ → Type 0
 FollowsReading done (Ok orders) before now read desk' status = done orders read
 FollowsReading done (Err fault) before now read desk' status = AllStay before now × RefusesOrders fault read desk' status
 
--- The desk is read, and what follows is by the reading.
+-- The desk is read, and what follows depends on what was read.
 pub record ReadsAndFollows (done : List Order → DeskState → Type 0) (before now : ℕ → Side → LineState) (desk desk' : DeskState) (status : ℕ) : Type 0 where
   pub read : DeskState
   pub reading : Result (List Order) OrdersFault
@@ -96,7 +96,7 @@ pub record ReadsAndFollows (done : List Order → DeskState → Type 0) (before 
   pub write_faults : read.write_faults ≡ desk.write_faults
   pub follows : FollowsReading done reading before now read desk' status
 
--- the run of the orders, unless want of memory cut it short
+-- the orders are run to the end, or memory ran out
 abbrev pub RunsOrders : Settings → (ℕ → Side → LineState) → (ℕ → Side → LineState) → DeskState → ℕ → List Order → DeskState → Type 0
 RunsOrders s before now desk' status orders read =
     RunsAndTells orders (pace_of s) before now read desk' status ⊎ (IsCutShort orders s.periods before now × LacksMemory read desk' status)
@@ -105,6 +105,6 @@ RunsOrders s before now desk' status orders read =
 abbrev pub RunsFarm : Settings → (ℕ → Side → LineState) → (ℕ → Side → LineState) → DeskState → DeskState → ℕ → Type 0
 RunsFarm s before now desk desk' status = ReadsAndFollows (RunsOrders s before now desk' status) before now desk desk' status
 
--- or there was no memory to read the words, and neither a line nor the orders were used
+-- the same, or memory ran out when the words were read: no line was used, and the orders weren't read
 abbrev pub CarriesRun : Settings → (ℕ → Side → LineState) → (ℕ → Side → LineState) → DeskState → DeskState → ℕ → Type 0
 CarriesRun s before now desk desk' status = RunsFarm s before now desk desk' status ⊎ (AllStay before now × LacksMemory desk desk' status)

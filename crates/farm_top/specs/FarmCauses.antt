@@ -1,4 +1,4 @@
--- Why the commands `run` and `save` end as they do, by the status (this project's profile).
+-- Why the status of the commands `run` and `save` is what it is (this project's profile).
 use Rattle.std.specs.Prelude.{◌≡◌, ◌⊎◌, ℕ, ◌<◌, List, length, Some}
 use Rattle.std.specs.Io.KnownBytes.{Consumes, IsAtEnd}
 use Rattle.trau_io.specs.declared.line.Side.{Side}
@@ -8,8 +8,8 @@ use Rattle.trau_orders.specs.Text.{text_lines, IsFirstBad, IsWithin, IsBeyond}
 use Rattle.run_spec.specs.Run.{Run, IsOpened}
 use Rattle.farm_top.specs.Farm.{AllStay, TextOut, line_text}
 
--- the text was read to its end, line n of it is bad in this way, and the desk, to which nothing was written while it was
--- read, was told so
+-- the text was read to its end, its line n is bad in this way, nothing was written to the desk meanwhile, and then the desk was
+-- given the text that says so
 pub record ReadsBadText (is_bad : List ℕ → ℕ → Type 0) (text_of : ℕ → List ℕ) (desk desk' : DeskState) : Type 0 where
   pub given : List ℕ
   pub n : ℕ
@@ -28,24 +28,25 @@ HasBadLine orders n = IsWithin orders × IsFirstBad (text_lines orders) n
 abbrev pub ReadsBadLine : DeskState → DeskState → Type 0
 ReadsBadLine desk desk' = ReadsBadText HasBadLine line_text desk desk'
 
--- the orders were read to just past the limit of octets, or to their end, and are too many lines
+-- the orders were read to just past the limit of octets, or to their end and have too many lines
 pub record ReadsTooLong (desk desk' : DeskState) : Type 0 where
   pub given : List ℕ
   pub consumed : Consumes desk.to_come desk'.to_come given
   pub long : (length given ≡ 1048577) ⊎ (IsAtEnd desk'.to_come × (65536 < length (text_lines given)))
 
--- the count of some line rose
+-- a fault of some line was counted
 abbrev pub SomeRose : (ℕ → Side → LineState) → (ℕ → Side → LineState) → Type 0
 SomeRose before now = (c : ℕ) × (s : Side) × Rose (before c s).faults (now c s).faults
 
--- that of some line whose call the run opened
+-- a fault of some line whose call the run opened was counted
 abbrev pub SomeOpenedRose : Run → (ℕ → Side → LineState) → (ℕ → Side → LineState) → Type 0
 SomeOpenedRose r before now = (c : ℕ) × (s : Side) × IsOpened r c × Rose (before c s).faults (now c s).faults
 
--- 3 comes only where the desk's reading count rose, and always where it became greater. 7 comes exactly where the orders are
--- too long, and 2 exactly where a line isn't in the grammar; they yield to 3. After 2, 3 and 7 no line was used. 4 comes only
--- where the desk's writing count rose and none of these is due, 6 only where the count of a line rose and 4 isn't due, and
--- always where it became greater; so after 0 no count rose. Each but 3 yields to 5, want of memory. 1 and 8 never come.
+-- 3: only if a fault of the desk's reading was counted, and always if that count grew. 7: only if the orders that were read are too
+-- long; if the desk tells such orders, the status is 7, 3 or 5. 2: only if a line that was read isn't in the grammar; if the desk
+-- tells orders within the limits with such a line, the status is 2, 3 or 5. With 2, 3 and 7 no line was used. 4: only if a fault of
+-- the desk's writing was counted; if that count grew, the status is 4, 2, 3, 5 or 7. 6: only if a line's fault was counted; if a
+-- line's count grew, the status is 6, 4 or 5. 0: only if every line's count is unchanged. 5: out of memory.
 pub record RunCauses (before now : ℕ → Side → LineState) (desk desk' : DeskState) (status : ℕ) : Type 0 where
   pub known : (status ≡ 0) ⊎ (status ≡ 2) ⊎ (status ≡ 3) ⊎ (status ≡ 4) ⊎ (status ≡ 5) ⊎ (status ≡ 6) ⊎ (status ≡ 7)
   pub read_failed : status ≡ 3 → Rose desk.read_faults desk'.read_faults

@@ -1,4 +1,5 @@
--- What `run`, or a command that runs as it does, leaves where the outside tells what it holds and nothing fails (this project's profile).
+-- What `run`, or a command that runs as it does, leaves if the contents of desk and lines are known and nothing fails (this
+-- project's profile).
 use Rattle.std.specs.Prelude.{◌≡◌, ℕ, List, [], Some}
 use Rattle.std.specs.Io.KnownBytes.{Appends}
 use Rattle.trau_io.specs.declared.line.Side.{Side}
@@ -19,13 +20,13 @@ pub record TellsOrders (orders : List Order) (desk : DeskState) : Type 0 where
   pub within : IsWithin text
   pub spelled : AreLines (text_lines text) orders
 
--- no count rose, of a line or of the desk, and none stands at its last value
+-- no fault was counted, of a line or of the desk
 pub record IsCalmRun (before now : ℕ → Side → LineState) (desk desk' : DeskState) : Type 0 where
   pub lines : NoneRose before now
   pub reading : IsCalm desk.read_faults desk'.read_faults
   pub writing : IsCalm desk.write_faults desk'.write_faults
 
--- What a command leaves of this run, of which it tells this text: the lines have what the run gives them, the desk gained exactly
+-- What a command leaves that prints the text `of_run` of this run: the lines have what the run gives them, the desk gained exactly
 -- the text, and the orders were read to their end.
 pub record CleanTelling (of_run : List ℕ) (r : Run) (before now : ℕ → Side → LineState) (desk desk' : DeskState) (status : ℕ) : Type 0 where
   pub done : status ≡ 0
@@ -33,6 +34,6 @@ pub record CleanTelling (of_run : List ℕ) (r : Run) (before now : ℕ → Side
   pub text : Appends desk.written desk'.written of_run
   pub all_read : desk'.to_come ≡ Some []
 
--- it tells the run's report, in which no line failed
+-- the text is the run's report, without a failed line
 abbrev pub CleanFarm : Run → (ℕ → Side → LineState) → (ℕ → Side → LineState) → DeskState → DeskState → ℕ → Type 0
 CleanFarm r before now desk desk' status = CleanTelling (report_text (report_of r [])) r before now desk desk' status

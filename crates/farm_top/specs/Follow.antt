@@ -1,4 +1,4 @@
--- The base station's end, `follow`, as the top call has it (this project's profile).
+-- The command `follow`, the base station's end (this project's profile).
 use Rattle.std.specs.Prelude.{◌≡◌, ℕ}
 use Rattle.trau_io.specs.declared.line.Side.{Side}
 use Rattle.trau_io.specs.Lines.{LineState}
@@ -7,7 +7,7 @@ use Rattle.farm_tools.specs.declared.end.ToolEnd.{ToolEnd}
 use Rattle.farm_tools.specs.Tools.{status_of}
 use Rattle.ccu_end.specs.Tool.{CleanFollow, FollowCauses, FollowRun}
 
--- A whole command `follow`: what it did whatever fails, why its status came, and what it leaves where nothing fails.
+-- A whole command `follow`: what it did, whatever fails, why its status is what it is, and what it leaves if nothing fails.
 pub record FollowEnds (before now : ℕ → Side → LineState) (desk desk' : DeskState) (call want status : ℕ) : Type 0 where
   pub end : ToolEnd
   pub status_is : status ≡ status_of end

@@ -7,6 +7,7 @@ pub mod Follow
 pub mod FarmClean
 pub mod Headline
 pub mod Live
+pub mod Promises
 pub mod Resume
 pub mod ResumeCauses
 pub mod ResumeEnded

@@ -1,5 +1,5 @@
--- The command `resume`: a mark and the orders behind it, the run over the lines from the mark on, and its report (this
--- project's profile).
+-- The command `resume`: a mark and the orders after it, the run over the lines from the mark on, and its report (this project's
+-- profile).
 use Rattle.std.specs.Prelude.{◌≡◌, ◌⊎◌, ℕ, max, List, ◌++◌, codes, decimal, Some, Result, Ok, Err, IsErrOf}
 use Rattle.trau_io.specs.declared.line.Side.{Side}
 use Rattle.trau_io.specs.Lines.{LineState, Rose}
@@ -21,21 +21,21 @@ use Rattle.farm_top.specs.Headline.{HeadlineFrom}
 abbrev pub mark_line_text : ℕ → List ℕ
 mark_line_text n = codes "save line " ++ (decimal n ++ codes "\n")
 
--- the text for a mark that isn't that of the run, this call being the least that differs
+-- the text for a mark that isn't that of the run; this is the least call number that differs
 unfoldable pub differs_text : ℕ → List ℕ
 differs_text call = codes "save differs " ++ (decimal call ++ codes "\n")
 
--- a mark or orders that aren't taken end the command by why they aren't
+-- how the command ends if its mark or orders are refused, by the reason
 abbrev pub RefusesMarked : MarkedFault → DeskState → DeskState → ℕ → Type 0
 RefusesMarked (Mark n) desk desk' status = EndsWith desk desk' (mark_line_text n) 2 status ⊎ LacksMemory desk desk' status
 RefusesMarked (Orders fault) desk desk' status = RefusesOrders fault desk desk' status
 
--- the settings' periods, or the mark's where these are more: where the run ends
+-- where the run ends: at the mark's period or the settings' number of periods, whichever is greater
 abbrev pub end_after : MarkedOrders → Settings → ℕ
 end_after read s = max read.mark.period s.periods
 
--- Orders that were taken are run over the lines from the mark on, and the report is told, whatever failed. The outgoing lines
--- have the headline without what was held back, whatever the desk did.
+-- The orders are run over the lines from the mark on, and the report is printed, whatever failed. The outgoing lines have the
+-- headline, without what was held back, whatever the desk did.
 pub record ResumesAndTells (read : MarkedOrders) (s : Settings) (before now : ℕ → Side → LineState) (desk desk' : DeskState) (status : ℕ) : Type 0 where
   pub report : ReportView
   pub resumes : ResumesRun read.orders (pace_of s) read.mark before now report
@@ -43,26 +43,26 @@ pub record ResumesAndTells (read : MarkedOrders) (s : Settings) (before now : �
       HeadlineFrom r read.mark.period (is_listed report.failed) before now
   pub tells : TellsReport report desk desk' status
 
--- The mark isn't that of these lines and orders, and the desk is told the least call that differs. A desk that fails while this
--- text goes out changes nothing of the status.
+-- The mark isn't that of these lines and orders, and the text says the least call number that differs. A desk that fails while
+-- this text goes out doesn't change the status.
 pub record FindsAndTells (read : MarkedOrders) (s : Settings) (before now : ℕ → Side → LineState) (desk desk' : DeskState) (status : ℕ) : Type 0 where
   pub call : ℕ
   pub finds : FindsDifference read.orders (pace_of s) read.mark before now call
   pub ends : EndsWith desk desk' (differs_text call) 9 status
 
--- what is done with a mark and orders that were taken, unless want of memory cut it short
+-- what is done with a mark and orders that were accepted: one of these two, or memory ran out
 abbrev pub ResumesOrders : Settings → (ℕ → Side → LineState) → (ℕ → Side → LineState) → DeskState → ℕ → MarkedOrders → DeskState → Type 0
 ResumesOrders s before now desk' status read desk =
     ResumesAndTells read s before now desk desk' status
     ⊎ FindsAndTells read s before now desk desk' status
     ⊎ (IsResumeCutShort read.orders (end_after read s) read.mark before now × LacksMemory desk desk' status)
 
--- what follows the reading: that; or the refusal, and no line was used
+-- what follows the reading: either this, or the mark or the orders are refused and no line is used
 abbrev pub FollowsMarked : Settings → Result MarkedOrders MarkedFault → (ℕ → Side → LineState) → (ℕ → Side → LineState) → DeskState → DeskState → ℕ → Type 0
 FollowsMarked s (Ok marked) before now read desk' status = ResumesOrders s before now desk' status marked read
 FollowsMarked s (Err fault) before now read desk' status = AllStay before now × RefusesMarked fault read desk' status
 
--- a whole command `resume`, whatever fails: the desk is read, and what follows is by the reading
+-- a whole command `resume`, whatever fails: the desk is read, and what follows depends on what was read
 pub record ResumesFarm (s : Settings) (before now : ℕ → Side → LineState) (desk desk' : DeskState) (status : ℕ) : Type 0 where
   pub read : DeskState
   pub reading : Result MarkedOrders MarkedFault
@@ -74,6 +74,6 @@ pub record ResumesFarm (s : Settings) (before now : ℕ → Side → LineState) 
   pub write_faults : read.write_faults ≡ desk.write_faults
   pub follows : FollowsMarked s reading before now read desk' status
 
--- or there was no memory to read the words, and neither a line nor the mark were used
+-- the same, or memory ran out when the words were read: no line was used, and the mark wasn't read
 abbrev pub CarriesResume : Settings → (ℕ → Side → LineState) → (ℕ → Side → LineState) → DeskState → DeskState → ℕ → Type 0
 CarriesResume s before now desk desk' status = ResumesFarm s before now desk desk' status ⊎ (AllStay before now × LacksMemory desk desk' status)

@@ -1,4 +1,4 @@
--- Why the command `resume` ends as it does, by its status (this project's profile).
+-- Why the status of the command `resume` is what it is (this project's profile).
 use Rattle.std.specs.Prelude.{◌≡◌, ◌⊎◌, ℕ, ◌<◌, List, length, Some}
 use Rattle.std.specs.Io.KnownBytes.{Consumes, IsAtEnd}
 use Rattle.trau_io.specs.declared.line.Side.{Side}
@@ -13,11 +13,11 @@ use Rattle.farm_top.specs.Farm.{AllStay, line_text}
 use Rattle.farm_top.specs.FarmCauses.{HasBadLine, ReadsBadText, SomeRose}
 use Rattle.farm_top.specs.Resume.{mark_line_text}
 
--- a text of at most 1,310,720 octets, of which line n is the first that isn't in a mark's grammar
+-- a text of at most 1,310,720 octets whose line n is the first that isn't in a mark's grammar
 abbrev pub HasBadMark : List ℕ → ℕ → Type 0
 HasBadMark text n = IsShort text × IsFirstBad text n
 
--- one with a mark, behind which line n is the first that isn't in the orders' grammar
+-- such a text with a mark, after which line n is the first that isn't in the orders' grammar
 pub record HasBadOrder (text : List ℕ) (n : ℕ) : Type 0 where
   pub short : IsShort text
   pub mark : MarkView
@@ -25,7 +25,7 @@ pub record HasBadOrder (text : List ℕ) (n : ℕ) : Type 0 where
   pub has : HasMark text mark orders
   pub bad : HasBadLine orders n
 
--- one with a mark and more orders behind it than may stand there
+-- such a text with a mark, after which the orders are too long
 pub record HasLongOrders (text : List ℕ) : Type 0 where
   pub short : IsShort text
   pub mark : MarkView
@@ -33,18 +33,18 @@ pub record HasLongOrders (text : List ℕ) : Type 0 where
   pub has : HasMark text mark orders
   pub long : IsBeyond orders
 
--- the text was read to just past the limit of octets, or to its end, and has too many orders
+-- the text was read to just past the limit of octets, or to its end and its orders are too long
 pub record ReadsTooMuch (desk desk' : DeskState) : Type 0 where
   pub given : List ℕ
   pub consumed : Consumes desk.to_come desk'.to_come given
   pub long : (length given ≡ 1310721) ⊎ (IsAtEnd desk'.to_come × HasLongOrders given)
 
--- 3 comes only where the desk's reading count rose, and always where it became greater. 7 comes exactly where the text is too
--- long, and else 2 exactly where a line of the mark isn't in its grammar; then 7 and 2 come as in `run`, of the orders. They
--- yield to 3. After 2, 3 and 7 no line was used. 9, which tells that the mark isn't that of the run, yields to these; then no
--- outgoing line was used. 4 comes only where the desk's writing count rose and none of these is due, 6 only where the count of a
--- line rose and neither 4 nor 9 is, and always where it became greater; so after 0 no count rose. Each but 3 yields to 5, want
--- of memory. 1 and 8 never come.
+-- 3: only if a fault of the desk's reading was counted, and always if that count grew. 7: only if the text that was read, or its
+-- orders, are too long; if the desk tells such a text, the status is 7, 3 or 5. 2: only if a line that was read isn't in the grammar
+-- of the mark or, after a mark, of the orders; if the desk tells such a text within the limits, the status is 2, 3 or 5. With 2, 3
+-- and 7 no line was used. 9: the mark isn't that of the run; no outgoing line was used. 4: only if a fault of the desk's writing was
+-- counted; if that count grew, the status is 4, 2, 3, 5, 7 or 9. 6: only if a line's fault was counted; if a line's count grew, the
+-- status is 6, 4, 5 or 9. 0: only if every line's count is unchanged. 5: out of memory.
 pub record ResumeCauses (before now : ℕ → Side → LineState) (desk desk' : DeskState) (status : ℕ) : Type 0 where
   pub known : (status ≡ 0) ⊎ (status ≡ 2) ⊎ (status ≡ 3) ⊎ (status ≡ 4) ⊎ (status ≡ 5) ⊎ (status ≡ 6) ⊎ (status ≡ 7) ⊎ (status ≡ 9)
   pub read_failed : status ≡ 3 → Rose desk.read_faults desk'.read_faults

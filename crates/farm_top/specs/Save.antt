@@ -21,20 +21,20 @@ use Rattle.farm_top.specs.FarmClean.{CleanTelling}
 use Rattle.farm_top.specs.FarmEnded.{EndedTelling}
 use Rattle.farm_top.specs.Headline.{Headline}
 
--- the text of a mark; or, where lines failed, a line for each of them and nothing else
+-- the text of a mark; if lines failed, a line for each of them and nothing else
 abbrev pub saved_text : List Line → MarkView → List ℕ
 saved_text [] mark = mark_text mark
 saved_text (line ∷ lines) mark = flat_map failed_line (line ∷ lines)
 
--- Orders that were taken are run over the lines, and the run's mark is told, or the lines that failed. The outgoing lines have
--- the headline, whatever the desk did.
+-- The orders are run over the lines, and the run's mark or the lines that failed are printed. The outgoing lines have the headline,
+-- whatever the desk did.
 pub record SavesAndTells (orders : List Order) (pace : Pace) (before now : ℕ → Side → LineState) (desk desk' : DeskState) (status : ℕ) : Type 0 where
   pub saved : SavedView
   pub saves : Saves orders pace before now saved
   pub headline : (r : Run) → IsRunOver orders pace.periods (is_listed saved.failed) before now r → Headline r (is_listed saved.failed) before now
   pub tells : TellsRun saved.failed (saved_text saved.failed saved.mark) desk desk' status
 
--- the run of the orders, unless want of memory cut it short
+-- the orders are run to the end, or memory ran out
 abbrev pub SavesOrders : Settings → (ℕ → Side → LineState) → (ℕ → Side → LineState) → DeskState → ℕ → List Order → DeskState → Type 0
 SavesOrders s before now desk' status orders read =
     SavesAndTells orders (pace_of s) before now read desk' status ⊎ (IsCutShort orders s.periods before now × LacksMemory read desk' status)
@@ -43,18 +43,18 @@ SavesOrders s before now desk' status orders read =
 abbrev pub SavesFarm : Settings → (ℕ → Side → LineState) → (ℕ → Side → LineState) → DeskState → DeskState → ℕ → Type 0
 SavesFarm s before now desk desk' status = ReadsAndFollows (SavesOrders s before now desk' status) before now desk desk' status
 
--- or there was no memory to read the words, and neither a line nor the orders were used
+-- the same, or memory ran out when the words were read: no line was used, and the orders weren't read
 abbrev pub CarriesSave : Settings → (ℕ → Side → LineState) → (ℕ → Side → LineState) → DeskState → DeskState → ℕ → Type 0
 CarriesSave s before now desk desk' status = SavesFarm s before now desk desk' status ⊎ (AllStay before now × LacksMemory desk desk' status)
 
--- what `save` tells of a run in which these lines failed
+-- what `save` prints of a run in which these lines failed
 abbrev pub mark_told : Run → List Line → List ℕ
 mark_told r failed = saved_text failed (mark_of r)
 
--- What it leaves where the desk tells its orders: all that `run` does, and it tells the mark.
+-- What it leaves if the desk tells its orders: all that `run` does, with this text.
 abbrev pub SaveEnded : List Order → Settings → (ℕ → Side → LineState) → (ℕ → Side → LineState) → DeskState → DeskState → ℕ → Type 0
 SaveEnded orders s before now desk desk' status = EndedTelling mark_told orders s before now desk desk' status
 
--- And where nothing fails: the mark's text.
+-- What it leaves if nothing fails: the text is the mark's.
 abbrev pub CleanSave : Run → (ℕ → Side → LineState) → (ℕ → Side → LineState) → DeskState → DeskState → ℕ → Type 0
 CleanSave r before now desk desk' status = CleanTelling (mark_text (mark_of r)) r before now desk desk' status

@@ -22,7 +22,7 @@ use Rattle.farm_top.specs.Farm.{AllStay, RunsFarm, TextOut, pace_of}
 use Rattle.farm_top.specs.Resume.{ResumesFarm}
 use Rattle.farm_top.specs.Save.{SavesFarm}
 
--- after a command that ended so and left the desk so: the status is that of the end, and where there was no memory the desk is told
+-- after a command with this end, which left the desk as `left`: the status is that of the end, and if memory ran out, a text says so
 pub record Answers (end : ToolEnd) (left desk' : DeskState) (status : ℕ) : Type 0 where
   pub status_is : status ≡ status_of end
   pub no_memory : end ≡ Memory → TextOut left desk' (codes "no memory\n")
@@ -42,8 +42,8 @@ pub record CarriesFrames (before now : ℕ → Side → LineState) (desk desk' :
   pub runs : FramesRun before now desk left call end
   pub answers : Answers end left desk' status
 
--- what is asked for is in its ranges: a run's pace, a drill's calls and periods, what a live drill is made of, the call of a tool, that and the wanted place of
--- the base station's end, or the first and the last call of a slot
+-- what is asked for is in its ranges: a run's pace; a drill's calls and periods; a live drill's numbers; the call of a tool; the
+-- call and the wanted place of `follow`; the first and the last call of a slot
 abbrev pub IsInRange : Asked → Type 0
 IsInRange (Run s) = IsPace (pace_of s)
 IsInRange (Save s) = IsPace (pace_of s)
@@ -58,7 +58,7 @@ IsInRange (Follow c want) = IsCallNumber c × (want ≤ 316) × (want % 4 ≡ 0)
 IsInRange (Split c) = IsCallNumber c × IsCallNumber (c + 3)
 IsInRange (Merge c) = IsCallNumber c × IsCallNumber (c + 3)
 
--- what is asked for was carried out, whatever fails
+-- the command that is asked for was run, whatever fails
 abbrev pub CarriesAsked : Asked → (ℕ → Side → LineState) → (ℕ → Side → LineState) → DeskState → DeskState → ℕ → Type 0
 CarriesAsked (Run s) before now desk desk' status = RunsFarm s before now desk desk' status
 CarriesAsked (Save s) before now desk desk' status = SavesFarm s before now desk desk' status

@@ -16,7 +16,7 @@ use Rattle.command_words.specs.Words.{Names}
 abbrev pub spelled : {Z : Type 0} → List (String Z) → List (List ℕ)
 spelled words = map (λ w. string_bytes w) words
 
--- the words ask for a tool that works one line into another, as `relay 7`
+-- the words ask for a tool that turns one line into another, as `relay 7`
 abbrev pub AsksFor : List (List ℕ) → Tool → ℕ → Type 0
 AsksFor words tool call = Names words (name_of tool) call
 
@@ -36,7 +36,7 @@ AsksForSave words settings = AsksSave words settings
 abbrev pub AsksForResume : List (List ℕ) → Settings → Type 0
 AsksForResume words settings = AsksResume words settings
 
--- they ask for a drill of so many calls, from this seed, with these settings, as `drill --calls 2`
+-- they ask for a drill of this number of calls, from this seed, with these settings, as `drill --calls 2`
 abbrev pub AsksForDrill : List (List ℕ) → ℕ → ℕ → Settings → Type 0
 AsksForDrill words seed calls settings = AsksDrill words seed calls settings
 
@@ -44,18 +44,18 @@ AsksForDrill words seed calls settings = AsksDrill words seed calls settings
 abbrev pub AsksForLive : List (List ℕ) → LiveSettings → Type 0
 AsksForLive words settings = AsksLive words settings
 
--- they ask for a time slot to be cut into channels, or put together of them, as `split 7`
+-- they ask for a time slot to be cut into channels, or to be joined from them, as `split 7`
 abbrev pub AsksForSplit : List (List ℕ) → ℕ → Type 0
 AsksForSplit words call = NamesSlot words (codes "split") call
 
 abbrev pub AsksForMerge : List (List ℕ) → ℕ → Type 0
 AsksForMerge words call = NamesSlot words (codes "merge") call
 
--- they ask for the base station's end of a downlink, which wants frames at such places, as `follow 7 0`
+-- they ask for the base station's end of a downlink, which wants frames at these places modulo 320, as `follow 7 0`
 abbrev pub AsksForFollow : List (List ℕ) → ℕ → ℕ → Type 0
 AsksForFollow words call want = NamesFollow words call want
 
--- they are those of a command
+-- the words are those of a command
 abbrev pub AreCommand : List (List ℕ) → Type 0
 AreCommand words =
     ((tool : Tool) × (call : ℕ) × AsksFor words tool call)

@@ -1,4 +1,4 @@
-//! The command `drill`: a run over lines of its own, and its report and sums to the desk.
+//! The command `drill`: a run over lines of its own. Its report and sums go to the desk.
 
 ghost use Rattle.std.specs.Prelude.{◌≤◌};
 ghost use Rattle.farm_run.specs.Pace.{IsPace};
@@ -15,7 +15,7 @@ use std::sync::Wait;
 use std::thread::Threads;
 use trau_io::{Desk, tell};
 
-/// Tells the text of a command that was carried to its end.
+/// Prints the text of a command that came to its end, and returns the status.
 pub(crate) fn tell_whole<D: Desk>(desk: &mut D, text: &[u8]) -> u8
     ensures { TellsWhole text.now (D.desk desk.old) (D.desk desk.new) result }
 {
@@ -25,7 +25,7 @@ pub(crate) fn tell_whole<D: Desk>(desk: &mut D, text: &[u8]) -> u8
     }
 }
 
-/// Makes the lines and orders of a drill, runs these over those, and tells the report and the sums.
+/// Draws the lines and orders of a drill, runs the orders over the lines, and prints the report and the sums.
 pub(crate) fn drill_farm<R: Threads + Wait + Sync, D: Desk, G: Gate + Sync>(
     rt: &R,
     alloc: Global,

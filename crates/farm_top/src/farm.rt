@@ -1,4 +1,4 @@
-//! The command `run`: the orders from the desk, the run over the lines, and its report to the desk.
+//! The command `run`: reads the orders from the desk, runs them over the lines, and prints the report to the desk.
 
 ghost use Rattle.std.specs.Prelude.{◌≡◌, ℕ, Bool};
 ghost use Rattle.trau_io.specs.declared.line.Side.{Side};
@@ -21,8 +21,7 @@ use farm_report::{Report, write_report};
 use farm_run::{Pace, run};
 use pool_run::Gate;
 use run_calls_spec::{
-    items_are_the_partners_frames, items_change_nothing_else, items_go_out_in_order_and_once,
-    lines_are_of_whole_calls,
+    items_are_the_partners_frames, items_go_out_in_order_and_once, lines_are_of_whole_calls,
 };
 use std::alloc::Global;
 use std::sync::Wait;
@@ -41,7 +40,7 @@ pub(crate) fn pace_of(settings: Settings) -> Pace
     }
 }
 
-/// Ends a command with this text and status. A desk that fails while the text goes out changes nothing of the status.
+/// Ends a command with this text and status. A desk that fails while the text goes out doesn't change the status.
 pub(crate) fn refuse<D: Desk>(desk: &mut D, text: &[u8], status: u8) -> u8
     ensures { EndsWith (D.desk desk.old) (D.desk desk.new) text.now status result }
 {
@@ -49,14 +48,14 @@ pub(crate) fn refuse<D: Desk>(desk: &mut D, text: &[u8], status: u8) -> u8
     status
 }
 
-/// Tells of want of memory.
+/// Ends a command that ran out of memory.
 pub(crate) fn no_memory<D: Desk>(desk: &mut D) -> u8
     ensures { LacksMemory (D.desk desk.old) (D.desk desk.new) result }
 {
     refuse(desk, b"no memory\n", NO_MEMORY)
 }
 
-/// Answers for orders that aren't taken.
+/// Ends a command whose orders are refused.
 pub(crate) fn refuse_orders<D: Desk>(alloc: Global, fault: OrdersFault, desk: &mut D) -> u8
     ensures { RefusesOrders fault (D.desk desk.old) (D.desk desk.new) result }
 {
@@ -71,7 +70,7 @@ pub(crate) fn refuse_orders<D: Desk>(alloc: Global, fault: OrdersFault, desk: &m
     }
 }
 
-/// Tells the text of a run in which these lines failed, and answers the status that is due.
+/// Prints the text of a run in which these lines failed, and returns the status that is due.
 pub(crate) fn tell_run<D: Desk>(desk: &mut D, text: &[u8], failed: &[Line]) -> u8
     ensures { TellsDue (status_of_run failed.now) text.now (D.desk desk.old) (D.desk desk.new) result }
 {
@@ -81,7 +80,7 @@ pub(crate) fn tell_run<D: Desk>(desk: &mut D, text: &[u8], failed: &[Line]) -> u
     if failed.is_empty() { DONE } else { LINE_FAILED }
 }
 
-/// Tells the report of a run.
+/// Prints the report of a run, and returns the status.
 pub(crate) fn tell_report<D: Desk>(alloc: Global, report: &Report, desk: &mut D) -> u8
     ensures { TellsReport report.now (D.desk desk.old) (D.desk desk.new) result }
 {
@@ -92,7 +91,7 @@ pub(crate) fn tell_report<D: Desk>(alloc: Global, report: &Report, desk: &mut D)
 }
 
 /// A law: what a run leaves on outgoing lines are the lines of whole calls, or the later octets of these, and its bridges hand
-/// frames over.
+/// over frames.
 pub(crate) fn lines_have_the_headline()
     ensures whole { (r : TheRun) (fails : ℕ → Side → Bool) (before now : ℕ → Side → LineState) → AreOrders r.orders →
         Leaves r fails before now → Headline r fails before now }
@@ -102,10 +101,9 @@ pub(crate) fn lines_have_the_headline()
     lines_are_of_whole_calls();
     items_are_the_partners_frames();
     items_go_out_in_order_and_once();
-    items_change_nothing_else();
 }
 
-/// Reads the orders from the desk, runs them over the lines of the trunk, and tells the report.
+/// Reads the orders from the desk, runs them over the lines of the trunk, and prints the report.
 pub(crate) fn run_farm<R: Threads + Wait + Sync, T: Trunk, D: Desk, G: Gate + Sync>(
     rt: &R,
     alloc: Global,

@@ -8,7 +8,7 @@ use crate::top::status_of_end;
 use ccu_end::follow;
 use trau_io::{Desk, Trunk};
 
-/// Follows the downlink on a call's Up line, and answers for the end.
+/// Follows the downlink on a call's Up line, and returns the status.
 pub(crate) fn carry_follow<T: Trunk, D: Desk>(
     call: u32,
     want: u16,

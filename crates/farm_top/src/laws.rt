@@ -12,8 +12,8 @@ ghost use Rattle.run_spec.specs.Mark.{mark_of};
 use farm_orders::marks_leave_room;
 use run_spec::laws::marks_of_runs_are_marks;
 
-/// The mark of a run, as `save` tells it, and behind it the text of orders within their limits, are a mark and orders that
-/// `resume` takes.
+/// The mark of a run, as `save` prints it, followed by the text of orders within their limits, is a mark with orders that
+/// `resume` accepts.
 pub fn a_saved_mark_is_taken()
     ensures { (r : Run) (rest : List ℕ) (orders : List Order) (desk : DeskState) → 1 ≤ r.periods → r.periods ≤ 4294967295 →
         IsWithin rest → AreLines (text_lines rest) orders → desk.to_come ≡ Some (mark_text (mark_of r) ++ rest) → TellsMarked (mark_of r) orders desk }

@@ -1,25 +1,23 @@
 //! The top call of the transcoder: words in, octets and a text out, and a status.
 //!
-//! Above everything but the program's own crate, which hands it the lines, the desk and the words of the command line.
-//! It has the words read (`command_words`) and the command carried out: a tool (`farm_tools`); a command on a time slot
-//! (`trau_submux`); the base station's end (`ccu_end`); a run, whose orders are
-//! read from the desk (`farm_orders`), run over the lines (`farm_run`) and reported (`farm_report`); the same to a mark or
-//! from one on (`farm_checkpoint`); a drill (`drill_run`); or a live drill (`live_run`). It answers the status.
+//! The program's own crate calls it with the lines, the desk and the words of the command line. It reads the words
+//! (`command_words`), runs the command and returns the status. The command is a tool (`farm_tools`); a command on a time slot
+//! (`trau_submux`); the base station's end (`ccu_end`); a run, whose orders are read from the desk (`farm_orders`), run over the
+//! lines (`farm_run`) and reported (`farm_report`); a run to a mark or from a mark on (`farm_checkpoint`); a drill
+//! (`drill_run`); or a live drill (`live_run`).
 //!
-//! `top` has the whole call, `farm` the command `run`, `save` and `resume` the commands of these names, `drill` the command
-//! `drill`, `live` the command `live`, `slots` the commands on time slots, `follow` the base station's end, `status` the
-//! statuses, `laws` the law that a mark of `save` is taken.
+//! `top` has the top call, `farm` the command `run`, `save`, `resume`, `drill`, `live` and `follow` the commands of these names,
+//! `slots` the commands on time slots, `status` the statuses, `laws` the law that `resume` accepts a mark of `save`.
 //!
 //! The commands, their texts and the statuses are this project's profile.
-//! Definitions: `specs/Words.antt` (which words ask for what), `specs/Top.antt` (a whole command), `specs/Farm.antt` (a
-//! whole run), `specs/FarmCauses.antt` (why each status of a run comes), `specs/FarmEnded.antt` (what a run leaves, whatever
-//! fails), `specs/FarmClean.antt` (and where nothing fails), `specs/Headline.antt` (its outgoing lines, by whole calls),
-//! `specs/Save.antt` (a whole run to a mark), `specs/Resume.antt`, `specs/ResumeCauses.antt` and `specs/ResumeEnded.antt` (a
-//! whole run from a mark on, why each of its statuses comes, and what it leaves), `specs/Drill.antt` (a whole drill),
-//! `specs/Live.antt` (a whole live drill), `specs/Slots.antt` (a whole command on a time slot), `specs/Follow.antt` (a whole
-//! `follow`); what a run
-//! does to the lines stands in `farm_run`, what a drill's text is in `drill_run` and `live_run`, what a tool does and why it ends so in
-//! `farm_tools`, `trau_submux` and `ccu_end`.
+//! Definitions: `specs/Promises.antt` (all that is promised of each command), `specs/Words.antt` (which words ask for what),
+//! `specs/Top.antt` (a whole command), `specs/Farm.antt` (a whole run), `specs/FarmCauses.antt` (why its status is what it is),
+//! `specs/FarmEnded.antt` (what it leaves, whatever fails), `specs/FarmClean.antt` (what it leaves if nothing fails),
+//! `specs/Headline.antt` (its outgoing lines, by whole calls), `specs/Save.antt` (a whole run to a mark), `specs/Resume.antt`,
+//! `specs/ResumeCauses.antt` and `specs/ResumeEnded.antt` (a whole run from a mark on, why its status is what it is, and what it
+//! leaves), `specs/Drill.antt` (a whole drill), `specs/Live.antt` (a whole live drill), `specs/Slots.antt` (a whole command on a
+//! time slot), `specs/Follow.antt` (a whole `follow`). What a run does to the lines is defined in `farm_run`, the text of a drill
+//! in `drill_run` and `live_run`, and what a tool does and why it ends in `farm_tools`, `trau_submux` and `ccu_end`.
 #![tactic(auto)]
 
 mod drill;

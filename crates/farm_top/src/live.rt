@@ -1,4 +1,4 @@
-//! The command `live`: callers on threads post the periods of drawn calls, and the sums go to the desk.
+//! The command `live`: callers on threads post the periods of drawn calls. The sums go to the desk.
 
 ghost use Rattle.live_run.specs.Size.{IsLiveDrill};
 ghost use Rattle.farm_top.specs.Live.{CarriesLive, live_of};
@@ -13,7 +13,7 @@ use std::sync::Wait;
 use std::thread::Threads;
 use trau_io::Desk;
 
-/// Carries out a live drill, and tells the sums.
+/// Runs a live drill, and prints the sums.
 pub(crate) fn live_farm<R: Threads + Wait + Sync, D: Desk, G: Gate + Sync>(
     rt: &R,
     alloc: Global,

@@ -1,5 +1,5 @@
-//! The command `resume`: a mark and the orders behind it from the desk, the run over the lines from the mark on, and its
-//! report to the desk.
+//! The command `resume`: reads a mark and the orders after it from the desk, runs the orders over the lines from the mark on, and
+//! prints the report to the desk.
 
 ghost use Rattle.std.specs.Prelude.{◌≡◌};
 ghost use Rattle.farm_run.specs.Pace.{IsPace};
@@ -21,7 +21,7 @@ use std::sync::Wait;
 use std::thread::Threads;
 use trau_io::{Desk, Trunk};
 
-// Answers for a mark or orders that aren't taken.
+// Ends a command whose mark or orders are refused.
 fn refuse_marked<D: Desk>(alloc: Global, fault: MarkedFault, desk: &mut D) -> u8
     ensures { RefusesMarked fault (D.desk desk.old) (D.desk desk.new) result }
 {
@@ -34,7 +34,7 @@ fn refuse_marked<D: Desk>(alloc: Global, fault: MarkedFault, desk: &mut D) -> u8
     }
 }
 
-// The text for a mark that isn't that of the run: the least call that differs.
+// The text for a mark that isn't that of the run. `call` is the least call number that differs.
 #[tactic(auto, unfolding(crate::specs::Resume::differs_text))]
 fn differs_text(call: u32) -> ArrayString<32>
     ensures { result.bytes ≡ differs_text call }
@@ -47,8 +47,8 @@ fn differs_text(call: u32) -> ArrayString<32>
     text
 }
 
-/// Reads a mark and the orders behind it from the desk, runs these over the lines of the trunk from the mark on, and tells
-/// the report; or that the mark isn't that of the run.
+/// Reads a mark and the orders after it from the desk, runs the orders over the lines of the trunk from the mark on, and prints
+/// the report, or that the mark isn't that of the run.
 pub(crate) fn resume_farm<R: Threads + Wait + Sync, T: Trunk, D: Desk, G: Gate + Sync>(
     rt: &R,
     alloc: Global,

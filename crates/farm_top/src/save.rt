@@ -1,4 +1,4 @@
-//! The command `save`: the orders from the desk, the run over the lines, and its mark at its end to the desk.
+//! The command `save`: reads the orders from the desk, runs them over the lines, and prints the run's mark to the desk.
 
 ghost use Rattle.std.specs.Prelude.{◌≡◌, ◌≤◌, IfOk, string_bytes};
 ghost use Rattle.farm_checkpoint.specs.Marks.{AreOpenAtMark};
@@ -18,7 +18,7 @@ use std::sync::Wait;
 use std::thread::Threads;
 use trau_io::{Desk, Trunk};
 
-// The text of a run that was marked: the mark, or the lines that failed where there are any.
+// The text of a run that was marked: the mark; if lines failed, these lines instead.
 fn saved_text(alloc: Global, saved: &Saved) -> Result<String, AllocError>
     requires period { 1 ≤ saved.now.mark.period }
     requires are_open { AreOpenAtMark saved.now.mark.period saved.now.mark.calls }
@@ -31,7 +31,7 @@ fn saved_text(alloc: Global, saved: &Saved) -> Result<String, AllocError>
     }
 }
 
-// Tells the text of a run that was marked.
+// Prints the text of a run that was marked, and returns the status.
 fn tell_saved<D: Desk>(alloc: Global, saved: &Saved, desk: &mut D) -> u8
     requires period { 1 ≤ saved.now.mark.period }
     requires are_open { AreOpenAtMark saved.now.mark.period saved.now.mark.calls }
@@ -43,7 +43,7 @@ fn tell_saved<D: Desk>(alloc: Global, saved: &Saved, desk: &mut D) -> u8
     tell_run(desk, text.as_bytes(), &saved.failed)
 }
 
-/// Reads the orders from the desk, runs them over the lines of the trunk, and tells the mark of the run at its end.
+/// Reads the orders from the desk, runs them over the lines of the trunk, and prints the mark of the run at its end.
 pub(crate) fn save_farm<R: Threads + Wait + Sync, T: Trunk, D: Desk, G: Gate + Sync>(
     rt: &R,
     alloc: Global,

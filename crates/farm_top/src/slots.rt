@@ -6,7 +6,7 @@ use crate::top::status_of_end;
 use trau_io::{Desk, Trunk};
 use trau_submux::{merge, split};
 
-/// Cuts the slot on a call's Pcm line into its channels, and answers for the end.
+/// Cuts the slot on a call's Pcm line into its channels, and returns the status.
 pub(crate) fn carry_split<T: Trunk, D: Desk>(call: u32, trunk: &mut T, desk: &mut D) -> u8
     requires low { 1 ≤ call }
     requires high { call ≤ 4093 }
@@ -16,7 +16,7 @@ pub(crate) fn carry_split<T: Trunk, D: Desk>(call: u32, trunk: &mut T, desk: &mu
     status_of_end(end)
 }
 
-/// Puts the channels on the Up lines of a call and the three behind it together to a slot, and answers for the end.
+/// Joins the channels on the Up lines of a call and the next three calls into a slot, and returns the status.
 pub(crate) fn carry_merge<T: Trunk, D: Desk>(call: u32, trunk: &mut T, desk: &mut D) -> u8
     requires low { 1 ≤ call }
     requires high { call ≤ 4093 }

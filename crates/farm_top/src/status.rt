@@ -1,6 +1,6 @@
 //! The statuses.
 
-/// The command was carried to its end.
+/// The command came to its end.
 pub(crate) const DONE: u8 = 0;
 
 /// The words aren't those of a command.
@@ -15,7 +15,7 @@ pub(crate) const DESK_READ_FAULT: u8 = 3;
 /// The desk failed while the command's text went out.
 pub(crate) const DESK_WRITE_FAULT: u8 = 4;
 
-/// There was no memory.
+/// Memory ran out.
 pub(crate) const NO_MEMORY: u8 = 5;
 
 /// A line failed.

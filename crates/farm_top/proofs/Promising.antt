@@ -1,0 +1,131 @@
+-- From what a command does to all that is promised of it.
+use Rattle.std.proofs.Common.{◌≡◌, ◌⊎◌, inl, inr, ℕ, ◌≤◌, List}
+use Rattle.trau_io.specs.declared.line.Side.{Side}
+use Rattle.trau_io.specs.Lines.{LineState}
+use Rattle.trau_io.specs.Desks.{DeskState}
+use Rattle.trau_orders.specs.Lists.{AreOrders}
+use Rattle.trau_orders.specs.Text.{GoodOrBad, SpellsOneList}
+use Rattle.farm_checkpoint.specs.Text.{HasOneMark, NotGoodAndBad}
+use Rattle.run_spec.specs.Run.{Run as TheRun}
+use Rattle.run_spec.specs.Mark.{Joins}
+use Rattle.farm_tools.specs.declared.end.Tool.{Tool}
+use Rattle.command_words.specs.declared.asked.Asked.{Asked}
+use Rattle.command_words.specs.declared.asked.Asked.TheVariants.{Follow, Frames, Merge, Split}
+use Rattle.command_words.specs.declared.asked.Settings.{Settings}
+use Rattle.command_words.specs.declared.live.LiveSettings.{LiveSettings}
+use Rattle.command_words.specs.Asking.{Asks}
+use Rattle.farm_top.specs.Drill.{CarriesDrill}
+use Rattle.farm_top.specs.Farm.{AllStay, CarriesRun}
+use Rattle.farm_top.specs.Live.{CarriesLive}
+use Rattle.farm_top.specs.Promises.{DrillPromise, LinePromise, LivePromise, ResumePromise, RunPromise, SavePromise}
+use Rattle.farm_top.specs.Resume.{CarriesResume}
+use Rattle.farm_top.specs.Save.{CarriesSave}
+use Rattle.farm_top.specs.Top.{CarriesAsked}
+use Rattle.farm_top.specs.Words.{AsksFor, AsksForFollow, AsksForFrames, AsksForMerge, AsksForSplit, TakeOptions}
+use Rattle.farm_top.proofs.Asking.{asked_of, asks_tool, follow_carried, listing_carried, merge_carried, no_following, no_listing, no_merge, no_split}
+use Rattle.farm_top.proofs.Asking.{no_tool, split_carried, tool_carried}
+use Rattle.farm_top.proofs.Carrying.{causes, clean, listing_causes, listing_clean}
+use Rattle.farm_top.proofs.Drilling.{drill_ends, not_six}
+use Rattle.farm_top.proofs.FarmCausing.{run_causes, save_causes}
+use Rattle.farm_top.proofs.FarmCleaning.{run_clean, run_complete, run_cut_short, run_ended, run_headline, run_leaves, save_clean, save_complete, save_cut_short}
+use Rattle.farm_top.proofs.FarmCleaning.{save_ended, save_headline, save_leaves}
+use Rattle.farm_top.proofs.Living.{live_ends}
+use Rattle.farm_top.proofs.ResumeReading.{resume_causes}
+use Rattle.farm_top.proofs.Resuming.{another, cut_short, differs, ended, joins, same}
+
+-- a status of a run that was carried to its end without a line that failed
+calm_due : (status : ℕ) → (status ≡ 0) ⊎ (status ≡ 4) → (status ≡ 0) ⊎ (status ≡ 4) ⊎ (status ≡ 6)
+calm_due status (inl e) = inl e
+calm_due status (inr e) = inr (inl e)
+
+module _ (good : GoodOrBad) (one : SpellsOneList) (s : Settings) (before now : ℕ → Side → LineState) (desk desk' : DeskState) (status : ℕ) where
+  pub run_promise : CarriesRun s before now desk desk' status → RunPromise s before now desk desk' status
+  run_promise carried = record {
+    run = carried;
+    run_causes = run_causes good s before now desk desk' status carried;
+    run_complete = λ orders told calm. run_complete good one s before now desk desk' status orders told calm carried;
+    run_clean = λ orders told calm. run_clean good one s before now desk desk' status orders told calm carried;
+    run_ended = λ orders told due. run_ended good one s before now desk desk' status orders told due carried;
+    run_cut_short = λ orders told five. run_cut_short good one s before now desk desk' status orders told carried;
+    run_leaves = λ orders told none due. run_leaves good one s before now desk desk' status orders told (calm_due status due) none carried;
+    headline = λ orders told none due. run_headline good one s before now desk desk' status orders told (calm_due status due) none carried;
+  }
+
+  pub save_promise : CarriesSave s before now desk desk' status → SavePromise s before now desk desk' status
+  save_promise carried = record {
+    save = carried;
+    save_causes = save_causes good s before now desk desk' status carried;
+    save_complete = λ orders told calm. save_complete good one s before now desk desk' status orders told calm carried;
+    save_clean = λ orders told calm. save_clean good one s before now desk desk' status orders told calm carried;
+    save_ended = λ orders told due. save_ended good one s before now desk desk' status orders told due carried;
+    save_cut_short = λ orders told five. save_cut_short good one s before now desk desk' status orders told carried;
+    save_leaves = λ orders told none due. save_leaves good one s before now desk desk' status orders told (calm_due status due) none carried;
+    save_headline = λ orders told none due. save_headline good one s before now desk desk' status orders told (calm_due status due) none carried;
+  }
+
+  module _ (mark_good : NotGoodAndBad) (one_mark : HasOneMark)
+      (law : (r : TheRun) (p : ℕ) → AreOrders r.orders → p ≤ r.periods → Joins r p) where
+    pub resume_promise : CarriesResume s before now desk desk' status → ResumePromise s before now desk desk' status
+    resume_promise carried = record {
+      resume = carried;
+      resume_causes = resume_causes good mark_good one_mark s before now desk desk' status carried;
+      resume_complete = λ mark orders told calm r over. (
+        same good one mark_good one_mark s before now desk desk' status mark orders told carried calm r over,
+        another good one mark_good one_mark s before now desk desk' status mark orders told carried calm r over,
+      );
+      resume_ended = λ mark orders told. ended good one mark_good one_mark s before now desk desk' status mark orders told carried;
+      resume_differs = λ mark orders told. differs good one mark_good one_mark s before now desk desk' status mark orders told carried;
+      resume_cut_short = λ mark orders told. cut_short good one mark_good one_mark s before now desk desk' status mark orders told carried;
+      resume_joins = λ mark orders told none due.
+          joins good one mark_good one_mark s before now desk desk' status mark orders told carried law (calm_due status due) none;
+    }
+
+pub drill_promise : (seed calls : ℕ) (s : Settings) (before now : ℕ → Side → LineState) (desk desk' : DeskState) (status : ℕ) →
+    AllStay before now × CarriesDrill seed calls s.periods desk desk' status → DrillPromise seed calls s before now desk desk' status
+drill_promise seed calls s before now desk desk' status carried =
+    let ends = drill_ends seed calls s.periods before now desk desk' status carried in
+    record { drill = ends; drill_never_fails = not_six status ends.known }
+
+pub live_promise : (s : LiveSettings) (before now : ℕ → Side → LineState) (desk desk' : DeskState) (status : ℕ) →
+    AllStay before now × CarriesLive s desk desk' status → LivePromise s before now desk desk' status
+live_promise s before now desk desk' status carried = record { live = live_ends s before now desk desk' status carried }
+
+module _ (words : List (List ℕ)) (before now : ℕ → Side → LineState) (desk desk' : DeskState) (status : ℕ) where
+  -- words that were carried out
+  pub line_promise : (a : Asked) → Asks words a → CarriesAsked a before now desk desk' status → LinePromise words before now desk desk' status
+  line_promise a meant done =
+      let command = tool_carried words a meant before now desk desk' status done in
+      let frames = listing_carried words a meant before now desk desk' status done in record {
+        command = command;
+        causes = λ t c asks. causes before now desk desk' c status t (command t c asks);
+        clean = λ t c asks. clean before now desk desk' c status t (command t c asks);
+        frames = frames;
+        frames_causes = λ c asks. listing_causes before now desk desk' c status (frames c asks);
+        frames_clean = λ c asks. listing_clean before now desk desk' c status (frames c asks);
+        split = split_carried words a meant before now desk desk' status done;
+        merge = merge_carried words a meant before now desk desk' status done;
+        follow = follow_carried words a meant before now desk desk' status done;
+      }
+
+  -- words that ask for no command on lines
+  none_promised : ((t : Tool) (c : ℕ) → AsksFor words t c → ⊥) → ((c : ℕ) → AsksForFrames words c → ⊥) → ((c : ℕ) → AsksForSplit words c → ⊥) →
+      ((c : ℕ) → AsksForMerge words c → ⊥) → ((c want : ℕ) → AsksForFollow words c want → ⊥) → LinePromise words before now desk desk' status
+  none_promised tool frames split merge follow = record {
+    command = λ t c asks. absurd (tool t c asks);
+    causes = λ t c asks. absurd (tool t c asks);
+    clean = λ t c asks. absurd (tool t c asks);
+    frames = λ c asks. absurd (frames c asks);
+    frames_causes = λ c asks. absurd (frames c asks);
+    frames_clean = λ c asks. absurd (frames c asks);
+    split = λ c asks. absurd (split c asks);
+    merge = λ c asks. absurd (merge c asks);
+    follow = λ c want asks. absurd (follow c want asks);
+  }
+
+  pub no_command_promised : ((a : Asked) → Asks words a → ⊥) → LinePromise words before now desk desk' status
+  no_command_promised none = none_promised (λ t c asks. none (asked_of t c) (asks_tool words t c asks)) (λ c. none (Frames c)) (λ c. none (Split c))
+      (λ c. none (Merge c)) (λ c want. none (Follow c want))
+
+  pub options_promised : TakeOptions words → LinePromise words before now desk desk' status
+  options_promised take = none_promised (λ t c. no_tool words t c take) (λ c. no_listing words c take) (λ c. no_split words c take)
+      (λ c. no_merge words c take) (λ c want. no_following words c want take)

@@ -1,0 +1,130 @@
+-- What the top call promises of each command (this project's profile).
+use Rattle.std.specs.Prelude.{◌≡◌, ◌≢◌, ◌⊎◌, ℕ, max, List}
+use Rattle.trau_io.specs.declared.line.Side.{Side}
+use Rattle.trau_io.specs.declared.line.Side.TheVariants.{Up}
+use Rattle.trau_io.specs.Lines.{LineState}
+use Rattle.trau_io.specs.Desks.{DeskState}
+use Rattle.trau_orders.specs.declared.order.Order.{Order}
+use Rattle.farm_checkpoint.specs.Marks.{MarkView}
+use Rattle.farm_orders.specs.Marked.{TellsMarked}
+use Rattle.run_spec.specs.Run.{Run}
+use Rattle.run_spec.specs.Mark.{marked_calls}
+use Rattle.farm_run.specs.Runs.{IsRunOver, Leaves, NoneRose, none_fails}
+use Rattle.farm_run.specs.Fronts.{IsCutShort}
+use Rattle.farm_run.specs.Resuming.{IsResumeCutShort}
+use Rattle.farm_tools.specs.declared.end.Tool.{Tool}
+use Rattle.farm_tools.specs.Causes.{Causes}
+use Rattle.farm_tools.specs.Clean.{CleanRun}
+use Rattle.farm_tools.specs.Frames.{CleanFrames, FramesCauses}
+use Rattle.command_words.specs.declared.asked.Settings.{Settings}
+use Rattle.command_words.specs.declared.live.LiveSettings.{LiveSettings}
+use Rattle.farm_top.specs.Drill.{DrillEnds}
+use Rattle.farm_top.specs.Farm.{CarriesRun}
+use Rattle.farm_top.specs.FarmCauses.{RunCauses}
+use Rattle.farm_top.specs.FarmClean.{CleanFarm, IsCalmRun, TellsOrders}
+use Rattle.farm_top.specs.FarmEnded.{RunEnded}
+use Rattle.farm_top.specs.Follow.{FollowEnds}
+use Rattle.farm_top.specs.Headline.{Headline}
+use Rattle.farm_top.specs.Live.{LiveEnds}
+use Rattle.farm_top.specs.Resume.{CarriesResume}
+use Rattle.farm_top.specs.ResumeCauses.{ResumeCauses}
+use Rattle.farm_top.specs.ResumeEnded.{JoinsMarked, ResumeDiffers, ResumeEnded}
+use Rattle.farm_top.specs.Save.{CarriesSave, CleanSave, SaveEnded}
+use Rattle.farm_top.specs.Slots.{MergeEnds, SplitEnds}
+use Rattle.farm_top.specs.Top.{Carries, CarriesFrames}
+use Rattle.farm_top.specs.Words.{AsksFor, AsksForFollow, AsksForFrames, AsksForMerge, AsksForSplit}
+
+-- `run` with these settings. `orders` are those that the desk tells. If it doesn't tell its orders, the field `run` says what is
+-- done.
+pub record RunPromise (s : Settings) (before now : ℕ → Side → LineState) (desk desk' : DeskState) (status : ℕ) : Type 0 where
+  -- what it does, whatever fails, and why the status is what it is
+  pub run : CarriesRun s before now desk desk' status
+  pub run_causes : RunCauses before now desk desk' status
+  -- if no fault is counted, orders in the grammar and within the limits are run to the end, unless memory runs out
+  pub run_complete : (orders : List Order) → TellsOrders orders desk → IsCalmRun before now desk desk' → (status ≡ 0) ⊎ (status ≡ 5)
+  -- if memory doesn't run out either, the lines and the desk have gained exactly what the run of these orders gives
+  pub run_clean : (orders : List Order) → TellsOrders orders desk → IsCalmRun before now desk desk' → status ≢ 5 →
+      (r : Run) → IsRunOver orders s.periods none_fails before now r → CleanFarm r before now desk desk' status
+  -- whichever lines fail and whatever the desk does, the lines have what the run of these orders, over what the lines gave, leaves
+  -- on them, with the headline; the desk has gained the report or a proper prefix of it
+  pub run_ended : (orders : List Order) → TellsOrders orders desk → (status ≡ 0) ⊎ (status ≡ 4) ⊎ (status ≡ 6) →
+      RunEnded orders s before now desk desk' status
+  -- if memory ran out, the run stopped at one period: each outgoing line has gained exactly the octets of the periods before it, or,
+  -- if it failed, a proper prefix of these; the lines of calls that the run doesn't open are unchanged
+  pub run_cut_short : (orders : List Order) → TellsOrders orders desk → status ≡ 5 → IsCutShort orders s.periods before now
+  -- if no line's fault is counted, the lines have exactly what the run gives them
+  pub run_leaves : (orders : List Order) → TellsOrders orders desk → NoneRose before now → (status ≡ 0) ⊎ (status ≡ 4) →
+      (r : Run) → IsRunOver orders s.periods none_fails before now r → Leaves r none_fails before now
+  -- The headline. Whatever the chunk sizes of reads and writes, the orders, the workers, batch and slices and the interleaving of
+  -- the workers, the octets written on a call's outgoing lines are those that the definition of the call as a whole gives. They
+  -- depend on the call's own incoming lines and orders and, only between a bridge's reported start and end, on its partner's uplink.
+  -- There each good speech frame's 260 bits go out unchanged, in order and once.
+  pub headline : (orders : List Order) → TellsOrders orders desk → NoneRose before now → (status ≡ 0) ⊎ (status ≡ 4) →
+      (r : Run) → IsRunOver orders s.periods none_fails before now r → Headline r none_fails before now
+
+-- `save`, a run to a mark: the promise is that of `run`, except for the text, which is the mark of the run or the lines that failed.
+pub record SavePromise (s : Settings) (before now : ℕ → Side → LineState) (desk desk' : DeskState) (status : ℕ) : Type 0 where
+  pub save : CarriesSave s before now desk desk' status
+  pub save_causes : RunCauses before now desk desk' status
+  pub save_complete : (orders : List Order) → TellsOrders orders desk → IsCalmRun before now desk desk' → (status ≡ 0) ⊎ (status ≡ 5)
+  pub save_clean : (orders : List Order) → TellsOrders orders desk → IsCalmRun before now desk desk' → status ≢ 5 →
+      (r : Run) → IsRunOver orders s.periods none_fails before now r → CleanSave r before now desk desk' status
+  pub save_ended : (orders : List Order) → TellsOrders orders desk → (status ≡ 0) ⊎ (status ≡ 4) ⊎ (status ≡ 6) →
+      SaveEnded orders s before now desk desk' status
+  pub save_cut_short : (orders : List Order) → TellsOrders orders desk → status ≡ 5 → IsCutShort orders s.periods before now
+  pub save_leaves : (orders : List Order) → TellsOrders orders desk → NoneRose before now → (status ≡ 0) ⊎ (status ≡ 4) →
+      (r : Run) → IsRunOver orders s.periods none_fails before now r → Leaves r none_fails before now
+  pub save_headline : (orders : List Order) → TellsOrders orders desk → NoneRose before now → (status ≡ 0) ⊎ (status ≡ 4) →
+      (r : Run) → IsRunOver orders s.periods none_fails before now r → Headline r none_fails before now
+
+-- `resume`, a run from a mark on. It ends at the mark's period or the number of periods asked for, whichever is greater.
+pub record ResumePromise (s : Settings) (before now : ℕ → Side → LineState) (desk desk' : DeskState) (status : ℕ) : Type 0 where
+  -- what it does, whatever fails, and why the status is what it is
+  pub resume : CarriesResume s before now desk desk' status
+  pub resume_causes : ResumeCauses before now desk desk' status
+  -- if no fault is counted, a mark and orders in the grammar and within the limits are run to the end if the mark has the calls of
+  -- the run to its period; otherwise the status is 9. Either may run out of memory.
+  pub resume_complete : (mark : MarkView) (orders : List Order) → TellsMarked mark orders desk → IsCalmRun before now desk desk' →
+      (r : Run) → IsRunOver orders mark.period none_fails before now r →
+      (marked_calls r ≡ mark.calls → (status ≡ 0) ⊎ (status ≡ 5)) × (marked_calls r ≢ mark.calls → (status ≡ 9) ⊎ (status ≡ 5))
+  -- what each status leaves: with 0, 4 and 6 the lines have what the run of these orders, over what the lines gave, leaves on them,
+  -- without the octets of the periods before the mark's; with 0 and 6 the text is the whole run's report
+  pub resume_ended : (mark : MarkView) (orders : List Order) → TellsMarked mark orders desk → (status ≡ 0) ⊎ (status ≡ 4) ⊎ (status ≡ 6) →
+      ResumeEnded mark orders s before now desk desk' status
+  pub resume_differs : (mark : MarkView) (orders : List Order) → TellsMarked mark orders desk → status ≡ 9 →
+      ResumeDiffers mark orders s before now desk desk'
+  pub resume_cut_short : (mark : MarkView) (orders : List Order) → TellsMarked mark orders desk → status ≡ 5 →
+      IsResumeCutShort orders (max mark.period s.periods) mark before now
+  -- If no line's fault is counted: any run of the same orders to the mark's period, over lines whose incoming ones tell the same
+  -- (that of `save`, by `save_leaves`), is this run, cut at this period. What it leaves on a line, followed by what was gained here,
+  -- is what the whole run writes there.
+  pub resume_joins : (mark : MarkView) (orders : List Order) → TellsMarked mark orders desk → NoneRose before now → (status ≡ 0) ⊎ (status ≡ 4) →
+      (r : Run) → IsRunOver orders (max mark.period s.periods) none_fails before now r → JoinsMarked orders r mark.period before now
+
+-- `drill` of this number of calls, drawn from a seed. It uses no line of the trunk. Its text is a function of the seed, the calls
+-- and the periods. Its status is never that of a failed line.
+pub record DrillPromise (seed calls : ℕ) (s : Settings) (before now : ℕ → Side → LineState) (desk desk' : DeskState) (status : ℕ) : Type 0 where
+  pub drill : DrillEnds seed calls s.periods before now desk desk' status
+  pub drill_never_fails : status ≢ 6
+
+-- `live`. It uses no line of the trunk either. Its text is a function of the seed, the calls and the periods: the sums of each call
+-- as a whole, whatever the callers, the room of the inboxes and the interleaving of the threads.
+pub record LivePromise (s : LiveSettings) (before now : ℕ → Side → LineState) (desk desk' : DeskState) (status : ℕ) : Type 0 where
+  pub live : LiveEnds s.seed s.calls s.periods before now desk desk' status
+
+-- The commands on lines that these words ask for.
+pub record LinePromise (words : List (List ℕ)) (before now : ℕ → Side → LineState) (desk desk' : DeskState) (status : ℕ) : Type 0 where
+  -- `relay`, `decode` and `encode` of a call: what they do, whatever fails, and why the status is what it is. If nothing fails and the
+  -- contents of desk and lines are known, the outgoing line has gained exactly what is made of the incoming line's blocks up to the
+  -- first refused one, and the desk exactly the text.
+  pub command : (t : Tool) (c : ℕ) → AsksFor words t c → Carries t before now desk desk' c status
+  pub causes : (t : Tool) (c : ℕ) → AsksFor words t c → Causes t c before now desk desk' status
+  pub clean : (t : Tool) (c : ℕ) → AsksFor words t c → CleanRun t c before now desk desk' status
+  -- `frames`, the same
+  pub frames : (c : ℕ) → AsksForFrames words c → CarriesFrames before now desk desk' c status
+  pub frames_causes : (c : ℕ) → AsksForFrames words c → FramesCauses (before c Up) (now c Up) desk desk' status
+  pub frames_clean : (c : ℕ) → AsksForFrames words c → CleanFrames c (before c Up) (now c Up) desk desk' status
+  -- the commands on time slots and the base station's end: the same, in one record each
+  pub split : (c : ℕ) → AsksForSplit words c → SplitEnds before now desk desk' c status
+  pub merge : (c : ℕ) → AsksForMerge words c → MergeEnds before now desk desk' c status
+  pub follow : (c want : ℕ) → AsksForFollow words c want → FollowEnds before now desk desk' c want status
