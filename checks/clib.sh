@@ -1,6 +1,7 @@
 #!/bin/sh
-# The C library: built of what is proved; its C and Python tests beside recorded answers of libgsm; and where toast, sox and ffmpeg
-# are installed, what they write of recorded speech on libgsm of the system and on this library.
+# The C library, built from what is proved: its C and Python tests against recorded answers of libgsm; hard signals against libgsm built
+# with integers; and if sox, toast, ffmpeg and GStreamer are installed, what they write for recorded speech on the system's libgsm and on
+# this library. TRAU_CLIB names a library to use in place of clib/out, which isn't built then.
 set -eu
 top=$(cd "$(dirname "$0")/.." && pwd)
 vectors=$top/crates/codec_vectors/data
@@ -13,12 +14,16 @@ if ! command -v cc >/dev/null; then
     echo "skipped clib: no C compiler"
     exit 0
 fi
-export TRAU_CLIB="$work/built"
-"$top/clib/build" "$TRAU_CLIB"
+if [ -z "${TRAU_CLIB:-}" ]; then
+    "$top/clib/build"
+    TRAU_IS_BUILT=ask "$top/clib/build"
+    TRAU_CLIB=$top/clib/out
+fi
+export TRAU_CLIB
 lib=$TRAU_CLIB/lib
 cd "$work"
 
-# said NAME COMMAND ..: the status of the command, and where it fails what it printed
+# said NAME COMMAND ..: the status of the command, and if it fails what it printed
 said() {
     name=$1
     shift
@@ -38,9 +43,11 @@ for kind in . glibc-hwcaps/x86-64-v3; do
     fi
     cc -O2 -Wall -Wextra -I"$TRAU_CLIB/include" -o test_trau_fr "$tests/test_trau_fr.c" "$lib/$kind/libtrau_fr.so.1"
     said "test_trau_fr of $kind" env LD_LIBRARY_PATH="$lib/$kind" ./test_trau_fr "$vectors" "$tests/data"
-    cc -O1 -Wall -Wextra -o says "$tests/libgsm_says.c" "$lib/trau-gsm/$kind/libgsm.so.1"
-    env LD_LIBRARY_PATH="$lib/trau-gsm/$kind" ./says >says.txt
-    said "libgsm's interface of $kind" cmp says.txt "$tests/data/libgsm_says.txt"
+    for program in says hard; do
+        cc -O2 -Wall -Wextra -o $program "$tests/libgsm_$program.c" "$lib/trau-gsm/$kind/libgsm.so.1" -lm
+        env LD_LIBRARY_PATH="$lib/trau-gsm/$kind" ./$program >$program.txt
+        said "libgsm_$program of $kind" cmp $program.txt "$tests/data/libgsm_$program.txt"
+    done
 done
 cc -O2 -I"$TRAU_CLIB/include" -o test_static "$tests/test_trau_fr.c" "$lib/libtrau_fr.a"
 said "test_trau_fr of libtrau_fr.a" ./test_static "$vectors" "$tests/data"
@@ -48,13 +55,52 @@ if command -v c++ >/dev/null; then
     echo '#include <trau_fr.h>' >header.cc
     said "the header as C++" c++ -Wall -Wextra -I"$TRAU_CLIB/include" -c header.cc
 fi
-said "the Python module" env PYTHONDONTWRITEBYTECODE=1 python3 "$tests/test_trau_fr.py"
+
+# A Python with numpy: the system's, or the one on the path.
+python=python3
+for each in python3 /usr/bin/python3; do
+    if $each -c 'import numpy' 2>/dev/null; then
+        python=$each
+        break
+    fi
+done
+$python -c 'import numpy' 2>/dev/null || echo "skipped numpy: not installed"
+said "the Python module" env PYTHONDONTWRITEBYTECODE=1 $python "$tests/test_trau_fr.py"
+
+# The system's libgsm may compute in floats. Then it differs from the standard on hard signals, which is no failure of this library.
+if cc -O2 -o hard_of_system "$tests/libgsm_hard.c" -l:libgsm.so.1 -lm 2>/dev/null && ./hard_of_system >of_system.txt; then
+    differ=$(diff of_system.txt "$tests/data/libgsm_hard.txt" | grep -c '^<' || true)
+    echo "note libgsm of the system: $differ of $(wc -l <of_system.txt) runs of hard signals aren't those of libgsm built with integers"
+fi
+
+# is_loaded: whether the program that ran last has loaded this library
+is_loaded() {
+    grep -q "calling init: $lib/trau-gsm/.*libgsm.so.1" loaded.*
+}
+
+# ends STATUS COMMAND ..: the status of a command
+ends() {
+    wanted=$1
+    shift
+    status=0
+    "$@" >ended.txt 2>&1 || status=$?
+    said "status $wanted: $(echo "$*" | sed "s:$top/::g")" [ "$status" = "$wanted" ]
+}
+
+ends 0 "$top/clib/build" --help
+ends 2 "$top/clib/build" --what
+ends 2 "$top/clib/build" one two
+ends 2 "$top/clib/with"
+ends 2 env TRAU_CLIB=/nowhere "$top/clib/with" true
+ends 7 "$top/clib/with" sh -c "exit 7"
 
 # compared NAME COMMAND: a shell command that writes standard output, on the system's libgsm and on this library
 compared() {
+    rm -f loaded.*
     sh -c "$2" >on.system 2>/dev/null
-    "$top/clib/with" sh -c "$2" >on.library 2>/dev/null
+    LD_DEBUG=libs LD_DEBUG_OUTPUT="$work/loaded" "$top/clib/with" sh -c "$2" >on.library 2>/dev/null
     [ -s on.system ] || { echo "FAILED $1: nothing written"; failed=$((failed + 1)); }
+    is_loaded || { echo "FAILED $1: the library isn't loaded"; failed=$((failed + 1)); }
     said "$1" cmp on.system on.library
 }
 
@@ -74,16 +120,34 @@ if command -v toast >/dev/null; then
     compared "toast" "toast -c -a speech.al"
     cp on.system toasted.gsm
     compared "untoast" "untoast -c -l toasted.gsm"
+    compared "toast, of mu-law" "toast -c -u speech.al"
 else
     echo "skipped toast: not installed"
 fi
 if command -v ffmpeg >/dev/null && ffmpeg -v quiet -encoders </dev/null | grep -q libgsm_ms; then
-    compared "ffmpeg to gsm" "ffmpeg -v error -f alaw -ar 8000 -i speech.al -c:a libgsm -f gsm - </dev/null"
+    from="ffmpeg -v error -f alaw -ar 8000 -i speech.al -bitexact"
+    compared "ffmpeg to gsm" "$from -c:a libgsm -f gsm - </dev/null"
     cp on.system ffmpeg.gsm
     compared "ffmpeg from gsm" "ffmpeg -v error -c:a libgsm -f gsm -i ffmpeg.gsm -f s16le - </dev/null"
-    compared "ffmpeg to WAV49" "ffmpeg -v error -f alaw -ar 8000 -i speech.al -c:a libgsm_ms -bitexact -f wav - </dev/null"
+    compared "ffmpeg to WAV49" "$from -c:a libgsm_ms -f wav - </dev/null"
+    cp on.system ffmpeg49.wav
+    compared "ffmpeg from WAV49" "ffmpeg -v error -c:a libgsm_ms -i ffmpeg49.wav -f s16le - </dev/null"
 else
     echo "skipped ffmpeg: not installed with libgsm"
+fi
+# GStreamer keeps what it learns of its plugins in a file, which the first command writes.
+export GST_REGISTRY="$work/registry"
+if command -v gst-launch-1.0 >/dev/null && gst-inspect-1.0 gsmenc >/dev/null 2>&1; then
+    raw="rawaudioparse format=alaw sample-rate=8000 num-channels=1"
+    from="gst-launch-1.0 -q filesrc location=speech.al ! $raw ! alawdec ! gsmenc"
+    if gst-inspect-1.0 rawaudioparse >/dev/null 2>&1 && gst-inspect-1.0 alawdec >/dev/null 2>&1; then
+        compared "GStreamer gsmenc" "$from ! fdsink </dev/null"
+        compared "GStreamer gsmenc and gsmdec" "$from ! gsmdec ! fdsink </dev/null"
+    else
+        echo "skipped GStreamer: no rawaudioparse or no alawdec"
+    fi
+else
+    echo "skipped GStreamer: not installed with gsmenc"
 fi
 
 [ "$failed" = 0 ]

@@ -1,10 +1,11 @@
-/* libgsm's interface over libtrau_fr, in integer arithmetic: built as libgsm.so.1, programs of libgsm run on it as they are.
+/* libgsm's interface over libtrau_fr, in integer arithmetic. Built as libgsm.so.1, it runs programs of libgsm unchanged.
  *
- * Encoder, decoder, packings and their tests are the library's. Here are memory, options, and the two halves of WAV49. A handle
- * serves one thread at a time, as libgsm's does.
+ * Encoder, decoder, packings and their tests are the library's. Here are memory, options, and the two halves of WAV49. One thread at
+ * a time may use a handle, as in libgsm. If a handle both encodes and decodes, the two have separate states; in libgsm they share
+ * one. The option GSM_OPT_FRAME_CHAIN keeps four bits.
  *
- * The options do what they do in libgsm as it is mostly built: GSM_OPT_VERBOSE is kept and given back, and GSM_OPT_FAST and
- * GSM_OPT_LTP_CUT, of an encoder that isn't exact, are options that this build hasn't.
+ * The options are those of the usual builds of libgsm: GSM_OPT_VERBOSE is stored and returned without effect. GSM_OPT_FAST and
+ * GSM_OPT_LTP_CUT, which make the encoder inexact, aren't available.
  */
 #include <stdio.h>
 #include <stdlib.h>
@@ -23,11 +24,11 @@ enum gsm_option_name {
     GSM_OPT_FRAME_CHAIN = 6
 };
 
-/* Octets of the first half of a pair that are its own; the next one it shares with the second half. */
+/* Octets of the first half of a pair. The octet after them is shared with the second half. */
 #define SHARED 32
 
-/* In a pair each frame is the first (index 1) or the second (index 0); chain has the four bits of the first frame that stand in
- * the shared octet. */
+/* In a pair a frame is the first (index 1) or the second (index 0); chain has the four bits of the shared octet that the second
+ * half needs. */
 typedef struct gsm_state {
     struct trau_fr_encoder encoder;
     struct trau_fr_decoder decoder;
@@ -40,7 +41,7 @@ typedef struct gsm_state {
 typedef short gsm_signal;
 typedef unsigned char gsm_byte;
 
-/* Values of gsm_explode and gsm_implode: 8 ratios, and 17 of each block. */
+/* Values of gsm_explode and gsm_implode: 8 ratios, and 17 values of each block. */
 #define VALUES (8 + 4 * 17)
 
 PUBLIC gsm gsm_create(void)
@@ -59,7 +60,7 @@ PUBLIC void gsm_destroy(gsm state)
     free(state);
 }
 
-/* Sets an option where value isn't null. Returns what it was, or -1 where this build hasn't the option. */
+/* Sets an option if value isn't null. Returns its earlier value, or -1 if this build doesn't have the option. */
 PUBLIC int gsm_option(gsm state, int option, int *value)
 {
     int was = -1;
@@ -89,14 +90,14 @@ PUBLIC int gsm_option(gsm state, int option, int *value)
     return was;
 }
 
-/* The first half of a pair has 32 octets and one of which only the low four bits count; the second has 33, of which the first
- * begins with those four bits. */
+/* The first half of a pair has 32 octets, and one more of which only the low four bits count. The second has 33 octets; the low
+ * four bits of its first are those bits of the first half. */
 static void write_half(gsm state, gsm_byte *octets)
 {
     static const struct trau_fr_params none;
     gsm_byte pair[TRAU_FR_PAIR_OCTETS];
 
-    if (state->frame_index == 1) {
+    if (state->frame_index) {
         trau_fr_pack_pair(&state->frame, &none, pair);
         memcpy(octets, pair, SHARED + 1);
         state->frame_chain = pair[SHARED];
@@ -107,7 +108,7 @@ static void write_half(gsm state, gsm_byte *octets)
     }
 }
 
-/* The first half is read from 33 octets, the second from the 32 that come after them. */
+/* The first half is read from 33 octets, the second from the 32 that follow. */
 static void read_half(gsm state, const gsm_byte *octets)
 {
     struct trau_fr_params other = {0};
@@ -132,7 +133,7 @@ static void write_frame(gsm state, gsm_byte *octets)
         trau_fr_pack(&state->frame, octets);
 }
 
-/* 0, or -1 where the octets begin with another four bits than 1101. */
+/* 0, or -1 if the octets don't begin with the four bits 1101. */
 static int read_frame(gsm state, const gsm_byte *octets)
 {
     if (!state->wav49)
@@ -141,7 +142,7 @@ static int read_frame(gsm state, const gsm_byte *octets)
     return 0;
 }
 
-/* Encoding and decoding go on to the other half; gsm_explode and gsm_implode leave that to GSM_OPT_FRAME_INDEX. */
+/* Encoding and decoding switch to the other half; with gsm_explode and gsm_implode the caller does so by GSM_OPT_FRAME_INDEX. */
 static void next_half(gsm state)
 {
     if (state->wav49)
@@ -164,7 +165,7 @@ PUBLIC int gsm_decode(gsm state, gsm_byte *octets, gsm_signal *samples)
     return 0;
 }
 
-/* The parameters as one list: LARc, and of each block Nc, bc, Mc, xmaxc and xMc. */
+/* The parameters as one list: LARc, and for each block Nc, bc, Mc, xmaxc and xMc. */
 static void values_of(const struct trau_fr_params *frame, gsm_signal *values)
 {
     for (int i = 0; i < 8; i++)
@@ -187,7 +188,7 @@ PUBLIC int gsm_explode(gsm state, gsm_byte *octets, gsm_signal *values)
     return 0;
 }
 
-/* The other way: of each value its low bits, as many as its field has. */
+/* The parameters of such a list: of each value as many low bits as its field has. */
 PUBLIC void gsm_implode(gsm state, gsm_signal *values, gsm_byte *octets)
 {
     static const int ratios[8] = {0x3F, 0x3F, 0x1F, 0x1F, 0x0F, 0x0F, 0x07, 0x07};
@@ -206,7 +207,7 @@ PUBLIC void gsm_implode(gsm state, gsm_signal *values, gsm_byte *octets)
     write_frame(state, octets);
 }
 
-/* Prints a frame of 33 octets, whatever the options are. */
+/* Prints a frame of 33 octets; the options have no influence. */
 PUBLIC int gsm_print(FILE *file, gsm state, gsm_byte *octets)
 {
     struct trau_fr_params frame = {0};

@@ -7,11 +7,12 @@
     samples = trau_fr.expand(line, "alaw")  # array.array('h') of the octets of a line
     line = trau_fr.compress(samples, "alaw")
 
-Samples are 16 bits at 8000 a second: array.array('h'), a numpy array of int16, or any other buffer of them; bytes are taken as samples
-in the machine's order. What comes back is an array.array, which numpy.frombuffer(.., numpy.int16) takes as it is. A number of samples or
-octets that isn't a whole number of periods is a ValueError.
+Samples have 16 bits, 8000 a second: array.array('h'), a numpy array of int16, or any other buffer of them. Bytes are taken as samples in
+the machine's byte order. Octets are bytes, a numpy array of uint8, or any other buffer of items of one octet. Arrays may be slices with
+steps. Samples are returned as an array.array, which numpy.frombuffer(.., numpy.int16) accepts. Items of another size, and a number of
+samples or octets that isn't a whole number of periods, raise ValueError.
 
-The library is libtrau_fr.so.1 in lib/ of the folder that TRAU_CLIB names, else of clib/out, else the system's.
+The library is libtrau_fr.so.1 in lib/ of the folder that TRAU_CLIB names, or else of clib/out, or else the system's.
 """
 
 from __future__ import annotations
@@ -29,7 +30,7 @@ Buffer = Union[bytes, bytearray, memoryview, "array[int]", Any]
 
 
 class Refused(ValueError):
-    """Octets that carry no frame: a frame of 33 that doesn't begin with the four bits 1101."""
+    """Octets that carry no frame: 33 octets that don't begin with the four bits 1101."""
 
 
 class _Preprocessing(ctypes.Structure):
@@ -90,8 +91,11 @@ _library = _load()
 
 
 def _octets_of(data: Buffer) -> bytes:
-    """The octets of a buffer, whatever its items are."""
-    return memoryview(data).cast("B").tobytes() if not isinstance(data, bytes) else data
+    """The octets of a buffer of octets."""
+    view = memoryview(data)
+    if view.itemsize != 1:
+        raise ValueError(f"octets are wanted, and not items of the format {view.format}")
+    return view.tobytes()
 
 
 def _samples_of(data: Buffer) -> bytes:
@@ -99,11 +103,11 @@ def _samples_of(data: Buffer) -> bytes:
     view = memoryview(data)
     if view.itemsize not in (1, 2) or view.format not in ("B", "b", "c", "h", "<h", "=h"):
         raise ValueError(f"samples of 16 bits are wanted, and not items of the format {view.format}")
-    return _octets_of(data)
+    return view.tobytes()
 
 
 def _periods(data: bytes, size: int, what: str) -> int:
-    """How many items of this size there are."""
+    """The number of items of this size. Raises ValueError if octets are left over."""
     count, rest = divmod(len(data), size)
     if rest:
         raise ValueError(f"{what}: {len(data)} octets aren't a multiple of {size}")
@@ -111,7 +115,7 @@ def _periods(data: bytes, size: int, what: str) -> int:
 
 
 class Encoder:
-    """The encoder of one phone call, from its reset state on."""
+    """The encoder of one phone call. It begins in its reset state."""
 
     def __init__(self) -> None:
         self._state = _library.trau_fr_encoder_home()
@@ -129,14 +133,14 @@ class Encoder:
 
 
 class Decoder:
-    """The decoder of one phone call, from its reset state on."""
+    """The decoder of one phone call. It begins in its reset state."""
 
     def __init__(self) -> None:
         self._state = _library.trau_fr_decoder_home()
 
     def decode(self, octets: Buffer) -> "array[int]":
-        """The samples of the next frames: 160 for each 33 octets. Refused where a frame doesn't begin with the four bits 1101; the
-        frames before it are decoded then, and the state is that after them."""
+        """The samples of the next frames: 160 for each 33 octets. Raises Refused if a frame doesn't begin with the four bits 1101. The
+        frames before it are decoded then, and the state is the one after them."""
         data = _octets_of(octets)
         period, out = _Samples(), array("h")
         for k in range(_periods(data, OCTETS, "frames")):
@@ -154,7 +158,7 @@ def _by_law(law: str, work: str) -> Any:
 
 
 def expand(octets: Buffer, law: str = "alaw") -> "array[int]":
-    """The samples that a line's octets stand for, by "alaw" or "mulaw"; any number of octets."""
+    """The samples of a line's octets, by "alaw" or "mulaw"; any number of octets."""
     function, data = _by_law(law, "expand"), _octets_of(octets)
     samples, out = _Samples(), array("h")
     for at in range(0, len(data), SAMPLES):
@@ -164,7 +168,7 @@ def expand(octets: Buffer, law: str = "alaw") -> "array[int]":
 
 
 def compress(samples: Buffer, law: str = "alaw") -> bytes:
-    """The octets that samples are sent as, by "alaw" or "mulaw"; any number of samples."""
+    """The octets for samples on a line, by "alaw" or "mulaw"; any number of samples."""
     function, data = _by_law(law, "compress"), _samples_of(samples)
     octets, out = _LineOctets(), bytearray()
     count = _periods(data, 2, "samples")

@@ -13,6 +13,11 @@ sys.path.insert(0, str(HERE.parent))
 
 import trau_fr  # noqa: E402
 
+try:
+    import numpy
+except ImportError:
+    numpy = None
+
 
 class Codec(unittest.TestCase):
     def setUp(self) -> None:
@@ -37,15 +42,6 @@ class Codec(unittest.TestCase):
         for form in (samples.tobytes(), bytearray(samples.tobytes()), memoryview(samples)):
             self.assertEqual(trau_fr.Encoder().encode(form), frame)
 
-    def test_numpy(self) -> None:
-        try:
-            import numpy
-        except ImportError:
-            self.skipTest("numpy isn't installed")
-        samples = trau_fr.expand(self.line[:320])
-        again = numpy.frombuffer(samples, numpy.int16)
-        self.assertEqual(trau_fr.Encoder().encode(again), trau_fr.Encoder().encode(samples))
-
     def test_refusals(self) -> None:
         with self.assertRaises(trau_fr.Refused):
             trau_fr.Decoder().decode(bytes(33))
@@ -56,7 +52,42 @@ class Codec(unittest.TestCase):
         with self.assertRaises(ValueError):
             trau_fr.Encoder().encode(array("d", [0.0] * 160))
         with self.assertRaises(ValueError):
+            trau_fr.Decoder().decode(array("h", [0] * 33))
+        with self.assertRaises(ValueError):
             trau_fr.expand(b"", "beta")
+
+    def test_frames_before_a_refused_one(self) -> None:
+        decoder, whole = trau_fr.Decoder(), trau_fr.Decoder().decode(self.octets[:99])
+        with self.assertRaises(trau_fr.Refused):
+            decoder.decode(self.octets[:66] + bytes(33))
+        self.assertEqual(decoder.decode(self.octets[66:99]), whole[320:])
+
+
+@unittest.skipUnless(numpy, "numpy isn't installed")
+class Numpy(unittest.TestCase):
+    def setUp(self) -> None:
+        self.line = (VECTORS / "harsh.pcm").read_bytes()
+        self.octets = (HERE / "data" / "harsh.gsm").read_bytes()
+        self.samples = numpy.frombuffer(trau_fr.expand(numpy.frombuffer(self.line, numpy.uint8)), numpy.int16)
+
+    def test_there_and_back(self) -> None:
+        self.assertEqual(trau_fr.Encoder().encode(self.samples), self.octets)
+        heard = numpy.frombuffer(trau_fr.Decoder().decode(numpy.frombuffer(self.octets, numpy.uint8)), numpy.int16)
+        recorded = numpy.fromfile(HERE / "data" / "harsh.samples", "<i2")
+        self.assertTrue(numpy.array_equal(heard, recorded))
+        self.assertEqual(trau_fr.compress(self.samples), self.line)
+
+    def test_shapes_and_steps(self) -> None:
+        both = numpy.stack([self.samples, numpy.zeros_like(self.samples)], axis=1)
+        self.assertEqual(trau_fr.Encoder().encode(both[:, 0]), self.octets)
+        self.assertEqual(trau_fr.Encoder().encode(self.samples.reshape(-1, 160)), self.octets)
+
+    def test_other_items(self) -> None:
+        for other in (numpy.int32, numpy.float32, numpy.uint16, ">i2"):
+            with self.assertRaises(ValueError):
+                trau_fr.Encoder().encode(self.samples[:160].astype(other))
+        with self.assertRaises(ValueError):
+            trau_fr.Decoder().decode(numpy.zeros(33, numpy.int64))
 
 
 class Laws(unittest.TestCase):

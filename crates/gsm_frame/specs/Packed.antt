@@ -9,7 +9,7 @@ use Rattle.trau_params.specs.Bits260.{values_in}
 abbrev pub magic : ℕ
 magic = 13
 
--- the number n and after it values of these widths in bits, from value i on, as one number
+-- the number n, followed by values of these widths in bits, from value i on, as one number
 unfoldable pub packed_from : ℕ → ℕ → List ℕ → (ℕ → ℕ) → ℕ
 packed_from i n [] value = n
 packed_from i n (w ∷ ws) value = packed_from (suc i) (n * 2 ^ w + value i) ws value

@@ -49,7 +49,7 @@ pub(crate) fn number_of_block(block: &Block) -> u64
     n * 8 + u64::from(xmc[12])
 }
 
-// The thirteen pulses at the low end of a number, and the number that stands above them.
+// The number above the thirteen pulses at the low end of a number, and these pulses.
 #[tactic(auto, unfolding(crate::specs::Packed::packed_from))]
 fn pulses(number: u64) -> (u64, [u8; 13])
     ensures fit { FitWidth xmc_width result.1 }

@@ -48,7 +48,7 @@ pub fn pack(params: &Params) -> [u8; 33]
     ]
 }
 
-// The log area ratios of the number of five octets that begin with the four bits.
+// The log area ratios in the number of five octets that begin with the four bits.
 #[tactic(auto, unfolding(crate::specs::Packed::packed_from))]
 fn ratios(number: u64) -> [u8; 8]
     requires { number / 2 ^ 36 ≡ magic }

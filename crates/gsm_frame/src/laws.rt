@@ -1,4 +1,4 @@
-//! One frame for given octets, and one list of 33 octets for a frame.
+//! Laws of the 33 octets: one frame for given octets, and one list of octets for a frame.
 
 ghost use Rattle.std.specs.Prelude.{◌≡◌, ◌/◌, ◌↔◌, ◌<◌, ℕ, List, length, All, IfSome, IsSome, slice_index};
 ghost use Rattle.trau_params.specs.Bits260.{SameFields};
@@ -10,7 +10,7 @@ use crate::block::block_of;
 use crate::frame::{pack, unpack};
 use trau_params::Params;
 
-// The lengths of the arrays, for proofs: that of a row of pulses shows only where the row is read.
+// The lengths of the arrays, for proofs. The length of a row of pulses is known only after the row is read.
 fn shape(params: Params)
     ensures { HasShape params }
 {
@@ -20,7 +20,7 @@ fn shape(params: Params)
     let _fourth = block_of(&params, 3);
 }
 
-/// Octets carry one frame alone.
+/// Octets carry at most one frame.
 pub fn one_frame(one: Params, other: Params)
     ensures { (octets : List ℕ) → Carries octets (fields_of one) → Carries octets (fields_of other) → SameFields one other }
 {
@@ -28,20 +28,20 @@ pub fn one_frame(one: Params, other: Params)
     shape(other);
 }
 
-/// A frame is carried by one list of 33 octets alone.
+/// At most one list of 33 octets carries a frame.
 pub fn one_packing()
     ensures { (f : Fields) (xs ys : List ℕ) → length xs ≡ 33 → length ys ≡ 33 → All (λ x. x < 256) xs → All (λ y. y < 256) ys →
         Carries xs f → Carries ys f → xs ≡ ys }
 {}
 
-// The items of an array are octets, for proofs: that shows only where the array is passed on.
+// The entries of the array are octets, for proofs. This is known only after the array is passed to a function.
 fn are_octets(octets: &[u8; 33])
     ensures { (k : ℕ) → slice_index octets.now k < 256 }
 {
     let _frame = unpack(octets);
 }
 
-/// What was packed unpacks to the same frame.
+/// Packs and unpacks a frame: the result is the same frame.
 pub fn packed_unpacks_again(params: &Params) -> Option<Params>
     ensures variant { IsSome result }
     ensures same { IfSome result (λ again. SameFields params.now again) }
@@ -52,7 +52,7 @@ pub fn packed_unpacks_again(params: &Params) -> Option<Params>
     Some(again)
 }
 
-/// What was unpacked packs to the same octets.
+/// Unpacks and packs octets that begin with the four bits: the result is the same octets.
 pub fn unpacked_packs_again(octets: &[u8; 33]) -> Option<[u8; 33]>
     ensures variant { IsSome result ↔ (slice_index octets.now 0 / 16 ≡ magic) }
     ensures same { IfSome result (λ again. again ≡ octets.now) }

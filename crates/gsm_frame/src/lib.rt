@@ -1,7 +1,8 @@
 //! The octets that carry full rate frames outside TRAU frames: 33 for a frame (RTP, files of libgsm), and 65 for two (WAV49).
 //!
-//! Stands on `trau_params` and `trau_bits`; used by the C library. `frame` packs and unpacks 33 octets, `pair` the 65 of WAV49,
-//! `block` a quarter of a frame, `octets` numbers of octets, `laws` the laws.
+//! The C library exports these packings. `frame` packs and unpacks 33 octets, `pair` the 65 of WAV49, `block` has a
+//! quarter of a frame, `octets` numbers of octets, `laws` the laws.
+//!
 //! Definitions: `specs/Packed.antt` (33 octets), `specs/Pair.antt` (65 octets).
 #![tactic(auto)]
 

@@ -8,7 +8,7 @@ ghost use Rattle.gsm_frame.specs.Pair.{bits_of_pair};
 
 use trau_params::Params;
 
-// Writes the eight bits of an octet at a place.
+// Writes the eight bits of an octet from `at` on.
 fn put_octet(bits: &mut [u8; 520], at: usize, octet: u8)
     requires { at + 8 ≤ 520 }
     ensures { take (at + 8) bits.new ≡ take at bits.old ++ low_bits 8 octet }
@@ -18,7 +18,7 @@ fn put_octet(bits: &mut [u8; 520], at: usize, octet: u8)
     }
 }
 
-// The octet whose eight bits stand at a place.
+// The octet of the eight bits from `at` on.
 fn octet_at(bits: &[u8; 520], at: usize) -> u8
     requires bits { AreBits bits.now }
     requires room { at + 8 ≤ 520 }
@@ -55,7 +55,7 @@ fn octets_of_bits(bits: &[u8; 520]) -> [u8; 65]
     octets
 }
 
-// 260 bits and 260 after them.
+// The bits of `front`, then those of `back`.
 fn joined(front: &[u8; 260], back: &[u8; 260]) -> [u8; 520]
     ensures { result ≡ front.now ++ back.now }
 {
@@ -65,7 +65,7 @@ fn joined(front: &[u8; 260], back: &[u8; 260]) -> [u8; 520]
     bits
 }
 
-// The 260 bits from a place on.
+// The 260 bits from `first` on.
 fn half(bits: &[u8; 520], first: usize) -> [u8; 260]
     requires bits { AreBits bits.now }
     requires within { first + 260 ≤ 520 }

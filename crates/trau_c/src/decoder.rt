@@ -22,7 +22,7 @@ pub extern "C" fn trau_fr_decoder_home() -> Decoder
     Decoder::home()
 }
 
-/// Decodes a frame into its 160 samples `x`, 13 bits left-justified in 16. What `x` held before is lost.
+/// Decodes a frame into its 160 samples `x`, 13 bits left-justified in 16. `x` is overwritten.
 #[unsafe(no_mangle)]
 pub extern "C" fn trau_fr_decode(decoder: &mut Decoder, params: &Params, x: &mut [i16; 160])
     ensures step { decoded_frame decoder.old (fields_of params.now) ≡ (x.new, decoder.new) }
@@ -34,8 +34,8 @@ pub extern "C" fn trau_fr_decode(decoder: &mut Decoder, params: &Params, x: &mut
     decoder.decode(params, x);
 }
 
-/// Decodes the frame that 33 octets carry into its 160 samples `x`. If the octets don't begin with the four bits 1101, the answer
-/// is false, and decoder and samples stay as they were.
+/// Decodes the frame that 33 octets carry into its 160 samples `x`. If the octets don't begin with the four bits 1101,
+/// the result is false, and `decoder` and `x` stay unchanged.
 #[unsafe(no_mangle)]
 pub extern "C" fn trau_fr_decode_octets(
     decoder: &mut Decoder,

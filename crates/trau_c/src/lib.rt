@@ -1,9 +1,10 @@
-//! The full rate codec, its packings and the laws of companding as a C library: one export for each call that C makes.
-//! `clib/trau_fr.h` at the top of the repository declares them.
+//! The full rate codec, its packings, A-law and mu-law as a C library. `clib/trau_fr.h` at the top of the repository
+//! declares its exports.
 //!
-//! The states of an encoder and of a decoder are structs of numbers, which the C program holds: it gets them from
-//! `trau_fr_encoder_home` and `trau_fr_decoder_home`. No export allocates, waits or keeps anything, so calls on different
-//! states may run side by side. Each export calls one function of the crates below, and says its clauses again.
+//! The C program holds the states of encoders and decoders, which are structs of numbers. It gets them from
+//! `trau_fr_encoder_home` and `trau_fr_decoder_home`. No export allocates, waits or keeps anything, so functions can be
+//! called on different states at the same time. Each export calls one function of another crate, and repeats its
+//! clauses in terms of what C gets; `trau_fr_decode_octets` unpacks and decodes.
 //!
 //! Definition: `specs/DecodedOctets.antt`.
 #![tactic(auto)]

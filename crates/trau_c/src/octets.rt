@@ -12,12 +12,14 @@ use trau_params::Params;
 /// Writes the 33 octets that carry a frame.
 #[unsafe(no_mangle)]
 pub extern "C" fn trau_fr_pack(params: &Params, octets: &mut [u8; 33])
-    ensures { Carries octets.new (fields_of params.now) }
+    ensures carried { Carries octets.new (fields_of params.now) }
+    ensures begins { slice_index octets.new 0 / 16 ≡ magic }
 {
     *octets = pack(params);
 }
 
-/// Reads the frame that 33 octets carry. If they don't begin with the four bits 1101, the answer is false, and `params` stays.
+/// Reads the frame that 33 octets carry. If they don't begin with the four bits 1101, the result is false, and `params`
+/// stays unchanged.
 #[unsafe(no_mangle)]
 pub extern "C" fn trau_fr_unpack(octets: &[u8; 33], params: &mut Params) -> bool
     ensures variant { IsTrue result ↔ (slice_index octets.now 0 / 16 ≡ magic) }
