@@ -1,26 +1,31 @@
 #!/usr/bin/env python3
-"""Proves and builds a program of this repository: first the crates that it stands on, several side by side, then itself.
+"""Proves and builds a program of this repository: a copy of its crates by `rt ci`, and then the program for x86-64-v3.
 
-It says on standard error how far it is: on a terminal one line that moves, elsewhere a line for each crate. All that the
-toolchain says goes to out/trau.log in the program's crate. Status 0: the program is proved and built. Status 1: it isn't, and
-the log's last lines are shown. Status 2: nothing was begun, since something is missing.
+It shows its progress and the minutes left on standard error: on a terminal one line that moves, elsewhere a line for each crate. The
+toolchain's output goes to out/trau.log in the program's crate. Status 0: the program is proved and built. Status 1: it isn't, and the log's
+last lines are printed. Status 2: something is missing, so nothing was begun.
 
-The script `trau` starts it where the program isn't built, or a source changed since; by hand that is `./trau </dev/null`.
+If the program isn't built, or a source changed since, the script `trau` starts this. Started directly it builds anew; it doesn't prove
+again what is kept.
 """
 
 from __future__ import annotations
 
 import argparse
+import contextlib
+import fcntl
 import os
 import re
 import shutil
 import signal
+import stat
 import subprocess
 import sys
+import tempfile
 import threading
 import time
 from pathlib import Path
-from typing import Dict, Iterator, List, NoReturn, Optional, Sequence, TextIO
+from typing import Callable, Collection, Dict, FrozenSet, Iterator, List, NoReturn, Optional, Sequence, Set, TextIO, Tuple
 
 import trau_frames
 from tool_ends import tool
@@ -28,17 +33,21 @@ from trau_frames import Refusal
 
 TOP = Path(__file__).resolve().parents[1]
 PROGRAM = "trau_program"
+# The kind of processor that a second program is built for; `rt ci` builds the first one, for x86-64-v2.
+KIND = "x86-64-v3"
 
-# Measured: a first start takes 6.2 GB of disk, and the check of one crate up to 2.5 GB of memory.
-DISK_OF_A_CRATE = 118_000_000
+# Measured: the disk that a first start takes among the temporary files, and as much again where what it keeps lies on another disk; the
+# memory of one crate's check.
+DISK_OF_A_CRATE = 13_000_000
 DISK_OF_THE_PROGRAM = 300_000_000
 MEMORY_OF_A_CHECK = 2_500_000_000
+# With less disk than this the toolchain keeps nothing.
+DISK_TO_KEEP = 5_000 << 20
 
-# How long it takes from nothing (docs/INSTALL.md).
-TIME = "20 to 40 minutes on four processors, by machine"
+# The seconds that each crate took, as measured once (tools/weights.txt).
+WEIGHTS = Path(__file__).resolve().parent / "weights.txt"
 
-KILLED = re.compile(r"failed \(-9\)")
-UNPROVED = re.compile(r"^\w+ \S+: (not proved|no proof)|^error")
+COPIED = ("src", "specs", "proofs", "data", "args", "stdin", "stdout", "status")
 
 
 # What is to be built, and what there is to build it with
@@ -89,14 +98,17 @@ def free_memory() -> int:
     return min(found, limit - used) if limit and used else found
 
 
+def asked_jobs() -> Optional[int]:
+    """How many crates to prove side by side by TRAU_JOBS, if it is set."""
+    asked = os.environ.get("TRAU_JOBS", "")
+    if asked and not re.fullmatch(r"[1-9]\d?", asked, re.ASCII):
+        raise Refusal(f"TRAU_JOBS is '{asked}', and takes 1 to 99")
+    return int(asked) if asked else None
+
+
 def jobs() -> int:
     """How many crates are proved side by side: TRAU_JOBS, or else as many as there are processors and memory for."""
-    asked = os.environ.get("TRAU_JOBS", "")
-    if asked:
-        if not re.fullmatch(r"[1-9]\d?", asked, re.ASCII):
-            raise Refusal(f"TRAU_JOBS is '{asked}', and takes 1 to 99")
-        return int(asked)
-    return max(1, min(processors(), free_memory() // MEMORY_OF_A_CHECK))
+    return asked_jobs() or max(1, min(processors(), free_memory() // MEMORY_OF_A_CHECK))
 
 
 def gigabytes(octets: int) -> str:
@@ -105,50 +117,138 @@ def gigabytes(octets: int) -> str:
 
 
 def check_disk(top: Path, crates: Sequence[str]) -> str:
-    """What is said of the disk; refuses where there is too little."""
-    missing = sum(not (top / "crates" / name / "out").is_dir() for name in crates)
-    need = missing * DISK_OF_A_CRATE + DISK_OF_THE_PROGRAM
-    free = shutil.disk_usage(top).free
-    if free < need:
-        raise Refusal(f"too little disk: this needs {gigabytes(need)}, and {top} has {gigabytes(free)} left")
-    return f"it needs some {gigabytes(need)} of disk, of {gigabytes(free)} that are free"
+    """What is printed about the disk. Refuses if there is too little."""
+    need = len(crates) * DISK_OF_A_CRATE + DISK_OF_THE_PROGRAM
+    for folder in (Path(tempfile.gettempdir()), top):
+        free = shutil.disk_usage(folder).free
+        if free < need:
+            raise Refusal(f"too little disk: this needs {gigabytes(need)}, and {folder} has {gigabytes(free)} left")
+    return f"it needs some {gigabytes(need)} of disk in {tempfile.gettempdir()}"
 
 
-# What is said while it works
+def what_is_kept(rt: str) -> Tuple[bool, str]:
+    """Whether the toolchain can keep what it proves, in the folder beside it, by its own rules, and what is printed about it."""
+    kept = Path(rt).resolve().parents[2] / "rattle-kept"
+    try:
+        found = kept.lstat()
+        usable = stat.S_ISDIR(found.st_mode) and found.st_uid == os.geteuid()
+    except FileNotFoundError:
+        usable = os.access(kept.parent, os.W_OK)
+    anew = "a start that is broken off, or that follows a change, begins anew"
+    if not usable:
+        return False, f"nothing is kept, since {kept} can't be written: {anew}"
+    if shutil.disk_usage(kept if kept.exists() else kept.parent).free < DISK_TO_KEEP:
+        return False, f"nothing is kept, since {kept} has less than {gigabytes(DISK_TO_KEEP)} left: {anew}"
+    return True, f"what is proved is kept in {kept}"
+
+
+# How long it takes
+
+
+class Plan:
+    """How long crates take, `at_once` side by side and each after those that it stands on."""
+
+    def __init__(self, below: Dict[str, List[str]], weights: Dict[str, float], at_once: int) -> None:
+        usual = sorted(weights.values())[len(weights) // 2] if weights else 1.0
+        self.below, self.at_once = below, at_once
+        self.weights = {name: max(0.1, weights.get(name, usual)) for name in below}
+        self.known: Dict[FrozenSet[str], float] = {}
+        self.chains: Dict[str, float] = {}
+        for name in below:
+            self.chain(name)
+
+    def chain(self, name: str) -> float:
+        """The seconds of the longest chain of crates that ends in those that stand on this one, itself included."""
+        if name not in self.chains:
+            above = [self.chain(each) for each, below in self.below.items() if name in below]
+            self.chains[name] = self.weights[name] + max(above, default=0.0)
+        return self.chains[name]
+
+    def seconds(self, crates: Collection[str]) -> float:
+        """How long these crates take, where all others are done."""
+        key = frozenset(crates)
+        if key not in self.known:
+            self.known[key] = self.reckoned(key)
+        return self.known[key]
+
+    def reckoned(self, crates: Collection[str]) -> float:
+        """The same, computed: of the crates that may begin, those with the longest chain after them come first."""
+        left, ends, now = sorted(crates, key=lambda name: -self.chains[name]), {}, 0.0
+        while left:
+            waits = {name for name, end in ends.items() if end > now} | set(left)
+            ready = [name for name in left if not waits.intersection(self.below[name])]
+            for name in ready[: self.at_once - sum(end > now for end in ends.values())]:
+                left.remove(name)
+                ends[name] = now + self.weights[name]
+            now = min(end for end in ends.values() if end > now)
+        return max(ends.values(), default=0.0)
+
+
+def read_weights() -> Dict[str, float]:
+    """The measured seconds of each crate, or nothing if the file doesn't exist."""
+    with contextlib.suppress(OSError):
+        lines = (line.partition("#")[0].split() for line in WEIGHTS.read_text().splitlines())
+        return {words[0]: float(words[1]) for words in lines if words}
+    return {}
+
+
+def plan_of(top: Path, program: str, at_once: int) -> Plan:
+    """The plan of the crates that the program needs, and of the second program."""
+    crates = crates_of(top)
+    below = {name: crates[name] for name in needed(top, program)}
+    return Plan({**below, KIND: [program]}, read_weights(), at_once)
+
+
+def minutes_in_words(seconds: float) -> str:
+    """The time left, roughly, in words."""
+    return "about a minute" if seconds < 90 else f"some {round(seconds / 60)} minutes"
 
 
 class Progress:
-    """Says how far the work is: on a terminal one line that moves, elsewhere a line for each crate."""
+    """Shows the progress: on a terminal one line that moves, elsewhere a line for each crate."""
 
-    def __init__(self, crates: int, stream: TextIO) -> None:
-        self.crates = crates
-        self.stream = stream
+    # The seconds by which a start's own speed counts no more than the measured one.
+    TRUST = 60.0
+
+    def __init__(self, plan: Plan, stream: TextIO, clock: Callable[[], float] = time.monotonic) -> None:
+        self.plan, self.stream, self.clock = plan, stream, clock
+        self.crates = len(plan.below) - 1
         self.moves = stream.isatty()
-        self.begun = time.monotonic()
-        self.done = 0
+        self.begun = self.last = self.working = clock()
+        self.left: Set[str] = set(plan.below)
+        self.kept: Set[str] = set()
         self.functions = 0
         self.step = "reading all sources"
         self.ended = threading.Event()
-        self.clock = threading.Thread(target=self.tick, daemon=True)
+        self.ticking = threading.Thread(target=self.tick, daemon=True)
 
     def __enter__(self) -> Progress:
         if self.moves:
-            self.clock.start()
+            self.ticking.start()
         return self
 
     def __exit__(self, *_: object) -> None:
         self.ended.set()
         if self.moves:
-            self.clock.join()
+            self.ticking.join()
             self.clear()
 
     def minutes(self) -> str:
-        """The time that is gone."""
-        return "{}:{:02}".format(*divmod(int(time.monotonic() - self.begun), 60))
+        """The time passed, in minutes."""
+        return "{}:{:02}".format(*divmod(int(self.clock() - self.begun), 60))
+
+    def seconds_left(self) -> float:
+        """The seconds left, by the measured weights and by the speed of this start until now."""
+        gone, left = self.clock() - self.working, self.plan.seconds(self.left)
+        wanted = self.plan.seconds(set(self.plan.below) - self.kept) - left
+        speed = (gone + self.TRUST) / (wanted + self.TRUST)
+        return max(0.0, left * speed - (self.clock() - self.last))
 
     def words(self) -> str:
         """How far the work is."""
-        return f"crate {self.done} of {self.crates}, functions {self.functions}, {self.minutes()} minutes: {self.step}"
+        done = self.crates - len(self.left - {KIND})
+        gone = f"crate {done} of {self.crates}, functions {self.functions}, {self.minutes()} minutes"
+        return f"{gone}, {minutes_in_words(self.seconds_left())} left: {self.step}"
 
     def clear(self) -> None:
         """Removes the line that moves."""
@@ -156,17 +256,32 @@ class Progress:
         self.stream.flush()
 
     def tick(self) -> None:
-        """Writes the line that moves, each second."""
+        """Writes the line that moves, twice a second."""
         while not self.ended.wait(0.5):
             width = shutil.get_terminal_size().columns - 1
             self.stream.write("\r\x1b[K" + f"trau: {self.words()}"[:width])
             self.stream.flush()
 
     def at(self, step: str) -> None:
-        """The work comes to a step, as a crate that is done."""
+        """The work comes to a step."""
         self.step = step
         if not self.moves:
             self.say(self.words())
+
+    def done(self, crate: str, kept: bool = False) -> None:
+        """A crate is done, or was kept from an earlier start."""
+        self.left.discard(crate)
+        self.last = self.clock()
+        if kept:
+            self.kept.add(crate)
+            # Until something is proved, the time passed doesn't show how long proving takes.
+            if not set(self.plan.below) - self.left - self.kept:
+                self.working = self.last
+        self.at(crate)
+
+    def again(self) -> None:
+        """The work begins anew."""
+        self.left = set(self.plan.below)
 
     def say(self, text: str) -> None:
         """Says a line."""
@@ -179,18 +294,18 @@ class Progress:
 
 
 class Toolchain:
-    """Calls of rt in the folder of a crate, all of whose output goes to a log."""
+    """Commands in a folder, all of whose output goes to a log."""
 
     def __init__(self, folder: Path, log: TextIO) -> None:
         self.folder = folder
         self.log = log
 
-    def lines(self, *words: str) -> Iterator[str]:
-        """Runs rt, and gives its lines as they come; the last one is its status."""
-        self.log.write(f"$ rt {' '.join(words)}\n")
+    def lines(self, *words: str, **more: str) -> Iterator[str]:
+        """Runs a command, with this added to its environment, and gives its lines as they come; the last one is its status."""
+        self.log.write(f"$ {' '.join(words)}\n")
         self.log.flush()
-        how = {"stdin": subprocess.DEVNULL, "stdout": subprocess.PIPE, "stderr": subprocess.STDOUT}
-        with subprocess.Popen(["rt", *words], cwd=self.folder, text=True, errors="replace", **how) as ran:
+        how = {"stdin": subprocess.DEVNULL, "stdout": subprocess.PIPE, "stderr": subprocess.STDOUT, "env": {**os.environ, **more}}
+        with subprocess.Popen(words, cwd=self.folder, text=True, errors="replace", **how) as ran:
             try:
                 for line in ran.stdout:
                     self.log.write(line)
@@ -203,60 +318,121 @@ class Toolchain:
 
 
 class Crates:
-    """Reads what rt says of crates that it proves side by side: as each is done `== NAME`, and then what its check said."""
+    """Reads the output of `rt ci`: for each crate, at its end, `== NAME`, then the output of its check, and its verdict."""
+
+    UNPROVED = re.compile(r"^\w+ \S+: (not proved|no proof)|^error|^rt: \w+ NOT PROVED$")
+    PASSED_ON = re.compile(r"^rt: (note: .*(kept|the disk)|waiting for another|\S+ another run on this machine)")
 
     def __init__(self, progress: Progress) -> None:
         self.progress = progress
-        self.crate: Optional[str] = None  # of which the words come
+        self.crate = ""  # whose output is read
         self.was_killed = False
-
-    def tell(self) -> None:
-        """Says of the last crate that it is done, once."""
-        if self.crate:
-            self.progress.at(self.crate)
-        self.crate = None
 
     def read(self, line: str) -> None:
         """Reads a line."""
+        verdict = re.fullmatch(r"rt: (\w+) (?:(proved)|is kept: .*)", line)
         if line.startswith("== "):
-            self.tell()
-            if line != "== summary":
-                self.crate = line[3:]
-                self.progress.done += 1
+            self.crate = line[3:]
         elif line.startswith("logic=proved "):
             self.progress.functions += int(re.search(r"functions=(\d+)|$", line)[1] or 0)
-            self.tell()
-        elif UNPROVED.search(line):
+        elif verdict:
+            self.progress.done(verdict[1], kept=not verdict[2])
+        elif line == "rt: run rt fmt in the crate's folder":
+            self.progress.say(f"crates/{self.crate} isn't laid out as `rt fmt` does it: run that there")
+        elif self.UNPROVED.search(line):
             self.progress.say(line)
-        elif line.startswith("rt: waiting for another rt"):
-            self.progress.say("another rt works in these folders; this one waits for it")
-        elif "another copy of the repository is building" in line:
-            self.progress.say(line)
-        self.was_killed = self.was_killed or bool(KILLED.search(line))
+        elif self.PASSED_ON.search(line):
+            self.progress.say(line[4:])
+        self.was_killed = self.was_killed or "the check was killed" in line
 
 
-def prove(rt: Toolchain, progress: Progress, at_once: int) -> bool:
-    """Proves all crates that the program stands on, and itself, so many side by side. Where one was killed, as for want of
-    memory, it goes on with one at a time."""
+def prove(rt: Toolchain, progress: Progress, at_once: Optional[int]) -> bool:
+    """Proves all crates, and builds and runs the program: `at_once` crates side by side, or as many as `rt` chooses. If a check was killed,
+    likely because memory ran out, it goes on with one crate at a time."""
     crates, status = Crates(progress), ""
-    for line in rt.lines("all", "check", "--jobs", str(at_once)):
+    for line in rt.lines("rt", "ci", **({"RT_JOBS": str(at_once)} if at_once else {})):
         crates.read(line)
         status = line
-    if status != "0" and crates.was_killed and at_once > 1:
-        progress.say("a check was killed, likely for want of memory; it goes on with one at a time")
-        progress.done = 0
+    if status != "0" and crates.was_killed and at_once != 1:
+        progress.say("a check was killed, likely out of memory; it goes on with one at a time")
+        progress.again()
         return prove(rt, progress, 1)
     return status == "0"
 
 
-def link(rt: Toolchain, program: str) -> bool:
-    """Proves the program once more over what is kept, compiles it and runs it with no words; it then answers `usage`, which
-    shows that it was built from the sources as they are. (The toolchain has no command that builds without running.)"""
-    said = list(rt.lines("run"))
-    return said[-1] == "1" and "usage" in said and (rt.folder / "out" / program).exists()
+def second_program(rt: Toolchain, progress: Progress, program: str) -> bool:
+    """Proves and builds the program for the other kind of processor too. If that fails, the first one still runs."""
+    progress.at(f"the program for {KIND}")
+    said = list(rt.lines(sys.executable, str(Path(__file__).with_name("build_for.py")), str(rt.folder), program, KIND))
+    progress.left.discard(KIND)
+    if said[-1] != "0":
+        progress.say(f"no program for {KIND} is built, so the one for x86-64-v2 runs on all processors")
+    return said[-1] == "0"
 
 
-def tell_failure(log: Path) -> int:
+def copy_crates(top: Path, crates: Sequence[str], to: Path) -> None:
+    """Copies the sources of these crates as a repository of its own, without must-fail edits and other crates."""
+    lines = trau_frames.read_file(top / "crates.txt").decode().splitlines()
+    names = [(line, line.partition("#")[0].partition(":")[0].split()) for line in lines]
+    to.mkdir()
+    (to / ".git").mkdir()
+    (to / "crates.txt").write_text("".join(f"{line}\n" for line, words in names if words and words[0] in crates))
+    if (top / "HANDLES").exists():
+        shutil.copyfile(top / "HANDLES", to / "HANDLES")
+    for crate in crates:
+        for name in COPIED:
+            part, copy = top / "crates" / crate / name, to / "crates" / crate / name
+            if part.is_dir():
+                shutil.copytree(part, copy)
+            elif part.exists():
+                shutil.copyfile(part, copy)
+
+
+def place(made: Path, to: Path) -> None:
+    """Puts a program in its place in one step, since a run may have the earlier one open."""
+    fresh = to.with_name(f"{to.name}.new")
+    shutil.copyfile(made, fresh)
+    fresh.chmod(0o755)
+    os.replace(fresh, to)
+
+
+@contextlib.contextmanager
+def room() -> Iterator[Path]:
+    """A folder for this start. Removes the folders of starts that were killed."""
+    for left in Path(tempfile.gettempdir()).glob("trau-start-*"):
+        number = re.match(r"trau-start-(\d+)-", left.name)
+        if number and not Path("/proc", number[1]).exists():
+            shutil.rmtree(left, ignore_errors=True)
+    folder = Path(tempfile.mkdtemp(prefix=f"trau-start-{os.getpid()}-")).resolve()
+    try:
+        yield folder
+    finally:
+        shutil.rmtree(folder, ignore_errors=True)
+
+
+def ask_script(top: Path, **words: str) -> Tuple[int, str]:
+    """The status and the answer of the script `trau` to a question in its environment."""
+    how = {"stdin": subprocess.DEVNULL, "stdout": subprocess.PIPE, "text": True}
+    # (Another program, which TRAU_PROGRAM names, is none of this folder's.)
+    ran = subprocess.run([top / "trau"], env={**os.environ, "TRAU_PROGRAM": "", **words}, **how)
+    return ran.returncode, ran.stdout.strip()
+
+
+def wait_for_others(held: TextIO, top: Path) -> bool:
+    """Takes the lock of starts, and returns whether another start that held it has built the program."""
+    try:
+        fcntl.flock(held, fcntl.LOCK_EX | fcntl.LOCK_NB)
+        return False
+    except BlockingIOError:
+        print("trau: another start proves and builds the program; this one waits for it", file=sys.stderr, flush=True)
+        fcntl.flock(held, fcntl.LOCK_EX)
+        return ask_script(top, TRAU_IS_BUILT="ask")[0] == 0
+    except OSError:
+        # Some file systems have no locks.
+        return False
+
+
+def show_failure(log: Path) -> int:
     """Shows the end of the log."""
     for line in log.read_text(errors="replace").splitlines()[-20:]:
         print(line, file=sys.stderr)
@@ -264,51 +440,72 @@ def tell_failure(log: Path) -> int:
     return 1
 
 
-def build(top: Path, program: str) -> int:
+def build_in(folder: Path, top: Path, program: str, out: Path, progress: Progress, said: TextIO) -> bool:
+    """Proves and builds in a folder of its own, and puts the programs in their places."""
+    sources = ask_script(top, TRAU_SUM="ask")[1]
+    copy_crates(top, needed(top, program), folder / "trau")
+    rt, made = Toolchain(folder / "trau", said), folder / "trau" / "crates" / program / "out" / program
+    progress.at("reading all sources")
+    if not prove(rt, progress, asked_jobs()) or not made.exists():
+        return False
+    second = out / f"{program}.{KIND}"
+    second.unlink(missing_ok=True)
+    if os.environ.get("TRAU_CPU") != "x86-64-v2" and second_program(rt, progress, program):
+        place(made.with_name(second.name), second)
+    place(made, out / program)
+    return ask_script(top, TRAU_JUST_BUILT=sources)[0] == 0
+
+
+def build(top: Path, program: str, over_kept: bool) -> int:
     """Proves and builds the program."""
     crates = needed(top, program)
-    if not shutil.which("rt"):
+    found = shutil.which("rt")
+    if not found:
         raise Refusal("the Rattle toolchain's command rt isn't on the path")
-    at_once, disk = jobs(), check_disk(top, crates)
-    log = top / "crates" / program / "out" / "trau.log"
-    log.parent.mkdir(exist_ok=True)
-    for line in (
-        f"the program isn't built, or a source changed: its {len(crates)} crates are proved, {at_once} at a time, and then it is built",
-        f"from nothing that takes {TIME}; {disk}",
-        f"what the toolchain says goes to {log}",
-    ):
-        print(f"trau: {line}", file=sys.stderr, flush=True)
-    with open(log, "w", encoding="utf-8") as said, Progress(len(crates), sys.stderr) as progress:
-        rt = Toolchain(log.parent.parent, said)
-        built = prove(rt, progress, at_once)
-        if built:
-            progress.at("compiling and linking")
-            built = link(rt, program)
-        words = f"{len(crates)} crates, functions {progress.functions}, {progress.minutes()} minutes"
+    at_once, disk, (keeps, kept) = jobs(), check_disk(top, crates), what_is_kept(found)
+    if over_kept and not keeps:
+        raise Refusal(kept)
+    out = top / "crates" / program / "out"
+    out.mkdir(exist_ok=True)
+    log, plan = out / "trau.log", plan_of(top, program, at_once)
+    with open(out / "trau.lock", "w") as held:
+        if wait_for_others(held, top):
+            return 0
+        for line in (
+            f"the program isn't built, or a source changed: its {len(crates)} crates are proved, {at_once} at a time, and then it is built",
+            f"from nothing that takes {minutes_in_words(plan.seconds(plan.below))} where it was measured (docs/INSTALL.md); {disk}",
+            kept,
+            f"what the toolchain says goes to {log}",
+        ):
+            print(f"trau: {line}", file=sys.stderr, flush=True)
+        with open(log, "w", encoding="utf-8") as said, Progress(plan, sys.stderr) as progress, room() as folder:
+            built = build_in(folder, top, program, out, progress, said)
+            words = f"{len(crates)} crates, functions {progress.functions}, {progress.minutes()} minutes"
     if not built:
-        return tell_failure(log)
+        return show_failure(log)
     print(f"trau: proved and built: {words}", file=sys.stderr, flush=True)
     return 0
 
 
 def stop(number: int, _: object) -> NoReturn:
-    """Ends as by control-C, so that what was begun is ended too."""
+    """Ends as control-C does, so that started processes end too."""
     raise KeyboardInterrupt(number)
 
 
 @tool("trau", prints=False)
 def main(words: Sequence[str]) -> int:
-    """Carries out the words of the command line, and gives the status."""
+    """Runs the words of the command line, and returns the exit status."""
     parser = trau_frames.Words(description=__doc__, formatter_class=argparse.RawDescriptionHelpFormatter, allow_abbrev=False)
     parser.add_argument("--top", type=Path, default=TOP, metavar="FOLDER", help="the top of the repository")
     parser.add_argument("--program", default=PROGRAM, metavar="CRATE", help=f"the program's crate ({PROGRAM})")
+    parser.add_argument("--over-kept", action="store_true", help="begin only if the toolchain keeps what it has proved")
     asked = parser.parse_args(words)
     for number in (signal.SIGTERM, signal.SIGHUP):
         signal.signal(number, stop)
     try:
-        return build(asked.top.resolve(), asked.program)
+        return build(asked.top.resolve(), asked.program, asked.over_kept)
     except KeyboardInterrupt:
-        print("trau: broken off; the next start goes on from here", file=sys.stderr)
+        print("trau: broken off; the next start goes on with what is kept", file=sys.stderr)
         return 130
 
 

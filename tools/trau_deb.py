@@ -1,6 +1,7 @@
-"""A Debian package of the files that a tarball has, made by dpkg-deb.
+"""Debian packages of the files that a tarball has, made by dpkg-deb: `trau`, and of the C library `libtrau-fr1` and `libtrau-fr-dev`.
 
-What runs lies below /usr/lib/trau, with links in /usr/bin; documents lie below /usr/share/doc/trau.
+What runs lies below /usr/lib/trau, with links in /usr/bin; documents lie below /usr/share/doc/trau. The C library lies where the
+system's loader and compilers look for it, and libgsm's interface in a folder of its own beside it, so that no program takes it unasked.
 """
 
 from __future__ import annotations
@@ -13,7 +14,7 @@ import subprocess
 import tempfile
 import time
 from pathlib import Path
-from typing import Dict, List, Tuple
+from typing import Dict, List, NamedTuple, Tuple
 
 import trau_frames
 from trau_frames import Refusal
@@ -24,27 +25,62 @@ HOME = "usr/lib/trau"
 DOCUMENTS = "usr/share/doc/trau"
 MACHINES = {"x86_64": "amd64", "aarch64": "arm64"}
 
+# Where the system's libraries lie, and where the tarball has those that clib/build made.
+LIBRARIES = f"usr/lib/{os.uname().machine}-linux-gnu"
+BUILT = "clib/out/"
+
 # Of the C library that the program is linked with.
 DEPENDS = "libc6 (>= 2.34)"
 
-CONTROL = """Package: trau
+CONTROL = """Package: {name}
 Version: {version}
 Architecture: {machine}
 Maintainer: {author}
 Installed-Size: {size}
-Depends: {depends}
-Recommends: python3 (>= 3.9)
-Suggests: python3-dpkt
-Section: comm
+{fields}
 Priority: optional
-Description: GSM transcoder and rate adaptor unit, on recorded lines
+Description: {description}
+"""
+
+PROGRAM = f"""Depends: {DEPENDS}
+Recommends: python3 (>= 3.9)
+Suggests: libtrau-fr1, python3-dpkt
+Section: comm"""
+
+PROGRAM_DESCRIPTION = """GSM transcoder and rate adaptor unit, on recorded lines
  Turns the TRAU frames of recorded 16 kbit/s lines (GSM 08.60) into A-law or
  mu-law octets (G.711) and back, for up to 4,096 calls, with the full rate
  codec (GSM 06.10), frames for lost speech, comfort noise and bridges.
  .
  What it writes is proved: however many threads work the calls, it is octet
- for octet what a definition gives for its input.
-"""
+ for octet what a definition gives for its input."""
+
+LIBRARY = """Source: trau
+Depends: libc6 (>= 2.14)
+Multi-Arch: same
+Section: libs"""
+
+CODEC_DESCRIPTION = """\
+ Encodes and decodes GSM 06.10 full rate speech, packs its frames in 33 octets
+ (RTP, files of libgsm) and in pairs of 65 (WAV49), and expands and compresses
+ A-law and mu-law. Each of its functions is proved: it gives what a definition
+ says, allocates nothing, and reads and writes what it is passed alone."""
+
+LIBRARY_DESCRIPTION = f"""GSM full rate codec in integer arithmetic, proved
+{CODEC_DESCRIPTION}
+ .
+ In the folder trau-gsm beside it there is a library with libgsm's interface,
+ on which programs of libgsm run unchanged."""
+
+HEADERS = """Source: trau
+Depends: libtrau-fr1 (= {version})
+Multi-Arch: same
+Section: libdevel"""
+
+HEADERS_DESCRIPTION = f"""GSM full rate codec, proved: header and static library
+{CODEC_DESCRIPTION}
+ .
+ This package has the header, the static library and the file of pkg-config."""
 
 COPYRIGHT = """Files: all
 No licence has been chosen for this software. Nobody but its authors has leave
@@ -54,8 +90,23 @@ Copyright {year} {author}
 """
 
 
-# What lintian is told: the program is packed as it was proved and built, octet for octet.
-OVERRIDES = "trau: unstripped-binary-or-object [usr/lib/trau/trau_program]\n"
+# For lintian: the program is packed as it was proved and built, octet for octet.
+OVERRIDE = "trau: unstripped-binary-or-object [{}]\n"
+
+# What dpkg does once a library has come, and how packages that are built with it depend on it.
+TRIGGERS = "activate-noawait ldconfig\n"
+SHLIBS = "libtrau_fr 1 libtrau-fr1 (>= {version})\n"
+
+
+class Package(NamedTuple):
+    """A package: its name, what its control file says, its files and links by their paths, and further files for dpkg."""
+
+    name: str
+    fields: str
+    description: str
+    files: Dict[str, bytes]
+    links: Dict[str, str]
+    control: Dict[str, str] = {}
 
 
 def versions() -> List[Tuple[str, str, List[str]]]:
@@ -110,12 +161,17 @@ def place(name: str, content: bytes) -> Tuple[str, bytes]:
     return f"{HOME}/{name}", content
 
 
-def data(files: Dict[str, bytes], author: str, year: str) -> Dict[str, bytes]:
-    """The files of the package, by their paths."""
+def common(name: str, author: str, year: str) -> Dict[str, bytes]:
+    """What each package says of itself."""
+    texts = {"changelog.gz": zipped(changelog(author).encode()), "copyright": COPYRIGHT.format(year=year, author=author).encode()}
+    return {f"usr/share/doc/{name}/{file}": content for file, content in texts.items()}
+
+
+def data(files: Dict[str, bytes]) -> Dict[str, bytes]:
+    """The files of the program's package, by their paths."""
     found = dict(place(name, content) for name, content in files.items() if name not in ("install", "SHA256SUMS"))
-    found[f"{DOCUMENTS}/changelog.gz"] = zipped(changelog(author).encode())
-    found[f"{DOCUMENTS}/copyright"] = COPYRIGHT.format(year=year, author=author).encode()
-    found["usr/share/lintian/overrides/trau"] = OVERRIDES.encode()
+    programs = sorted(path for path, content in found.items() if content.startswith(b"\x7fELF"))
+    found["usr/share/lintian/overrides/trau"] = "".join(map(OVERRIDE.format, programs)).encode()
     return found
 
 
@@ -126,33 +182,69 @@ def links(found: Dict[str, bytes]) -> Dict[str, str]:
     return {**commands, f"{HOME}/docs": "../../share/doc/trau/docs"}
 
 
-def lay(root: Path, found: Dict[str, bytes], runs: Tuple[str, ...]) -> None:
-    """Writes the files of the package below a folder."""
-    for name, content in found.items():
+def program(files: Dict[str, bytes]) -> Package:
+    """The package of the program and its tools."""
+    found = data({name: content for name, content in files.items() if not name.startswith(BUILT)})
+    return Package("trau", PROGRAM, PROGRAM_DESCRIPTION, found, links(found))
+
+
+def symbols(header: str, version: str) -> str:
+    """The functions of the library, each since this version, as dpkg-shlibdeps reads them."""
+    names = sorted(set(re.findall(r"\b(trau_\w+)\(", re.sub(r"/\*.*?\*/", "", header, flags=re.S))))
+    each = "".join(f" {name}@TRAU_FR_1 {version}\n" for name in ["TRAU_FR_1", *names])
+    return f"libtrau_fr.so.1 libtrau-fr1 #MINVER#\n{each}".replace("#MINVER#", f"(>= {version})")
+
+
+def shared_library(files: Dict[str, bytes], version: str) -> Package:
+    """The package of the shared library, and of libgsm's interface beside it."""
+    shared = re.compile(r"lib/(.*\.so\.1)")
+    found = {f"{LIBRARIES}/{shared.fullmatch(name)[1]}": content for name, content in files.items() if shared.fullmatch(name)}
+    header = files["include/trau_fr.h"].decode()
+    control = {"triggers": TRIGGERS, "shlibs": SHLIBS.format(version=version), "symbols": symbols(header, version)}
+    return Package("libtrau-fr1", LIBRARY, LIBRARY_DESCRIPTION, found, {}, control)
+
+
+def development(files: Dict[str, bytes], page: bytes, version: str) -> Package:
+    """The package of the header and of what a compiler needs beside it, with the library's page."""
+    paths = files["lib/pkgconfig/trau_fr.pc"].decode().replace("prefix=${pcfiledir}/../..", "prefix=/usr")
+    found = {
+        "usr/include/trau_fr.h": files["include/trau_fr.h"],
+        f"{LIBRARIES}/libtrau_fr.a": files["lib/libtrau_fr.a"],
+        f"{LIBRARIES}/pkgconfig/trau_fr.pc": paths.replace("libdir=${prefix}/lib\n", f"libdir=/{LIBRARIES}\n").encode(),
+        "usr/share/doc/libtrau-fr-dev/LIBRARY.md": page,
+    }
+    link = {f"{LIBRARIES}/libtrau_fr.so": "libtrau_fr.so.1"}
+    return Package("libtrau-fr-dev", HEADERS.format(version=version), HEADERS_DESCRIPTION, found, link)
+
+
+def lay(root: Path, files: Dict[str, bytes], links: Dict[str, str]) -> None:
+    """Writes the files and links of a package below a folder."""
+    for name, content in files.items():
         path = root / name
         path.parent.mkdir(parents=True, exist_ok=True)
         path.write_bytes(content)
-        path.chmod(0o755 if name in runs else 0o644)
-    for name, target in links(found).items():
+        runs = content.startswith((b"#!", b"\x7fELF")) and ".so" not in path.name
+        path.chmod(0o755 if runs else 0o644)
+    for name, target in links.items():
         (root / name).parent.mkdir(parents=True, exist_ok=True)
         (root / name).symlink_to(target)
 
 
-def package(files: Dict[str, bytes], author: str, seconds: int) -> Tuple[str, bytes]:
-    """The name and the octets of the package of these files, all of which have this date."""
+def packed(package: Package, author: str, seconds: int) -> Tuple[str, bytes]:
+    """The name and the octets of a package, all of whose files have this date."""
     machine = MACHINES.get(os.uname().machine, os.uname().machine)
     version = versions()[0][0]
-    found = data(files, author, time.strftime("%Y", time.gmtime(seconds)))
-    size = sum((len(content) + 1023) // 1024 for content in found.values())
-    control = CONTROL.format(version=version, machine=machine, author=author, size=size, depends=DEPENDS)
-    sums = "".join(f"{hashlib.md5(content).hexdigest()}  {name}\n" for name, content in sorted(found.items()))
-    runs = tuple(path for path, content in found.items() if content.startswith((b"#!", b"\x7fELF")))
+    files = {**package.files, **common(package.name, author, time.strftime("%Y", time.gmtime(seconds)))}
+    size = sum((len(content) + 1023) // 1024 for content in files.values())
+    control = CONTROL.format(version=version, machine=machine, author=author, size=size, **package._asdict())
+    sums = "".join(f"{hashlib.md5(content).hexdigest()}  {name}\n" for name, content in sorted(files.items()))
     with tempfile.TemporaryDirectory() as folder:
         root = Path(folder) / "root"
-        lay(root, found, runs)
+        lay(root, files, package.links)
         (root / "DEBIAN").mkdir()
-        (root / "DEBIAN" / "control").write_text(control)
-        (root / "DEBIAN" / "md5sums").write_text(sums)
+        for name, text in {"control": control, "md5sums": sums, **package.control}.items():
+            (root / "DEBIAN" / name).write_text(text)
+            (root / "DEBIAN" / name).chmod(0o644)
         for path in (root, *root.rglob("*")):
             if path.is_dir():
                 path.chmod(0o755)
@@ -165,4 +257,14 @@ def package(files: Dict[str, bytes], author: str, seconds: int) -> Tuple[str, by
             raise Refusal("dpkg-deb isn't on the path; it is part of Debian's package dpkg") from None
         except subprocess.CalledProcessError as ended:
             raise Refusal(f"dpkg-deb: {ended.stderr.strip()}") from None
-        return f"trau_{version}_{machine}.deb", made.read_bytes()
+        return f"{package.name}_{version}_{machine}.deb", made.read_bytes()
+
+
+def packages(files: Dict[str, bytes], author: str, seconds: int) -> Dict[str, bytes]:
+    """The packages of these files by their names: the program's, and those of the C library where it is among the files."""
+    version = versions()[0][0]
+    made = [program(files)]
+    built = {name[len(BUILT) :]: content for name, content in files.items() if name.startswith(BUILT)}
+    if built:
+        made += [shared_library(built, version), development(built, files["docs/LIBRARY.md"], version)]
+    return dict(packed(package, author, seconds) for package in made)

@@ -1,9 +1,10 @@
-"""Makes a package of the proved program: a tarball with the program, the scripts, man pages, completion of words in bash, the
-documents, examples, the tools, SHA256SUMS and a script `install`; with --deb a Debian package too. Where it is installed it needs
-the C library alone; the tools need Python 3 there.
+"""Packs the proved program: a tarball with the program for x86-64-v2 and for x86-64-v3, the scripts, man pages, word completion for bash,
+the documents, the examples, the tools, the C library of the codec, SHA256SUMS and a script `install`. With --deb it makes Debian packages
+too. The installed program needs only the system's C library; the tools need Python 3.
 
-The program is the one that `trau` proves and builds, which comes first where a source changed. The same sources and program give
-the same octets. The version is that of docs/CHANGELOG.md.
+`trau` proves and builds the program, and clib/build the library; both come first if a source changed. If TRAU_PROGRAM names the program,
+or there is no C compiler, a library that isn't built yet is left out. The same sources, program and library give the same octets. The
+version is that of docs/CHANGELOG.md.
 """
 
 from __future__ import annotations
@@ -14,7 +15,9 @@ import hashlib
 import io
 import os
 import re
+import shutil
 import subprocess
+import sys
 import tarfile
 from pathlib import Path
 from typing import Dict, NamedTuple, Sequence
@@ -28,6 +31,16 @@ from trau_frames import Refusal
 
 TOP = Path(__file__).resolve().parents[1]
 PROGRAM = TOP / "crates" / "trau_program" / "out" / "trau_program"
+# What the name of the program for another kind of processor ends in.
+KIND = "x86-64-v3"
+
+# What clib/build makes, and the script that starts programs of libgsm on it.
+LIBRARY = TOP / "clib" / "out"
+V3 = "glibc-hwcaps/x86-64-v3"
+LIBRARY_FILES = (
+    *("include/trau_fr.h", "lib/libtrau_fr.a", "lib/libtrau_fr.so", "lib/libtrau_fr.so.1", f"lib/{V3}/libtrau_fr.so.1"),
+    *("lib/trau-gsm/libgsm.so.1", f"lib/trau-gsm/{V3}/libgsm.so.1", "lib/pkgconfig/trau_fr.pc"),
+)
 
 SCRIPTS = ("trau", "demo")
 TOOLS = ("lines.py", "orders.py", "report.py", "shard.py", "timeline.py", "watch.py")
@@ -66,7 +79,7 @@ def git(*words: str) -> str:
     try:
         ran = subprocess.run(["git", "-C", str(TOP), *words], capture_output=True, text=True, check=True)
     except (OSError, subprocess.CalledProcessError):
-        raise Refusal(f"{TOP}: git doesn't tell the state of this repository") from None
+        raise Refusal(f"{TOP}: git doesn't know the state of this repository") from None
     return ran.stdout.strip()
 
 
@@ -78,11 +91,24 @@ def state_of_repository() -> State:
 
 
 def proved_program() -> bytes:
-    """The program, which the script `trau` proves and builds where it isn't."""
+    """The program. If it isn't built, the script `trau` proves and builds it."""
     ran = subprocess.run([TOP / "trau"], stdin=subprocess.DEVNULL, stdout=subprocess.PIPE)
     if (ran.returncode, ran.stdout) != (1, b"usage\n"):
         raise Refusal("there is no program that is proved and built")
     return trau_frames.read_file(Path(os.environ.get("TRAU_PROGRAM") or PROGRAM))
+
+
+def programs() -> Dict[str, bytes]:
+    """The programs by their names in the package: the one for x86-64-v2, which any machine runs, and the one for the other kind."""
+    found = {PROGRAM.name: proved_program()}
+    if is_given():
+        return found
+    if subprocess.run([TOP / "trau"], env={**os.environ, "TRAU_IS_BUILT": KIND}).returncode == 0:
+        second = f"{PROGRAM.name}.{KIND}"
+        found[second] = trau_frames.read_file(PROGRAM.with_name(second))
+    else:
+        print(f"package: no program for {KIND} is built, so none is packed; tools/build.py builds it", file=sys.stderr)
+    return found
 
 
 def is_given() -> bool:
@@ -91,10 +117,28 @@ def is_given() -> bool:
     return bool(given) and Path(given).resolve() != PROGRAM.resolve()
 
 
+def library_is_built() -> bool:
+    """Whether the library is built of the sources as they are."""
+    return subprocess.run([TOP / "clib" / "build"], env={**os.environ, "TRAU_IS_BUILT": "ask"}).returncode == 0
+
+
+def proved_library() -> Dict[str, bytes]:
+    """The files of the C library. If it isn't built, clib/build proves and builds it, or it is left out."""
+    folder = Path(os.environ.get("TRAU_CLIB") or LIBRARY)
+    if folder == LIBRARY and not library_is_built():
+        if is_given() or not shutil.which(os.environ.get("CC", "cc")):
+            return {}
+        if subprocess.run([TOP / "clib" / "build"], stdin=subprocess.DEVNULL).returncode:
+            raise Refusal("there is no C library that is proved and built")
+    return {f"{trau_deb.BUILT}{name}": trau_frames.read_file(folder / name) for name in LIBRARY_FILES}
+
+
 def origin() -> str:
-    """The kit that the program was proved with; of a given program nobody here knows whether it was proved."""
+    """The kit that everything was proved with. Whether a given program or library was proved isn't known here."""
     if is_given():
         return "with a program that TRAU_PROGRAM named"
+    if os.environ.get("TRAU_CLIB"):
+        return "with a C library that TRAU_CLIB named"
     try:
         return "proved with " + subprocess.run(["rt", "version"], capture_output=True, text=True, check=True).stdout.strip()
     except (OSError, subprocess.CalledProcessError):
@@ -108,7 +152,7 @@ def files_below(folder: Path) -> Dict[str, Path]:
 
 
 def documents() -> Dict[str, Path]:
-    """README.md and all files that its links lead to, and the links of these: documents, pictures, and sources that they name."""
+    """README.md and all files that its links lead to, directly or through other documents: documents, pictures and sources."""
     found: Dict[str, Path] = {}
     waiting = [TOP / "README.md"]
     while waiting:
@@ -125,7 +169,7 @@ def members(state: State) -> Dict[str, Member]:
     """The files of the package, by their names in it."""
     found = {name: Member(trau_frames.read_file(TOP / name), True) for name in SCRIPTS}
     found["install"] = Member(trau_frames.read_file(TOP / "tools" / "install"), True)
-    found["trau_program"] = Member(proved_program(), True)
+    found.update((name, Member(content, True)) for name, content in programs().items())
     found["VERSION"] = Member(f"trau {state.commit} of {state.date}, {origin()}\n".encode())
     found["man/trau.1"] = Member(trau_words.man_page(f"trau {state.commit}", state.date).encode())
     for tool in TOOLS:
@@ -134,6 +178,8 @@ def members(state: State) -> Dict[str, Member]:
     found["trau.bash"] = Member(trau_words.completion().encode())
     for name in (*TOOLS, *BESIDE_TOOLS):
         found[f"tools/{name}"] = Member(trau_frames.read_file(TOP / "tools" / name), name in TOOLS)
+    found.update((name, Member(content)) for name, content in proved_library().items())
+    found["clib/with"] = Member(trau_frames.read_file(TOP / "clib" / "with"), True)
     for name, path in files_below(TOP / "examples").items():
         if EXAMPLES.fullmatch(name):
             found[f"examples/{name}"] = Member(trau_frames.read_file(path))
@@ -159,12 +205,12 @@ def tarball(state: State, found: Dict[str, Member]) -> bytes:
 
 @tool("package")
 def main(words: Sequence[str]) -> int:
-    """Carries out the words of the command line, and gives the status."""
+    """Runs the words of the command line, and returns the exit status."""
     parser = trau_frames.Words(
         prog="package", description=__doc__, formatter_class=argparse.RawDescriptionHelpFormatter, allow_abbrev=False
     )
-    parser.add_argument("folder", type=Path, metavar="FOLDER", help="the folder that the package is written to")
-    parser.add_argument("--deb", action="store_true", help="make a Debian package too, by dpkg-deb")
+    parser.add_argument("folder", type=Path, metavar="FOLDER", help="the folder to write the package to")
+    parser.add_argument("--deb", action="store_true", help="make Debian packages too, with dpkg-deb")
     asked = parser.parse_args(words)
     if not asked.folder.is_dir():
         raise Refusal(f"{asked.folder}: isn't a folder")
@@ -173,8 +219,9 @@ def main(words: Sequence[str]) -> int:
     made = {f"{state.name()}.tar.gz": tarball(state, found)}
     if asked.deb:
         author = git("log", "-1", "--format=%an <%ae>")
-        name, content = trau_deb.package({name: member.content for name, member in found.items()}, author, state.seconds)
-        made[name] = content
+        made.update(trau_deb.packages({name: member.content for name, member in found.items()}, author, state.seconds))
+    if not any(name.startswith(trau_deb.BUILT) for name in found):
+        print("package without the C library, which isn't built")
     for name, content in made.items():
         trau_frames.write_file(asked.folder / name, content, [])
         print(f"package {asked.folder / name} octets {len(content)} sha256 {hashlib.sha256(content).hexdigest()}")

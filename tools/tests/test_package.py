@@ -7,7 +7,9 @@ import re
 import shutil
 import subprocess
 import tarfile
+import tempfile
 import unittest
+from pathlib import Path
 from unittest import mock
 
 from support import EXAMPLES, TOOLS, TOP, InFolder
@@ -20,23 +22,48 @@ import trau_package
 PLAIN_PATH = "/usr/bin:/bin"
 
 
-def is_built():
-    """Whether a program is there that can be packed at once."""
-    return subprocess.run([TOP / "trau"], env={**os.environ, "TRAU_IS_BUILT": "ask"}).returncode == 0
+# Without TRAU_PROGRAM no program is packed, so that these tests prove nothing.
+HAS_PROGRAM = os.access(os.environ.get("TRAU_PROGRAM", ""), os.X_OK)
 
 
-@unittest.skipUnless(is_built(), "no program is built")
+def is_built(kind):
+    """Whether the program for a kind of processor is built."""
+    return subprocess.run([TOP / "trau"], env={**os.environ, "TRAU_IS_BUILT": kind}).returncode == 0
+
+
+SECOND = f"trau_program.{trau_package.KIND}"
+
+
+def is_second_packed():
+    return not trau_package.is_given() and is_built(trau_package.KIND)
+
+
+def note():
+    """What is said on standard error where one program alone is packed."""
+    if trau_package.is_given() or is_second_packed():
+        return ""
+    return f"package: no program for {trau_package.KIND} is built, so none is packed; tools/build.py builds it\n"
+
+
+HAS_LIBRARY = bool(os.environ.get("TRAU_CLIB")) or trau_package.library_is_built()
+if not HAS_LIBRARY:
+    # Without a compiler tools/package leaves the library out, where it would prove and build it.
+    os.environ["CC"] = "/no/compiler"
+
+
+@unittest.skipUnless(HAS_PROGRAM, "TRAU_PROGRAM names no program")
 class Package(InFolder):
     def make(self, name="made"):
         """The package's file."""
         folder = self.folder / name
         folder.mkdir()
         ended = subprocess.run([TOOLS / "package", folder], capture_output=True, text=True)
-        self.assertEqual((ended.returncode, ended.stderr), (0, ""))
+        self.assertEqual((ended.returncode, ended.stderr), (0, note()))
         (made,) = folder.iterdir()
         content = made.read_bytes()
         said = f"package {made} octets {len(content)} sha256 {hashlib.sha256(content).hexdigest()}\n"
-        self.assertEqual(ended.stdout, said)
+        without = "" if HAS_LIBRARY else "package without the C library, which isn't built\n"
+        self.assertEqual(ended.stdout, without + said)
         return made
 
     def unpack(self, made):
@@ -65,7 +92,22 @@ class Package(InFolder):
         wanted = ("trau_program", "man/trau.1", "man/trau-lines.1", "trau.bash", "tools/orders.py", "examples/farm/orders.txt")
         for name in (*wanted, "tools/grammar.txt", "README.md", "docs/OPERATORS.md", "docs/CHANGELOG.md"):
             self.assertIn(name, names)
+        self.assertEqual(SECOND in names, is_second_packed())
         self.assertFalse((package / "crates" / "trau_program").exists())
+
+    @unittest.skipUnless(HAS_LIBRARY, "no C library is built")
+    def test_the_library(self):
+        package = self.unpack(self.make())
+        for name in trau_package.LIBRARY_FILES:
+            self.assertTrue((package / "clib" / "out" / name).is_file(), name)
+        gsm = self.said(package / "clib" / "with", "sh", "-c", "echo $LD_LIBRARY_PATH")
+        self.assertEqual(gsm, (0, f"{package}/clib/out/lib/trau-gsm\n", ""))
+        down, new = EXAMPLES / "farm" / "wanted" / "2.down", self.folder / "2.wav"
+        # Without the program, which the package's own trau doesn't start.
+        (package / "trau_program").unlink()
+        status, out, err = self.said(package / "tools" / "lines.py", "listen", down, new)
+        self.assertEqual((status, err), (0, ""))
+        self.assertEqual(out, "listen samples 16000 found speech 91 silence 8 idle 0 other 0 outside 324\n")
 
     def test_links_of_its_documents_lead_to_files(self):
         package = self.unpack(self.make())
@@ -79,6 +121,7 @@ class Package(InFolder):
         package = self.unpack(self.make())
         status, out, err = self.said(package / "trau", "--version")
         self.assertEqual((status, err), (0, ""))
+        self.assertIn("\nprogram: for x86-64-v", out)
         self.assertRegex(out, r"^trau [0-9a-f]+(-changed)? of \d{4}-\d\d-\d\d, " + re.escape(trau_package.origin()))
         status, out, err = self.said(package / "demo")
         self.assertEqual((status, err), (0, ""))
@@ -142,28 +185,95 @@ class Package(InFolder):
             self.assertIn(part, ended.stderr)
 
 
-@unittest.skipUnless(is_built(), "no program is built")
+@unittest.skipUnless(HAS_PROGRAM, "TRAU_PROGRAM names no program")
 @unittest.skipUnless(shutil.which("dpkg-deb"), "there is no dpkg-deb")
 class Debian(InFolder):
-    def make(self, name="made"):
-        """The package's file."""
-        folder = self.folder / name
-        folder.mkdir()
+    @classmethod
+    def setUpClass(cls):
+        folder = tempfile.TemporaryDirectory()
+        cls.addClassCleanup(folder.cleanup)
+        cls.made = cls.make(Path(folder.name))
+
+    @staticmethod
+    def make(folder):
+        """The files of the packages, by the packages' names."""
         ended = subprocess.run([TOOLS / "package", "--deb", folder], capture_output=True, text=True)
-        self.assertEqual((ended.returncode, ended.stderr), (0, ""))
-        (made,) = folder.glob("*.deb")
-        self.assertIn(f"package {made} octets {made.stat().st_size} sha256 ", ended.stdout)
+        assert (ended.returncode, ended.stderr) == (0, note()), ended
+        made = {path.name.partition("_")[0]: path for path in folder.glob("*.deb")}
+        assert all(f"package {path} octets {path.stat().st_size} sha256 " in ended.stdout for path in made.values()), ended
         return made
 
+    def unpack(self, *names):
+        """The folder of these packages' files."""
+        root = self.folder / "root"
+        for name in names:
+            subprocess.run(["dpkg-deb", "-x", self.made[name], root], check=True)
+        return root
+
+    def test_names(self):
+        wanted = ["libtrau-fr-dev", "libtrau-fr1", "trau"] if HAS_LIBRARY else ["trau"]
+        self.assertEqual(sorted(self.made), wanted)
+
+    def fields(self, made):
+        """The fields of a package."""
+        return subprocess.run(["dpkg-deb", "-f", made], capture_output=True, text=True, check=True).stdout
+
+    @unittest.skipUnless(HAS_LIBRARY, "no C library is built")
+    def test_the_library(self):
+        version = trau_deb.versions()[0][0]
+        for name in ("libtrau-fr1", "libtrau-fr-dev"):
+            for field in ("Source: trau\n", f"Version: {version}\n", "Multi-Arch: same\n"):
+                self.assertIn(field, self.fields(self.made[name]))
+        self.assertIn(f"Depends: libtrau-fr1 (= {version})", self.fields(self.made["libtrau-fr-dev"]))
+        root = self.unpack("libtrau-fr1", "libtrau-fr-dev")
+        libraries = root / trau_deb.LIBRARIES
+        for name in ("libtrau_fr.so.1", "glibc-hwcaps/x86-64-v3/libtrau_fr.so.1", "trau-gsm/libgsm.so.1", "libtrau_fr.a"):
+            self.assertEqual((libraries / name).stat().st_mode & 0o777, 0o644, name)
+        self.assertEqual(os.readlink(libraries / "libtrau_fr.so"), "libtrau_fr.so.1")
+        control = self.folder / "control"
+        subprocess.run(["dpkg-deb", "-e", self.made["libtrau-fr1"], control], check=True)
+        self.assertEqual((control / "shlibs").read_text(), f"libtrau_fr 1 libtrau-fr1 (>= {version})\n")
+        self.assertEqual((control / "triggers").read_text(), "activate-noawait ldconfig\n")
+        told = re.findall(r"^ (trau\w+)@TRAU_FR_1 ", (control / "symbols").read_text(), re.M)
+        if shutil.which("nm"):
+            words = ["nm", "-D", "--defined-only", "--without-symbol-versions", libraries / "libtrau_fr.so.1"]
+            exported = re.findall(r" T (\w+)", subprocess.run(words, capture_output=True, text=True, check=True).stdout)
+            self.assertEqual(told, sorted(exported))
+        self.assertEqual(len(told), 13)
+
+    @unittest.skipUnless(HAS_LIBRARY and shutil.which("cc") and shutil.which("pkg-config"), "no C library, cc or pkg-config")
+    def test_a_program_built_with_it(self):
+        root = self.unpack("libtrau-fr1", "libtrau-fr-dev")
+        libraries = root / trau_deb.LIBRARIES
+        # The example of the header, which encodes standard input.
+        header = (root / "usr" / "include" / "trau_fr.h").read_text()
+        example = re.search(r"^ \*     (#include <stdio.h>.*?^ \*     \}$)", header, re.M | re.S)[1]
+        self.path("example.c", re.sub(r"^ \* ? ? ? ? ?", "", example, flags=re.M).encode())
+        surroundings = {**os.environ, "PKG_CONFIG_PATH": str(libraries / "pkgconfig"), "PKG_CONFIG_SYSROOT_DIR": str(root)}
+        words = ["pkg-config", "--cflags", "--libs", "trau_fr"]
+        flags = subprocess.run(words, capture_output=True, text=True, check=True, env=surroundings).stdout.split()
+        subprocess.run(["cc", "-o", self.path("example"), self.path("example.c"), *flags], check=True)
+        surroundings = {"LD_LIBRARY_PATH": str(libraries)}
+        ended = subprocess.run([self.path("example")], input=bytes(640), capture_output=True, check=True, env=surroundings)
+        self.assertEqual((len(ended.stdout), ended.stdout[0] >> 4), (66, 0xD))
+
+    @unittest.skipUnless(HAS_LIBRARY, "no C library is built")
+    def test_a_tool_on_the_installed_library(self):
+        root = self.unpack("libtrau-fr1", "trau")
+        (root / "usr" / "lib" / "trau" / "trau_program").unlink()
+        words = [root / "usr" / "bin" / "trau-lines", "listen", EXAMPLES / "farm" / "wanted" / "2.down", self.path("2.wav")]
+        surroundings = {"PATH": PLAIN_PATH, "LD_LIBRARY_PATH": str(root / trau_deb.LIBRARIES)}
+        ended = subprocess.run(words, capture_output=True, text=True, env=surroundings)
+        self.assertEqual((ended.returncode, ended.stderr, ended.stdout[:21]), (0, "", "listen samples 16000 "))
+
     def test_what_is_in_it(self):
-        made = self.make()
+        made = self.made["trau"]
         version = trau_deb.versions()[0][0]
         self.assertTrue(made.name.startswith(f"trau_{version}_"))
-        fields = subprocess.run(["dpkg-deb", "-f", made], capture_output=True, text=True, check=True).stdout
-        for field in (f"Version: {version}", "Depends: libc6 (>= 2.34)", "Recommends: python3"):
+        fields = self.fields(made)
+        for field in (f"Version: {version}", "Depends: libc6 (>= 2.34)", "Recommends: python3", "Suggests: libtrau-fr1"):
             self.assertIn(field, fields)
-        root = self.folder / "root"
-        subprocess.run(["dpkg-deb", "-x", made, root], check=True)
+        root = self.unpack("trau")
         surroundings = {"PATH": f"{root}/usr/bin:{PLAIN_PATH}", "TMPDIR": str(self.folder)}
         for words, told in (
             (["trau", "--version"], "trau "),
@@ -181,11 +291,13 @@ class Debian(InFolder):
         self.assertTrue((root / "usr" / "lib" / "trau" / "docs" / "FILES.md").is_file())
 
     def test_the_same_octets_again(self):
-        self.assertEqual(self.make("one").read_bytes(), self.make("two").read_bytes())
+        again = self.make(self.folder)
+        for name, path in self.made.items():
+            self.assertEqual(path.read_bytes(), again[name].read_bytes(), name)
 
     @unittest.skipUnless(shutil.which("lintian"), "there is no lintian")
     def test_lintian_finds_no_errors(self):
-        ended = subprocess.run(["lintian", "--fail-on", "error", self.make()], capture_output=True, text=True)
+        ended = subprocess.run(["lintian", "--fail-on", "error", *self.made.values()], capture_output=True, text=True)
         self.assertEqual((ended.returncode, ended.stdout), (0, ""))
 
     def test_versions(self):
@@ -196,6 +308,38 @@ class Debian(InFolder):
         said = trau_deb.changelog("A <a@b.example>")
         self.assertRegex(said, r"^trau \(\d+\.\d+\.\d+\) unstable; urgency=medium\n\n  \* ")
         self.assertRegex(said, r"\n -- A <a@b.example>  \w{3}, \d\d \w{3} \d{4} 12:00:00 \+0000\n$")
+
+
+class TheLibrary(InFolder):
+    def found(self, is_given, compiler, status):
+        """The library's files where it isn't built yet, and clib/build ends with this status."""
+        ended = mock.Mock(returncode=status)
+        with mock.patch.dict(os.environ), mock.patch.object(trau_package, "library_is_built", return_value=False):
+            os.environ.pop("TRAU_CLIB", None)
+            with mock.patch.object(trau_package, "is_given", return_value=is_given):
+                with mock.patch.object(trau_package.shutil, "which", return_value=compiler):
+                    with mock.patch.object(trau_package.subprocess, "run", return_value=ended) as builds:
+                        return trau_package.proved_library(), builds.called
+
+    def test_left_out(self):
+        self.assertEqual(self.found(True, "/usr/bin/cc", 0), ({}, False))
+        self.assertEqual(self.found(False, None, 0), ({}, False))
+
+    def test_not_built(self):
+        with self.assertRaisesRegex(trau_deb.Refusal, "no C library that is proved and built"):
+            self.found(False, "/usr/bin/cc", 2)
+
+    def test_a_given_folder(self):
+        with mock.patch.dict(os.environ, TRAU_CLIB=str(self.folder)):
+            with self.assertRaisesRegex(trau_deb.Refusal, "include/trau_fr.h"):
+                trau_package.proved_library()
+            for name in trau_package.LIBRARY_FILES:
+                (self.folder / name).parent.mkdir(parents=True, exist_ok=True)
+                (self.folder / name).write_bytes(name.encode())
+            found = trau_package.proved_library()
+        self.assertEqual(found, {f"clib/out/{name}": name.encode() for name in trau_package.LIBRARY_FILES})
+        with mock.patch.dict(os.environ, TRAU_CLIB=str(self.folder), TRAU_PROGRAM=""):
+            self.assertEqual(trau_package.origin(), "with a C library that TRAU_CLIB named")
 
 
 @unittest.skipUnless(shutil.which("groff"), "there is no groff")

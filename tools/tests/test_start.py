@@ -1,5 +1,7 @@
 """Tests of the scripts trau and demo and of build.py, in a small repository and with a stand-in for the toolchain's rt."""
 
+import contextlib
+import io
 import os
 import pty
 import re
@@ -29,34 +31,62 @@ trau_program: middle high  # the program
 high: low
 """
 
-# What the real one says, as far as it is read: crate after crate, each with its last line, and then the program's text.
+# What the real one says, as far as it is read: of each crate at its end what its check said and its verdict, and at last the sum.
 RT = """#!/bin/sh
-echo "$@" in $(basename $PWD) >>"$ASKED"
+echo "$@" in $(basename $PWD) jobs $RT_JOBS >>"$ASKED"
 case $1 in
 version) echo "a kit" ;;
-all)
-    [ "$FAILS $4" != "killed 2" ] || { echo '== summary'; echo 'high: failed (-9)'; exit 1; }
+ci)
+    find . -type f | sort >>"$ASKED.files"
+    [ "$FAILS $RT_JOBS" != "killed " ] || { echo 'rt: the check was killed, most likely for memory: once more'; exit 1; }
     for crate in low middle high trau_program; do
+        [ "$KEEPS $crate" != "low low" ] || { echo "rt: low is kept: an earlier run on this machine proved the same files"; continue; }
         echo "== $crate"
-        [ "$FAILS $crate" != "proof high" ] || { echo "fn high::f: not proved"; break; }
+        if [ "$FAILS $crate" = "proof high" ]; then
+            echo "fn high::f: not proved"
+            echo "rt: high NOT PROVED"
+            break
+        elif [ "$FAILS $crate" = "format high" ]; then
+            echo "rt: run rt fmt in the crate's folder"
+            echo "rt: high NOT PROVED"
+            break
+        fi
         echo "fn $crate::f: proved"
         echo "logic=proved functions=3 axioms=2 sum=0"
+        echo "rt: $crate proved"
     done
-    [ "$FAILS" != sleep ] || sleep 60
-    echo "== summary"
-    [ "$FAILS" != proof ] || { echo 'high: failed (1)'; exit 1; }
-    ;;
-run)
+    case $FAILS in
+    sleep) exec sleep 600 ;;
+    pause) until [ -e "$ASKED.goes-on" ]; do sleep 0.1; done ;;
+    proof | format) echo 'rt: FAILED: high'; echo '3 passed, 1 failed'; exit 1 ;;
+    esac
+    cd crates/trau_program
     mkdir -p out
-    [ "$FAILS" != link ] || exit 1
     printf '#!/bin/sh\\n[ "$#" != 0 ] || { echo usage; exit 1; }\\necho "the program: $*"\\n' >out/trau_program
     chmod +x out/trau_program
-    echo "rt: running out/trau_program" >&2
-    exec out/trau_program
+    echo 'rt: note: nothing is kept today'
+    echo '4 passed, 0 failed'
     ;;
 try) cat "$REPORT" ;;
 esac
 """
+
+# In place of build_for.py.
+BUILD_FOR = """import os, sys
+top, crate, kind = sys.argv[1:]
+if os.environ["FAILS"] == "second":
+    sys.exit("no such kind")
+path = f"{top}/crates/{crate}/out/{crate}"
+with open(path) as first, open(f"{path}.{kind}", "w") as made:
+    made.write(first.read().replace("the program", f"the program for {kind}"))
+with open(os.environ["ASKED"], "a") as asked:
+    asked.write(f"build_for {crate} {kind}\\n")
+"""
+
+# A script that takes longer than this many seconds hangs. The stand-in's sleep is longer.
+PATIENCE = 300
+
+V3 = "fpu sse4_2 avx f16c movbe popcnt lahf_lm abm bmi1 avx2 bmi2 fma"
 
 
 class Started(InFolder):
@@ -66,9 +96,18 @@ class Started(InFolder):
         super().setUp()
         self.top = self.folder / "top"
         self.top.mkdir()
+        self.cpuinfo = self.path("cpuinfo")
+        self.processor()
         for name in ("trau", "demo"):
-            shutil.copy(TOP / name, self.top)
+            text = (TOP / name).read_text().replace("/proc/cpuinfo", str(self.cpuinfo))
+            (self.top / name).write_text(text)
+            (self.top / name).chmod(0o755)
         shutil.copytree(TOP / "tools", self.top / "tools", ignore=shutil.ignore_patterns("__pycache__", "tests"))
+        (self.top / "tools" / "build_for.py").write_text(BUILD_FOR)
+        # However full this machine's disk is, the stand-in keeps what it proves.
+        script = self.top / "tools" / "build.py"
+        script.write_text(re.sub(r"^DISK_TO_KEEP = .*", "DISK_TO_KEEP = 0", script.read_text(), flags=re.M))
+        (self.top / "tools" / "weights.txt").write_text("low 60\nmiddle 120\nhigh 60  # of two\ntrau_program 60\nx86-64-v3 30\n")
         shutil.copytree(EXAMPLES / "farm", self.top / "examples" / "farm", ignore=shutil.ignore_patterns("*.down", "*.out"))
         (self.top / "examples" / "farm" / "wanted").mkdir(exist_ok=True)
         shutil.copy(EXAMPLES / "farm" / "wanted" / "report.txt", self.top / "examples" / "farm" / "wanted")
@@ -77,8 +116,12 @@ class Started(InFolder):
             for part in ("src", "specs", "proofs"):
                 (self.top / "crates" / crate / part).mkdir(parents=True)
                 (self.top / "crates" / crate / part / "file").write_text(crate)
-        self.tools = self.folder / "bin"
-        self.tools.mkdir()
+        (self.top / "crates" / "low" / "must-fail").mkdir()
+        (self.top / "crates" / "low" / "must-fail" / "x.edit").write_text("")
+        (self.top / "crates" / "trau_program" / "args").write_text("run\n")
+        (self.top / "HANDLES").write_text("Handles allowed: none.\n")
+        self.tools = self.folder / "kits" / "kit" / "bin"
+        self.tools.mkdir(parents=True)
         for name in ("rt",):
             (self.tools / name).write_text(RT)
             (self.tools / name).chmod(0o755)
@@ -87,11 +130,15 @@ class Started(InFolder):
             "PATH": f"{self.tools}:/usr/bin:/bin",
             "ASKED": str(self.asked),
             "FAILS": "no",
+            "KEEPS": "",
             "REPORT": str(EXAMPLES / "farm" / "wanted" / "report.txt"),
-            "TRAU_JOBS": "2",
             "TMPDIR": str(self.folder),
             "PYTHONDONTWRITEBYTECODE": "1",
         }
+
+    def processor(self, flags=""):
+        """The processor's flags, as the script reads them."""
+        self.cpuinfo.write_text(f"processor\t: 0\nmodel name\t: a processor\nflags\t\t: {flags}\nbugs\t\t: {V3}\n")
 
     def trau(self, *words, name="trau", given=b"", **changes):
         """The status, standard output and standard error of the script."""
@@ -109,17 +156,17 @@ class Started(InFolder):
             signal.signal(signal.SIGINT, signal.SIG_DFL)
             os.execve(self.top / name, [name, *words], {**self.surroundings, "TERM": "dumb", **changes})
         said = b""
-        while select.select([terminal], [], [], 20)[0]:
-            try:
+        # Linux answers a read with an error once the last process has closed its side.
+        with contextlib.suppress(OSError):
+            while select.select([terminal], [], [], PATIENCE)[0]:
                 piece = os.read(terminal, 4096)
-            except OSError:
-                break
-            if not piece:
-                break
-            said += piece
-            if stops_at and stops_at in said:
-                os.write(terminal, b"\x03")
-                stops_at = None
+                if not piece:
+                    break
+                said += piece
+                if stops_at and stops_at in said:
+                    os.write(terminal, b"\x03")
+                    stops_at = None
+        os.close(terminal)
         return os.waitstatus_to_exitcode(os.waitpid(pid, 0)[1]), said.decode().replace("\r\n", "\n")
 
     def built(self):
@@ -127,26 +174,40 @@ class Started(InFolder):
         self.asked.unlink()
 
 
+def without_numbers(text):
+    """What was said, without what differs from machine to machine."""
+    return re.sub(r"\d+:\d\d minutes|(about a|some \d+) minutes?|[\d.]+ GB", "..", text).splitlines()
+
+
 class TheFirstStart(Started):
     def test_builds_and_says_how_far_it_is(self):
-        status, out, err = self.trau("run", "--workers", "2")
+        status, out, err = self.trau("run", "--workers", "2", TRAU_JOBS="2")
         self.assertEqual((status, out), (0, "the program: run --workers 2\n"))
-        said = re.sub(r"\d+:\d\d minutes|[\d.]+ GB that are free", "..", err).splitlines()
+        said = without_numbers(err)
         self.assertIn("a source changed: its 4 crates are proved, 2 at a time, and then it is built", said[0])
-        self.assertIn("0.8 GB of disk, of ..", said[1])
+        takes = "trau: from nothing that takes .. where it was measured (docs/INSTALL.md); it needs some .. of disk in"
+        self.assertEqual(said[1], f"{takes} {self.folder}")
+        self.assertEqual(said[2], f"trau: what is proved is kept in {self.folder}/kits/rattle-kept")
         self.assertEqual(
-            said[3:],
+            said[4:],
             [
-                "trau: crate 1 of 4, functions 3, ..: low",
-                "trau: crate 2 of 4, functions 6, ..: middle",
-                "trau: crate 3 of 4, functions 9, ..: high",
-                "trau: crate 4 of 4, functions 12, ..: trau_program",
-                "trau: crate 4 of 4, functions 12, ..: compiling and linking",
+                "trau: crate 0 of 4, functions 0, .., .. left: reading all sources",
+                "trau: crate 1 of 4, functions 3, .., .. left: low",
+                "trau: crate 2 of 4, functions 6, .., .. left: middle",
+                "trau: crate 3 of 4, functions 9, .., .. left: high",
+                "trau: crate 4 of 4, functions 12, .., .. left: trau_program",
+                "trau: note: nothing is kept today",
+                "trau: crate 4 of 4, functions 12, .., .. left: the program for x86-64-v3",
                 "trau: proved and built: 4 crates, functions 12, ..",
             ],
         )
-        # All that the program stands on is proved side by side, and the test crate isn't named.
-        self.assertEqual(self.asked.read_text(), "all check --jobs 2 in trau_program\nrun in trau_program\n")
+        # All is proved in a copy of what the program stands on; that is gone afterwards.
+        self.assertEqual(self.asked.read_text(), "ci in trau jobs 2\nbuild_for trau_program x86-64-v3\n")
+        copied = self.asked.with_name("asked.files").read_text().split()
+        for name in ("./crates.txt", "./HANDLES", "./crates/low/proofs/file", "./crates/trau_program/args"):
+            self.assertIn(name, copied)
+        self.assertEqual([name for name in copied if "/tests/" in name or "must-fail" in name], [])
+        self.assertEqual([name for name in os.listdir(self.folder) if name.startswith("trau-start-")], [])
         log = (self.top / "crates" / "trau_program" / "out" / "trau.log").read_text()
         self.assertIn("fn high::f: proved", log)
 
@@ -160,16 +221,17 @@ class TheFirstStart(Started):
     def test_builds_again_after_a_change(self):
         self.built()
         (self.top / "crates" / "low" / "src" / "file").write_text("changed")
-        self.assertIn("proved and built", self.trau("relay", "7")[2])
+        self.assertIn("proved and built", self.trau("relay", "7", TRAU_CPU="x86-64-v2")[2])
+        self.assertFalse((self.top / "crates" / "trau_program" / "out" / "trau_program.x86-64-v3").exists())
         (self.top / "crates" / "trau_program" / "out" / "trau_program").write_text("#!/bin/sh\necho another\n")
         self.assertIn("proved and built", self.trau("relay", "7")[2])
 
     def test_one_line_that_moves_at_a_terminal(self):
         status, said = self.at_terminal("relay", "7", FAILS="no")
         self.assertEqual(status, 0)
-        self.assertNotIn("minutes: low\n", said)
+        self.assertNotIn("left: low\n", said)
         self.assertIn("\r\x1b[K", said)
-        self.assertRegex(said, r"trau: proved and built: 4 crates, functions 12, 0:0\d minutes\nthe program: relay 7\n$")
+        self.assertRegex(said, r"trau: proved and built: 4 crates, functions 12, \d+:\d\d minutes\nthe program: relay 7\n$")
 
     def test_no_toolchain(self):
         (self.tools / "rt").unlink()
@@ -180,7 +242,11 @@ class TheFirstStart(Started):
         self.assertFalse((self.top / "crates" / "trau_program" / "out").exists())
 
     def test_failures(self):
-        for how, part in (("proof", "trau: fn high::f: not proved\n"), ("proof", "high: failed (1)"), ("link", "$ rt run")):
+        for how, part in (
+            ("proof", "trau: fn high::f: not proved\n"),
+            ("proof", "3 passed, 1 failed"),
+            ("format", "trau: crates/high isn't laid out as `rt fmt` does it: run that there\n"),
+        ):
             status, out, err = self.trau("run", FAILS=how)
             self.assertEqual((status, out), (125, ""), err)
             self.assertIn(part, err)
@@ -191,7 +257,21 @@ class TheFirstStart(Started):
         status, out, err = self.trau("relay", "7", FAILS="killed")
         self.assertEqual((status, out), (0, "the program: relay 7\n"), err)
         self.assertIn("a check was killed", err)
-        self.assertEqual(self.asked.read_text().split("\n")[:2], [f"all check --jobs {n} in trau_program" for n in "21"])
+        self.assertEqual(self.asked.read_text().split("\n")[:2], ["ci in trau jobs", "ci in trau jobs 1"])
+
+    def test_what_is_kept_comes_first(self):
+        status, out, err = self.trau("relay", "7", KEEPS="low")
+        self.assertEqual((status, out), (0, "the program: relay 7\n"), err)
+        wanted = ["trau: crate 1 of 4, functions 0, .., .. left: low", "trau: crate 2 of 4, functions 3, .., .. left: middle"]
+        self.assertEqual(without_numbers(err)[5:7], wanted)
+
+    def test_where_nothing_can_be_kept(self):
+        (self.folder / "kits" / "rattle-kept").write_text("")
+        status, out, err = self.trau("relay", "7")
+        self.assertEqual((status, out), (0, "the program: relay 7\n"), err)
+        self.assertIn("rattle-kept can't be written: a start that is broken off, or that follows a change, begins anew\n", err)
+        with mock.patch.dict(os.environ, self.surroundings):
+            self.assert_refused(build.main, ["--over-kept", "--top", self.top], "nothing is kept, since ")
 
     def test_broken_off(self):
         with subprocess.Popen(
@@ -206,17 +286,33 @@ class TheFirstStart(Started):
                     break
             begun = time.monotonic()
             ran.send_signal(signal.SIGTERM)
-            self.assertIn("broken off; the next start goes on from here", ran.stderr.read())
+            self.assertIn("broken off; the next start goes on with what is kept", ran.stderr.read())
             self.assertEqual(ran.wait(), 130)
-            self.assertLess(time.monotonic() - begun, 20)
+            self.assertLess(time.monotonic() - begun, PATIENCE)
+        self.assertEqual([name for name in os.listdir(self.folder) if name.startswith("trau-start-")], [])
 
     def test_control_c(self):
         begun = time.monotonic()
         status, said = self.at_terminal("relay", "7", stops_at=b"crate 4 of 4", FAILS="sleep")
-        self.assertIn("broken off; the next start goes on from here", said[-300:])
+        self.assertIn("broken off; the next start goes on with what is kept", said[-300:])
         self.assertNotEqual(status, 0)
-        self.assertLess(time.monotonic() - begun, 20)
+        self.assertLess(time.monotonic() - begun, PATIENCE)
         self.assertIn("the program: relay 7\n", self.at_terminal("relay", "7")[1])
+
+    def test_the_second_of_two_waits(self):
+        how = {"env": {**self.surroundings, "FAILS": "pause"}, "cwd": self.folder, "stdin": subprocess.DEVNULL, "text": True}
+        how.update(stdout=subprocess.PIPE, stderr=subprocess.PIPE)
+        with subprocess.Popen([self.top / "trau", "relay", "7"], **how) as first:
+            for line in first.stderr:
+                if "crate 4 of 4" in line:
+                    break
+            with subprocess.Popen([self.top / "trau", "relay", "8"], **how) as second:
+                said = second.stderr.readline()
+                self.path("asked.goes-on", b"")
+                self.assertEqual(first.communicate()[0], "the program: relay 7\n")
+                self.assertEqual(second.communicate(), ("the program: relay 8\n", ""))
+            self.assertEqual(said, "trau: another start proves and builds the program; this one waits for it\n")
+        self.assertEqual(self.asked.read_text().count("ci in trau"), 1)
 
     def test_processors_and_memory(self):
         with mock.patch.dict(os.environ, {"TRAU_JOBS": ""}):
@@ -225,17 +321,24 @@ class TheFirstStart(Started):
                     with mock.patch.object(build, "free_memory", lambda: memory * 10**9):
                         self.assertEqual(build.jobs(), jobs)
         self.assertGreaterEqual(build.processors(), 1)
-        self.assertGreater(build.free_memory(), 10**6)
+        limits = {"/sys/fs/cgroup/memory.max": 3_000_000, "/sys/fs/cgroup/memory.current": 1_000_000}
+        with mock.patch.object(build, "number_in", limits.get):
+            self.assertEqual(build.free_memory(), 2_000_000)
+        with mock.patch.object(build, "number_in", {}.get):
+            self.assertGreater(build.free_memory(), 2_000_000)
         status, _, err = self.trau("run", TRAU_JOBS="many")
         self.assertEqual((status, err), (125, "trau: TRAU_JOBS is 'many', and takes 1 to 99\n"))
 
     def test_too_little_disk(self):
         def usage(_):
-            return types.SimpleNamespace(free=5 * 10**8)
+            return types.SimpleNamespace(free=10**8)
 
         with mock.patch.object(shutil, "disk_usage", usage):
-            with self.assertRaisesRegex(trau_frames.Refusal, r"too little disk: this needs 0\.8 GB, and .* has 0\.5 GB left"):
+            with self.assertRaisesRegex(trau_frames.Refusal, r"too little disk: this needs 0\.\d GB, and .* has 0\.1 GB left"):
                 build.check_disk(self.top, build.needed(self.top, "trau_program"))
+            keeps, kept = build.what_is_kept(str(self.tools / "rt"))
+            self.assertFalse(keeps)
+            self.assertRegex(kept, r"^nothing is kept, since .*rattle-kept has less than 5\.2 GB left")
         with mock.patch.dict(os.environ, self.surroundings), mock.patch.object(shutil, "disk_usage", usage):
             status, out, err = self.run_tool(build.main, "--top", self.top)
         self.assertEqual((status, out), (2, ""))
@@ -251,6 +354,176 @@ class TheFirstStart(Started):
         )
         self.assert_refused(build.main, ["--top", self.top, "--program", "gone"], "has no line of gone")
         self.assert_refused(build.main, ["now"], "unrecognized")
+
+    def test_folders_of_killed_starts(self):
+        # The one of a process that is there stays.
+        for number in (os.getpid(), 2**22 + 1):
+            (self.folder / f"trau-start-{number}-x").mkdir()
+        self.built()
+        self.assertEqual([name for name in os.listdir(self.folder) if "trau-start-" in name], [f"trau-start-{os.getpid()}-x"])
+
+
+class TimeLeft(unittest.TestCase):
+    BELOW = {"low": [], "middle": ["low"], "high": ["low"], "program": ["middle", "high"], "x86-64-v3": ["program"]}
+    WEIGHTS = {"low": 100, "middle": 200, "high": 300, "program": 50, "x86-64-v3": 10}
+
+    def plan(self, at_once):
+        return build.Plan(self.BELOW, self.WEIGHTS, at_once)
+
+    def test_a_plan(self):
+        self.assertEqual(self.plan(1).seconds(self.BELOW), 660)
+        self.assertEqual(self.plan(2).seconds(self.BELOW), 460)
+        self.assertEqual(self.plan(2).seconds({"middle", "program", "x86-64-v3"}), 260)
+        self.assertEqual(self.plan(2).seconds([]), 0)
+        # A crate without a weight has the middle one.
+        self.assertEqual(build.Plan({"new": [], **self.BELOW}, self.WEIGHTS, 1).seconds({"new"}), 100)
+
+    def progress(self):
+        self.now = 0.0
+        return build.Progress(self.plan(2), io.StringIO(), lambda: self.now)
+
+    def test_by_the_speed_of_this_start(self):
+        progress = self.progress()
+        self.assertEqual(progress.seconds_left(), 460)
+        self.now = 100.0
+        progress.done("low")
+        self.assertEqual(progress.seconds_left(), 360)
+        # Twice as slow; the first minute counts as measured.
+        self.now = 700.0
+        progress.done("high")
+        progress.done("middle")
+        self.assertAlmostEqual(progress.seconds_left(), 60 * 760 / 460)
+        self.now = 710.0
+        self.assertAlmostEqual(progress.seconds_left(), 60 * 770 / 460 - 10)
+
+    def test_what_was_kept_took_no_time(self):
+        progress = self.progress()
+        self.now = 2.0
+        for crate in ("low", "middle", "high"):
+            progress.done(crate, kept=True)
+        self.assertAlmostEqual(progress.seconds_left(), 60)
+        self.now = 62.0
+        self.assertAlmostEqual(progress.seconds_left(), 60 * 120 / 60 - 60)
+
+    def test_in_words(self):
+        for seconds, words in ((0, "about a minute"), (89, "about a minute"), (100, "some 2 minutes"), (1320, "some 22 minutes")):
+            self.assertEqual(build.minutes_in_words(seconds), words)
+
+    def test_weights_of_this_repository(self):
+        weights = build.read_weights()
+        self.assertEqual(set(weights), {*build.needed(TOP, build.PROGRAM), build.KIND})
+        whole = [build.plan_of(TOP, build.PROGRAM, at_once).seconds([*weights]) for at_once in (1, 2, 4)]
+        self.assertEqual(whole, sorted(whole, reverse=True))
+
+
+class TwoPrograms(Started):
+    """Which of the two is started."""
+
+    def setUp(self):
+        super().setUp()
+        self.built()
+        self.out = self.top / "crates" / "trau_program" / "out"
+
+    V3_RUNS = (0, "the program for x86-64-v3: relay 7\n", "")
+    V2_RUNS = (0, "the program: relay 7\n", "")
+
+    def test_by_the_processor(self):
+        self.assertEqual(self.trau("relay", "7"), self.V2_RUNS)
+        self.processor(V3)
+        self.assertEqual(self.trau("relay", "7"), self.V3_RUNS)
+        # As a folder that another machine has too.
+        self.processor(V3.replace(" avx2", ""))
+        self.assertEqual(self.trau("relay", "7"), self.V2_RUNS)
+        for flag in V3.split()[2:]:
+            if flag not in ("popcnt", "lahf_lm"):
+                self.processor(f"{V3} x".replace(f" {flag} ", " ") + " x")
+                self.assertEqual(self.trau("relay", "7"), self.V2_RUNS, flag)
+        self.cpuinfo.unlink()
+        self.assertEqual(self.trau("relay", "7"), self.V2_RUNS)
+        self.assertFalse(self.asked.exists())
+
+    def test_by_trau_cpu(self):
+        self.processor(V3)
+        self.assertEqual(self.trau("relay", "7", TRAU_CPU="x86-64-v2"), self.V2_RUNS)
+        self.assertEqual(self.trau("relay", "7", TRAU_CPU="x86-64-v3"), self.V3_RUNS)
+        said = "trau: TRAU_CPU is 'v3', and takes x86-64-v2 and x86-64-v3\n"
+        self.assertEqual(self.trau("relay", "7", TRAU_CPU="v3"), (125, "", said))
+        self.processor()
+        said = "trau: TRAU_CPU is x86-64-v3, and this machine's processor isn't one\n"
+        self.assertEqual(self.trau("relay", "7", TRAU_CPU="x86-64-v3"), (125, "", said))
+
+    def test_version_says_which(self):
+        def said(**changes):
+            status, out, err = self.trau("--version", **changes)
+            self.assertEqual((status, err), (0, ""))
+            return out.splitlines()[1]
+
+        self.assertEqual(said(), "program: for x86-64-v2")
+        self.processor(V3)
+        self.assertEqual(said(), "program: for x86-64-v3")
+        self.assertEqual(said(TRAU_CPU="x86-64-v2"), "program: for x86-64-v2")
+        program = str(self.out / "trau_program")
+        self.assertEqual(said(TRAU_PROGRAM=program), f"program: {program}, which TRAU_PROGRAM names")
+        (self.out / "trau_program.x86-64-v3").unlink()
+        self.assertEqual(said(), "program: for x86-64-v2; for x86-64-v3, which this machine's processor is, none is built")
+        (self.out / "trau_program").unlink()
+        self.assertEqual(said(), "program: not built")
+
+    def test_where_the_second_is_missing(self):
+        self.processor(V3)
+        (self.out / "trau.built.x86-64-v3").unlink()
+        self.assertEqual(self.trau("relay", "7"), self.V2_RUNS)
+        self.assertFalse(self.asked.exists())
+        # Whoever asks for it has it built.
+        status, out, err = self.trau("relay", "7", TRAU_CPU="x86-64-v3")
+        self.assertEqual((status, out), self.V3_RUNS[:2], err)
+        (self.out / "trau_program").unlink()
+        (self.out / "trau_program.x86-64-v3").unlink()
+        status, out, err = self.trau("relay", "7", FAILS="second")
+        self.assertEqual((status, out), self.V2_RUNS[:2], err)
+        self.assertIn("trau: no program for x86-64-v3 is built, so the one for x86-64-v2 runs on all processors\n", err)
+        status, out, err = self.trau("relay", "7", FAILS="second", TRAU_CPU="x86-64-v3")
+        self.assertEqual((status, out), (125, ""))
+        self.assertIn("trau: no program for x86-64-v3 was built; crates/trau_program/out/trau.log says why\n", err)
+
+    def test_in_a_package(self):
+        for name in ("trau_program", "trau_program.x86-64-v3"):
+            shutil.copy(self.out / name, self.top)
+        (self.top / "VERSION").write_text("trau of a package\n")
+        self.assertEqual(self.trau("relay", "7"), self.V2_RUNS)
+        self.assertEqual(self.trau("--version"), (0, "trau of a package\nprogram: for x86-64-v2\n", ""))
+        self.processor(V3)
+        self.assertEqual(self.trau("relay", "7"), self.V3_RUNS)
+        self.assertEqual(self.trau("--version")[1], "trau of a package\nprogram: for x86-64-v3\n")
+        self.assertEqual(self.trau("relay", "7", TRAU_CPU="x86-64-v2"), self.V2_RUNS)
+        (self.top / "trau_program.x86-64-v3").unlink()
+        self.assertEqual(self.trau("relay", "7"), self.V2_RUNS)
+        said = "trau: this package has no program for x86-64-v3\n"
+        self.assertEqual(self.trau("relay", "7", TRAU_CPU="x86-64-v3"), (125, "", said))
+
+    def test_demo(self):
+        # The stand-in writes no lines, so that the demo says what it was started with.
+        self.processor(V3)
+        self.assertIn("the program for x86-64-v3: run", (self.trau(name="demo"), self.demo_report())[1])
+        self.processor()
+        self.assertIn("the program: run", (self.trau(name="demo"), self.demo_report())[1])
+
+    def demo_report(self):
+        (folder,) = self.folder.glob("trau-demo.*")
+        said = (folder / "report.txt").read_text()
+        shutil.rmtree(folder)
+        return said
+
+    def test_what_is_asked_by_other_scripts(self):
+        for kind, status in (("x86-64-v2", 0), ("x86-64-v3", 0), ("x86-64-v4", 1)):
+            self.assertEqual(self.trau(TRAU_IS_BUILT=kind)[0], status)
+        status, out, _ = self.trau(TRAU_SUM="ask")
+        self.assertEqual((status, (self.out / "trau.built").read_text().startswith(out.strip())), (0, True))
+        # The merge gate notes the first program alone.
+        for name in ("trau.built", "trau.built.x86-64-v3"):
+            (self.out / name).unlink()
+        self.assertEqual(self.trau(TRAU_JUST_BUILT="yes"), (0, "", ""))
+        self.assertEqual(sorted(path.name for path in self.out.glob("trau.built*")), ["trau.built"])
 
 
 class Help(Started):
@@ -275,13 +548,14 @@ class Help(Started):
         self.assertEqual(self.trau(), (1, "usage\n", ""))
 
     def test_version(self):
-        self.assertEqual(self.trau("--version"), (0, "trau of no known commit; a kit\n", ""))
+        self.assertEqual(self.trau("--version"), (0, "trau of no known commit; a kit\nprogram: not built\n", ""))
         git = ["git", "-C", self.top, "-c", "user.name=n", "-c", "user.email=e"]
         for words in (["init", "-q"], ["add", "trau"], ["commit", "-qm", "x"]):
             subprocess.run([*git, *words], check=True)
         (self.tools / "rt").unlink()
         self.assertRegex(
-            self.trau("--version")[1], r"^trau [0-9a-f]{7,} of \d{4}-\d\d-\d\d, with changes; no kit: rt isn't on the path\n$"
+            self.trau("--version")[1],
+            r"^trau [0-9a-f]{7,} of \d{4}-\d\d-\d\d, with changes; no kit: rt isn't on the path\nprogram: not built\n$",
         )
 
     def test_run_at_a_terminal(self):

@@ -1,0 +1,63 @@
+#!/usr/bin/env python3
+"""Proves and builds a program for a kind of processor, over the libraries that `rt ci` has just proved.
+
+    build_for.py TOP CRATE KIND      such as build_for.py . trau_program x86-64-v3
+
+`rt ci` builds only for x86-64-v2. This does the same with --cpu=KIND added: it proves the crate from nothing over the statements of the
+libraries in TOP/crates/*/out, holds the verdict to the same words, which then name the kind, and holds what the linked program may call to
+HANDLES. It loads the toolchain's own `rt` for that. It makes crates/CRATE/out/CRATE.KIND. Status 0: the program is proved and built.
+"""
+
+from __future__ import annotations
+
+import importlib.machinery
+import importlib.util
+import os
+import shutil
+import sys
+from types import ModuleType
+from typing import Sequence
+
+
+def toolchain() -> ModuleType:
+    """The toolchain's command rt, as a module."""
+    path = shutil.which("rt")
+    if not path:
+        raise FileNotFoundError("the Rattle toolchain's command rt isn't on the path")
+    loader = importlib.machinery.SourceFileLoader("toolchain_rt", os.path.realpath(path))
+    made = importlib.util.module_from_spec(importlib.util.spec_from_loader(loader.name, loader))
+    loader.exec_module(made)
+    return made
+
+
+def build(top: str, crate: str, kind: str) -> int:
+    """Proves, compiles and links the program."""
+    rt = toolchain()
+    # (Its first call sets a signal's handler, which only the main thread may.)
+    rt.rtlib.guarded()
+    rt.rtlib.Crate = rt.Crate
+    rt.Crate.allowed = rt.handles_of(top)
+    program = rt.Crate(f"{top}/crates/{crate}", top, {})
+    jobs = max(1, min(4, rt.processors(), int(0.85 * rt.free() / rt.need(program))))
+    words = program.words(["--jobs", str(jobs), f"--cpu={kind}"], keeps=False)
+    to = f"out/{crate}.{kind}"
+    status = program.prove(["build", *words, "--toolchain", f"{rt.KIT}/toolchain", "--backend", "llvm", "-o", f"{to}.o"])
+    status = status or program.link(f"{to}.o", f"{to}.new")
+    if status == 0:
+        os.replace(f"{program.folder}/{to}.new", f"{program.folder}/{to}")
+        os.remove(f"{program.folder}/{to}.o")
+    return status
+
+
+def main(words: Sequence[str]) -> int:
+    """Runs the words of the command line, and returns the exit status."""
+    if len(words) != 3:
+        print("usage: build_for.py TOP CRATE KIND", file=sys.stderr)
+        return 2
+    top, crate, kind = words
+    return build(os.path.realpath(top), crate, kind)
+
+
+if __name__ == "__main__":
+    sys.dont_write_bytecode = True
+    sys.exit(main(sys.argv[1:]))
