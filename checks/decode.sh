@@ -2,6 +2,8 @@
 # `trau decode` on recorded uplinks: its Out lines against those of libgsm (crates/codec_vectors/README.md).
 set -eu
 top=$(cd "$(dirname "$0")/.." && pwd)
+# shellcheck source=checks/program
+. "$top/checks/program"
 data=$top/crates/codec_vectors/data
 work=$(mktemp -d)
 trap 'rm -rf "$work"' EXIT

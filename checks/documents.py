@@ -124,11 +124,11 @@ def run(session, folder):
             stdin=subprocess.DEVNULL,
             stdout=subprocess.PIPE,
             stderr=subprocess.STDOUT,
-            timeout=60,
+            timeout=600,
         )
         text = ran.stdout.decode(errors="replace")
     except subprocess.TimeoutExpired:
-        text = "no end within a minute"
+        text = "no end within ten minutes"
     shutil.rmtree(folder)
     # Folders whose names the system chooses.
     text = text.replace(str(folder / "tmp"), "/tmp")

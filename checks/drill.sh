@@ -1,8 +1,10 @@
 #!/bin/sh
-# `trau drill`: its texts beside those of another program (checks/drill/README.md); the default drill with several workers,
-# slices and batches; that it uses no file; and its statuses where the system fails.
+# `trau drill`: its texts against those of another program (checks/drill/README.md); the default drill with several workers,
+# slices and batches; that it uses no file; and its statuses if the system fails.
 set -eu
 top=$(cd "$(dirname "$0")/.." && pwd)
+# shellcheck source=checks/program
+. "$top/checks/program"
 work=$(mktemp -d)
 trap 'rm -rf "$work"' EXIT
 mkdir "$work/empty"
@@ -44,7 +46,7 @@ while read -r words; do
 done <"$top/checks/drill/words.txt"
 [ "$failed" = 0 ] && echo "ok $number recorded drills"
 
-# The default drill, whoever works it.
+# The default drill with several workers, slices and batches.
 drill
 cp "$work/text" "$work/first"
 [ "$(cksum <"$work/first")" = "$(cat "$top/checks/drill/1.cksum")" ] || fail "the default drill"
@@ -57,12 +59,12 @@ done
 
 [ -z "$(ls -A)" ] || fail "a drill left a file"
 
-# A text that can't be written, and no memory.
+# A text that can't be written, and running out of memory.
 status=0
 "$top/trau" drill --calls 2 --periods 4 >/dev/full || status=$?
 [ "$status" = 4 ] || fail "a full device: status $status"
 status=0
-(ulimit -v 60000 && exec "${TRAU_PROGRAM:-$top/crates/trau_program/out/trau_program}" drill --calls 256 --periods 1000) >"$work/text" 2>"$work/log" || status=$?
+(ulimit -v 60000 && exec "$TRAU_PROGRAM" drill --calls 256 --periods 1000) >"$work/text" 2>"$work/log" || status=$?
 [ "$status" = 5 ] && [ "$(cat "$work/text")" = "no memory" ] || fail "60,000 blocks of memory: status $status, $(head -n 1 "$work/text")"
 for words in '--calls 0' '--calls 257' '--periods 0' '--periods 1001' '--seed -1' '--seed=4294967296' '7' '--calls 2 --calls 2'; do
     # shellcheck disable=SC2086

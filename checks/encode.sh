@@ -2,6 +2,8 @@
 # `trau encode` on recorded Pcm lines: its downlinks against those of libgsm (crates/codec_vectors/README.md).
 set -eu
 top=$(cd "$(dirname "$0")/.." && pwd)
+# shellcheck source=checks/program
+. "$top/checks/program"
 data=$top/crates/codec_vectors/data
 work=$(mktemp -d)
 trap 'rm -rf "$work"' EXIT
@@ -17,7 +19,7 @@ for name in speech-en-m3 speech-loud-m7 harsh; do
     cmp 7.down "$data/$name.down" || failed=$((failed + 1))
 done
 
-# A rest of less than a period is left, and a line of the rest alone makes nothing.
+# Octets that make no whole period are left, and a line of such octets alone gives nothing.
 head -c 330 "$data/harsh.pcm" >8.pcm
 trau encode 8
 expect "a rest of ten octets" 0 "encode frames 2 left 10"

@@ -1,13 +1,15 @@
 #!/bin/sh
-# `trau run` on four recorded farms (checks/farms/README.md): each outgoing line and the report, octet for octet, and that the
-# incoming lines stay as they were, with each of the command lines of checks/farms/words.txt.
+# `trau run` on four recorded farms (checks/farms/README.md), with each of the command lines of checks/farms/words.txt: each outgoing
+# line and the report, octet for octet, and that the incoming lines are unchanged.
 set -eu
 top=$(cd "$(dirname "$0")/.." && pwd)
+# shellcheck source=checks/program
+. "$top/checks/program"
 work=$(mktemp -d)
 trap 'rm -rf "$work"' EXIT
 failed=0
 
-# lay NAME: puts the farm's incoming lines and orders into $work/given, and these with what must come into $work/wanted
+# lay NAME: puts the farm's incoming lines and orders into $work/given, and these with the expected results into $work/wanted
 lay() {
     rm -rf "$work/given" "$work/wanted"
     mkdir "$work/given" "$work/wanted"
@@ -57,7 +59,7 @@ for name in mixed clean harsh mulaw; do
     done <"$top/checks/farms/words.txt"
 done
 
-# The counts that the program codec_vectors compares are those of the report of the harsh farm.
+# The counts that the program codec_vectors compares are those in the report of the harsh farm.
 data=$top/crates/codec_vectors/data
 awk '$1 == "call" { n = $6 - $4 } $1 == "counts" { print n, $4, $6, $8, $10, $12, $14, $16, $18 }' "$data/farm-report.txt" |
     cmp - "$data/farm-calls.txt" || failed=1

@@ -1,10 +1,12 @@
 #!/bin/sh
-# `trau run` where lines fail: on recorded lines of which some are missing (checks/faults/README.md), and, with the lines of
-# examples/farm, where outgoing files may not grow past a size or the device is full. There each outgoing line has to be a front
-# of its wanted one, and the report names those that aren't whole and no others. Then lines that have one file, by links: the one
-# that comes second fails, and nothing that was recorded is lost. Last, the reasons on standard error.
+# `trau run` if lines fail: first with some recorded lines missing (checks/faults/README.md); then, with the lines of examples/farm,
+# if outgoing files may not grow past a size or the device is full. There each outgoing line has to be a prefix of the expected one,
+# and the report names exactly those that aren't whole. Then lines that share a file through links: the line that comes second fails,
+# and nothing that was recorded is lost. Last, the reasons on standard error.
 set -eu
 top=$(cd "$(dirname "$0")/.." && pwd)
+# shellcheck source=checks/program
+. "$top/checks/program"
 work=$(mktemp -d)
 mounted=
 finish() {
@@ -43,19 +45,20 @@ for folder in "$top"/checks/faults/*/; do
     recorded "$(basename "$folder")"
 done
 
-# lay FOLDER: the lines of examples/farm are read where they are, so that only outgoing ones are in the folder
+# lay FOLDER: links to the incoming lines of examples/farm, so that the folder has no other files than outgoing lines
 lay() {
     for file in "$top"/examples/farm/*.up "$top"/examples/farm/*.pcm; do
         ln -s "$file" "$1"
     done
 }
 
-# is_told LINE: whether the report names the line
+# is_told LINE: whether the report names the line as failed
 is_told() {
     grep -qx "line $1 failed" "$work/text"
 }
 
-# fronts NAME FOLDER: whether the run ended with status 6, and its outgoing lines and report are as they have to be
+# fronts NAME FOLDER: the run's status is 6, each outgoing line is a prefix of the expected one, and the report names exactly those that
+# aren't whole
 fronts() {
     good=yes
     [ "$status" = 6 ] || good="status $status"
@@ -81,14 +84,14 @@ fronts() {
     fi
 }
 
-# A limit of files' sizes: a write past it moves what fits, and the next one fails.
+# A limit on the size of files: a write past it writes what fits, and the next one fails.
 for words in '--batch 1' '--batch 7' '--batch 250'; do
     for limit in 1 3 6 12 20; do
         rm -rf "$work/run"
         mkdir "$work/run"
         lay "$work/run"
         status=0
-        # The report goes through a pipe, so that the limit isn't its own.
+        # The report goes through a pipe, to which the limit doesn't apply.
         # shellcheck disable=SC2086
         {
             (
@@ -132,9 +135,9 @@ for size in 8k 32k 56k; do
     mounted=
 done
 
-# Lines that have one file.
+# Lines that share a file.
 
-# plain ORDERS: the run of these orders (printf's escapes) over lines of which none is a link, to compare with
+# plain ORDERS: the run of these orders (printf's escapes) over lines without links, to compare with
 plain() {
     orders=$1
     rm -rf "$work/plain"
@@ -143,8 +146,8 @@ plain() {
     (cd "$work/plain" && printf "$orders" | "$top/trau" run >report.txt)
 }
 
-# linked FAILED REASON WORDS..: the same over lines of which some are links, in $work/run. Just the line FAILED fails, for this
-# REASON, or none; incoming lines stay as they were, the others and the report are those of the plain run.
+# linked FAILED REASON WORDS..: the same over lines some of which are links, in $work/run. Only the line FAILED fails, for this
+# REASON, or none; incoming lines are unchanged, the other lines and the report are those of the plain run.
 linked() {
     wanted=$1
     reason=$2
@@ -173,7 +176,7 @@ linked() {
     fi
 }
 
-# begin WHAT: a folder with the incoming lines alone
+# begin WHAT: a folder with only the incoming lines
 begin() {
     what=$1
     rm -rf "$work/run"
@@ -225,7 +228,7 @@ for batch in 1 7 250; do
     linked "2 down" "this is the file of 4.pcm" --batch "$batch"
 done
 
-# Two calls that hand their speech on from folder to folder: 2.pcm is what call 1 sends. It isn't there before.
+# Two calls in which 2.pcm is a link to what call 1 sends. That file doesn't exist before.
 plain '0 open 1\n100 open 2\n'
 begin "an incoming line that leads to an outgoing one that is written"
 ln -sf 1.out 2.pcm
@@ -239,7 +242,7 @@ else
     cat report.txt said
 fi
 
-# What keeps nothing, or lies elsewhere, goes on working.
+# Devices, pipes, and files in other folders may be lines.
 plain '0 open 1\n0 open 2\n'
 begin "outgoing lines that are one device"
 ln -s /dev/null 1.out
@@ -268,7 +271,7 @@ else
     fail "$what: status $status, $text"
 fi
 
-# Reasons, of twenty lines.
+# Reasons, for at most twenty lines.
 rm -rf "$work/run"
 mkdir "$work/run"
 cd "$work/run"

@@ -1,8 +1,10 @@
 #!/bin/sh
-# `trau follow` on recorded downlinks: what it tells and what it sends up against the answers of another program; lines that
-# fail, and words that are no command's.
+# `trau follow` on recorded downlinks: what it prints and sends up against the answers of another program; lines that fail; and
+# words that no command takes.
 set -eu
 top=$(cd "$(dirname "$0")/.." && pwd)
+# shellcheck source=checks/program
+. "$top/checks/program"
 data=$top/checks/follow
 vectors=$top/crates/codec_vectors/data
 work=$(mktemp -d)
@@ -25,7 +27,7 @@ followed "$data/mixed-1-316.up" 316 "$data/mixed-1-316.txt" "$data/mixed-1-316.d
 followed "$vectors/follow-100.down" 100 "$data/harsh-3-100.txt" "$vectors/follow-100.up"
 followed "$vectors/follow-4.down" 4 "$data/mixed-2-4.txt" "$vectors/follow-4.up"
 
-# A rest of less than a period is left.
+# Octets that make no whole period are left.
 head -c 119 "$data/harsh-1-0.up" >7.up
 trau follow 7 0
 expect "a rest of 39 octets" 0 "320 speech
@@ -46,7 +48,7 @@ mkdir 9.down
 trau follow 9 0
 expect "answers that can't be written" 6 "line 9 down failed"
 
-# A full standard output: the answer of the first period that has a frame is the last that is sent up.
+# Standard output is full: the answer of the first period with a frame is the last that is sent up.
 cp "$data/harsh-1-0.up" 10.up
 status=0
 text=

@@ -1,8 +1,10 @@
 #!/bin/sh
-# `trau live`: its texts beside those of another program (checks/live/README.md); the default live drill with several callers
-# and inboxes; that it uses no file; and its statuses where the system fails.
+# `trau live`: its texts against those of another program (checks/live/README.md); the default live drill with several callers
+# and inboxes; that it uses no file; and its statuses if the system fails.
 set -eu
 top=$(cd "$(dirname "$0")/.." && pwd)
+# shellcheck source=checks/program
+. "$top/checks/program"
 work=$(mktemp -d)
 trap 'rm -rf "$work"' EXIT
 mkdir "$work/empty"
@@ -36,7 +38,7 @@ while read -r words; do
 done <"$top/checks/live/words.txt"
 [ "$failed" = 0 ] && echo "ok $number recorded live drills"
 
-# The default live drill, whoever works it.
+# The default live drill with several callers and inboxes.
 live
 for words in '' '--callers 1' '--callers 5' '--callers 64 --inbox 1' '--inbox=1024'; do
     # shellcheck disable=SC2086
@@ -47,12 +49,12 @@ done
 
 [ -z "$(ls -A)" ] || fail "a live drill left a file"
 
-# A text that can't be written, and no memory.
+# A text that can't be written, and running out of memory.
 status=0
 "$top/trau" live --calls 2 --periods 1 >/dev/full || status=$?
 [ "$status" = 4 ] || fail "a full device: status $status"
 status=0
-(ulimit -v 60000 && exec "${TRAU_PROGRAM:-$top/crates/trau_program/out/trau_program}" live --calls 256 --periods 1000 --callers 1) >"$work/text" 2>"$work/log" || status=$?
+(ulimit -v 60000 && exec "$TRAU_PROGRAM" live --calls 256 --periods 1000 --callers 1) >"$work/text" 2>"$work/log" || status=$?
 [ "$status" = 5 ] && [ "$(cat "$work/text")" = "no memory" ] || fail "60,000 blocks of memory: status $status, $(head -n 1 "$work/text")"
 for words in '--calls 0' '--calls 257' '--periods 0' '--periods 1001' '--callers 0' '--callers 65' '--inbox 0' '--inbox 1025' '--seed -1' \
     '--workers 1' '7' '--calls 2 --calls 2'; do

@@ -1,9 +1,11 @@
 #!/bin/sh
-# The program beside the model (model/README.md): random farms of a fixed seed and of the day's. The model by itself: its own tests, and
-# what the documents show of the commands, but for drills, which take it too long.
-# TRAU_PROGRAM names the program. A farm that differs is met again by `model/random_farms --seed SEED --count 1`.
+# The program against the model (model/README.md): random farms of a fixed seed and of the day's. The model alone: its own tests, and the
+# commands that the documents show, except drills, which take it too long.
+# `model/random_farms --seed SEED --count 1` repeats a farm that differs.
 set -eu
 top=$(cd "$(dirname "$0")/.." && pwd)
+# shellcheck source=checks/program
+. "$top/checks/program"
 work=$(mktemp -d)
 trap 'rm -rf "$work"' EXIT
 export PYTHONDONTWRITEBYTECODE=1
@@ -20,7 +22,7 @@ for test in "$top"/model/tests/test_*.py; do
     fi
 done
 
-# farms SEED: thirty farms from this seed on, as many of them as fifty seconds have room for
+# farms SEED: up to thirty farms from this seed on, for fifty seconds at most
 farms() {
     if "$top/model/random_farms" --seed "$1" --count 30 --seconds 50 --jobs 2 >"$work/said" 2>&1; then
         echo "ok random farms from seed $1 on: $(tail -n 1 "$work/said")"

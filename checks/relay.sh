@@ -1,7 +1,9 @@
 #!/bin/sh
-# The program on real lines: the octets that it writes, and what it answers where the system fails.
+# `trau relay` on files: the octets that it writes, and its texts and statuses if the system fails.
 set -eu
 top=$(cd "$(dirname "$0")/.." && pwd)
+# shellcheck source=checks/program
+. "$top/checks/program"
 work=$(mktemp -d)
 trap 'rm -rf "$work"' EXIT
 cd "$work"
@@ -13,8 +15,8 @@ trau relay 7
 expect "speech of 312 frames" 0 "relay frames 312"
 python3 "$top/checks/relay.py" 7.up 7.down || failed=$((failed + 1))
 
-# The downlink frame of silence, worked by hand from the tables, and the uplink frame with the same data bits. Decoded from
-# home it begins with the samples 8, 0, 0, 8, 8, 8, 16.
+# The downlink frame of silence, made by hand from the tables, and the uplink frame with the same data bits. Decoded from the
+# reset state, it begins with the samples 8, 0, 0, 8, 8, 8, 16.
 silence=$top/crates/codec_vectors/data/silence.down
 {
     printf '\000\000\210\000'
@@ -68,7 +70,7 @@ for words in 'relay' 'relay 0' 'encode 4097' 'relay 7 7' 'Relay 7' 'decoder 7'; 
     expect "words $words" 1 "usage"
 done
 
-# broken NAME PLACE OCTET: the second of two frames has this octet there, and is refused
+# broken NAME PLACE OCTET: the second of two frames has this octet at PLACE, and is refused
 broken() {
     head -c 80 7.up >12.up
     printf '%b' "$3" | dd of=12.up bs=1 seek="$2" conv=notrunc 2>/dev/null
@@ -101,15 +103,15 @@ expect "a full standard output" 4 ""
 met=0
 for limit in 6000 5000 4000 3600 3400 3200 3000 2900 2800 2700 2600 2500; do
     status=0
-    text=$(ulimit -v "$limit" && exec "${TRAU_PROGRAM:-$top/crates/trau_program/out/trau_program}" relay 7 2>/dev/null </dev/null) || status=$?
+    text=$(ulimit -v "$limit" && exec "$TRAU_PROGRAM" relay 7 2>/dev/null </dev/null) || status=$?
     case "$status $text" in
         "5 no memory") met=$((met + 1)) ;;
         "0 relay frames 312") ;;
         *) break ;;
     esac
 done
-if [ "$met" -gt 0 ]; then echo "ok want of memory ($met limits)"; else
-    echo "FAILED want of memory: no limit gave status 5"
+if [ "$met" -gt 0 ]; then echo "ok out of memory ($met limits)"; else
+    echo "FAILED out of memory: no limit gave status 5"
     failed=$((failed + 1))
 fi
 

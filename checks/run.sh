@@ -1,7 +1,9 @@
 #!/bin/sh
-# `trau run` where the system or its orders set limits: texts, statuses, and what the lines hold.
+# `trau run` at the limits of the system and of its orders: texts, statuses, and what the lines hold.
 set -eu
 top=$(cd "$(dirname "$0")/.." && pwd)
+# shellcheck source=checks/program
+. "$top/checks/program"
 work=$(mktemp -d)
 trap 'rm -rf "$work"' EXIT
 cd "$work"
@@ -99,7 +101,7 @@ expect "a number with a leading zero" 2 <<'TEXT'
 orders line 1
 TEXT
 
-# The limits of the orders: 65,536 lines are run, one more is too many; so is an octet past a mebibyte.
+# The limits of the orders: 65,536 lines are run, one more is too many; so is one octet more than a mebibyte.
 : >2.up
 : >2.pcm
 i=0
@@ -162,7 +164,7 @@ usage
 TEXT
 done
 
-# A missing line is a fault, and both are told; Pcm is read where Up has ended too.
+# A missing line is a fault, and both faults are reported; Pcm is read even if Up has ended.
 run '0 open 4\n'
 expect "missing lines" 6 <<'TEXT'
 order 1 ok
@@ -210,9 +212,9 @@ end period 3 calls 1 left 0
 TEXT
 size "a downlink that can't be written" 7.out 480
 
-# Two calls of twelve good frames each are bridged for six periods; call 9's fourth frame asks for a shift of 156 octets
-# before that, so call 8's first frame waits for one period, and the last goes out in the period of the bridge's end.
-# Octet 5 of a frame, where eight of its data bits stand, is its number; call 9 begins with 16.
+# Two calls of twelve good frames each are bridged for six periods. Before that, call 9's fourth frame asks for a shift of 156
+# octets, so call 8's first frame waits for one period, and its last goes out in the period in which the bridge ends. Octet 5 of
+# a frame, which has eight of its data bits, is its number; call 9 begins with 16.
 python3 - <<'END'
 def frame(head, octet, tail):
     data = f"82{octet:02X}BA1AE4288012A492A492A2808124C924C924A8009249924992458002A492A492"
@@ -245,8 +247,8 @@ bridged() {
     fi
 }
 # handed NAME IDLE: the frames went across, and within the bridge each Out line is idle, call 8's with the octet IDLE. Call 8
-# sends a frame in each period, behind 40 octets of ones. Call 9 sends none in period 4: behind its first four frames, in
-# octets 40 to 199, stand two ones for each of the 156 octets, and then the frames of call 8.
+# sends a frame in each period, after 40 octets of ones. Call 9 sends none in period 4: its first four frames, in octets 40 to
+# 199, are followed by two ones for each of the 156 octets, and then by the frames of call 8.
 handed() {
     tail -c +201 8.down | head -c 240 | cmp - of9 || fail "$1: Down of call 8"
     {
@@ -293,8 +295,8 @@ order 13 refused 2 call 9
 TEXT
 cd ..
 
-# A call whose uplink ends ends its bridge. Its partner goes on alone with its codecs from home: a frame of silence gives
-# the samples 8, 0, 0, 8, 8, 8, 16.
+# If the uplink of a call ends, its bridge ends too. Its partner goes on with its own codecs, from their reset state: a frame of
+# silence gives the samples 8, 0, 0, 8, 8, 8, 16.
 mkdir alone
 cd alone
 head -c 1213 /dev/zero >7.up
@@ -330,7 +332,7 @@ end period 3 calls 1 left 0
 TEXT
 [ "$(head -c 160 10.out | tr -d '\325' | wc -c)" = 0 ] || fail "frames within octets: Out"
 
-# The desk.
+# Standard input and standard output.
 status=0
 "$top/trau" run </ >text 2>/dev/null || status=$?
 expect "orders that can't be read" 3 <<'TEXT'
@@ -341,7 +343,7 @@ printf '0 open 1' | "$top/trau" run >/dev/full || status=$?
 : >text
 expect "a full standard output" 4 </dev/null
 
-# Lines that grow past the limit of the size of files, 512 octets here: without the script the signal SIGXFSZ ends the program.
+# Lines that grow past the limit on the size of files, here 512 octets. Without the script, the signal SIGXFSZ ends the program.
 mkdir large
 cd large
 head -c 600 /dev/zero >3.up
@@ -365,16 +367,16 @@ echo '0 open 1' >one
 met=0
 for limit in 6000 5000 4000 3600 3400 3200 3000 2900 2800 2700 2600 2500; do
     status=0
-    (ulimit -v "$limit" && exec "${TRAU_PROGRAM:-$top/crates/trau_program/out/trau_program}" run) >text 2>/dev/null <one || status=$?
+    (ulimit -v "$limit" && exec "$TRAU_PROGRAM" run) >text 2>/dev/null <one || status=$?
     case "$status $(cat text)" in
     "5 no memory") met=$((met + 1)) ;;
     "0 order 1 ok"*"end period 3 calls 1 left 0") ;;
     *) break ;;
     esac
 done
-if [ "$met" -gt 0 ]; then echo "ok want of memory ($met limits)"; else fail "want of memory: no limit gave status 5"; fi
+if [ "$met" -gt 0 ]; then echo "ok out of memory ($met limits)"; else fail "out of memory: no limit gave status 5"; fi
 
-# With 8 descriptors, five of them for the 48 lines of twelve calls, report and lines are those without that limit.
+# With 8 descriptors, five of them for the 48 lines of twelve calls, report and lines are the same as without that limit.
 mkdir descriptors
 cd descriptors
 for call in 1 2 3 4 5 6 7 8 9 10 11 12; do
@@ -386,7 +388,7 @@ done >orders
 mkdir free
 mv report ./*.down ./*.out free
 status=0
-(ulimit -n 8 && exec "${TRAU_PROGRAM:-$top/crates/trau_program/out/trau_program}" run --batch 1) <orders >report || status=$?
+(ulimit -n 8 && exec "$TRAU_PROGRAM" run --batch 1) <orders >report || status=$?
 same=0
 for file in report *.down *.out; do
     if cmp "$file" "free/$file"; then same=$((same + 1)); fi
@@ -394,8 +396,8 @@ done
 cd ..
 if [ "$status" = 0 ] && [ "$same" = 25 ]; then echo "ok 8 descriptors"; else fail "8 descriptors: status $status, $same files the same"; fi
 
-# As many calls as there are numbers, three periods of silence each, every second one with mu-law: all end with their lines, and
-# calls of one law send the same. Silence is the samples 8, 0, 0, 8, 8, 8, 16.
+# All 4,096 calls, three periods of silence each, every second call with mu-law: all end with their lines, and calls of the same
+# law send the same. Silence is the samples 8, 0, 0, 8, 8, 8, 16.
 mkdir all
 cd all
 python3 - <<'END'

@@ -1,8 +1,10 @@
 #!/bin/sh
 # `trau save` and `trau resume`: a recorded farm in two parts (checks/save/README.md), each outgoing line, mark and report octet
-# for octet, with several command lines; and one call whose mark is another, isn't one, or can't be told.
+# for octet, with several command lines; and one call whose mark is another, isn't a mark, or can't be printed.
 set -eu
 top=$(cd "$(dirname "$0")/.." && pwd)
+# shellcheck source=checks/program
+. "$top/checks/program"
 work=$(mktemp -d)
 trap 'rm -rf "$work"' EXIT
 cd "$work"
@@ -18,7 +20,7 @@ same() {
     cmp "$2" "$3" || fail "$1"
 }
 
-# The farm's incoming lines, and what a whole run makes of them.
+# The farm's incoming lines, and what a whole run writes.
 mkdir given whole
 for call in 1 2 3 4 5; do
     cp "$top/crates/codec_vectors/data/farm-$call.up" "given/$call.up"
@@ -28,7 +30,7 @@ done
 orders=$top/checks/farms/harsh/orders.txt
 report=$top/crates/codec_vectors/data/farm-report.txt
 
-# parted NAME OCTETS: each part of a line is where it belongs, and a line that gets nothing isn't made
+# parted NAME OCTETS: each part of a line is in its folder, and no file is made for a line that gets nothing
 parted() {
     head -c "$2" "whole/$1" >front
     tail -c +"$(($2 + 1))" "whole/$1" >rest
@@ -165,7 +167,7 @@ TEXT
 rm long
 unwritten "what isn't taken"
 
-# Without its uplink the call is another at the mark; and where the uplink is there again, the fourth period alone is written.
+# Without its uplink the call differs at the mark; with the uplink again, only the fourth period is written.
 mv 1.up kept
 run_part resume 'save 3\ncall 1 from 0 out 102240 down 28958\norders\n0 open 1\n'
 expect "a missing line" 9 <<'TEXT'

@@ -1,9 +1,11 @@
 #!/bin/sh
 # Four recorded farms (checks/farms/README.md), each cut by tools/shard.py into parts that run apart: outgoing lines, joined
 # report and status are those of one run, octet for octet. Then the same with fewer periods, lines that fail, copies of the
-# lines, and parts that fail or are run by other words.
+# lines, and parts that fail or are run with other words.
 set -eu
 top=$(cd "$(dirname "$0")/.." && pwd)
+# shellcheck source=checks/program
+. "$top/checks/program"
 work=$(mktemp -d)
 trap 'rm -rf "$work"' EXIT
 export PYTHONDONTWRITEBYTECODE=1
@@ -91,7 +93,7 @@ for name in mixed harsh; do
     compare "$name" 2 "" --periods 100
 done
 
-# A refused bridge that names a bridged call: what is told of it needs that call's part.
+# A refused bridge that names a bridged call: its line of the report needs that call's part.
 trouble() {
     sed '/^20 bridge 2 2$/a 20 bridge 3 1' "$1/orders.txt" >"$1/orders"
     mv "$1/orders" "$1/orders.txt"
@@ -118,7 +120,7 @@ trouble() {
 }
 compare harsh 3 --copy
 
-# expect STATUS TEXT: what the joining of the last cut says
+# expect STATUS TEXT: the status and the text of joining the last cut
 expect() {
     joined "$work/cut"
     if [ "$(cat "$work/cut.status")" = "$1" ] && grep -q "$2" "$work/cut.said"; then
@@ -130,7 +132,7 @@ expect() {
     fi
 }
 
-# A part that fails, here for want of a program, is told and run again alone; so is one that was run by other words.
+# A part that fails, here because the program is missing, is reported and run again alone; so is one that was run with other words.
 status=0
 TRAU=$work/none sh "$work/cut/1/run.sh" 2>/dev/null || status=$?
 [ "$status" = 127 ] || {
@@ -145,7 +147,7 @@ sh "$work/cut/1/run.sh"
 joined "$work/cut"
 same "$work/one" "$work/farm" "$work/cut" "a part run again alone"
 
-# The tool takes exactly the orders that the program takes, and tells the same line of others.
+# The tool takes exactly the orders that the program takes, and reports the same line for others.
 while read -r orders; do
     # shellcheck disable=SC2059
     printf "$orders" >"$work/orders.txt"

@@ -1,8 +1,10 @@
 #!/bin/sh
-# `trau split` and `trau merge` on recorded lines: what they write and tell against the answers of another program, and that
+# `trau split` and `trau merge` on recorded lines: what they write and print against the answers of another program, and that
 # merging undoes splitting.
 set -eu
 top=$(cd "$(dirname "$0")/.." && pwd)
+# shellcheck source=checks/program
+. "$top/checks/program"
 data=$top/checks/slots
 work=$(mktemp -d)
 trap 'rm -rf "$work"' EXIT
@@ -20,7 +22,7 @@ trau merge 5
 expect "merge" 0 "$(cat "$data/merge.txt")"
 cmp 5.out "$data/5.out" || failed=$((failed + 1))
 
-# What was split is merged again, whole groups of four octets of it.
+# What was split is merged again, in whole groups of four octets.
 for call in 5 6 7 8; do
     mv "$call.down" "$call.up"
 done

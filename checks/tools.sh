@@ -2,6 +2,8 @@
 # The tests of tools/. (The commands that tools/README.md shows: checks/documents.sh.)
 set -eu
 top=$(cd "$(dirname "$0")/.." && pwd)
+# shellcheck source=checks/program
+. "$top/checks/program"
 work=$(mktemp -d)
 trap 'rm -rf "$work"' EXIT
 export PYTHONDONTWRITEBYTECODE=1

@@ -3,6 +3,8 @@
 # workers and the slices, each line and the report are the same, octet for octet.
 set -eu
 top=$(cd "$(dirname "$0")/.." && pwd)
+# shellcheck source=checks/program
+. "$top/checks/program"
 work=$(mktemp -d)
 trap 'rm -rf "$work"' EXIT
 failed=0

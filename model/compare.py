@@ -15,7 +15,7 @@ from .trials import FULL_DEVICE, TOP, Entry, Folder, Link, Step, Trial
 TRAU = TOP / "trau"
 MODEL = TOP / "model/trau"
 # A program that doesn't end within this many seconds has no answer.
-PATIENCE = 300
+PATIENCE = 1800
 
 
 def is_built(program: Path) -> bool:

@@ -18,8 +18,8 @@ PERIODS_TOGETHER = 5000  # of a line whose levels are taken
 
 
 class Asked(NamedTuple):
-    """What is asked of lines: the periods of the run, the first and the one after the last, how many of them are a column, and whether levels
-    are wanted."""
+    """What to read of lines: the periods of the run, the first and the one after the last, the number of periods in a column, and whether
+    levels are wanted."""
 
     first: int
     last: int
@@ -29,7 +29,7 @@ class Asked(NamedTuple):
 
 class Lines(NamedTuple):
     """What the lines of a call have in the periods asked for: the codes of the downlink's looks by periods, and by columns the level of the
-    loudest period, in quarters of a dB above -60 dBm0, 0 to 240; nothing where there is no line."""
+    loudest period, in quarters of a dB above -60 dBm0, 0 to 240; nothing if there is no line."""
 
     down: bytes
     levels: Dict[str, bytes]
@@ -39,7 +39,7 @@ def down_of(folder: Path, call: Call, first: int, last: int) -> bytes:
     """The codes of a downlink's looks, from a period of the call on to another."""
     if not (folder / f"{call.number}.down").is_file():
         return b""
-    # A frame that begins in the last of them has its control bits behind it.
+    # A frame that begins in the last of them has its control bits after it.
     return looks.down_looks(call, call.octets(folder, "down", first, last + 1), first, last)
 
 

@@ -1,7 +1,7 @@
-"""Speech in captures of network packets: RTP (RFC 3550, RFC 3551) with full rate speech, A-law or mu-law to the lines of a call,
-and lines to captures that others play.
+"""Speech in captures of network packets (RTP, RFC 3550 and RFC 3551): full rate speech, A-law or mu-law to the lines of a call, and lines to
+captures that other programs play.
 
-The library dpkt writes the files of captures and their packets; without it, what is here is refused with a word.
+The library dpkt reads and writes captures and their packets. Without it, these commands are refused with a word.
 """
 
 from __future__ import annotations
@@ -30,7 +30,7 @@ LONGEST_GAP = 3600 * SAMPLES_A_SECOND
 
 @dataclass
 class Counts:
-    """What was told by the numbers of packets."""
+    """What the numbers of packets show."""
 
     packets: int = 0
     late: int = 0
@@ -39,13 +39,13 @@ class Counts:
 
 
 class Lost(NamedTuple):
-    """So many units that were sent and didn't come."""
+    """Units that were sent and didn't come."""
 
     units: int
 
 
 class Paused(NamedTuple):
-    """So many units in which nothing was sent."""
+    """Units in which nothing was sent."""
 
     units: int
 
@@ -60,7 +60,7 @@ def near(value: int, before: int, size: int) -> int:
 
 
 def in_order(packets: Sequence[Packet], counts: Counts) -> List[Packet]:
-    """The packets by their numbers, which are counted on where they begin anew; each number once."""
+    """The packets in the order of their numbers, which go on counting where they wrap around; each number once."""
     found: Dict[int, Packet] = {}
     newest = packets[0].sequence
     stamp = packets[0].stamp
@@ -77,7 +77,7 @@ def in_order(packets: Sequence[Packet], counts: Counts) -> List[Packet]:
 
 
 def units_of(name: Path, packet: Packet, kind: int) -> List[Any]:
-    """The units of a packet: frames of GSM, or octets of which each is a sample; none of a packet of another kind."""
+    """The units of a packet: frames of GSM, or octets, one a sample. None for a packet of another kind."""
     if packet.kind != kind:
         return []
     if kind != GSM:

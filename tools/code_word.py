@@ -1,7 +1,7 @@
-"""Silence descriptors among full rate frames, told by their code word (GSM 06.12) within the limits of GSM 06.31 section 6.1.
+"""Finds silence descriptors among full rate frames by their code word (GSM 06.12), within the limits of GSM 06.31, section 6.1.
 
-A base station looks for the code word and marks the frame by C13 and C14 of its uplink. Files and packets of full rate frames have no
-such marks, so the tools that make uplinks of them do this work of the base station.
+A base station looks for the code word and marks the frame by C13 and C14 of its uplink. Files and packets of full rate frames have no such
+marks, so the tools that make uplinks from them do this work of the base station.
 """
 
 from __future__ import annotations
@@ -16,12 +16,12 @@ from trau_frames import BLOCK_WIDTHS, RATIO_WIDTHS, SpeechControl
 BLOCKS = 4
 PULSES = 13
 PULSE_BITS = 3
-# In the last block only so many pulses have their middle bits in class I.
+# In the last block only this many pulses have their middle bits in class I.
 PULSES_OF_LAST_BLOCK = 4
 
 
 def first_bit(block: int, pulse: int) -> int:
-    """Where the least significant bit of a pulse stands, counted from D1 as 0; blocks and pulses count from 0."""
+    """The place of the least significant bit of a pulse, counted from D1 as 0; blocks and pulses count from 0."""
     before_pulses = sum(BLOCK_WIDTHS) - PULSES * PULSE_BITS
     return sum(RATIO_WIDTHS) + block * sum(BLOCK_WIDTHS) + before_pulses + PULSE_BITS * pulse
 

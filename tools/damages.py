@@ -1,4 +1,4 @@
-"""Damage to an uplink: pauses, unusable frames, zeros, alignment fields and slips of bits, at frames that are named."""
+"""Damage to an uplink: pauses, unusable frames, zeros, alignment fields and slips of bits, at named frames."""
 
 from __future__ import annotations
 
@@ -138,7 +138,7 @@ class Uplink:
         return self.is_speech(number) or self.sorts[number] is Sort.IDLE
 
     def slip(self, number: int, bits: int) -> None:
-        """Puts ones before a frame, or leaves out the last bits that stand there."""
+        """Puts ones before a frame, or leaves out the last bits before it."""
         if bits > 0:
             self.before[number] += bits * "1"
             return
@@ -158,7 +158,7 @@ class Uplink:
 
 @dataclass(frozen=True)
 class Damages:
-    """The damages that are asked for: frames of each kind, alignment fields and slips."""
+    """The requested damages: frames of each kind, alignment fields and slips."""
 
     sid: Optional[Frames]
     drop: Optional[Frames]
@@ -168,7 +168,7 @@ class Damages:
 
 
 def damaged(name: Path, octets: bytes, asked: Damages) -> Tuple[bytes, str]:
-    """An uplink with damages, done in the order of the kinds, and how many there were of each."""
+    """An uplink with damages, done in the order of the kinds, and the number of each."""
     line = Uplink(name, octets)
     count = len(line.frames)
 

@@ -1,7 +1,7 @@
 """What a file is: by its head, by the frames that are found in it, and else by the statistics of its octets.
 
-Only the head of a file is looked at, so a kind says nothing of what comes behind it. What the statistics say is a guess, which needs
-a tenth of a second of sound; it is plain for speech and for idle lines, and silent where two kinds are about as likely.
+Only the head of a file is read, so a kind says nothing about the rest. The statistics give a guess, which needs a tenth of a second of
+sound. It is plain for speech and for idle lines; if two kinds are about as likely, there is none.
 """
 
 from __future__ import annotations
@@ -73,7 +73,7 @@ MAGICS = (
 
 
 def by_magic(head: bytes, size: int) -> Optional[Look]:
-    """A file whose first octets tell its kind."""
+    """A file whose first octets show its kind."""
     for magic, kind, said, command in MAGICS:
         if head.startswith(magic):
             return Look(kind, said, command)
@@ -285,7 +285,7 @@ TESTS = (by_wav, by_magic, by_text, by_gsm, by_frames, by_signal, by_channels)
 
 
 def known_kind(head: bytes, size: int) -> Optional[Look]:
-    """The kind that the head of a file of so many octets tells, without statistics."""
+    """The kind that the head of a file of this many octets shows, without statistics."""
     if not size:
         return Look(Kind.EMPTY, "empty")
     return next(filter(None, (test(head, size) for test in TESTS)), None)
@@ -310,12 +310,12 @@ def head_of(path: Path, octets: int = HEAD_OCTETS) -> Tuple[bytes, int]:
 
 
 def command_for(found: Look, name: Path) -> str:
-    """What is said of the command that makes something of this file, behind what the file is."""
+    """The command that takes this file, in words that follow what the file is."""
     return f"; {found.command}".replace("{}", shlex.quote(str(name))) if found.command else ""
 
 
 def said_beside(found: Look, name: Path, not_this: str) -> str:
-    """What a file is instead of what was wanted, with the command that does what was meant."""
+    """What a file is instead of what was wanted, with the command that takes it."""
     return f"{found.said}, and {not_this}{command_for(found, name)}"
 
 

@@ -18,14 +18,14 @@ from trau_frames import Parameters, Refusal
 
 
 class Found(NamedTuple):
-    """D1 to D260 of each frame of a file, and the octets behind the last whole one."""
+    """D1 to D260 of each frame of a file, and the octets after the last whole one."""
 
     data: List[str]
     left: int
 
 
 def data_of_file(name: Path, given: bytes, partial: bool) -> Found:
-    """The frames of a file of libgsm; one that was cut is taken where `partial` says so."""
+    """The frames of a file of libgsm; a truncated file is taken with `partial`."""
     size = trau_frames.GSM_OCTETS
     left = len(given) % size
     whole = given[: len(given) - left]

@@ -1,10 +1,11 @@
 #!/usr/bin/env python3
-"""Makes recorded lines of what people have, and back: frames of libgsm, WAV files, raw A-law and mu-law, slots of E1 recordings and
-captures of network packets; says what a file is, and damages uplinks.
+"""Makes recorded lines from common files, and files from lines: frames of libgsm, WAV files, raw A-law and mu-law, slots of E1 recordings
+and captures of network packets. It also says what a file is, and damages uplinks.
 
-A command reads one file and writes another (`idle` reads none, `look` writes none), and prints in one line on standard output what it
-did; `-` stands for standard input and output, and where the file goes there, the line goes to standard error. A file whose name ends
-with .gz is unpacked first. What a command doesn't take gets one line on standard error and status 2, and then nothing is written.
+A command reads one file and writes another (`idle` reads none, `look` writes none), and prints one line on standard output that says what
+it did. `-` is standard input or standard output; if the file goes to standard output, the line goes to standard error. A file whose name
+ends with .gz is unpacked first. If a command can't take something, it prints one line on standard error, exits with status 2 and writes
+nothing.
 """
 
 from __future__ import annotations
@@ -70,15 +71,14 @@ def listen(words: argparse.Namespace, given: bytes) -> Made:
 
 
 def check_law(name: Path, octets: bytes, law: Law) -> None:
-    """Refuses a file of another kind than octets of a law, where its head or its frames tell that."""
+    """Refuses a file whose name, head or frames show that it isn't octets of a law."""
     if recordings.name_within(name).suffix in (".up", ".down"):
         raise Refusal(f"{name}: is a line of frames by its name, and no {law.title()}")
     file_kinds.refuse_other(name, octets, f"no {law.title()}", Kind.LAW)
 
 
 def raw_octets(words: argparse.Namespace, given: bytes) -> bytes:
-    """Octets of a law and nothing else. Those that are plainly something else by their statistics are refused too, if they aren't to be
-    trusted."""
+    """Octets of a law and nothing else. Without --trust, octets whose statistics plainly show something else are refused too."""
     octets = slots.turned(given) if words.lsb_first else given
     if not words.trust:
         check_law(words.given, octets, words.law)
@@ -212,26 +212,25 @@ def number_word(least: int, most: int) -> Callable[[str], int]:
 
 
 def command(
-    commands: argparse._SubParsersAction, made: Command, given: str, new: str, told: str, example: str
+    commands: argparse._SubParsersAction, made: Command, given: str, new: str, more: str, example: str
 ) -> argparse.ArgumentParser:
-    """A command that is carried out by `made`, from a file of the kind `given`, or from so many PERIODS, to one of the
-    kind `new`."""
+    """Adds a command that `made` runs: from a file of the kind `given`, or from a number of PERIODS, to a file of the kind `new`."""
     added = commands.add_parser(
         made.__name__,
         help=f"{given} to {new}",
-        description=told,
+        description=more,
         epilog=f"example: lines.py {made.__name__} {example}",
         formatter_class=argparse.RawDescriptionHelpFormatter,
         allow_abbrev=False,
     )
-    added.set_defaults(made=made, carried_out=make_file)
+    added.set_defaults(made=made, runs=make_file)
     if given == "PERIODS":
         added.set_defaults(given=None)
-        added.add_argument("periods", type=number_word(1, MOST_PERIODS), metavar=given, help="how many periods of 20 ms")
+        added.add_argument("periods", type=number_word(1, MOST_PERIODS), metavar=given, help="the number of periods of 20 ms")
     else:
-        added.add_argument("given", type=Path, metavar=given, help="the file that is read, or - for standard input")
+        added.add_argument("given", type=Path, metavar=given, help="the file to read, or - for standard input")
     added.add_argument(
-        "new", type=Path, metavar=new, help="the file that is written, or - for standard output; never the one that is read"
+        "new", type=Path, metavar=new, help="the file to write, or - for standard output; never the one that is read"
     )
     return added
 
@@ -250,13 +249,13 @@ def add_law(added: argparse.ArgumentParser) -> None:
         type=law_word,
         metavar="LAW",
         default=Law.A,
-        help="the law of the call's lines from and to the exchange: alaw (default), or mulaw where its order is `open C mulaw`",
+        help="the law of the call's lines from and to the exchange: alaw (default), or mulaw if its order is `open C mulaw`",
     )
 
 
 def add_partial(added: argparse.ArgumentParser, what: str) -> None:
     """Adds the option `--partial` to a command."""
-    added.add_argument("--partial", action="store_true", help=f"take a file that was cut as far as it goes: {what}")
+    added.add_argument("--partial", action="store_true", help=f"take a truncated file as far as it goes: {what}")
 
 
 def add_sid(added: argparse.ArgumentParser) -> None:
@@ -265,8 +264,8 @@ def add_sid(added: argparse.ArgumentParser) -> None:
         "--sid",
         choices=("mark", "keep"),
         default="mark",
-        help="what becomes of silence descriptors, which their code word tells: marked by C13 and C14, as a base station does"
-        " (default), or kept as if they were speech, which then buzzes",
+        help="what to do with silence descriptors, which are found by their code word: mark them by C13 and C14, as a base station does"
+        " (default), or keep them as if they were speech, which then buzzes",
     )
 
 
@@ -284,10 +283,10 @@ def add_uplink(commands: argparse._SubParsersAction) -> None:
         uplink,
         "IN.gsm",
         "OUT.up",
-        "Makes an uplink of frames of libgsm, of 33 octets each, as toast, sox and ffmpeg write them to .gsm files, or of a WAV\n"
-        "file of GSM frames, two in a block of 65 octets. Nothing is transcoded: the 260 bits of a frame stay as they are. Silence\n"
+        "Makes an uplink from frames of libgsm (33 octets each, as toast, sox and ffmpeg write them to .gsm files), or from a WAV\n"
+        "file of GSM frames (two in a block of 65 octets). Nothing is transcoded: the 260 bits of a frame stay as they are. Silence\n"
         "descriptors are marked as such, and damaged ones as invalid. Prints `uplink frames N sid A invalid B`, and with --partial\n"
-        "`left R`: the octets behind the last whole frame.",
+        "`left R`: the octets after the last whole frame.",
         "call.gsm 7.up --dtxd 1",
     )
     added.add_argument(
@@ -309,22 +308,22 @@ def add_gsm(commands: argparse._SubParsersAction) -> None:
         "IN.down",
         "OUT.gsm",
         "Finds the frames of a downlink at any bit, and writes their speech as frames of libgsm, which untoast, sox and\n"
-        "ffmpeg decode. Prints `gsm frames N found speech A silence B idle C other D outside E`: the frames that were\n"
-        "written, those of each kind that were found, and the bits that belong to no frame.",
+        "ffmpeg decode. Prints `gsm frames N found speech A silence B idle C other D outside E`: the frames written, the\n"
+        "frames found of each kind, and the bits that belong to no frame.",
         "7.down call.gsm --idle quiet",
     )
     added.add_argument(
         "--silence",
         choices=("noise", "quiet", "keep", "skip"),
         default="noise",
-        help="what is written for a silence descriptor (SP 0), which a decoder of speech would turn into a buzz: a"
-        " frame of comfort noise made of it (default), a frame of silence, its bits as they are, or nothing",
+        help="what to write for a silence descriptor (SP 0), which a decoder of speech would turn into a buzz: a"
+        " frame of comfort noise made from it (default), a frame of silence, its bits as they are, or nothing",
     )
     added.add_argument(
         "--idle",
         choices=("skip", "quiet"),
         default="skip",
-        help="what is written for an idle frame: nothing (default), or a frame of silence, which keeps the time",
+        help="what to write for an idle frame: nothing (default), or a frame of silence, which keeps the time",
     )
 
 
@@ -335,17 +334,16 @@ def add_pcm(commands: argparse._SubParsersAction) -> None:
         pcm,
         "IN",
         "OUT.pcm",
-        "Makes a Pcm line from a WAV file of 8000 Hz, mono, 16 bits linear, A-law or mu-law, or from raw octets of its law. The\n"
-        "last period is filled up with the idle octet, 0xD5 or 0xFF. Prints `pcm periods N padded R`, R being the number of these\n"
-        "octets.",
+        "Makes a Pcm line from a WAV file (8000 Hz, mono, 16 bits linear, A-law or mu-law) or from raw octets of its law. Fills the\n"
+        "last period with the idle octet, 0xD5 or 0xFF. Prints `pcm periods N padded R`: R is the number of these octets.",
         "call.wav 7.pcm",
     )
-    added.add_argument("--raw", action="store_true", help="the file has octets of the line's law and nothing else")
+    added.add_argument("--raw", action="store_true", help="the file has only octets of the line's law")
     add_lsb_first(added, " (with --raw)")
     added.add_argument(
         "--trust",
         action="store_true",
-        help="take raw octets as they are, also where they look like something else (with --raw)",
+        help="take raw octets as they are, even if they look like something else (with --raw)",
     )
     add_partial(added, "the samples of a WAV file that are there")
     add_law(added)
@@ -358,7 +356,7 @@ def add_sound(commands: argparse._SubParsersAction) -> None:
         sound,
         "IN.out",
         "OUT",
-        "Makes a WAV file of 8000 Hz, mono, 16 bits linear from an Out line, or from a Pcm line. Prints `sound samples N`.",
+        "Makes a WAV file (8000 Hz, mono, 16 bits linear) from an Out line or a Pcm line. Prints `sound samples N`.",
         "7.out call.wav",
     )
     kind = added.add_mutually_exclusive_group()
@@ -366,7 +364,7 @@ def add_sound(commands: argparse._SubParsersAction) -> None:
         kind.add_argument(
             f"--{law}", action="store_const", const=tag, dest="tag", help=f"the samples of the WAV file are {law.title()}"
         )
-    kind.add_argument("--raw", action="store_true", help="the line's octets and nothing else")
+    kind.add_argument("--raw", action="store_true", help="only the line's octets, without a WAV head")
     added.set_defaults(tag=WAV_LINEAR)
     add_law(added)
 
@@ -378,7 +376,7 @@ def add_idle(commands: argparse._SubParsersAction) -> None:
         idle,
         "PERIODS",
         "OUT.pcm",
-        "Makes an idle Pcm line of so many periods, with which an uplink alone can be run. Prints `idle periods N`.",
+        "Makes an idle Pcm line of this many periods, for a run of an uplink alone. Prints `idle periods N`.",
         "312 7.pcm",
     )
     add_law(added)
@@ -391,25 +389,25 @@ def add_pcap(commands: argparse._SubParsersAction) -> None:
         pcap,
         "IN.pcap",
         "OUT",
-        "Makes a line of an RTP stream of a capture (pcap or pcapng), by its time stamps: an uplink of GSM (payload type 3), a\n"
-        "Pcm line of PCMA (8) or PCMU (0). Packets that are missing become unusable frames, or idle octets; where nothing was\n"
-        "sent there are idle frames, or idle octets, and unusable frames in a pause that a silence descriptor began. Prints `pcap gsm\n"
+        "Makes a line from an RTP stream of a capture (pcap or pcapng), by its time stamps: an uplink from GSM (payload type 3), a\n"
+        "Pcm line from PCMA (8) or PCMU (0). Missing packets become unusable frames or idle octets. Time in which nothing was sent\n"
+        "becomes idle frames or idle octets; in a pause that a silence descriptor began, it becomes unusable frames. Prints `pcap gsm\n"
         "packets N late A doubled B others C frames D sid S invalid I lost E paused F lead G`, or `octets D lost E .. padded H`:\n"
-        "packets that came after later ones, that came again, and that have no speech; and the periods before the first. With\n"
-        "--partial also `cut K`: packets that weren't captured whole. Needs the library dpkt.",
+        "A packets came after later ones, B came again, C have no speech; G periods precede the first one. With --partial it also\n"
+        "prints `cut K`: packets that weren't captured whole. Needs the library dpkt.",
         "call.pcapng 7.up",
     )
     added.add_argument(
-        "--stream", type=int, metavar="N", help="the stream, counted from 1, of a capture with several; without it these are told"
+        "--stream", type=int, metavar="N", help="the stream, counted from 1, of a capture with several; without it they are listed"
     )
     added.add_argument(
         "--since",
         type=int,
         metavar="N",
-        help="the line begins when this stream began, by the times of the capture: so the lines of a call keep step",
+        help="begin the line when this stream began, by the times of the capture, so that the lines of a call keep step",
     )
     add_sid(added)
-    add_partial(added, "packets that weren't captured whole are lost")
+    add_partial(added, "packets that weren't captured whole count as lost")
     add_law(added)
 
 
@@ -420,13 +418,13 @@ def add_capture(commands: argparse._SubParsersAction) -> None:
         capture,
         "LINE",
         "OUT.pcap",
-        "Makes a capture with an RTP stream of a line, which Wireshark plays: GSM of an Up or Down line, PCMA or PCMU of a Pcm or\n"
-        "Out line, by the line's name and its law. Lost speech has no packet, a pause has comfort noise, and an idle frame gives\n"
-        "nothing. Prints `capture streams N packets M`. Needs the library dpkt.",
+        "Makes a capture with an RTP stream from a line, which Wireshark plays: GSM from an Up or Down line, PCMA or PCMU from a Pcm\n"
+        "or Out line, by the line's name and its law. Lost speech has no packet, a pause has comfort noise, and an idle frame has\n"
+        "no packet. Prints `capture streams N packets M`. Needs the library dpkt.",
         "7.down call.pcap --also 7.out",
     )
     added.add_argument(
-        "--also", type=Path, action="append", default=[], metavar="LINE", help="a further line, as a stream of its own"
+        "--also", type=Path, action="append", default=[], metavar="LINE", help="add a line as a stream of its own"
     )
     add_law(added)
 
@@ -438,14 +436,13 @@ def add_listen(commands: argparse._SubParsersAction) -> None:
         listen,
         "IN.down",
         "OUT.wav",
-        "Makes a WAV file of 8000 Hz, mono, 16 bits linear of what is heard of a downlink: finds its frames at any bit, and has\n"
-        "the program `trau` decode them. Silence descriptors give comfort noise; idle frames, and each period without a frame,\n"
-        "silence. Prints `listen samples N found speech A silence B idle C other D outside E`.",
+        "Makes a WAV file (8000 Hz, mono, 16 bits linear) of the sound of a downlink. Finds its frames at any bit, and decodes them\n"
+        "by the C library, if clib/build made it or it is installed, else by the program `trau`; both give the same. Silence\n"
+        "descriptors give comfort noise; idle frames, and periods without a frame, give silence. Prints `listen samples N found\n"
+        "speech A silence B idle C other D outside E`.",
         "7.down call.wav",
     )
-    added.add_argument(
-        "--trau", default=listening.program_beside(), metavar="PROGRAM", help="the program (default %(default)s)"
-    )
+    added.add_argument("--trau", metavar="PROGRAM", help="decode by this program and not by the library")
 
 
 def add_slot(commands: argparse._SubParsersAction) -> None:
@@ -455,7 +452,7 @@ def add_slot(commands: argparse._SubParsersAction) -> None:
         slot,
         "IN",
         "OUT",
-        "Takes one time slot of a recording of a whole line: every Nth octet, as each 32nd one of an E1 line. Without --of the\n"
+        "Takes one time slot from a recording of a whole line: every Nth octet, such as each 32nd one of an E1 line. Without --of the\n"
         "recording is of one slot, and --lsb-first turns the bits of its octets. Prints `slot octets N`.",
         "line.e1 1.pcm --slot 16 --of 32, and then: trau split 1",
     )
@@ -463,17 +460,17 @@ def add_slot(commands: argparse._SubParsersAction) -> None:
         "--slot", type=number_word(0, slots.MOST_SLOTS - 1), default=0, metavar="N", help="the slot, counted from 0 (default 0)"
     )
     added.add_argument(
-        "--of", type=number_word(1, slots.MOST_SLOTS), default=1, metavar="N", help="how many slots the line has (default 1)"
+        "--of", type=number_word(1, slots.MOST_SLOTS), default=1, metavar="N", help="the number of slots of the line (default 1)"
     )
     added.add_argument(
         "--skip",
         type=number_word(0, MOST_SKIPPED),
         default=0,
         metavar="N",
-        help="how many octets stand before the first one of slot 0 (default 0)",
+        help="the number of octets that precede the first one of slot 0 (default 0)",
     )
     add_lsb_first(added)
-    add_partial(added, "what of a file that gzip packed is there")
+    add_partial(added, "what can be unpacked of a file that gzip packed")
 
 
 def add_look(commands: argparse._SubParsersAction) -> None:
@@ -481,16 +478,16 @@ def add_look(commands: argparse._SubParsersAction) -> None:
     added = commands.add_parser(
         "look",
         help="what files are",
-        description="Says of each file what it is, and which command makes something of it: sound files, frames of libgsm and\n"
-        "captures by their heads; uplinks, downlinks, time slots and E1 lines by what is found in them, at any bit and in either\n"
-        "order of the bits of an octet; A-law, mu-law and samples of 16 bits by statistics, as it seems. It looks at the first\n"
+        description="Says what each file is, and which command takes it. Sound files, frames of libgsm and captures are known by their\n"
+        "heads; uplinks, downlinks, time slots and E1 lines by the frames in them, at any bit and in either order of the bits of an\n"
+        "octet; A-law, mu-law and samples of 16 bits by statistics, which are a guess. It looks at the first\n"
         f"{file_kinds.HEAD_OCTETS} octets.",
         epilog="example: lines.py look *",
         formatter_class=argparse.RawDescriptionHelpFormatter,
         allow_abbrev=False,
     )
     added.add_argument("files", type=Path, nargs="+", metavar="FILE", help="a file, or - for standard input")
-    added.set_defaults(carried_out=look)
+    added.set_defaults(runs=look)
 
 
 def add_damage(commands: argparse._SubParsersAction) -> None:
@@ -500,29 +497,29 @@ def add_damage(commands: argparse._SubParsersAction) -> None:
         damage,
         "IN.up",
         "OUT.up",
-        "Damages an uplink. Its frames, and the misses, are numbered from 0 as the search for frames yields them. FRAMES\n"
-        "are parts with commas between: a frame A, frames A-B, every:N (the Nth, the 2Nth and so on, thus N-1, 2N-1, ..).\n"
-        "The damages are done in the order of the options below. Frames that --sid, --drop and --zero name and that aren't\n"
-        "speech frames stay as they are. Prints `damage frames N sid A drop B zero C align D slip E`: how many frames there\n"
-        "are, and how many changes of each kind were made.",
+        "Damages an uplink. Its frames and misses are numbered from 0, in the order in which the search for frames yields them.\n"
+        "FRAMES are parts with commas between: a frame A, frames A-B, every:N (the Nth, the 2Nth and so on: N-1, 2N-1, ..).\n"
+        "The damages are done in the order of the options below. If --sid, --drop or --zero names a frame that isn't a speech\n"
+        "frame, it stays as it is. Prints `damage frames N sid A drop B zero C align D slip E`: the number of frames, and the\n"
+        "number of changes of each kind.",
         "7.up 8.up --sid 100-160 --drop 20-22,every:50 --slip 200:-3",
     )
     added.add_argument(
         "--sid",
         type=damages.Frames.parse,
         metavar="FRAMES",
-        help="put a pause instead of speech frames: a silence descriptor at its start and at each 24th frame (23, 47"
+        help="replace speech frames by a pause: a silence descriptor at its start and at each 24th frame (23, 47"
         " and so on), which has TAF 1, and unusable frames between. A descriptor has the frame's spectrum and its least block maximum",
     )
     added.add_argument("--drop", type=damages.Frames.parse, metavar="FRAMES", help="mark speech frames as unusable: BFI 1")
-    added.add_argument("--zero", type=damages.Frames.parse, metavar="FRAMES", help="put 320 zeros instead of speech frames")
+    added.add_argument("--zero", type=damages.Frames.parse, metavar="FRAMES", help="replace speech frames by 320 zeros")
     added.add_argument(
         "--align",
         type=damages.align_word,
         action="append",
         default=[],
         metavar="FRAME:FIELD",
-        help="set the alignment field, 0 to 63, of a speech frame or an idle frame; may stand more than once",
+        help="set the alignment field, 0 to 63, of a speech frame or an idle frame; may be repeated",
     )
     added.add_argument(
         "--slip",
@@ -530,8 +527,8 @@ def add_damage(commands: argparse._SubParsersAction) -> None:
         action="append",
         default=[],
         metavar="FRAME:BITS",
-        help="put so many ones before a frame or, with a minus, leave out so many bits before it, up to 320; may stand more"
-        " than once. Ones then fill the line up to a whole period",
+        help="put up to 320 ones before a frame or, with a minus, leave out up to 320 bits before it; may be repeated."
+        " Ones then fill the line up to a whole period",
     )
 
 
@@ -554,9 +551,9 @@ def parser() -> argparse.ArgumentParser:
 
 @tool("lines.py")
 def main(words: Sequence[str]) -> int:
-    """Carries out the words of the command line, and gives the status."""
+    """Runs the words of the command line, and returns the exit status."""
     asked = parser().parse_args(words)
-    return asked.carried_out(asked)
+    return asked.runs(asked)
 
 
 if __name__ == "__main__":

@@ -14,7 +14,7 @@ from uplink_periods import BAD, by_what_came_before
 
 
 class Look(enum.Enum):
-    """What a period of an uplink yields, in the order of the sorts, and two that tell more of unusable frames."""
+    """What a period of an uplink yields, in the order of the sorts, and two that say more about unusable frames."""
 
     GOOD = ("speech", "#0072B2")
     SID = ("silence descriptor", "#56B4E9")
@@ -56,8 +56,8 @@ LOOKS_BEHIND = [table(lambda sort, code=code: code if sort == BAD else sort) for
 
 
 def looks(sorts: bytes) -> bytes:
-    """The codes of how the periods of an uplink look. An unusable frame behind a silence descriptor is a pause, in which none is sent; and
-    behind an idle frame, and before the first frame that can be used, there is nothing to lose."""
+    """The codes of how the periods of an uplink look. An unusable frame after a silence descriptor is a pause, in which none is sent. After
+    an idle frame, and before the first usable frame, there is nothing to lose."""
     return by_what_came_before(sorts, *LOOKS_BEHIND)
 
 
@@ -122,7 +122,7 @@ def counted(values: bytes, kind: Type[enum.Enum], start: int, end: int) -> Dict[
 
 
 def column_ends(values: bytes, size: int) -> Iterator[int]:
-    """Where columns of so many periods each end; of single periods, those in a row that look alike."""
+    """Where columns of this many periods each end; of single periods, those in a row that look alike."""
     if size == 1:
         return (found.end() for found in re.finditer(rb"(.)\1*", values, re.DOTALL))
     return iter([*range(size, len(values), size), len(values)] if values else [])

@@ -35,7 +35,7 @@ TO_BACK = [table(lambda octet, bit=bit: octet >> 8 - bit) for bit in range(8)]
 
 
 class Frames:
-    """Frames in a row, each 320 bits behind the one before, in octets that have all of them."""
+    """Frames in a row, each 320 bits after the one before, in octets that have all of them."""
 
     def __init__(self, octets: bytes, place: int, count: int) -> None:
         self.octets = octets

@@ -1,8 +1,8 @@
 #!/usr/bin/env python3
-"""Says what is wrong with the orders of a run, line by line, in words, where `trau run` names the first bad line alone; and strips
-comments and empty lines, which `trau run` doesn't take, from a text of orders.
+"""Says what is wrong with the orders of a run, line by line and in words; `trau run` names only the first bad line. It also strips comments
+and empty lines, which `trau run` doesn't take, from orders.
 
-It also warns of orders that are in the grammar, and that the run will refuse, and of lines that aren't what their names say.
+It warns of orders that are in the grammar but that the run will refuse, and of lines that aren't what their names say.
 """
 
 from __future__ import annotations
@@ -33,7 +33,7 @@ from trau_frames import FRAME_OCTETS, PCM_OCTETS, Refusal
 
 BYTE_ORDER_MARK = b"\xef\xbb\xbf"
 
-# The words behind an order's name, as the documents show them; of the others C alone.
+# The words after an order's name, as the documents show them; the other orders have only C.
 SHOWN = {"open": "C or S open C mulaw", "bridge": "C D", "level": "C V", "dtx": "C on|off|uplink"}
 
 # The words that may stand there, as a sentence says them.
@@ -49,7 +49,7 @@ def grouped(number: int) -> str:
 
 
 COMMENT = "#"
-STRIPS = "orders.py strip leaves comments and empty lines out"
+STRIPS = "orders.py strip leaves out comments and empty lines"
 
 
 def fault_of_number(what: str, word: str, least: int, most: int) -> Optional[str]:
@@ -89,7 +89,7 @@ def faults_of_spaces(line: bytes) -> Tuple[List[str], str]:
 
 
 def faults_of_words(words: Sequence[str]) -> List[str]:
-    """What is wrong with the words of an order: its stamp, its name, and the words behind."""
+    """What is wrong with the words of an order: its stamp, its name, and the words after it."""
     stamp, *others = words
     faults = [fault_of_number("stamp", stamp, 0, MOST_PERIODS - 1)]
     if not others:
@@ -154,7 +154,7 @@ PERIOD_OCTETS = {"up": FRAME_OCTETS, "pcm": PCM_OCTETS}
 
 
 def periods_of_lines(folder: Path, call: int) -> Dict[str, int]:
-    """How many whole periods each of a call's incoming lines has; none of one that isn't there."""
+    """How many whole periods each of a call's incoming lines has; None for a line that doesn't exist."""
     found = {}
     for side, octets in PERIOD_OCTETS.items():
         path = folder / f"{call}.{side}"
@@ -173,7 +173,7 @@ class Board:
 
     def __init__(self, folder: Optional[Path]) -> None:
         self.folder = folder
-        self.ends: Dict[int, Optional[int]] = {}  # of the open calls; None where it isn't known
+        self.ends: Dict[int, Optional[int]] = {}  # of the open calls; None if it isn't known
         self.used: Dict[int, int] = {}  # the line that opened a call
         self.partners: Dict[int, int] = {}
         self.parted: Dict[int, Tuple[int, int]] = {}  # the partner that an order took, and when
@@ -349,9 +349,9 @@ def add_check(commands: argparse._SubParsersAction) -> None:
     added = commands.add_parser(
         "check",
         help="says what is wrong with orders",
-        description="Says of each bad line what is wrong, with its number as `orders line N` of `trau run` gives it, and of each\n"
-        "order that the run will refuse the refusal's number and cause. The last line counts: `orders N bad B warnings W`.\n"
-        "Status 0: the orders are taken. Status 1: they aren't: a line is bad, or they are too long. Status 2: no orders.",
+        description="Prints what is wrong with each bad line, by the number that `trau run` prints as `orders line N`, and the number and\n"
+        "cause of each refusal that the run will give. The last line counts: `orders N bad B warnings W`. Status 0: the run takes\n"
+        "the orders. Status 1: a line is bad, or they are too long. Status 2: no orders.",
         epilog="example: orders.py check orders.txt --lines .",
         formatter_class=argparse.RawDescriptionHelpFormatter,
         allow_abbrev=False,
@@ -361,20 +361,20 @@ def add_check(commands: argparse._SubParsersAction) -> None:
         "--lines",
         type=Path,
         metavar="FOLDER",
-        help="the folder of the calls' incoming lines: calls then end with their lines, as in a run. Missing lines, and lines that"
-        " aren't what their names say, are warned of, and the periods of the longer line that won't be used are noted. Without it"
-        " calls end by orders alone",
+        help="the folder of the calls' incoming lines: calls then end with their lines, as in a run. It warns of missing lines and of"
+        " lines that aren't what their names say, and notes the periods of the longer line that won't be used. Without it"
+        " calls end only by orders",
     )
-    added.set_defaults(carried_out=check)
+    added.set_defaults(runs=check)
 
 
 def add_strip(commands: argparse._SubParsersAction) -> None:
     """Adds the command `strip`."""
     added = commands.add_parser(
         "strip",
-        help="leaves comments and empty lines out",
+        help="leaves out comments and empty lines",
         description="Writes the orders without comments, which begin with # anywhere in a line, and without empty lines. All else stays\n"
-        "as it is. `trau run` numbers the lines that are left.",
+        "as it is. `trau run` numbers the remaining lines.",
         epilog="example: orders.py strip notes.txt | trau run",
         formatter_class=argparse.RawDescriptionHelpFormatter,
         allow_abbrev=False,
@@ -386,14 +386,14 @@ def add_strip(commands: argparse._SubParsersAction) -> None:
         nargs="?",
         default=trau_frames.STREAM,
         metavar="OUT",
-        help="the file that is written (standard output if left out); never the one that is read",
+        help="the file to write (default standard output); never the one that is read",
     )
-    added.set_defaults(carried_out=strip)
+    added.set_defaults(runs=strip)
 
 
 @tool("orders.py")
 def main(words: Sequence[str]) -> int:
-    """Carries out the words of the command line, and gives the status."""
+    """Runs the words of the command line, and returns the exit status."""
     program = trau_frames.Words(
         description=__doc__, formatter_class=argparse.RawDescriptionHelpFormatter, allow_abbrev=False
     )
@@ -401,7 +401,7 @@ def main(words: Sequence[str]) -> int:
     add_check(commands)
     add_strip(commands)
     asked = program.parse_args(words)
-    return asked.carried_out(asked)
+    return asked.runs(asked)
 
 
 if __name__ == "__main__":

@@ -1,4 +1,4 @@
-"""What became of calls: how much of their speech was lost, their longest gap, and which are the worst."""
+"""Outcomes of calls: how much of their speech was lost, their longest gap, and which are the worst."""
 
 from __future__ import annotations
 
@@ -40,7 +40,7 @@ class Outcome(NamedTuple):
 
 
 def outcome_of(call: Call) -> Outcome:
-    """What became of a call."""
+    """The outcome of a call."""
     heard = call.heard()
     longest, start = max(((len(found.group()), -found.start()) for found in LOST.finditer(heard)), default=(0, None))
     return Outcome(heard.count(SPEECH_HEARD), heard.count(LOST_HEARD), longest, None if start is None else -start)

@@ -79,7 +79,7 @@ def seconds(period: int) -> str:
 
 
 def span(start: int, end: int) -> str:
-    """From the start of a period to that of another, in the manner of the report."""
+    """From the start of a period to that of another, as the report says it."""
     return f"from {start} to {end} ({seconds(start)} to {seconds(end)})"
 
 
@@ -216,7 +216,7 @@ class Picture:
     # Layers
 
     def read_lines(self, column: int, workers: Workers) -> Dict[int, call_lines.Lines]:
-        """What the calls' lines have, by columns of so many periods."""
+        """What the calls' lines have, by columns of this many periods."""
         asked = call_lines.Asked(self.first, self.last, column, bool(self.shape.level))
         return call_lines.read_lines(self.run, asked, workers)
 
@@ -327,7 +327,7 @@ class Picture:
     # Bridges
 
     def draw_link(self, bridge: Bridge) -> None:
-        """What ties the rows of a bridge's calls, behind the rows between them."""
+        """The bars that tie the rows of a bridge's calls, drawn behind the rows between them."""
         if not all(call in self.rows for call in bridge.calls):
             return
         upper, lower = sorted(self.bridge_top(number) for number in bridge.calls)
@@ -365,7 +365,7 @@ class Picture:
         return ", ".join([call.span.cause, *(f"{side} failed" for side in call.failed)])
 
     def row_words(self, call: Call) -> str:
-        """What stands at the end of a call's row: the part of its speech that was lost, the longest gap, and why it ended."""
+        """The text at the end of a call's row: the part of its speech that was lost, the longest gap, and why it ended."""
         return ", ".join(words for words in (self.outcomes[call.number].short(), self.end_words(call)) if words)
 
     def draw_call(self, call: Call) -> None:
@@ -412,7 +412,7 @@ class Picture:
                 y += high
 
     def draw_downlink(self, call: Call) -> None:
-        """The strip of a call's downlink, where there is the line."""
+        """The strip of a call's downlink, if the line exists."""
         codes = self.lines[call.number].down
         self.draw_band(call, codes, DownLook, DOWN_LOSSES, self.down_top(call.number), self.shape.down - 3, "downlink ")
 
@@ -433,7 +433,7 @@ class Picture:
                 self.add("path", title, d=steps, fill="none", stroke=colour, stroke_width=1.1)
 
     def level_steps(self, call: Call, values: bytes, top: float, height: float) -> str:
-        """The path of a line's levels, of which there is one for each column."""
+        """The path of a line's levels, one for each column."""
         start = max(call.span.start, self.first)
         end = min(call.span.end, self.last)
         steps: List[str] = []
@@ -468,7 +468,7 @@ class Picture:
     def draw_shift(
         self, call: Call, top: float, period: int, octets: int, marks: Sequence[float], free: float
     ) -> float:
-        """The mark of a shift, its octets where no other mark or text is in the way, and where the room behind them begins."""
+        """The mark of a shift, its octets if no other mark or text is in the way, and where the room after them begins."""
         x = self.mark_of(period)
         title = (
             f"call {call.number}, period {period} ({seconds(period)}): the downlink's timing moves by"

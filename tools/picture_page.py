@@ -106,7 +106,7 @@ def data_of(picture: Picture, lines: Dict[int, call_lines.Lines]) -> Dict[str, A
 
 
 def totals(picture: Picture) -> Iterator[str]:
-    """What became of the run as a whole: its calls, what was lost, orders that were refused, and lines that failed."""
+    """The outcome of the whole run: its calls, lost speech, refused orders, and lines that failed."""
     run, found = picture.run, picture.outcomes.values()
     speech, lost = sum(each.speech for each in found), sum(each.lost for each in found)
     rate = f"{100 * lost / (speech + lost):.2f} %" if speech + lost else "none"

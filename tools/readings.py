@@ -91,7 +91,7 @@ def figures(octets: bytes) -> Dict[Reading, float]:
 
 
 def best_reading(octets: bytes) -> Optional[Reading]:
-    """The best reading of octets, where it is plainly better than each other one."""
+    """The best reading of octets, if it is plainly better than each other one."""
     found = {reading: value + HANDICAP * reading.turned for reading, value in figures(octets[:MOST_OCTETS]).items()}
     if not found:
         return None
@@ -100,7 +100,7 @@ def best_reading(octets: bytes) -> Optional[Reading]:
 
 
 def plainly_other(octets: bytes, law: Law) -> Optional[Reading]:
-    """The best reading of octets that are said to have this law, where it is another one and plainly better."""
+    """The best reading of octets that are said to have this law, if it is another reading and plainly better."""
     found = figures(octets[:MOST_OCTETS])
     expected = found.pop(Reading(law, False), 0.0)
 

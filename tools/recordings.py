@@ -38,7 +38,7 @@ def unpacked(path: Path, packed: Iterator[bytes], partial: bool) -> Iterator[byt
     try:
         for block in packed:
             while block:
-                if reader.eof:  # a further part begins, as where packed files were put together
+                if reader.eof:  # a further part begins, as in packed files that were joined
                     reader = zlib.decompressobj(GZIP_WINDOW)
                 yield reader.decompress(block)
                 block = reader.unused_data
@@ -64,7 +64,7 @@ def read_recording(path: Path, partial: bool = False) -> bytes:
 
 
 def read_slot(path: Path, number: int, of: int, skipped: int, partial: bool = False) -> bytes:
-    """The octets of one slot of a recorded line, which may be longer than the memory: every `of`th one, behind those that are skipped."""
+    """The octets of one slot of a recorded line, which may be longer than the memory: every `of`th one after the skipped ones."""
     parts, wanted = [], skipped + number
     for block in blocks_of(path, partial):
         parts.append(block[wanted::of])

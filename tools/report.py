@@ -1,9 +1,9 @@
 #!/usr/bin/env python3
-"""Tells of a run what its report and its lines say, as text, JSON or CSV.
+"""Prints what the report and the lines of a run say, as text, JSON or CSV.
 
-`text` gives a report, whole and checked against its grammar; `calls` gives of each call the losses, pauses and comfort noise
-of its lines; `compare` says what differs between two runs, and from which period on; `sync` says where and why the search
-for frames lost an uplink.
+`text` prints a report, after checking it against the grammar. `calls` prints the losses, pauses and comfort noise of each call.
+`compare` prints what differs between two runs, and from which period on. `sync` prints where and why the search for frames lost an
+uplink.
 """
 
 from __future__ import annotations
@@ -31,8 +31,8 @@ Row = Dict[str, Any]
 OCTETS_OF_SIDE = dict(zip(SIDES, (FRAME_OCTETS, PCM_OCTETS, FRAME_OCTETS, PCM_OCTETS)))
 
 
-class Told(NamedTuple):
-    """What a command tells: rows of the same columns for text and CSV, the whole for JSON, and the status."""
+class Answer(NamedTuple):
+    """What a command answers: rows of the same columns for text and CSV, the whole for JSON, and the status."""
 
     columns: Sequence[str]
     rows: List[Row]
@@ -79,10 +79,10 @@ def rows_of_calls(report: Report) -> List[Row]:
 REPORT_COLUMNS = ("call", "start", "end", "cause", *run_texts.YIELDS, "made", "failed")
 
 
-def text(words: argparse.Namespace) -> Told:
+def text(words: argparse.Namespace) -> Answer:
     """A report."""
     report = run_texts.read_report(words.report)
-    return Told(REPORT_COLUMNS, rows_of_calls(report), whole_report(report))
+    return Answer(REPORT_COLUMNS, rows_of_calls(report), whole_report(report))
 
 
 # Losses, pauses and comfort noise of the calls
@@ -110,13 +110,13 @@ def longest_of(found: Sequence[Tuple[int, int]], start: int) -> Tuple[int, Optio
 
 
 def unused_periods(folder: Path, call: Call, side: str) -> Optional[int]:
-    """How many whole periods an incoming line has behind those of its call, or None where there is no line."""
+    """How many whole periods an incoming line has after those of its call, or None if there is no line."""
     name = folder / f"{call.number}.{side}"
     return name.stat().st_size // OCTETS_OF_SIDE[side] - call.periods() if name.is_file() else None
 
 
 def frames_of_downlink(folder: Path, call: Call) -> Dict[Sent, int]:
-    """How many frames of which kind a call's downlink has."""
+    """How many frames of each kind a call's downlink has."""
     octets = call.octets(folder, "down")
     codes = b"".join(run_lines.sent(made, octets) for made in call.made)
     return {sent: codes.count(code) for code, sent in enumerate(run_lines.SENTS)}
@@ -156,7 +156,7 @@ def row_of_call(folder: Path, call: Call, bridges: Sequence[run_texts.Bridge]) -
     }
 
 
-def calls(words: argparse.Namespace) -> Told:
+def calls(words: argparse.Namespace) -> Answer:
     """The calls of a run by their lines."""
     name = words.report or words.folder / "report.txt"
     report = run_texts.read_report(name)
@@ -166,7 +166,7 @@ def calls(words: argparse.Namespace) -> Told:
     ]
     octets = 2 * FRAME_OCTETS * sum(call.periods() for _, call, _ in pieces)
     rows = list(Workers(words.processes).each("reading lines", row_of_call, pieces, octets))
-    return Told(CALL_COLUMNS, rows, rows)
+    return Answer(CALL_COLUMNS, rows, rows)
 
 
 # Two runs
@@ -240,8 +240,8 @@ def rows_of_reports(one: Report, other: Report) -> Iterator[Row]:
         yield {"call": failed.call, "what": "failed", "one": said[0], "other": said[1]}
 
 
-def compare(words: argparse.Namespace) -> Told:
-    """What differs between two runs; the status is 1 where anything does."""
+def compare(words: argparse.Namespace) -> Answer:
+    """What differs between two runs; the status is 1 if anything does."""
     reports = [run_texts.read_report(folder / "report.txt") for folder in (words.one, words.other)]
     rows = list(rows_of_reports(*reports))
     numbers = sorted({*reports[0].calls, *reports[1].calls})
@@ -252,7 +252,7 @@ def compare(words: argparse.Namespace) -> Told:
                 number, side, start, *(line_of(folder, number, side) for folder in (words.one, words.other))
             )
             rows += [row] if row else []
-    return Told(COMPARE_COLUMNS, rows, {"calls": len(numbers), "differences": rows}, 1 if rows else 0)
+    return Answer(COMPARE_COLUMNS, rows, {"calls": len(numbers), "differences": rows}, 1 if rows else 0)
 
 
 # Where an uplink lost sync
@@ -280,7 +280,7 @@ def row_of_loss(loss: sync_losses.Loss) -> Row:
     }
 
 
-def sync(words: argparse.Namespace) -> Told:
+def sync(words: argparse.Namespace) -> Answer:
     """Where an uplink lost sync."""
     frames = trau_frames.read_file(words.frames) if words.frames else None
     trace = sync_losses.trace_of(words.uplink, trau_frames.read_file(words.uplink), frames)
@@ -297,34 +297,34 @@ def sync(words: argparse.Namespace) -> Told:
             for row, loss in zip(rows, trace.losses)
         ],
     }
-    return Told(SYNC_COLUMNS, rows, whole)
+    return Answer(SYNC_COLUMNS, rows, whole)
 
 
-# How it is told
+# How an answer is printed
 
 
-def as_text(told: Told) -> str:
-    """A table of the rows, with `-` where there is nothing."""
-    table = [list(told.columns)]
-    for row in told.rows:
-        values = (row.get(column) for column in told.columns)
+def as_text(answer: Answer) -> str:
+    """A table of the rows, with `-` for empty cells."""
+    table = [list(answer.columns)]
+    for row in answer.rows:
+        values = (row.get(column) for column in answer.columns)
         table.append(["-" if value is None or value == "" else str(value) for value in values])
-    wide = [max(len(line[place]) for line in table) for place in range(len(told.columns))]
+    wide = [max(len(line[place]) for line in table) for place in range(len(answer.columns))]
     return "".join("  ".join(cell.ljust(width) for cell, width in zip(line, wide)).rstrip() + "\n" for line in table)
 
 
-def as_csv(told: Told) -> str:
+def as_csv(answer: Answer) -> str:
     """The rows as comma-separated values, the names of the columns first."""
     text_file = io.StringIO()
-    writer = csv.DictWriter(text_file, told.columns, restval="", lineterminator="\n")
+    writer = csv.DictWriter(text_file, answer.columns, restval="", lineterminator="\n")
     writer.writeheader()
-    writer.writerows(told.rows)
+    writer.writerows(answer.rows)
     return text_file.getvalue()
 
 
-def as_json(told: Told) -> str:
+def as_json(answer: Answer) -> str:
     """The whole as JSON."""
-    return json.dumps(told.whole, indent=2) + "\n"
+    return json.dumps(answer.whole, indent=2) + "\n"
 
 
 # The words of the command line
@@ -340,7 +340,7 @@ def parser() -> argparse.ArgumentParser:
     )
     commands = words.add_subparsers(dest="command", required=True, metavar="COMMAND")
 
-    def command(made: Callable[[argparse.Namespace], Told], line: str, more: str) -> argparse.ArgumentParser:
+    def command(made: Callable[[argparse.Namespace], Answer], line: str, more: str) -> argparse.ArgumentParser:
         """Adds a command."""
         added = commands.add_parser(
             made.__name__,
@@ -357,55 +357,55 @@ def parser() -> argparse.ArgumentParser:
 
     added = command(
         text,
-        "a report, whole and checked",
-        "Reads a report; what isn't one, octet for octet as the program writes it, is refused. The table and CSV have a row for\n"
-        "each call; JSON has the replies to the orders and the bridges too.",
+        "a report, checked",
+        "Reads a report, and refuses any text that isn't one, octet for octet as the program writes it. The table and CSV have a row\n"
+        "for each call; JSON also has the replies to the orders and the bridges.",
     )
     added.add_argument("report", type=Path, metavar="REPORT", help="the text that `trau run` wrote")
     added = command(
         calls,
         "losses, pauses and comfort noise of each call",
-        "A row for each call of a run. Of the uplink: periods of speech, of speech that is lost, the part of lost ones in both\n"
-        "(the frame erasure rate), the longest loss and the period at which it begins; pauses, the periods of comfort noise in\n"
-        "them, the longest one; silence descriptors; periods that are quiet. Of the downlink: its frames by what they are. And the\n"
-        "periods of the incoming lines that weren't used, since the call had ended.",
+        "A row for each call of a run. Uplink: periods of speech and of lost speech, the part of the lost ones in both (the frame\n"
+        "erasure rate), the longest loss and the period at which it begins; pauses, their periods of comfort noise, the longest\n"
+        "one; silence descriptors; quiet periods. Downlink: its frames by kind. Incoming lines: the periods that weren't used,\n"
+        "since the call had ended.",
     )
     added.add_argument("folder", type=Path, metavar="FOLDER", help="the folder of the run")
     added.add_argument("--report", type=Path, metavar="FILE", help="the report of the run (default FOLDER/report.txt)")
     added.add_argument(
-        "--calls", type=run_texts.calls_named, metavar="CALLS", help="these calls alone: parts A and A-B with commas"
+        "--calls", type=run_texts.calls_named, metavar="CALLS", help="only these calls: parts A and A-B with commas"
     )
     add_processes(added)
     added = command(
         compare,
         "what differs between two runs",
-        "A row for each line of the reports, and each line of octets, that differs between two runs; of lines the first period\n"
-        "and octet, and how many periods differ. The status is 0 where nothing differs, 1 where anything does.",
+        "A row for each line of the reports, and for each recorded line, that differs between two runs. Of a recorded line: the first\n"
+        "period and octet that differ, and how many periods differ. The status is 0 if nothing differs, else 1.",
     )
     added.add_argument("one", type=Path, metavar="ONE", help="the folder of a run, with its report.txt")
-    added.add_argument("other", type=Path, metavar="OTHER", help="that of another")
+    added.add_argument("other", type=Path, metavar="OTHER", help="the folder of another run")
     added = command(
         sync,
         "where and why an uplink lost sync",
-        "A row for each loss of an uplink, which is misses in a row: the bit at which the first frame was due, its period, the\n"
-        "number of misses, the places within that frame of the sync bits that broke, from where on the search hunted (- where\n"
-        "it stayed locked), the next match at any bit, by how many bits it stands beside the places due, and the next frame that\n"
-        "the search found. JSON has the broken bits of all misses. Bits and periods are counted from the line's start.",
+        "A row for each loss of an uplink (misses in a row): the bit at which the first frame was due, its period, the number of\n"
+        "misses, the places of the broken sync bits within that frame, the bit from which the search hunted (- if it stayed\n"
+        "locked), the next match at any bit, its distance in bits from the places due, and the next frame that the search found.\n"
+        "JSON has the broken bits of all misses. Bits and periods are counted from the line's start.",
     )
     added.add_argument("uplink", type=Path, metavar="UPLINK", help="the Up line")
     added.add_argument(
-        "--frames", type=Path, metavar="FILE", help="what `trau frames` told of the line, which is held to it"
+        "--frames", type=Path, metavar="FILE", help="what `trau frames` printed for the line; refuse the line if it differs"
     )
     return words
 
 
 @tool("report.py")
 def main(words: Sequence[str]) -> int:
-    """Carries out the words of the command line, and gives the status."""
+    """Runs the words of the command line, and returns the exit status."""
     asked = parser().parse_args(words)
-    told = asked.made(asked)
-    sys.stdout.write(asked.form(told))
-    return told.status
+    answer = asked.made(asked)
+    sys.stdout.write(asked.form(answer))
+    return answer.status
 
 
 if __name__ == "__main__":

@@ -68,7 +68,7 @@ LINKS = {
 }
 
 
-# Where the lengths stand by which one goes from packet to packet: dpkt takes a last packet that was cut for a shorter one.
+# The places of the lengths that lead from packet to packet: dpkt takes a truncated last packet for a shorter one.
 PCAP_HEAD, PACKET_HEAD, CAPTURED = 24, 16, 8
 PCAPNG_BLOCK, ORDER_MARK, LEAST_BLOCK = b"\x0a\x0d\x0d\x0a", b"\x1a\x2b\x3c\x4d", 12
 
@@ -93,7 +93,7 @@ def is_whole_pcapng(content: bytes) -> bool:
 
 
 def packets_of_file(reader: Any, partial: bool) -> Iterator[Tuple[float, bytes]]:
-    """The packets of a capture; of one that was cut those before the cut, where `partial` says so."""
+    """The packets of a capture. With `partial`, those before the cut of a truncated one."""
     errors = library("dpkt")
     try:
         yield from reader

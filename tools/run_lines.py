@@ -1,5 +1,5 @@
-"""The lines of a run's calls beside its report: what each period of an uplink yields and has to be heard, and what stands on
-the downlink. Where the lines don't give what the report says, they are of another run."""
+"""The lines of a run's calls beside its report: what each period of an uplink yields and gives to be heard, and the frames of the
+downlink. If the lines don't give what the report says, they are of another run."""
 
 from __future__ import annotations
 
@@ -74,7 +74,7 @@ def heard_codes(sorts: bytes) -> bytes:
 
 
 class Made(NamedTuple):
-    """Frames in a row made for a downlink: the octet of the Pcm line at which the first begins, how many there are, each 160 octets behind
+    """Frames in a row made for a downlink: the octet of the Pcm line at which the first begins, how many there are, each 160 octets after
     the one before, whether a bridge handed them over, and the shift, in octets, that the last one adopts."""
 
     octet: int
@@ -108,7 +108,7 @@ class Handing:
         return next((at for at, start in enumerate(self.starts) if period >= start and self.left[at] > 0), None)
 
     def next_start(self, period: int) -> float:
-        """The first period behind this one at which a bridge begins."""
+        """The first period after this one at which a bridge begins."""
         return min((start for start in self.starts if start > period), default=math.inf)
 
 
@@ -149,7 +149,7 @@ class Sent(enum.Enum):
 
 
 SENTS = tuple(Sent)
-NOTHING_SENT = len(SENTS)  # the code of a period in which no frame begins; those of others are their places in their order
+NOTHING_SENT = len(SENTS)  # the code of a period in which no frame begins; the others have their places in the order
 FRAME_WITHOUT_TIME = FRAME_BITS - 4
 
 # A downlink's frame has C1 to C5 in its octet 2, and C16 (SP) in its octet 38.
@@ -179,7 +179,7 @@ def sent(made: Made, octets: bytes) -> bytes:
 
 @dataclass
 class Call:
-    """A call as the report tells of it, and as its uplink is searched. Its law is told by the orders alone."""
+    """A call as the report describes it and as its uplink is searched. Only the orders show its law."""
 
     number: int
     span: Span

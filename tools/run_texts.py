@@ -72,11 +72,11 @@ class Order:
         return f"{self.stamp} {self.words}"
 
     def law(self) -> Law:
-        """The law of the call that it opens: A-law where it names none."""
+        """The law of the call that it opens: A-law if it names none."""
         return Law.MU if self.words.endswith(f" {Law.MU}") else Law.A
 
 
-# What may stand behind the verb of an order.
+# What may follow the verb of an order.
 FORMS = {
     "open": (("call",), ("call", "law")),
     "close": (("call",),),
@@ -110,7 +110,7 @@ def is_value(word: str, form: str) -> bool:
 
 
 def read_order(number: int, line: str, least_stamp: int) -> Order:
-    """Reads a line of the orders; raises NoOrder where it isn't in the grammar."""
+    """Reads a line of the orders; raises NoOrder if it isn't in the grammar."""
     stamp, *words = line.split(" ")
     if not words or not is_whole_number(stamp) or not int(stamp) < MOST_PERIODS:
         raise NoOrder("isn't an order")
@@ -150,7 +150,7 @@ def read_orders(name: Path) -> List[Order]:
 
 
 class Reply(NamedTuple):
-    """What became of an executed order: the number of its refusal, with the call and its partner, or none of them."""
+    """The outcome of an executed order: the number of its refusal, with the call and its partner, or none of them."""
 
     refusal: Optional[int] = None
     call: Optional[int] = None
@@ -272,7 +272,7 @@ def take_call(report: Report, words: Sequence[str]) -> None:
 
 
 def take_counts(report: Report, words: Sequence[str]) -> None:
-    """Takes a call's counts, which stand behind its line and add up to its periods."""
+    """Takes a call's counts, which follow its line and add up to its periods."""
     counts = dict(zip((*YIELDS, "made"), map(int, words[1:])))
     call = max(report.calls)
     span = report.calls[call]
@@ -305,7 +305,7 @@ TAKEN_BY = {
 
 
 def take_line(report: Report, line: str) -> None:
-    """Takes a line of a report's text; raises ValueError where it says nothing that may stand there."""
+    """Takes a line of a report's text; raises ValueError if it isn't one that may stand there."""
     kind = line.split(" ")[0]
     found = REPORT_LINES[kind].fullmatch(line) if kind in REPORT_LINES else None
     if not found:
@@ -343,7 +343,7 @@ def read_report(name: Path) -> Report:
 
 
 def hold_numbers(name: Path, report: Report, numbers: Optional[Sequence[int]]) -> None:
-    """Refuses numbers, if there are any, of calls that a report doesn't have."""
+    """Refuses numbers of calls that the report doesn't have."""
     absent = sorted(set(numbers or ()) - report.calls.keys())
     if absent:
         raise Refusal(f"{name}: has no call {absent[0]}")
@@ -378,7 +378,7 @@ def laws_of(report: Report, orders: Sequence[Order]) -> Dict[int, Law]:
 
 
 def periods_told(report: Report, orders: Sequence[Order]) -> int:
-    """The number of periods at which a run of these orders ended, as far as its report tells."""
+    """The number of periods at which a run of these orders ended, as far as its report shows."""
     limits = [span.end for span in report.calls.values() if span.cause == "limit"]
     if limits:
         return limits[0]

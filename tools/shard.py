@@ -1,9 +1,9 @@
 #!/usr/bin/env python3
-"""Cuts a farm into parts that run apart from one another, on this machine or others, and joins their reports.
+"""Splits a farm into parts that run independently, on this machine or on others, and joins their reports.
 
-The octets of a call depend on its own lines and orders, and on the partner of its bridges. So calls that a `bridge` order
-names stay together, also where it is refused, since a refusal looks at both; all others may run anywhere. What is joined is
-the report of the one run, octet for octet, and the status is that of the one run.
+The octets of a call depend only on its own lines and orders and on its bridge partners. So calls that a `bridge` order names stay
+together, even if the order is refused, since a refusal looks at both. All other calls may run anywhere. The joined report and the status
+are those of one run, octet for octet.
 """
 
 from __future__ import annotations
@@ -37,8 +37,8 @@ INCOMING, OUTGOING = SIDES[:2], SIDES[2:]
 STATUSES_WITH_A_REPORT = (0, 6)
 
 SCRIPT_TEXT = """#!/bin/sh
-# Runs this part of a farm, and keeps its report and its status. Ends with 0 where there is a whole report, which may name
-# lines that failed. TRAU names another program than that of the machine on which the farm was cut.
+# Runs this part of a farm, and keeps its report and its status. Status 0: there is a whole report, which may name lines that
+# failed. TRAU names another program than that of the machine on which the farm was split.
 cd "$(dirname "$0")" || exit 2
 rm -f status
 program=${{TRAU:-}}
@@ -81,7 +81,7 @@ class Part:
 
 
 def parts_of(pieces: Sequence[Tuple[int, FrozenSet[int]]], count: int) -> List[Part]:
-    """At most so many parts of about the same work: the heaviest piece goes first, to the part that has least."""
+    """At most `count` parts of about the same work: the heaviest piece goes first, to the part that has least."""
     parts = [Part() for _ in range(count)]
     for periods, calls in sorted(pieces, key=lambda piece: (-piece[0], min(piece[1]))):
         least = min(parts, key=lambda part: (part.periods, len(part.calls)))
@@ -135,13 +135,13 @@ def lay_cut(place: Path, words: argparse.Namespace, orders: Sequence[Order], par
         numbers.append([order.number for order in own])
         lay_part(place / str(number), words, own)
     write_new(place / ORDERS, "".join(f"{order.line()}\n" for order in orders))
-    told = {
+    noted = {
         "farm": os.path.abspath(words.folder),
         "copied": words.copy,
         "periods": words.periods or MOST_PERIODS,
         "orders_of_parts": numbers,
     }
-    write_new(place / CUT, json.dumps(told) + "\n")
+    write_new(place / CUT, json.dumps(noted) + "\n")
 
 
 def split(words: argparse.Namespace) -> int:
@@ -199,17 +199,17 @@ class Cut:
 
     @staticmethod
     def read(folder: Path) -> Cut:
-        """Reads what the cutting told."""
+        """Reads the folder that `split` made."""
         name = folder / CUT
         try:
-            told = json.loads(trau_frames.read_file(name))
+            noted = json.loads(trau_frames.read_file(name))
             orders = run_texts.read_orders(folder / ORDERS)
-            parts = told["orders_of_parts"]
+            parts = noted["orders_of_parts"]
             if sorted(number for part in parts for number in part) != [order.number for order in orders]:
                 raise ValueError
-            return Cut(folder, Path(told["farm"]), told["copied"], told["periods"], orders, parts)
+            return Cut(folder, Path(noted["farm"]), noted["copied"], noted["periods"], orders, parts)
         except (ValueError, KeyError, TypeError):
-            raise Refusal(f"{name}: isn't what the cutting of a farm tells") from None
+            raise Refusal(f"{name}: isn't what shard.py split writes") from None
 
     def part(self, number: int) -> Path:
         """The folder of a part."""
@@ -217,7 +217,7 @@ class Cut:
 
 
 def status_of(folder: Path) -> Optional[int]:
-    """The status with which a part was run, or None where it wasn't."""
+    """The status of a part's run, or None if it wasn't run."""
     try:
         return int((folder / STATUS).read_text())
     except (OSError, ValueError):
@@ -225,7 +225,7 @@ def status_of(folder: Path) -> Optional[int]:
 
 
 def check_all_were_run(cut: Cut) -> None:
-    """Refuses a cut whose parts weren't all run, and says how these are."""
+    """Refuses a cut with parts that weren't run, and says how to run these."""
     lacking = [
         number
         for number in range(len(cut.orders_of_parts))
@@ -293,7 +293,7 @@ def outgoing_lines(cut: Cut) -> Iterator[Path]:
 
 
 def merge(words: argparse.Namespace) -> int:
-    """Joins the reports of a cut farm, and where the lines were copied brings the outgoing ones to the farm's folder."""
+    """Joins the reports of a farm that was split. If the lines were copied, brings the outgoing ones to the farm's folder."""
     cut = Cut.read(words.cut)
     check_all_were_run(cut)
     report = join(cut)
@@ -325,19 +325,19 @@ def add_split(commands: argparse._SubParsersAction) -> None:
         help="makes a folder with the parts of a farm",
         formatter_class=argparse.RawDescriptionHelpFormatter,
         allow_abbrev=False,
-        description="Makes the folder CUT with the parts 0, 1 and so on, each with its orders, links to its lines in FOLDER, and\n"
-        "`run.sh`, which runs it. Says `shard parts K components M calls C orders N largest L heaviest H of P`: the calls that\n"
-        "are opened; and in periods of their lines the largest component, the heaviest part, and all of them.",
+        description="Makes the folder CUT with the parts 0, 1 and so on. Each has its orders, links to its lines in FOLDER, and\n"
+        "`run.sh`, which runs it. Prints `shard parts K components M calls C orders N largest L heaviest H of P`: C calls are\n"
+        "opened; L, H and P are the periods of the largest component, of the heaviest part and of all calls.",
     )
     cutting.add_argument("folder", type=Path, metavar="FOLDER", help="the farm: its lines and orders")
-    cutting.add_argument("cut", type=Path, metavar="CUT", help="the folder that is made")
+    cutting.add_argument("cut", type=Path, metavar="CUT", help="the folder to make")
     cutting.add_argument(
-        "--parts", type=number_within(1, MOST_CALLS), required=True, metavar="K", help="at most so many parts"
+        "--parts", type=number_within(1, MOST_CALLS), required=True, metavar="K", help="the greatest number of parts"
     )
     cutting.add_argument(
         "--orders", type=Path, metavar="FILE", help="the orders of the run (default FOLDER/orders.txt)"
     )
-    cutting.add_argument("--copy", action="store_true", help="copies of the incoming lines instead of links")
+    cutting.add_argument("--copy", action="store_true", help="copy the incoming lines instead of linking them")
     cutting.add_argument(
         "--trau", default=listening.program_beside(), metavar="PROGRAM", help="the program (default %(default)s)"
     )
@@ -346,7 +346,7 @@ def add_split(commands: argparse._SubParsersAction) -> None:
     )
     cutting.add_argument("--batch", type=number_within(1, 250), metavar="N", help="as of trau run")
     cutting.add_argument("--periods", type=number_within(1, MOST_PERIODS), metavar="N", help="as of trau run")
-    cutting.set_defaults(carried_out=split)
+    cutting.set_defaults(runs=split)
 
 
 def add_merge(commands: argparse._SubParsersAction) -> None:
@@ -356,12 +356,12 @@ def add_merge(commands: argparse._SubParsersAction) -> None:
         help="joins the reports of the parts",
         formatter_class=argparse.RawDescriptionHelpFormatter,
         allow_abbrev=False,
-        description="Writes the report of the one run to standard output; the status is 0, or 6 where lines failed, as of the\n"
-        "one run. With lines that were copied, brings the outgoing ones to the farm's folder. Parts that have no whole report, or\n"
-        "one that isn't of their orders and their number of periods, are told, and then nothing is written and the status is 2.",
+        description="Prints the report of the one run; the status is 0, or 6 if lines failed, as in the one run. If the lines were\n"
+        "copied, it brings the outgoing ones to the farm's folder. If a part has no whole report, or its report isn't one of its\n"
+        "orders and its number of periods, it says which part, writes nothing and exits with status 2.",
     )
     joining.add_argument("cut", type=Path, metavar="CUT", help="the folder that `split` made")
-    joining.set_defaults(carried_out=merge)
+    joining.set_defaults(runs=merge)
 
 
 def parser() -> argparse.ArgumentParser:
@@ -380,9 +380,9 @@ def parser() -> argparse.ArgumentParser:
 
 @tool("shard.py")
 def main(words: Sequence[str]) -> int:
-    """Carries out the words of the command line, and gives the status."""
+    """Runs the words of the command line, and returns the exit status."""
     asked = parser().parse_args(words)
-    return asked.carried_out(asked)
+    return asked.runs(asked)
 
 
 if __name__ == "__main__":

@@ -3,6 +3,7 @@
 from __future__ import annotations
 
 import argparse
+import math
 import os
 import signal
 import sys
@@ -14,8 +15,8 @@ from typing import Any, Callable, Iterator, List, Sequence, Tuple, TypeVar
 from trau_frames import Refusal
 
 MOST_PROCESSES = 64
-LEAST_OCTETS = 8_000_000  # less isn't worth the start of processes
-QUIET_SECONDS = 3  # work that takes no longer tells no progress
+LEAST_OCTETS = 8_000_000  # less isn't worth the start of processes, and shows no progress
+QUIET_SECONDS = 3  # work that takes no longer shows no progress
 SECONDS_BETWEEN_LINES = 10  # where standard error isn't a terminal
 
 Result = TypeVar("Result")
@@ -29,21 +30,22 @@ def processors() -> int:
 
 
 def leave_interrupts() -> None:
-    """Leaves an interrupt to the process that started this one, which ends it."""
+    """Ignores interrupts: the process that started this one ends it."""
     signal.signal(signal.SIGINT, signal.SIG_IGN)
 
 
 class Progress:
-    """How many pieces of work are done, on standard error: at a terminal in one line, else in a line now and then."""
+    """How many pieces of work are done, on standard error: at a terminal in one line, else in a line now and then. It shows nothing in the
+    first seconds."""
 
-    def __init__(self, what: str, pieces: int) -> None:
+    def __init__(self, what: str, pieces: int, quiet_seconds: float) -> None:
         self.what, self.pieces, self.done = what, pieces, 0
         self.terminal = sys.stderr.isatty()
-        self.next = time.monotonic() + QUIET_SECONDS
+        self.next = time.monotonic() + quiet_seconds
         self.shown = False
 
     def step(self) -> None:
-        """Counts a piece, and tells how many there are if it is time to."""
+        """Counts a piece, and shows the count if it is time to."""
         self.done += 1
         now = time.monotonic()
         if now >= self.next and self.done < self.pieces:
@@ -53,13 +55,13 @@ class Progress:
             print(f"{self.what}: {self.done} of {self.pieces} calls", end=end, file=sys.stderr, flush=True)
 
     def end(self) -> None:
-        """Takes the line away from a terminal."""
+        """Clears the line at a terminal."""
         if self.shown and self.terminal:
             print("\x1b[K", end="", file=sys.stderr, flush=True)
 
 
 class Workers:
-    """Processes for pieces of work, of which each is a function's arguments."""
+    """Processes for pieces of work. A piece is the arguments of a function."""
 
     def __init__(self, processes: int) -> None:
         self.processes = processes
@@ -67,9 +69,10 @@ class Workers:
     def each(
         self, what: str, function: Callable[..., Result], pieces: Sequence[Tuple[Any, ...]], octets: int
     ) -> Iterator[Result]:
-        """What a function gives of each piece, in their order; together they read so many octets. What one of them raises is raised."""
-        progress = Progress(what, len(pieces))
-        alone = self.processes == 1 or len(pieces) < 2 or octets < LEAST_OCTETS
+        """The function's results for the pieces, in order. `octets` is what they read together. An exception of one of them is raised."""
+        small = octets < LEAST_OCTETS
+        progress = Progress(what, len(pieces), math.inf if small else QUIET_SECONDS)
+        alone = self.processes == 1 or len(pieces) < 2 or small
         results = (function(*piece) for piece in pieces) if alone else self.results(function, pieces)
         try:
             for result in results:
@@ -79,7 +82,7 @@ class Workers:
             progress.end()
 
     def results(self, function: Callable[..., Result], pieces: Sequence[Tuple[Any, ...]]) -> Iterator[Result]:
-        """What processes give of each piece, of which at most four a process wait."""
+        """The results of processes, in order. At most four pieces a process wait."""
         with ProcessPoolExecutor(min(self.processes, len(pieces)), initializer=leave_interrupts) as pool:
             waiting: List[Future] = []
             rest = iter(pieces)
@@ -114,5 +117,5 @@ def add_processes(words: argparse.ArgumentParser) -> None:
         type=processes_named,
         default=min(MOST_PROCESSES, processors()),
         metavar="N",
-        help="how many processes work side by side (default: as many as there are processors)",
+        help="the number of processes that work side by side (default: one for each processor)",
     )

@@ -1,4 +1,4 @@
-"""Time slots of recorded lines: one of the slots of a whole line, as of the 32 of an E1 line, and the channels of 16 kbit/s in it."""
+"""Time slots of recorded lines: one of the slots of a whole line, such as the 32 of an E1 line, and the channels of 16 kbit/s in it."""
 
 from __future__ import annotations
 

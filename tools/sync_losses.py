@@ -1,5 +1,6 @@
-"""Where and why the search for frames lost an uplink: which of the 35 sync bits broke, what the search did, and where the next
-match stands."""
+"""Where and why the search for frames lost an uplink: which of the 35 sync bits broke, what the search did, and where the next match
+is.
+"""
 
 from __future__ import annotations
 
@@ -30,7 +31,7 @@ class Miss:
 
 @dataclass
 class Loss:
-    """Misses in a row, behind a frame; the next frame that the search found, and the next match at any bit."""
+    """Misses in a row after a frame, the next frame that the search found, and the next match at any bit."""
 
     misses: List[Miss] = field(default_factory=list)
     found: Optional[int] = None
@@ -41,13 +42,13 @@ class Loss:
         return self.misses[0].place
 
     def unlocked(self) -> Optional[int]:
-        """From where on the search hunted, or None where it stayed locked."""
+        """The bit from which the search hunted, or None if it stayed locked."""
         if len(self.misses) < MISSES_THAT_UNLOCK:
             return None
         return self.misses[-1].place + FRAME_BITS
 
     def slip(self) -> Optional[int]:
-        """By how many bits the next match stands beside the places where frames were due, -159 to 160; None without one."""
+        """The distance in bits, -159 to 160, of the next match from the places where frames were due; None without a match."""
         if self.match is None:
             return None
         offset = (self.match - self.due()) % FRAME_BITS
@@ -69,19 +70,19 @@ def losses_of(bits: str, yields: Sequence[Yield]) -> Iterator[Loss]:
 
 
 def matched(bits: str, loss: Loss) -> Loss:
-    """The loss with the next match at any bit, behind the frame before it."""
+    """The loss with the next match at any bit after the frame before it."""
     # A match may begin inside the frame before, where bits were left out.
     match = FRAME.search(bits, max(0, loss.due() - FRAME_BITS + 1))
     return Loss(loss.misses, loss.found, match.start() if match else None)
 
 
 def first_frame(yields: Sequence[Yield]) -> Optional[int]:
-    """Where the first frame stands."""
+    """Where the first frame begins."""
     return yields[0].place if yields else None
 
 
 def text_of_frames(yields: Sequence[Yield], octets: int) -> str:
-    """What `trau frames` tells of an uplink of so many octets that has these yields."""
+    """What `trau frames` prints for an uplink of this many octets with these yields."""
     lines = [f"{each.place} {each.sort().value}\n" for each in yields]
     return "".join(lines) + f"frames {len(yields)} left {octets % trau_frames.FRAME_OCTETS}\n"
 
@@ -98,12 +99,12 @@ class Trace:
 
 
 def trace_of(name: Path, octets: bytes, frames_text: Optional[bytes]) -> Trace:
-    """Searches an uplink; and holds what `trau frames` told of it to that, where it is given."""
+    """Searches an uplink. If the output of `trau frames` is given, refuses one that differs."""
     periods = len(octets) // trau_frames.FRAME_OCTETS
     bits = trau_frames.bits_of(octets[: periods * trau_frames.FRAME_OCTETS])
     yields = list(trau_frames.search(bits))
     if frames_text is not None and frames_text != text_of_frames(yields, len(octets)).encode():
-        raise Refusal(f"{name}: the command `frames` tells other frames: it is of another line")
+        raise Refusal(f"{name}: the command `frames` printed other frames: it is of another line")
     losses = list(losses_of(bits, yields))
     misses = sum(len(loss.misses) for loss in losses)
     return Trace(periods, len(yields) - misses, misses, first_frame(yields), losses)

@@ -1,10 +1,9 @@
 #!/usr/bin/env python3
-"""Draws a run as one picture: a row for each call, with what every period of its uplink gave, its downlink, levels, bridges,
-shifts and orders; as SVG, or as a page of HTML that zooms.
+"""Draws a run as one picture, as SVG or as an HTML page that zooms: a row for each call shows what every period of its uplink gave, its
+downlink, levels, bridges, shifts and orders.
 
-It takes the folder of a run, with the calls' lines, the orders and the report, and searches the uplinks itself. Where that
-doesn't give the counts of the report, or where a file isn't what it should be, it says so in one line on standard error, has
-status 2 and writes nothing.
+It reads the folder of a run, with the calls' lines, the orders and the report, and searches the uplinks itself. If its counts aren't those
+of the report, or a file isn't what it should be, it prints one line on standard error, exits with status 2 and writes nothing.
 """
 
 from __future__ import annotations
@@ -37,7 +36,7 @@ def period_named(word: str) -> int:
 
 
 def shape_of(word: str, calls: int) -> Shape:
-    """The shape of the rows, which is for so many calls what the words don't say."""
+    """The shape of the rows: the one that the word names, or for `auto` the one for this number of calls."""
     if word == "full" or word == "auto" and calls <= MOST_FULL_ROWS:
         return FULL
     return COMPACT if word in ("compact", "auto") else WITHOUT_LEVELS
@@ -53,7 +52,7 @@ def parser() -> argparse.ArgumentParser:
     )
     words.add_argument("folder", type=Path, metavar="FOLDER", help="the folder of the run, with the calls' lines")
     words.add_argument(
-        "picture", type=Path, metavar="OUT", help="the picture that is written: OUT.svg, or OUT.html which zooms"
+        "picture", type=Path, metavar="OUT", help="the picture to write: OUT.svg, or OUT.html, which zooms"
     )
     words.add_argument("--orders", type=Path, metavar="FILE", help="the orders of the run (default FOLDER/orders.txt)")
     words.add_argument("--report", type=Path, metavar="FILE", help="the report of the run (default FOLDER/report.txt)")
@@ -61,13 +60,13 @@ def parser() -> argparse.ArgumentParser:
         "--width", type=int, default=1300, metavar="PIXELS", help="the width of all periods (default 1300)"
     )
     words.add_argument(
-        "--calls", type=run_texts.calls_named, metavar="CALLS", help="these calls alone: parts A and A-B with commas"
+        "--calls", type=run_texts.calls_named, metavar="CALLS", help="only these calls: parts A and A-B with commas"
     )
     words.add_argument(
-        "--from", type=period_named, dest="first", metavar="PERIOD", help="the first period that is drawn"
+        "--from", type=period_named, dest="first", metavar="PERIOD", help="the first period to draw"
     )
     words.add_argument(
-        "--to", type=period_named, dest="last", metavar="PERIOD", help="the one after the last that is drawn"
+        "--to", type=period_named, dest="last", metavar="PERIOD", help="the period after the last one to draw"
     )
     words.add_argument(
         "--rows",
@@ -80,7 +79,7 @@ def parser() -> argparse.ArgumentParser:
         "--sort",
         choices=("number", "worst"),
         default="number",
-        help="number: by the calls' numbers, partners of bridges next to each other; worst: failed lines first, then by the part of"
+        help="number: in call-number order, bridge partners next to each other; worst: failed lines first, then by the part of"
         " the speech that was lost and by the longest gap",
     )
     add_processes(words)
@@ -118,7 +117,7 @@ def draw(asked: argparse.Namespace) -> Run:
 
 @tool("timeline.py")
 def main(words: Sequence[str]) -> int:
-    """Carries out the words of the command line, and gives the status."""
+    """Runs the words of the command line, and returns the exit status."""
     reader = parser()
     asked = reader.parse_args(words)
     if not 200 <= asked.width <= 100000:

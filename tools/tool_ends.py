@@ -1,7 +1,7 @@
 """How every tool ends: with its own status, or with one line on standard error and a status that means nothing else.
 
-Status 2: the tool refused its input, a file or standard output failed, or there was not enough memory. Status 130: it was
-interrupted. No tool of this folder ends with a traceback in these cases.
+Status 2: the tool refused its input, a file or standard output failed, or memory ran out. Status 130: it was interrupted. In these cases no
+tool of this folder ends with a traceback.
 """
 
 from __future__ import annotations
@@ -63,7 +63,7 @@ def ready_streams() -> None:
 
 
 def status_of(name: str, main: Main, words: Sequence[str]) -> int:
-    """The exit status of a tool's main function; what stopped it is told in one line."""
+    """The exit status of a tool's main function; it prints what stopped it in one line."""
     try:
         return main(words)
     except SystemExit as end:  # of argparse, which has printed its own line

@@ -1,4 +1,4 @@
-"""Man pages of the tools, made of what each tool's --help says under the name that it is installed with."""
+"""Man pages of the tools, made from their --help under the names that they are installed with."""
 
 from __future__ import annotations
 
@@ -14,7 +14,7 @@ from unittest import mock
 import trau_words
 
 def help_of(name: str, words: Sequence[str] = ()) -> str:
-    """What the tool says to --help, when it is started by this name, as `trau-lines` for lines.py."""
+    """The tool's --help when it is started by this name, such as `trau-lines` for lines.py."""
     tool = importlib.import_module(name.split("-")[-1])
     said = io.StringIO()
     with mock.patch.object(sys, "argv", [name]), mock.patch.dict(os.environ, COLUMNS="72"), contextlib.redirect_stdout(said):
@@ -32,7 +32,7 @@ def commands_of(text: str) -> List[str]:
 
 
 def purpose_of(text: str) -> str:
-    """The first sentence behind the usage, as the head of a man page has it: without a capital and a full stop."""
+    """The first sentence after the usage, as the head of a man page has it: without a capital and a full stop."""
     said = " ".join(text.split("\n\n")[1].split())
     sentence = re.match(r"(.*?)(?:[.;:] |\.$|, (?:while|line by line)|$)", said)[1]
     return sentence[0].lower() + sentence[1:]
@@ -44,12 +44,12 @@ def as_it_stands(text: str) -> List[str]:
 
 
 def line_of(line: str) -> str:
-    """A line of text, which troff isn't to take for one of its requests."""
+    """A line of text that troff doesn't take for one of its requests."""
     return re.sub(r"^([.'])", r"\\&\1", trau_words.escaped(line))
 
 
 def body(text: str) -> List[str]:
-    """A help behind its usage: plain paragraphs are filled, lists of words are as they are."""
+    """A help after its usage: plain paragraphs are filled, lists of words stay as they are."""
     lines: List[str] = []
     for paragraph in text.strip("\n").split("\n\n"):
         is_plain = not re.search(r"^ |:$", paragraph, re.M)

@@ -38,7 +38,7 @@ def octets_of(bits: str) -> bytes:
     return int(bits, 2).to_bytes(len(bits) // 8, "big") if bits else b""
 
 
-# A frame of 320 bits is twenty rows of sixteen: sixteen zeros, and then rows that begin with a one. Behind these ones stand
+# A frame of 320 bits is twenty rows of sixteen: sixteen zeros, and then rows that begin with a one. After these ones come
 # C1 to C15 in row 1, D1 to D255 in rows 2 to 18, and D256 to D260, C16 to C21 and T1 to T4 in row 19.
 
 SPEECH_UP, IDLE_UP = "00010", "10000"
@@ -360,7 +360,7 @@ def read_file(path: Path) -> bytes:
 
 
 def read_part(path: Path, start: int, octets: int) -> bytes:
-    """At most so many octets of a file, from one of them on."""
+    """At most this many octets of a file, from one of them on."""
     try:
         with open(path, "rb") as file:
             file.seek(start)
@@ -383,7 +383,7 @@ def write_file(path: Path, content: bytes, inputs: Iterable[Path]) -> None:
 
 
 def replace_file(path: Path, content: bytes, inputs: Iterable[Path]) -> None:
-    """Puts a whole file over what is there."""
+    """Replaces a file as a whole."""
     target = Path(os.path.realpath(path))
     part = target.with_name(f".{target.name}.{os.getpid()}.part")
     if target.exists():

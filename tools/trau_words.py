@@ -221,6 +221,11 @@ NOTE_ON_LOCK = (
     " second ends with status 125. With --no-lock as the first word it starts all the same."
 )
 
+NOTE_ON_PROGRAMS = (
+    "There are two programs, for x86-64-v2 and, faster, for x86-64-v3, which write the same. The one that the machine's processor can run is"
+    " started; TRAU_CPU=x86-64-v2 in the environment starts the first. --version says which one it is."
+)
+
 
 # Text of lines
 
@@ -276,7 +281,7 @@ def help_text() -> str:
     lines += table(FILES)
     lines += ["", "Statuses:", ""]
     lines += table((str(status.number), status.means) for status in STATUSES)
-    lines += ["", *folded(NOTE_ON_LOCK, "")]
+    lines += ["", *folded(NOTE_ON_LOCK, ""), "", *folded(NOTE_ON_PROGRAMS, "")]
     lines += ["", "trau help COMMAND tells of one command; demo, beside this script, runs an", "example; docs/ has the rest."]
     return "\n".join(lines) + "\n"
 
@@ -348,7 +353,7 @@ def man_page(version: str, date: str) -> str:
         lines += [".br"] * (number > 0) + [f".B {NAME} {command.name}{escaped(options + orders)}"]
     lines += [".SH COMMANDS", escaped(NOTE_ON_FILES)]
     lines += paragraphs((f"{command.name} {command.words}", command.does) for command in COMMANDS)
-    lines += [".PP", escaped(NOTE_ON_HELP), ".PP", escaped(NOTE_ON_LOCK)]
+    lines += [".PP", escaped(NOTE_ON_HELP), ".PP", escaped(NOTE_ON_LOCK), ".PP", escaped(NOTE_ON_PROGRAMS)]
     for name, options in OPTIONS_OF.items():
         lines += [f".SH OPTIONS OF {with_its_options(name, ' AND ').upper()}"]
         lines += [NOTE_ON_OPTIONS]

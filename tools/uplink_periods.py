@@ -71,7 +71,7 @@ def read(frames: Frames) -> Tuple[bytes, bytes]:
     return codes, fields.translate(ASKING)
 
 
-# The hunt for a frame at any bit. Sixteen zeros and a one have a zero octet, and behind it one that isn't zero.
+# The hunt for a frame at any bit. Sixteen zeros and a one have a zero octet, and after it one that isn't zero.
 
 
 def octets_with(wanted: Iterator[int]) -> bytes:
@@ -106,11 +106,11 @@ def hunt(octets: bytes, place: int) -> Optional[int]:
 
 # The search
 
-LEAST_AHEAD, MOST_AHEAD = 64, 16384  # frames that are read together; few where the search loses its frames again and again
+LEAST_AHEAD, MOST_AHEAD = 64, 16384  # frames that are read together; few if the search keeps losing its frames
 
 
 class Track(NamedTuple):
-    """Frames in a row, found or missed, each 320 bits behind the one before."""
+    """Frames in a row, found or missed, each 320 bits after the one before."""
 
     place: int
     codes: bytes
@@ -168,7 +168,7 @@ def searched(octets: bytes) -> Searched:
 
 # What came before a period
 
-USED = re.compile(rb"(?:^|[\x00\x01\x04])[^\x00\x01\x04]+")  # frames that can't be used, behind one that can be, if any
+USED = re.compile(rb"(?:^|[\x00\x01\x04])[^\x00\x01\x04]+")  # unusable frames, after a usable one if any
 
 
 def by_what_came_before(sorts: bytes, good: bytes, pause: bytes, quiet: bytes) -> bytes:

@@ -1,9 +1,9 @@
 #!/usr/bin/env python3
 """Shows how far a run is, and when it will be done, while `trau run <orders.txt >report.txt` works in a folder.
 
-It looks at the sizes of the lines, and writes nothing. A run writes its report at its end in one piece: as long as the
-report's file is empty, the run is on, and outgoing lines that are older than this file are of an earlier run. Status 1: there is no
-run, or it ended without a report, or its lines have stopped growing.
+It reads the sizes of the lines, and writes nothing. A run writes its report at its end, in one piece. While the report's file is empty,
+the run goes on, and outgoing lines that are older than this file are from an earlier run. Status 1: there is no run, or it ended without a
+report, or its lines have stopped growing.
 """
 
 from __future__ import annotations
@@ -48,7 +48,7 @@ def expected_periods(folder: Path, orders: Sequence[Order], periods: int) -> Dic
 
 
 class NoRun(Exception):
-    """There is no run to be watched, or it doesn't go on; the text says why, in one line."""
+    """There is no run to watch, or it doesn't go on. The text says why, in one line."""
 
 
 class Progress(NamedTuple):
@@ -94,12 +94,12 @@ class Watched:
         """How far this run is."""
         if not self.report.is_file():
             return Progress(0, 0, time.time(), False)
-        told = self.report.stat()
-        if told.st_size:
-            return Progress(sum(self.expected.values()), len(self.expected), told.st_mtime, True)
-        done = {call: self.done(call, told.st_mtime) for call in self.expected}
+        found = self.report.stat()
+        if found.st_size:
+            return Progress(sum(self.expected.values()), len(self.expected), found.st_mtime, True)
+        done = {call: self.done(call, found.st_mtime) for call in self.expected}
         calls = sum(done[call] == self.expected[call] for call in done)
-        return Progress(sum(done.values()), calls, told.st_mtime, False)
+        return Progress(sum(done.values()), calls, found.st_mtime, False)
 
 
 def progress_of(runs: Sequence[Watched]) -> Progress:
@@ -119,11 +119,11 @@ class Pace(NamedTuple):
 
     @staticmethod
     def of(runs: Sequence[Watched], first: Progress) -> Pace:
-        """Of one run from its beginning; of several from the first look, since those that ended don't tell when they began."""
+        """Of one run from its beginning; of several from the first look, since nothing shows when the ended ones began."""
         return Pace(first.began, 0) if len(runs) == 1 else Pace(time.time(), first.periods)
 
     def seconds_left(self, progress: Progress, expected: int) -> Optional[float]:
-        """When it will be done if it goes on like this, or None where nothing went yet."""
+        """The seconds until it is done at this pace, or None if nothing is done yet."""
         went, passed = progress.periods - self.periods, time.time() - self.time
         if progress.ended or went <= 0 or passed <= 0:
             return None
@@ -187,16 +187,16 @@ def display(words: argparse.Namespace, expected: int) -> Union[Bar, PlainLines]:
 
 
 def text_of_ends(runs: Sequence[Watched]) -> List[str]:
-    """What runs told that ended without a report."""
-    told = []
+    """What runs printed that ended without a report."""
+    ends = []
     for run in runs:
         text = trau_frames.read_file(run.report)
         try:
             run_texts.report_of(run.report, text)
         except Refusal:
             first = text.decode("latin-1").split("\n")[0]
-            told.append(f"{run.folder}: ended without a report: {first[:60]}")
-    return told
+            ends.append(f"{run.folder}: ended without a report: {first[:60]}")
+    return ends
 
 
 def watch(words: argparse.Namespace) -> int:
@@ -235,7 +235,7 @@ def parser() -> argparse.ArgumentParser:
         formatter_class=argparse.RawDescriptionHelpFormatter,
         allow_abbrev=False,
     )
-    words.add_argument("folders", type=Path, nargs="+", metavar="FOLDER", help="the folder of a run, or of several")
+    words.add_argument("folders", type=Path, nargs="+", metavar="FOLDER", help="the folder of a run; several for several runs")
     words.add_argument("--orders", type=Path, metavar="FILE", help="the orders of the run (default FOLDER/orders.txt)")
     words.add_argument("--report", type=Path, metavar="FILE", help="the report of the run (default FOLDER/report.txt)")
     words.add_argument("--periods", type=int, default=MOST_PERIODS, metavar="N", help="as of trau run")
@@ -245,19 +245,18 @@ def parser() -> argparse.ArgumentParser:
         type=float,
         default=60.0,
         metavar="SECONDS",
-        help="how long the lines may stay as they are until the run counts as stalled or ended (default 60)",
+        help="after how long without growth the run counts as stalled or ended (default 60)",
     )
     words.add_argument("--once", action="store_true", help="look once")
     words.add_argument(
-        "--plain", action="store_true", help="lines of text also where there is a terminal and the library tqdm"
+        "--plain", action="store_true", help="print lines of text even at a terminal with the library tqdm"
     )
     return words
 
 
 @tool("watch.py")
 def main(words: Sequence[str]) -> int:
-    """Carries out the words of the command line: 0 where all runs ended with a report, or are on; 1 where one has none, or there is no
-    run that goes on."""
+    """Runs the words of the command line. Returns 0 if all runs ended with a report or go on, else 1."""
     reader = parser()
     asked = reader.parse_args(words)
     if not 0.01 <= asked.interval <= 3600:

@@ -37,7 +37,7 @@ def is_wav(content: bytes) -> bool:
 
 
 def read_wav(name: Path, content: bytes, partial: bool = False) -> Wav:
-    """Reads a WAV file of any kind; one whose data were cut is taken as far as it goes where `partial` says so."""
+    """Reads a WAV file of any kind; with `partial`, truncated data are taken as far as they go."""
     if not is_wav(content):
         raise Refusal(f"{name}: isn't a WAV file; raw octets of a law are taken with --raw")
     form, place = None, 12

@@ -1,5 +1,6 @@
 """Tests of what the tools read by columns of octets: it is what goes bit by bit, period by period and frame by frame."""
 
+import math
 import os
 import random
 import subprocess
@@ -193,7 +194,7 @@ class SideBySide(InFolder):
 
     def test_progress(self):
         words = "import side_by_side as s; s.QUIET_SECONDS = -1; s.SECONDS_BETWEEN_LINES = 0;"
-        words += "print(sum(s.ALONE.each('adding', int, [(n,) for n in range(4)], 0)))"
+        words += "print(sum(s.ALONE.each('adding', int, [(n,) for n in range(4)], 10**9)))"
         ran = subprocess.run([sys.executable, "-c", words], cwd=TOOLS, capture_output=True, text=True)
         told = "".join(f"adding: {number} of 4 calls\n" for number in (1, 2, 3))
         self.assertEqual((ran.stdout, ran.stderr), ("6\n", told))
@@ -202,7 +203,7 @@ class SideBySide(InFolder):
         lay("mixed", self.folder)
         told = []
         for processes in ("1", "3"):
-            with mock.patch.object(side_by_side, "LEAST_OCTETS", 0):
+            with mock.patch.multiple(side_by_side, LEAST_OCTETS=0, QUIET_SECONDS=math.inf):
                 ran = [
                     self.run_tool(report.main, "calls", self.folder, "--processes", processes),
                     self.run_tool(timeline.main, self.folder, self.folder / "run.svg", "--processes", processes),

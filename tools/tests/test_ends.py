@@ -136,7 +136,7 @@ class Ends(InFolder):
         self.path("report.txt", b"")
         # A shell without job control starts what it puts into the background with interrupts left aside.
         watching = subprocess.Popen(
-            self.words("watch.py {} --plain"),
+            self.words("watch.py {} --plain --patience 1000000"),
             stdout=subprocess.PIPE,
             stderr=subprocess.PIPE,
             preexec_fn=lambda: signal.signal(signal.SIGINT, signal.SIG_DFL),

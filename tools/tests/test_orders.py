@@ -37,7 +37,7 @@ FAULTS = (
     (b"0", "no order behind the stamp"),
     (b"0 opne 1", "no order 'opne'; the orders are open, close, bridge, unbridge, level, dtx"),
     (b"0 OPEN 1", "no order 'OPEN'; write open"),
-    (b"# calls", "a comment; orders.py strip leaves comments and empty lines out"),
+    (b"# calls", "a comment; orders.py strip leaves out comments and empty lines"),
     (b"0 open", "too few words: S open C or S open C mulaw"),
     (b"0 open 1 alaw", "'alaw': mulaw, or nothing for A-law"),
     (b"0 open 1 mulaw 2", "too many words: S open C or S open C mulaw"),

@@ -6,12 +6,14 @@ import random
 import struct
 import subprocess
 import unittest
+from unittest import mock
 
 from support import CODEC, DATA, EXAMPLES, InFolder
 from test_file_kinds import e1, merged, shifted
 from test_lines import wav
 
 import lines
+import listening
 import recordings
 import slots
 import trau_frames
@@ -159,6 +161,44 @@ class Listening(Recorded):
         self.assertEqual(ended.stdout, b"decode frames 100\n")
         self.lines("sound", self.path("1.out"), self.path("other.wav"))
         self.assertEqual(new.read_bytes(), self.path("other.wav").read_bytes())
+
+    @unittest.skipUnless(listening.library_beside(), "no library is built")
+    def test_by_the_library(self):
+        down, new = CODEC / "speech-en-m3.down", self.path("new.wav")
+        with mock.patch.object(listening, "decoded_by_program", side_effect=AssertionError):
+            said = self.lines("listen", down, new)
+        self.assertEqual(said, "listen samples 49920 found speech 312 silence 0 idle 0 other 0 outside 0\n")
+        # What libgsm made of the same frames.
+        self.lines("sound", CODEC / "speech-en-m3.out", self.path("other.wav"))
+        self.assertEqual(new.read_bytes(), self.path("other.wav").read_bytes())
+        if PROGRAM:
+            self.lines("listen", WANTED / "2.down", new)
+            self.lines("listen", WANTED / "2.down", self.path("other.wav"), "--trau", PROGRAM)
+            self.assertEqual(new.read_bytes(), self.path("other.wav").read_bytes())
+
+    def test_without_the_library(self):
+        program = self.path("trau", b"#!/bin/sh\necho no memory; exit 5\n")
+        program.chmod(0o755)
+        refused = ["listen", WANTED / "2.down", self.path("2.wav")], "trau decode: status 5, no memory"
+        with mock.patch.object(listening, "program_beside", return_value=str(program)):
+            with mock.patch.object(listening, "library_beside", return_value=None):
+                self.assert_refused(lines.main, *refused)
+            # No module beside the tools nor on the path, and a module without its library.
+            for failure in (ImportError, OSError):
+                with mock.patch("builtins.__import__", side_effect=failure):
+                    self.assertIsNone(listening.library_beside())
+            with mock.patch.object(listening, "is_stale", return_value=True):
+                self.assertIsNone(listening.library_beside())
+
+    def test_a_library_of_older_sources(self):
+        build = self.path("build", b"#!/bin/sh\nexit ${TRAU_IS_BUILT:+1}\n")
+        build.chmod(0o755)
+        with mock.patch.dict(os.environ, TRAU_CLIB=""):
+            self.assertFalse(listening.is_stale(self.folder))
+            (self.folder / "out").mkdir()
+            self.assertTrue(listening.is_stale(self.folder))
+            build.write_bytes(b"#!/bin/sh\n")
+            self.assertFalse(listening.is_stale(self.folder))
 
     def test_refused(self):
         down, new = WANTED / "2.down", self.path("2.wav")

@@ -235,7 +235,7 @@ class Sync(Told):
         told = self.path("frames.txt", text.encode())
         self.assertEqual(self.sync(self.frames + b"abc", "--frames", told)["frames"], 20)
         line = self.path("9.up", self.frames)
-        self.assert_refused(report.main, ["sync", line, "--frames", told], "the command `frames` tells other frames")
+        self.assert_refused(report.main, ["sync", line, "--frames", told], "the command `frames` printed other frames")
 
 
 if __name__ == "__main__":

@@ -198,7 +198,7 @@ class Farms(InFolder):
         self.assert_refused(shard.main, ["split", farm, farm, "--parts", 2], "is there already")
         self.assert_refused(shard.main, ["merge", farm], "cut.json: No such file")
         (farm / "cut.json").write_text('{"orders_of_parts": [[1]]}')
-        self.assert_refused(shard.main, ["merge", farm], "isn't what the cutting of a farm tells")
+        self.assert_refused(shard.main, ["merge", farm], "isn't what shard.py split writes")
 
 
 if __name__ == "__main__":

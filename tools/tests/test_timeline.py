@@ -391,12 +391,14 @@ class Pictures(InFolder):
     def test_page_zooms(self):
         self.path("zoomed.html", self.page().replace("</body>", ZOOMING + "</body>").encode())
         words = [CHROMIUM, "--headless", "--no-sandbox", "--disable-gpu", f"--user-data-dir={self.folder / 'chromium'}"]
-        ran = subprocess.run(
-            [*words, "--virtual-time-budget=20000", "--dump-dom", (self.folder / "zoomed.html").as_uri()],
-            stdout=subprocess.PIPE,
-            stderr=subprocess.DEVNULL,
-        )
-        told = re.search("<title>seen (.*?)</title>", ran.stdout.decode())[1].split(" | ")
+        words += ["--virtual-time-budget=20000", "--dump-dom", (self.folder / "zoomed.html").as_uri()]
+        # On a busy machine the browser may print the page before the data is unpacked.
+        for _ in range(20):
+            ran = subprocess.run(words, stdin=subprocess.DEVNULL, stdout=subprocess.PIPE, stderr=subprocess.DEVNULL)
+            found = re.search("<title>seen (.*?)</title>", ran.stdout.decode())
+            if found:
+                break
+        told = found[1].split(" | ")
         before, near, moved, whole = ([float(each) for each in seen.split(" ")] for seen in told[:4])
         self.assertEqual((before, whole), ([0, 153, 0], [0, 153, 0]))
         self.assertAlmostEqual(near[1] - near[0], 153 / 1.25, places=3)

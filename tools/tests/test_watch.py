@@ -1,15 +1,17 @@
 """Tests of watch.py: how far a run is by the sizes of its lines, and what is refused."""
 
 import os
-import threading
-import time
 import unittest
+from unittest import mock
 
 from support import InFolder
 from test_timeline import lay
 
 import run_texts
 import watch
+
+# The clock stands still at this time, except while watch.py sleeps.
+NOW = 1_700_000_000
 
 
 class Watching(InFolder):
@@ -20,15 +22,23 @@ class Watching(InFolder):
             line.unlink()
         self.report = (self.folder / "report.txt").read_bytes()
 
-    def watch(self, *words):
-        return self.run_tool(watch.main, *words)
+    def watch(self, *words, meanwhile=lambda seconds: None):
+        """The status and the texts of watch.py; `meanwhile` happens as often as it sleeps, given the seconds since its start."""
+        slept = 0
+
+        def sleep(seconds):
+            nonlocal slept
+            slept += seconds
+            meanwhile(slept)
+
+        clock = {"time": lambda: NOW + slept, "monotonic": lambda: slept, "sleep": sleep}
+        with mock.patch.object(watch, "time", mock.Mock(**clock)):
+            return self.run_tool(watch.main, *words)
 
     def put(self, name, octets, age):
-        """Puts so many octets into a file, that was written so many seconds ago."""
-        path = self.folder / name
-        path.write_bytes(bytes(octets))
-        written = path.stat().st_mtime - age
-        os.utime(path, (written, written))
+        """Puts this many octets into a file, written `age` seconds ago."""
+        path = self.path(name, bytes(octets))
+        os.utime(path, (NOW - age, NOW - age))
 
     def test_expected_periods_are_those_of_the_report(self):
         report = run_texts.report_of("report", self.report)
@@ -44,7 +54,7 @@ class Watching(InFolder):
         self.put("3.out", 58 * 160, 60)  # of an earlier run
         status, out, err = self.watch(self.folder, "--once")
         self.assertEqual((status, err), (0, ""))
-        self.assertRegex(out, r"^watch periods 173 of 386, 44 %, calls done 1 of 4, 1[12] s left\n$")
+        self.assertEqual(out, "watch periods 173 of 386, 44 %, calls done 1 of 4, 12 s left\n")
 
     def test_a_run_that_has_ended(self):
         self.assertEqual(self.watch(self.folder)[1], "watch periods 386 of 386, 100 %, calls done 4 of 4\n")
@@ -62,25 +72,23 @@ class Watching(InFolder):
     def test_no_growth(self):
         self.put("report.txt", 0, 10)
         self.put("1.out", 50 * 160, 1)
-        status, out, err = self.watch(self.folder, "--plain", "--interval", "0.1", "--patience", "0.3")
-        self.assertEqual((status, err), (1, "watch.py: no growth for 0.3 s: stalled or ended\n"))
-        self.assertGreaterEqual(out.count("watch periods 50 of 386"), 3)
+        status, out, err = self.watch(self.folder, "--plain", "--interval", "2", "--patience", "6")
+        self.assertEqual((status, err), (1, "watch.py: no growth for 6 s: stalled or ended\n"))
+        self.assertEqual(out.count("watch periods 50 of 386"), 4)
 
     def test_growth_of_a_line_is_growth(self):
         self.put("report.txt", 0, 10)
-        grows = threading.Thread(target=self.grow)
-        grows.start()
-        status, out, err = self.watch(self.folder, "--plain", "--interval", "0.1", "--patience", "1")
-        grows.join()
+        status, out, err = self.watch(self.folder, "--plain", "--interval", "2", "--patience", "6", meanwhile=self.grow)
         self.assertEqual((status, err), (0, ""))
+        self.assertEqual(out.count("watch periods 0 of 386"), 10)
         self.assertTrue(out.endswith("watch periods 386 of 386, 100 %, calls done 4 of 4\n"))
 
-    def grow(self):
-        """A downlink that grows by an octet each 0.2 s for 2 s, and then the report."""
-        for octets in range(10):
-            self.path("1.down", bytes(octets))
-            time.sleep(0.2)
-        self.path("report.txt", self.report)
+    def grow(self, seconds):
+        """A downlink that grows by an octet each 4 s for 20 s, and then the report."""
+        if seconds < 20:
+            self.path("1.down", bytes(int(seconds) // 4))
+        else:
+            self.path("report.txt", self.report)
 
     def test_several_runs(self):
         other = self.folder / "other"
