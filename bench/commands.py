@@ -41,9 +41,9 @@ def measured(bench):
     """The rows, and in how many frames toast and untoast wrote what this program did."""
     say("whole commands")
     folder = lay(bench)
-    told = list(rows(bench, folder))
+    found = list(rows(bench, folder))
     down = frames.frames_for("libgsm", read(folder, "7.down"))
-    return told, {
+    return found, {
         "toast": frames.equal(down, read(folder, "toast.gsm"), 33),
         "untoast": frames.equal(read(folder, "7.out"), read(folder, "untoast.out"), 160),
     }

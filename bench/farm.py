@@ -11,7 +11,7 @@ Row = collections.namedtuple("Row", "calls periods batch workers times peak")
 
 
 def lay(bench, calls, periods):
-    """A folder with the incoming lines of so many calls, all of them speech, and the orders that open them at 0."""
+    """A folder with the incoming lines of this many calls, all speech, and the orders that open them at 0."""
     folder = bench.folder(f"farm-{calls}-{periods}")
     for way in (DECODE, ENCODE):
         line = bench.speech(way.side, way.octets_in, periods)

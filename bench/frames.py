@@ -16,7 +16,10 @@ def blocks(octets, length):
 
 def equal(ours, theirs, length):
     """In how many blocks of this length two lines are equal."""
-    return sum(a == b for a, b in zip(blocks(ours, length), blocks(theirs, length), strict=True))
+    ours, theirs = blocks(ours, length), blocks(theirs, length)
+    if len(ours) != len(theirs):
+        raise ValueError(f"{len(ours)} blocks and {len(theirs)}")
+    return sum(a == b for a, b in zip(ours, theirs))
 
 
 def frame_33(trau_frame):

@@ -26,7 +26,7 @@ RELAY = Way("relay", "up", "down", frames.TRAU_OCTETS)
 
 
 def ours(bench, way, count):
-    """The program on a line of so many frames, in a folder of its own."""
+    """The program on a line of this many frames, in a folder of its own."""
     folder = bench.folder(f"{way.name}-{count}")
     with open(os.path.join(folder, f"7.{way.side}"), "wb") as line:
         line.write(bench.speech(way.side, way.octets_in, count))
@@ -71,7 +71,7 @@ def read(folder, name):
 
 
 def equal_frames(bench, codec, way):
-    """In how many frames a peer's answer is ours, both as the last timed runs wrote them."""
+    """The number of frames in which a peer's output equals ours, both as the last timed runs wrote them."""
     folder = bench.folder(f"{way.name}-{bench.frames}")
     mine, theirs = read(folder, f"7.{way.made}"), read(folder, f"{codec}.made")
     if way is ENCODE:
@@ -82,7 +82,7 @@ def equal_frames(bench, codec, way):
 
 
 def instructions_by_function(bench, way):
-    """Ours of one frame."""
+    """Our instructions for one frame."""
     return difference(lambda count: ours(bench, way, count), *bench.lengths)
 
 

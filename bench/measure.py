@@ -47,8 +47,8 @@ def check(command, status):
 
 
 def clear(command):
-    """Removes what an earlier run made. Where a file that is there is cut short, some file systems (ext4) have it written
-    out when it is closed, and the command would wait for that."""
+    """Removes what an earlier run made. If a file is truncated, some file systems (ext4) write it out when it
+    is closed, and the command would wait for that."""
     for pattern in [*command.makes, *([command.output] if command.output else [])]:
         for path in glob.glob(os.path.join(command.folder, pattern)):
             os.remove(path)
@@ -83,7 +83,7 @@ def least_processor(commands, runs):
 
 
 def peak_kilobytes(command):
-    """The peak of resident memory. GNU time starts the command, since a child of a large process would tell the
+    """The peak of resident memory. GNU time starts the command, since a child of a large process would report the
     parent's peak."""
     report = os.path.join(command.folder, "peak")
     check(command, start(command, ["/usr/bin/time", "-f", "%M", "-o", report]).wait())
@@ -117,8 +117,8 @@ def own_costs(lines):
     function, is_of_call = None, False
     for line in lines:
         if line.startswith(("fn=", "cfn=")):
-            kind, _, told = line.strip().partition("=")
-            number, _, name = told.partition(" ")
+            kind, _, named = line.strip().partition("=")
+            number, _, name = named.partition(" ")
             names.setdefault(number, INSTANCE.sub("", name))
             if kind == "fn":
                 function = names[number]

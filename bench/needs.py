@@ -22,12 +22,16 @@ def missing_programs(programs):
     return lines
 
 
+def missing_headers():
+    """The same of the compiler and the peers."""
+    if not shutil.which("gcc"):
+        return ["gcc: apt-get install gcc"]
+    return [f"{name}: apt-get install {package}" for name, package in HEADERS.items() if not has_header(name)]
+
+
 def missing():
     """The same of all that bench/run needs."""
-    lines = missing_programs(PROGRAMS)
-    if shutil.which("gcc"):
-        lines += [f"{name}: apt-get install {package}" for name, package in HEADERS.items() if not has_header(name)]
-    return lines
+    return [*missing_programs(PROGRAMS), *(missing_headers() if shutil.which("gcc") else [])]
 
 
 def build_peers(source, folder):
@@ -42,8 +46,16 @@ def program(top):
     named = os.environ.get("TRAU_PROGRAM")
     if named:
         return os.path.abspath(named)
-    # With no words it answers `usage` and status 1, once it is built.
-    status = subprocess.run([os.path.join(top, "trau")], stdout=subprocess.DEVNULL).returncode
+    # Without words it prints `usage` and exits with status 1, once it is built.
+    status = subprocess.run([os.path.join(top, "trau")], stdin=subprocess.DEVNULL, stdout=subprocess.DEVNULL).returncode
     if status != 1:
         raise SystemExit("bench: ./trau can't build the program")
     return os.path.join(top, "crates", "trau_program", "out", "trau_program")
+
+
+def programs(top):
+    """The built program, and the one for x86-64-v3 beside it if it exists and this machine's processor runs it."""
+    first = program(top)
+    second = f"{first}.x86-64-v3"
+    runs = os.access(second, os.X_OK) and subprocess.run([second], stdin=subprocess.DEVNULL, stdout=subprocess.DEVNULL).returncode == 1
+    return [first, second] if runs else [first]

@@ -1,4 +1,4 @@
-"""Where a measuring lies: the program, and a folder for what is made."""
+"""The place of a measurement: the program, and a folder for what is made."""
 
 import os
 
@@ -6,11 +6,13 @@ SPEECH = os.path.join(os.path.dirname(os.path.dirname(os.path.abspath(__file__))
 
 
 class Place:
-    """A folder of its own, with the program in it."""
+    """A folder of its own, with the program in it, and with the one for x86-64-v3 if that is given too."""
 
-    def __init__(self, root, program):
-        self.root, self.program = root, os.path.join(root, "trau")
-        os.symlink(program, self.program)
+    def __init__(self, root, *programs):
+        self.root, self.programs = root, [os.path.join(root, name) for name, _ in zip(("trau", "trau-v3"), programs)]
+        for link, program in zip(self.programs, programs):
+            os.symlink(program, link)
+        self.program = self.programs[0]
 
     def folder(self, name):
         path = os.path.join(self.root, name)
@@ -18,7 +20,7 @@ class Place:
         return path
 
     def speech(self, side, octets, count):
-        """So many blocks of the recorded speech of this side, repeated."""
+        """This many blocks of the recorded speech of this side, repeated."""
         with open(f"{SPEECH}.{side}", "rb") as line:
             given = line.read()
         return (given * (octets * count // len(given) + 1))[: octets * count]
