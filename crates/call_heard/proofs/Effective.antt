@@ -18,7 +18,7 @@ use Rattle.rx_noise.specs.Mix.{mixed, mix_of}
 use Rattle.rx_handler.specs.Heard.{Heard, Good, Sid, Idle, Lost, heard_speech, heard_frame}
 use Rattle.rx_handler.specs.Origin.{Origin, NoFrame, GoodFrame, LostFrame, NoiseFrame, frame_of}
 use Rattle.rx_handler.specs.Effective.{is_anchor}
-use Rattle.rx_handler.specs.Past.{Anchor, NoAnchor, AtGood, AtSid, anchored, anchor_of, periods_of_fall, moved_to, start_from, old_of, origin_from}
+use Rattle.rx_handler.specs.Past.{Anchor, NoAnchor, AtGood, AtSid, anchored, anchor_of, periods_of_fall, approached_of, start_from, approach_start_of, origin_from}
 use Rattle.rx_handler.specs.Past.{effective_of}
 use Rattle.call_leg.specs.Uplink.{Sighting, Nothing, Missed, Framed, heard_as, handed_fields}
 use Rattle.call_leg.specs.Periods.{CallPeriod, heard_of}
@@ -138,14 +138,14 @@ shape-start : (a : Anchor) (old : Fields → Fields) (q : Fields) → IsShapedAn
 shape-start NoAnchor old q anchor each shape = shape
 shape-start (AtGood p since) old q anchor each shape = shape
 shape-start (AtSid r since) old q anchor each shape =
-    cond_both (periods_of_fall since == 0) (moved_to (old r) r since) q HasShape (λ y. shape-mix (old r) r _ (each r anchor) anchor) (λ n. shape)
+    cond_both (periods_of_fall since == 0) (approached_of (old r) r since) q HasShape (λ y. shape-mix (old r) r _ (each r anchor) anchor) (λ n. shape)
 
-shape-old : (past : List Heard) → AreShaped past → (q : Fields) → HasShape q → HasShape (old_of past q)
-unfolding old_of
+shape-old : (past : List Heard) → AreShaped past → (q : Fields) → HasShape q → HasShape (approach_start_of past q)
+unfolding approach_start_of
 shape-old [] shaped q shape = shape
 shape-old (y ∷ past) shaped q shape =
-    cond_both (is_anchor y) (start_from (anchor_of past) (λ r. old_of past r) q) (old_of past q) HasShape
-    (λ y. shape-start (anchor_of past) (λ r. old_of past r) q (shaped-anchor past shaped.1) (λ r h. shape-old past shaped.1 r h) shape)
+    cond_both (is_anchor y) (start_from (anchor_of past) (λ r. approach_start_of past r) q) (approach_start_of past q) HasShape
+    (λ y. shape-start (anchor_of past) (λ r. approach_start_of past r) q (shaped-anchor past shaped.1) (λ r h. shape-old past shaped.1 r h) shape)
     (λ n. shape-old past shaped.1 q shape)
 
 abbrev IsShapedOrigin : Origin → Type 0
@@ -172,7 +172,7 @@ unfolding effective_of
 shape-effective number [] shaped = shape-silent
 shape-effective number (y ∷ past) shaped =
     shape-handed _ _
-    (shaped-origin (anchor_of (y ∷ past)) (λ q. old_of (y ∷ past) q) (shaped-anchor (y ∷ past) shaped) (λ r h. shape-old (y ∷ past) shaped r h))
+    (shaped-origin (anchor_of (y ∷ past)) (λ q. approach_start_of (y ∷ past) q) (shaped-anchor (y ∷ past) shaped) (λ r h. shape-old (y ∷ past) shaped r h))
 
 -- **So what is handed over are 260 bits.**
 pub handed-long : (number : ℕ) (ts : List CallPeriod) → length (bits260 (handed_fields (effective_of number (heard_of ts)))) ≡ 260

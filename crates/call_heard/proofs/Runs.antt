@@ -6,7 +6,7 @@ use Rattle.trau_params.proofs.AreBits.{AreBits-bits260}
 use Rattle.call_spec.specs.Down.{down}
 use Rattle.call_spec.specs.Whole.{IsWhole}
 use Rattle.call_spec.proofs.Reading.{LooksBack}
-use Rattle.run_spec.specs.Run.{Run, heard_by, item_of, partner_in, spans_in}
+use Rattle.run_spec.specs.Run.{Run, heard_by, item_of, other_in, spans_in}
 use Rattle.run_calls_spec.specs.Whole.{begins_in, item_in, span_for, whole_call}
 use Rattle.call_heard.specs.Heard.{SpansHandFrames}
 use Rattle.call_heard.proofs.Shapes.{length-bits260}
@@ -32,7 +32,7 @@ each-item : (P : List ℕ → Type 0) → ((d : ℕ) (ups : List (List ℕ)) →
     All (λ span. All P span.items) (whole_call r c).spans
 each-item P each r c =
     All-map (λ span. All P span.items) (span_for r c) (filter (begins_in r c) (spans_in r))
-    (λ k d l. All-map P (item_in r (partner_in c (get_or (filter (begins_in r c) (spans_in r)) k d))) _ (λ i e m. each _ _))
+    (λ k d l. All-map P (item_in r (other_in c (get_or (filter (begins_in r c) (spans_in r)) k d))) _ (λ i e m. each _ _))
 
 -- **What is handed over in a run are 260 bits.**
 pub run-hands : (r : Run) (c : ℕ) → SpansHandFrames (whole_call r c)

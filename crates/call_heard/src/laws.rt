@@ -1,4 +1,4 @@
-//! Laws of a call's downlink as it is heard, each the contract of a function that does nothing.
+//! Laws of a call's downlink as a base station hears it. Each is the contract of a function that does nothing.
 
 ghost use Rattle.std.specs.Prelude.{◌≡◌, ℕ, ◌*◌, true, is_some, List, length, map, reverse};
 ghost use Rattle.std.specs.List.{concat};
@@ -22,15 +22,15 @@ ghost use Rattle.call_heard.specs.Items.{PeriodsHandFrames};
 
 use ccu_end::laws::one_list;
 use run_calls_spec::calls_are_whole;
-use rx_handler::laws::{the_newest_is_the_last, the_table_looks_back};
+use rx_handler::laws::{steps_give_effectives, the_newest_is_the_last};
 
-/// What a call hands over in a period are 260 bits, whatever its uplink: those of its effective frame, or of silence.
+/// What a call hands over in a period has 260 bits, whatever its uplink: those of its effective frame, or of silence.
 pub fn handed_frames_have_260_bits()
     ensures { (number : ℕ) (ts : List CallPeriod) → length (bits260 (handed_fields (effective_now number ts))) ≡ 260 }
 {}
 
-/// On the Down line of any history of a call, exactly the made frames are found, each at its place and with what was sent in
-/// it, as far as its first 316 bits are there. A history has the newest period first.
+/// On the Down line of any history of a call, exactly the made frames are found, each at its place with what was
+/// sent in it, if its first 316 bits are on the line. A history has the newest period first.
 pub fn frames_of_a_leg_are_found()
     ensures { (who : Who) (ts : List CallPeriod) → PeriodsHandFrames ts →
         Found (down_line who ts) (all_within (320 * length ts) (as_made (frame_now who) (frames_of ts))) }
@@ -38,10 +38,11 @@ pub fn frames_of_a_leg_are_found()
 
 /// On the whole Down line of a call, exactly the frames that the call makes are found.
 pub fn frames_of_a_call_are_found()
-    // Each is found at its place and says what was sent in it, as far as its first 316 bits are there; and none besides.
+    // Each frame is found at its place with what was sent in it, if its first 316 bits are on the line. No others
+    // are found.
     ensures found { (call : Call) → IsWhole call → SpansHandFrames call → Found (down call) (all_within (320 * periods call) (found_of call)) }
 
-    // So a base station's end that is fed the line, period by period, gives these frames and no others.
+    // So a base station's end that reads the line, period by period, gives these frames and no others.
     ensures heard { (call : Call) (past : List (List ℕ)) (heard : List (List FoundFrame)) →
         IsWhole call → SpansHandFrames call → line_bits past ≡ down call → AreHeard past heard →
         all_of heard ≡ all_within (320 * periods call) (found_of call) }
@@ -49,22 +50,22 @@ pub fn frames_of_a_call_are_found()
     // Each made frame is sent.
     ensures each { (call : Call) → IsWhole call → length (down_frames call (frames_of_call call)) ≡ length (frames_of_call call) }
 
-    // The first stands at bit 320, and each further one 320 bits and two for each octet of the shift after the one before: so
-    // each shift that is adopted moves the next place by exactly that shift.
+    // The first frame is at bit 320. Each further one is 320 bits, and two for each octet of the shift, after the
+    // one before. So each adopted shift moves the next place by exactly that shift.
     ensures places { (call : Call) → IsWhole call → map (λ f. f.place) (found_of call) ≡ places_from 320 (map (λ f. f.shift) (frames_of_call call)) }
 {
     the_newest_is_the_last();
-    the_table_looks_back();
+    steps_give_effectives();
     one_list();
 }
 
-/// So are those of each call of a run: what calls hand over to one another are frames.
+/// The same for each call of a run: what calls hand over to one another are frames.
 pub fn frames_of_a_run_are_found()
     ensures items { (r : Run) (c : ℕ) → SpansHandFrames (whole_call r c) }
     ensures found { (r : Run) (c : ℕ) → AreOrders r.orders → is_some (opened_at c (done_in r)) ≡ true →
         Found (down (whole_call r c)) (all_within (320 * periods (whole_call r c)) (found_of (whole_call r c))) }
 
-    // So a base station's end that is fed the octets of the line, period by period, gives these frames and no others.
+    // So a base station's end that reads the octets of the line, period by period, gives these frames and no others.
     ensures heard { (r : Run) (c : ℕ) (past : List (List ℕ)) (heard : List (List FoundFrame)) → AreOrders r.orders → is_some (opened_at c (done_in r)) ≡ true →
         concat (reverse past) ≡ octets_of (down (whole_call r c)) → AreHeard past heard →
         all_of heard ≡ all_within (320 * periods (whole_call r c)) (found_of (whole_call r c)) }
@@ -76,5 +77,5 @@ pub fn frames_of_a_run_are_found()
     calls_are_whole();
     frames_of_a_call_are_found();
     the_newest_is_the_last();
-    the_table_looks_back();
+    steps_give_effectives();
 }

@@ -6,6 +6,6 @@ use Rattle.std.specs.List.{range_with_len}
 abbrev pub IsCallNumber : ℕ → Type 0
 IsCallNumber c = (1 ≤ c) × (c ≤ 4096)
 
--- all of them, in rising order
+-- all call numbers, in ascending order
 abbrev pub call_numbers : List ℕ
 call_numbers = range_with_len 1 4096

@@ -1,12 +1,11 @@
 //! The numbers of calls.
 //!
-//! Lines, orders, tables and reports tell calls apart by their numbers, 1 to 4,096. Everything else that has to do with
-//! calls stands on this.
+//! Lines, orders, tables and reports identify calls by their numbers, 1 to 4,096.
 //!
 //! Definition: `specs/CallNumber.antt`.
 #![tactic(auto)]
 
-/// Call numbers are below this: a table of calls has one entry a number, and one for 0, which no call has.
+/// Call numbers are below this. A table of calls has one entry for each number, and one for 0, which no call has.
 pub const NUMBERS: usize = 4097;
 
 /// The highest number of a call.

@@ -19,15 +19,13 @@ pub record Setting : Type 0 where
   pub level : ℤ
   pub mode : DtxMode
 
--- the span of a bridge: its first period, the first one after it, and the items that are handed over, 260 bits in each
--- of its periods; it may have none
+-- the span of a bridge: its first period, the first one after it, and the items handed over, 260 bits for each of its periods; it may be empty
 pub record Span : Type 0 where
   pub from : ℕ
   pub to : ℕ
   pub items : List (List ℕ)
 
--- the call: whose it is, the octets of its Up line and of its Pcm line, what is in force in each of its periods, and its
--- spans
+-- a call: its number and law, the octets of its Up line and of its Pcm line, the settings of its periods, and its spans
 pub record Call : Type 0 where
   pub who : Who
   pub up : List ℕ
@@ -35,14 +33,14 @@ pub record Call : Type 0 where
   pub settings : List Setting
   pub spans : List Span
 
--- how many periods it has, and their numbers
+-- the number of its periods, and their numbers
 abbrev pub periods : Call → ℕ
 periods call = length call.settings
 
 abbrev pub each_period : Call → List ℕ
 each_period call = range_with_len 0 (periods call)
 
--- what is in force in period k
+-- the settings in force in period k
 abbrev pub setting_at : Call → ℕ → Setting
 setting_at call k = slice_index_or call.settings k (record { level = pos 256; mode = Uplink })
 
@@ -52,12 +50,11 @@ setting_at call k = slice_index_or call.settings k (record { level = pos 256; mo
 abbrev pub up_periods : Call → List (List ℕ)
 up_periods call = map (λ k. take 40 (drop (40 * k) call.up)) (each_period call)
 
--- what the search for frames over all bits of the Up line yields in period k, if anything: the yield whose last bit is
--- one of the period's
+-- the yield in period k, if any: the search runs over all bits of the Up line, and the yield's last bit is one of the period's
 abbrev pub yield_at : Call → ℕ → Option Yield
 yield_at call k = yield_in (up_periods call) k
 
--- what that tells: no yield, a miss, or what the frame says
+-- what the yield shows: no frame, a miss, or what the frame says
 abbrev pub seen_at : Call → ℕ → Sighting
 seen_at call k = sighting_in (yield_at call k)
 
@@ -69,7 +66,6 @@ heard_at call k = heard_as (seen_at call k)
 abbrev pub effective_frame : Call → ℕ → EffectiveFields
 effective_frame call k = effective_at call.who.number (heard_in (map (heard_at call) (each_period call))) k
 
--- whether it is quiet
 abbrev pub is_quiet_at : Call → ℕ → Bool
 is_quiet_at call k = is_quiet (effective_frame call k)
 
@@ -77,7 +73,7 @@ is_quiet_at call k = is_quiet (effective_frame call k)
 abbrev pub fields : Call → List (Option ℕ)
 fields call = map (λ k. field_of (seen_at call k)) (each_period call)
 
--- DTXd of the last speech frame up to period k, and 0 before any
+-- DTXd of the last speech frame up to period k; 0 before the first one
 abbrev pub dtxd_at : Call → ℕ → Bool
 dtxd_at call zero = dtxd_after (seen_at call 0) false
 dtxd_at call (suc k) = dtxd_after (seen_at call (suc k)) (dtxd_at call k)
@@ -94,6 +90,6 @@ item_at [] k = None
 item_at (span ∷ spans) k =
     if nat_le span.from k && nat_lt k span.to then Some (slice_index_or span.items (k - span.from) []) else item_at spans k
 
--- whether a span starts at period k, one without a period included
+-- whether a span, even an empty one, starts at period k
 abbrev pub starts_at : List Span → ℕ → Bool
 starts_at spans k = list_any (λ span. span.from == k) spans

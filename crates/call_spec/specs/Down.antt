@@ -1,6 +1,5 @@
--- The Down line of a call as a whole: handed frames, idle frames and coded frames (GSM 06.10 and GSM 08.60; which of
--- them is sent when is this project's profile). Frames are numbered from 0, and lists have the oldest first, but for
--- those of the frames before one.
+-- The Down line of a whole call: handed frames, idle frames and coded frames (GSM 06.10 and GSM 08.60; when each of them is sent is this
+-- project's profile). Frames are numbered from 0. Lists have the oldest first, except lists of the frames before a given one.
 use Rattle.std.specs.Prelude.{◌≡◌, ◌≤◌, ◌<◌, ℕ, ◌*◌, ◌-◌, ℤ, Bool, true, not, ◌&&◌, if◌then◌else◌, nat_le, nat_lt, Some, None, is_none, unwrap_or, List, []}
 use Rattle.std.specs.Prelude.{◌++◌, map, take, drop, replicate, reverse, filter}
 use Rattle.std.specs.List.{flat_map, zip, list_any, list_all}
@@ -23,37 +22,37 @@ use Rattle.call_spec.specs.Call.{Call, Span, periods, setting_at, is_quiet_at, f
 abbrev pub without_items : Span → Bridge
 without_items span = record { from = span.from; to = span.to }
 
--- the first j frames, the newest first, and frame j after them: it starts where the one before says, carries the item
--- that a span has for it, and has otherwise the shift asked for last
+-- The first j frames, the newest first, and frame j after them. It starts where the one before says. It carries the item that a span has
+-- for it; without one it has the shift that was asked for last.
 abbrev pub first_frames : Call → ℕ → List NumberedFrame
 first_frames call j = numbered_frames (map without_items call.spans) (fields call) j
 
 abbrev pub frame_by_number : Call → ℕ → NumberedFrame
 frame_by_number call j = numbered_next (map without_items call.spans) (fields call) (first_frames call j)
 
--- those of the first m frames that are made in the periods of the call
+-- the frames that are made in the call's periods, of the first m
 abbrev pub made_among : Call → ℕ → List NumberedFrame
 made_among call m = filter (λ f. nat_lt (when f.start) (periods call)) (first_frames call m)
 
--- all frames that are: two for each period are enough
+-- all frames that are made: two for each period are enough
 abbrev pub frames_of_call : Call → List NumberedFrame
 frames_of_call call = reverse (made_among call (2 * periods call))
 
--- A span has item i for frame j where i is the number of frames before it that are made in the span's first period or
--- later, the frame isn't made before that period, and the span has as many items.
+-- A span has item i for frame j if the frame isn't made before the span's first period, i frames before it are made in that period or
+-- later, and i is less than the number of the span's periods.
 pub record HasItem (call : Call) (span : Span) (j i : ℕ) : Type 0 where
   pub number : i ≡ count_from span.from (first_frames call j)
   pub begun : span.from ≤ when (frame_by_number call j).start
   pub left : i < span.to - span.from
 
--- ---- what they are
+-- ---- their contents
 
--- a frame is coded where it carries no item and its period isn't quiet
+-- a frame is coded if it carries no item and its period isn't quiet
 abbrev pub is_coded : Call → NumberedFrame → Bool
 is_coded call f = is_none f.carries && not (is_quiet_at call (when f.start))
 
--- a coded stretch goes on from a coded frame to a coded one, unless a span starts after the one's period and not after
--- the other's, one without a period included
+-- A coded stretch continues from one coded frame to the next, unless a span, even an empty one, starts after the first one's period and not
+-- after the second one's.
 abbrev pub coded_goes_on : Call → NumberedFrame → NumberedFrame → Bool
 coded_goes_on call f g =
     is_coded call f && is_coded call g &&
@@ -67,7 +66,7 @@ samples call f = expanded call.who.law (take 160 (drop f.start call.pcm))
 abbrev pub in_force : Call → Encoded × NumberedFrame → Coded
 in_force call x = coded_as x.0 (setting_at call (when x.1.start)).level (dtx_at call (when x.1.start))
 
--- a coded stretch, encoded from home over all its samples
+-- a coded stretch, encoded from the reset state over all its samples
 abbrev pub coded : Call → List NumberedFrame → List Coded
 coded call stretch = map (in_force call) (zip (encoded (map (samples call) stretch)) stretch)
 
@@ -78,7 +77,7 @@ uncoded call f = elim f.carries [
   | None ↦ frames.Idle
 ]
 
--- the frames of a coded stretch as they are sent, and a frame that isn't coded
+-- the frames of a coded stretch as they are sent, or a frame that isn't coded
 abbrev pub stretch_frames : Call → List NumberedFrame → List DownFrame
 stretch_frames call fs = if list_all (is_coded call) fs then map speech (sent (coded call fs)) else map (uncoded call) fs
 
@@ -88,11 +87,11 @@ down_frames call fs = flat_map (stretch_frames call) (stretches (coded_goes_on c
 
 -- ---- the line
 
--- the bits that a frame puts on the line, with what its shift adds or leaves out
+-- the bits of a frame on the line, with what its shift adds or leaves out
 abbrev pub bits_on_line : NumberedFrame × DownFrame → List ℕ
 bits_on_line x = frame_on_line x.0.shift (down_bits x.1)
 
--- 320 ones, and then each frame
+-- 320 ones, then each frame
 abbrev pub line : Call → List NumberedFrame → List ℕ
 line call fs = replicate 320 1 ++ flat_map bits_on_line (zip fs (down_frames call fs))
 

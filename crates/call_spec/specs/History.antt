@@ -6,8 +6,7 @@ use Rattle.call_leg.specs.Periods.{CallPeriod, pcm_of}
 use Rattle.call_leg.specs.Down.{down_periods}
 use Rattle.call_spec.specs.Call.{Call, Setting, Span}
 
--- each period has 40 octets of the Up line and 160 of the Pcm line; a bridge starts only where no handed frame waits,
--- and goes on without a gap
+-- each period has 40 octets of the Up line and 160 of the Pcm line; a bridge starts only while no handed frame waits, and goes on without a gap
 pub record IsCallHistory (ts : List CallPeriod) : Type 0 where
   pub ups : All (λ t. length t.up ≡ 40) ts
   pub pcms : All (λ t. length t.pcm ≡ 160) ts
@@ -18,7 +17,7 @@ abbrev pub up_in_history : List CallPeriod → List ℕ
 up_in_history [] = []
 up_in_history (t ∷ past) = up_in_history past ++ t.up
 
--- what is in force in each period, the oldest first
+-- the settings in force in each period, the oldest first
 abbrev pub setting_of : CallPeriod → Setting
 setting_of t = record { level = t.level; mode = t.mode }
 
@@ -31,17 +30,17 @@ abbrev pub new_span : ℕ → Option (List ℕ) → Span
 new_span k None = record { from = k; to = k; items = [] }
 new_span k (Some item) = record { from = k; to = k + 1; items = item ∷ [] }
 
--- the latest span goes on where an item is handed over
+-- the latest span continues if an item is handed over
 abbrev pub go_on : Option (List ℕ) → List Span → List Span
 go_on None spans = spans
 go_on (Some item) [] = []
 go_on (Some item) (span ∷ before) = record { from = span.from; to = span.to + 1; items = span.items ++ item ∷ [] } ∷ before
 
--- the spans, the latest first: one starts where the history says so, and goes on as long as items are handed over
+-- the spans, the latest first: one starts where the history says so, and continues while items are handed over
 abbrev pub spans_in_history : List CallPeriod → List Span
 spans_in_history [] = []
 spans_in_history (t ∷ past) = if t.starts then new_span (length past) t.handed ∷ spans_in_history past else go_on t.handed (spans_in_history past)
 
--- the call that has this history, and whose it is
+-- the call with this number, law and history
 abbrev pub call_of_history : Who → List CallPeriod → Call
 call_of_history who ts = record { who = who; up = up_in_history ts; pcm = pcm_of ts; settings = settings_of ts; spans = reverse (spans_in_history ts) }

@@ -1,10 +1,10 @@
--- The periods of a call as a whole, as its leg is given them.
+-- The periods of a whole call, as its leg gets them.
 use Rattle.std.specs.Prelude.{◌≡◌, ◌≤◌, ◌<◌, ℕ, ◌+◌, ◌*◌, zero, suc, List, [], ◌∷◌, length, take, drop}
 use Rattle.call_leg.specs.Periods.{CallPeriod}
 use Rattle.call_spec.specs.Call.{Call, Span, periods, setting_at, item_at, starts_at}
 
--- spans in order, the first at period `low` or later: each starts within the n periods of the call, has an item for
--- each of its periods, and leaves a period to the next one
+-- Spans in order, the first at period `low` or later. Each starts within the n periods of the call, has an item for each of its periods,
+-- and leaves at least one period before the next.
 abbrev pub AreSpans : ℕ → ℕ → List Span → Type 0
 AreSpans low n [] = Unit {0}
 AreSpans low n (span ∷ spans) =

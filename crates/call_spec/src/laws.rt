@@ -1,4 +1,4 @@
-//! Laws of a call's outgoing lines, each the contract of a function that does nothing.
+//! Laws of a call's outgoing lines. Each is the contract of a function that does nothing.
 
 ghost use Rattle.std.specs.Prelude.{◌≡◌, ◌≤◌, ◌<◌, ℕ, ◌+◌, ◌*◌, Some, List, ◌∷◌, ◌++◌, length, take, drop, filter, option_to_list};
 ghost use Rattle.trau_bits.specs.Bits.{bits_of};
@@ -17,9 +17,9 @@ ghost use Rattle.call_leg.specs.Stands.{OfItsCall};
 ghost use Rattle.call_spec.specs.History.{IsCallHistory, call_of_history};
 ghost use Rattle.call_spec.specs.Whole.{IsWhole, periods_of_call};
 
-use rx_handler::laws::{the_newest_is_the_last, the_table_looks_back};
+use rx_handler::laws::{steps_give_effectives, the_newest_is_the_last};
 
-/// The periods of a call as a whole are a history of that call; given one after another, they make its lines.
+/// The periods of a whole call are a history of that call. One after another, they give its lines.
 pub fn a_call_by_its_periods()
     ensures history { (call : Call) → IsWhole call → IsCallHistory (periods_of_call call) }
     ensures same { (call : Call) → IsWhole call → call_of_history call.who (periods_of_call call) ≡ call }
@@ -29,18 +29,19 @@ pub fn a_call_by_its_periods()
     lines_of_a_call();
 }
 
-/// The Out line and the Down line of any history of a call, period by period, are those of the call as a whole that it
-/// says.
+/// The Out line and the Down line of any history of a call, period by period, are those of the whole call with this
+/// history.
 pub fn lines_of_a_call()
     ensures out { (who : Who) (ts : List CallPeriod) → IsCallHistory ts → out_line who ts ≡ out (call_of_history who ts) }
     ensures down { (who : Who) (ts : List CallPeriod) → IsCallHistory ts → down_line who ts ≡ down (call_of_history who ts) }
 {
     the_newest_is_the_last();
-    the_table_looks_back();
+    steps_give_effectives();
 }
 
-/// In the lines of the call as a whole each period has its place. What a leg gives in period k, by the periods so far, is octets
-/// 160 k to 160 k + 159 of the Out line and bits 320 k to 320 k + 319 of the Down line, whatever periods come later.
+/// Each period has its place in the lines of the whole call. What a leg gives in period k, by the periods so far,
+/// is octets 160 k to 160 k + 159 of the Out line and bits 320 k to 320 k + 319 of the Down line, whatever periods
+/// come later.
 pub fn lines_by_period()
     ensures out { (who : Who) (later past : List CallPeriod) (t : CallPeriod) → IsCallHistory (later ++ t ∷ past) →
         out_of who (t ∷ past) ≡ take 160 (drop (160 * length past) (out (call_of_history who (later ++ t ∷ past)))) }
@@ -50,20 +51,20 @@ pub fn lines_by_period()
     lines_of_a_call();
 }
 
-/// Whatever periods a leg stands for, they are a history of a call. So what its functions say of their octets says the same of
-/// the lines of the call as a whole.
+/// Whatever periods lead to a leg's memory, they are a history of a call. So what the leg's functions say about
+/// their octets also holds for the lines of the whole call.
 pub fn a_leg_has_a_history()
     ensures { (m : LegMemory) → OfItsCall m (λ who ts now. IsCallHistory ts) }
 {}
 
-/// What a period of a call yields is, of all yields of the bits of its whole Up line, the one that ends in the period.
+/// Of all yields of the bits of a whole Up line, the yield of a period is the one that ends in it.
 pub fn yields_of_a_call()
     ensures { (call : Call) (ys : List Yield) (k : ℕ) → IsWhole call → Yields (bits_of call.up) ys → k < periods call →
         filter (ends_in k) ys ≡ option_to_list (yield_at call k) }
 {}
 
-/// Where a span has an item for a made frame, the frame carries it, whatever other spans there are; and no frame behind
-/// two for each period is made in the call's periods.
+/// If a span has an item for a made frame, the frame carries it, whatever other spans there are. Only frames
+/// with numbers below twice the number of periods are made in the call's periods.
 pub fn frames_of_a_call()
     ensures items { (call : Call) (before after : List Span) (span : Span) (j i : ℕ) → IsWhole call → call.spans ≡ before ++ span ∷ after →
         j < length (frames_of_call call) → HasItem call span j i → (frame_by_number call j).carries ≡ Some (span.from + i) }

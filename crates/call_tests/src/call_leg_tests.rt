@@ -11,7 +11,7 @@ use trau_alaw::Law;
 use trau_io::Counts;
 use trau_orders::DtxMode;
 
-// An uplink frame of good speech; `up` puts in its alignment field, and D8 to D15.
+// An uplink frame of good speech. `up` sets its alignment field, and D8 to D15.
 static SPEECH: [u8; 40] = [
     0x00, 0x00, 0x88, 0x00, 0x82, 0x09, 0xBA, 0x1A, 0xE4, 0x28, 0x80, 0x12, 0xA4, 0x92, 0xA4, 0x92,
     0xA2, 0x80, 0x81, 0x24, 0xC9, 0x24, 0xC9, 0x24, 0xA8, 0x00, 0x92, 0x49, 0x92, 0x49, 0x92, 0x45,
@@ -27,7 +27,7 @@ fn up(field: u8, d: u8) -> [u8; 40] {
     octets
 }
 
-// A leg and how many periods it may still work, which its type keeps few: so no test has to show it.
+// A leg, and how many periods it may still process. Its type bounds that number, so no test has to show the bound.
 #[derive(Drop)]
 pub(crate) struct Worked {
     leg: Leg,
@@ -41,7 +41,7 @@ impl Worked {
         Ok(Worked { leg, left: 100 })
     }
 
-    // Works a period in which the exchange says the same octet all the time: the octets of the Out and Down lines.
+    // A period in which the exchange sends the same octet all the time. Returns the octets of the Out and Down lines.
     pub(crate) fn period_of(&mut self, up: &[u8; 40], octet: u8) -> ([u8; 160], [u8; 40]) {
         let mut out = [0; 160];
         let mut down = [0; 40];
@@ -53,7 +53,7 @@ impl Worked {
         (out, down)
     }
 
-    // The same of a silent exchange.
+    // The same for a silent exchange.
     fn period(&mut self, up: &[u8; 40]) -> ([u8; 160], [u8; 40]) {
         self.period_of(up, 0xD5)
     }
@@ -67,7 +67,7 @@ impl Worked {
         self.leg.up_half(up, &mut [0; 160])
     }
 
-    // The downlink half of a bridged one, with the partner's frame: the octets of the Down line.
+    // The downlink half of a bridged period, with the partner's frame. Returns the octets of the Down line.
     fn speak(&mut self, partner: Effective) -> [u8; 40] {
         let mut down = [0; 40];
         self.leg.hand(partner);
@@ -83,7 +83,7 @@ impl Worked {
         self.leg.bridge_off();
     }
 
-    // How many handed frames were sent in the latest bridge, and whether one waits behind it.
+    // How many handed frames of the latest bridge were sent, and whether one waits after it.
     fn handed(&self) -> (u32, bool) {
         (self.leg.sent(), self.leg.draining())
     }
@@ -110,7 +110,7 @@ const IDLE: [u8; 40] = [
 // The Down octets of three periods without a frame: 320 ones and two idle frames.
 static QUIET: [[u8; 40]; 3] = [[0xFF; 40], IDLE, IDLE];
 
-// What is counted of them.
+// What is counted in these periods.
 static THREE: Counts = Counts {
     good: 0,
     sid: 0,
@@ -123,7 +123,7 @@ static THREE: Counts = Counts {
     made: 3,
 };
 
-// Whether three periods without a frame are so, and the exchange hears its silence in them.
+// Whether three periods without a frame are like that, with silence on the Out line.
 fn stays_quiet(leg: &mut Worked, silence: u8) -> bool {
     for down in &QUIET {
         if leg.period_of(&[0; 40], silence) != ([silence; 160], *down) {
@@ -142,7 +142,7 @@ fn without_frames_the_call_is_quiet(rt: HostRuntime) {
     }
 }
 
-// The alignment field of a period of good speech, and what its Down line begins and ends with.
+// The alignment field of a period of good speech, and how its Down octets begin and end.
 struct Shift {
     field: u8,
     begin: &'static [u8],
@@ -177,7 +177,7 @@ static SHIFTS: [Shift; 5] = [
     },
 ];
 
-// Works such periods: whether each Down line is so, and four frames are made of five good ones.
+// Whether each of these periods has such Down octets, and four frames are made in five periods of good speech.
 fn sends_all(leg: &mut Worked) -> bool {
     for shift in &SHIFTS {
         let down = leg.period(&up(shift.field, 9)).1;
@@ -196,8 +196,8 @@ fn shifts_move_the_frames(rt: HostRuntime) {
     assert!(rt; sends_all(&mut leg));
 }
 
-// Works a period of two bridged legs: both uplink halves, the handing over, both downlink halves. Answers the Down
-// octets of the second.
+// A period of two bridged legs: both uplink halves, the handing over, both downlink halves. Returns the Down octets
+// of the second.
 fn bridged(a: &mut Worked, b: &mut Worked, d: u8) -> [u8; 40] {
     let e = a.hear(&up(0, d));
     let f = b.hear(&up(0, 9));
@@ -215,14 +215,14 @@ fn end_bridge(a: &mut Worked, b: &mut Worked) {
     b.end_bridge();
 }
 
-// Works a period of both alone: the Down octets of the second.
+// A period of both legs alone. Returns the Down octets of the second.
 fn alone(a: &mut Worked, b: &mut Worked) -> [u8; 40] {
     a.period(&up(0, 9));
     b.period(&up(0, 9)).1
 }
 
-// Four periods of two legs alone, and a bridge of six: of each of these the fifth octet of the second's Down line. Octets
-// of the second are to be skipped from its last period alone on.
+// Four periods of two legs alone, then a bridge of six. Returns the fifth Down octet of the second leg in each
+// period of the bridge. From its last period alone on, the second leg has octets to skip.
 fn go_over_to_a_bridge(a: &mut Worked, b: &mut Worked) -> [u8; 6] {
     for k in 0..4u8 {
         a.period(&up(0, k));
@@ -236,8 +236,8 @@ fn go_over_to_a_bridge(a: &mut Worked, b: &mut Worked) -> [u8; 6] {
     octets
 }
 
-// Whether the frames 4 to 7 of the first leg go out within the bridge. It ends: whether the first sent six frames and is
-// done, and the second sent five, and then the frames 8 and 9, which are the last.
+// Whether the frames 4 to 7 of the first leg go out within the bridge. When it ends, the first leg has sent six
+// frames and none waits; the second has sent five, and then sends the frames 8 and 9, which are the last.
 fn frames_go_out_in_order(a: &mut Worked, b: &mut Worked) -> bool {
     let within = go_over_to_a_bridge(a, b);
     end_bridge(a, b);
@@ -249,7 +249,7 @@ fn frames_go_out_in_order(a: &mut Worked, b: &mut Worked) -> bool {
         && b.handed() == (6, false)
 }
 
-// Legs are bridged from period 4 to 10, and octets of the second are to be skipped at the start: the frames of the first
+// Legs are bridged from period 4 to 10, and the second has octets to skip at the start. So the frames of the first
 // go out one period late, the last of them after the end.
 #[test]
 fn handed_frames_go_out_in_order(rt: HostRuntime) {
@@ -258,8 +258,9 @@ fn handed_frames_go_out_in_order(rt: HostRuntime) {
     assert!(rt; frames_go_out_in_order(&mut a, &mut b));
 }
 
-// Works a bridge of one period with this octet of the first leg, and a period of both alone: whether the second has sent
-// no frame at its start, one at its end, when none waits, and the octet goes out in the next period.
+// A bridge of one period with this octet of the first leg, then a period of both alone. Whether the second leg has
+// sent no frame when the bridge begins and one when it ends, with none waiting, and the octet goes out in the next
+// period.
 fn hands_one(a: &mut Worked, b: &mut Worked, d: u8) -> bool {
     begin_bridge(a, b);
     let begun = b.handed();
@@ -269,7 +270,7 @@ fn hands_one(a: &mut Worked, b: &mut Worked, d: u8) -> bool {
     alone(a, b)[5] == d && [begun, ended] == [(0, false), (1, false)]
 }
 
-// The same of two bridges, with a period alone between them.
+// The same for two bridges, with a period alone between them.
 fn hands_one_each(a: &mut Worked, b: &mut Worked) -> bool {
     let first = hands_one(a, b, 1);
     alone(a, b);
@@ -284,14 +285,15 @@ fn bridges_of_one_period(rt: HostRuntime) {
     assert!(rt; hands_one_each(&mut a, &mut b));
 }
 
-// Works two periods of good speech in which the exchange speaks: the Out octets of the first, and the Down octets of both.
+// Two periods of good speech in which the exchange speaks. Returns the Out octets of the first, and the Down octets
+// of both.
 fn two_spoken(leg: &mut Worked) -> ([u8; 160], [u8; 40], [u8; 40]) {
     let (out, first) = leg.period_of(&up(0, 9), 0x2A);
     let second = leg.period_of(&up(0, 9), 0x2A).1;
     (out, first, second)
 }
 
-// Works two periods, a bridge without any, and two more: whether what was heard and sent first comes again.
+// Two periods, a bridge without any, and two more: whether what was heard and sent first comes again.
 fn goes_home(leg: &mut Worked) -> bool {
     let (home, _, first) = two_spoken(leg);
     leg.begin_bridge();
@@ -300,19 +302,19 @@ fn goes_home(leg: &mut Worked) -> bool {
     again == home && third == first && second != first
 }
 
-// After a bridge without any period the codecs are at home: the next frame is a first one.
+// After a bridge without any period the codecs are in their reset state: the next frame is a first one.
 #[test]
 fn a_bridge_without_periods_goes_home(rt: HostRuntime) {
     let mut leg = Worked::new(rt.alloc(), 5, Law::A).expect(&rt, "memory");
     assert!(rt; goes_home(&mut leg));
 }
 
-// Works a period of good speech and a silent exchange: whether its frame has SP 1.
+// A period of good speech and a silent exchange: whether its frame has SP 1.
 fn is_speech(leg: &mut Worked) -> bool {
     leg.period(&up(0, 9)).1[38] & 2 == 2
 }
 
-// Works five periods below the level and two at level 0: whether the sixth alone has SP 0.
+// Five periods below the level and two at level 0: whether only the sixth has SP 0.
 fn one_is_silence(leg: &mut Worked) -> bool {
     leg.send_silence_below(32767);
     for _ in 0..5 {
@@ -324,29 +326,29 @@ fn one_is_silence(leg: &mut Worked) -> bool {
     !is_speech(leg) && is_speech(leg)
 }
 
-// Where DTX is on and each peak lies below the level, the fifth frame is the first one with SP 0; at level 0 no frame
-// is silence.
+// If DTX is on and each peak is below the level, the fifth frame is the first one with SP 0. At level 0 no frame is
+// silence.
 #[test]
 fn silence_by_level(rt: HostRuntime) {
     let mut leg = Worked::new(rt.alloc(), 3, Law::A).expect(&rt, "memory");
     assert!(rt; one_is_silence(&mut leg));
 }
 
-// Works a period of both legs, the first one in another thread: whether their octets are the same.
+// A period of both legs, the first one in another thread: whether their octets are the same.
 fn are_alike_in_threads(rt: &impl Threads, a: &mut Worked, b: &mut Worked) -> bool {
     let up = up(0, 4);
     let (one, other) = join_mut(rt, &mut || a.period(&up), &mut || b.period(&up));
     one == other
 }
 
-// The same of a period before the threads, in them, and after them.
+// The same for a period before the threads, one in them, and one after them.
 fn stay_alike(rt: &impl Threads, a: &mut Worked, b: &mut Worked) -> bool {
     let before = a.period(&up(0, 3)) == b.period(&up(0, 3));
     let within = are_alike_in_threads(rt, a, b);
     before && within && a.period(&up(0, 5)) == b.period(&up(0, 5))
 }
 
-// Legs that go on in other threads are the same as ever.
+// Legs that continue in other threads give the same octets.
 #[test]
 fn legs_go_to_other_threads(rt: HostRuntime) {
     let mut a = Worked::new(rt.alloc(), 1, Law::A).expect(&rt, "memory");

@@ -21,8 +21,7 @@ fn follow(ccu: &mut Ccu, down: &[u8; 40]) -> (Option<u64>, [u8; 40])
     (place, up)
 }
 
-// Of eighty periods of a silent exchange, how many at the end found a frame at a place that is 100 modulo 320, and none
-// before them.
+// How many periods at the end, of eighty with a silent exchange, each found a frame at a place that is 100 modulo 320.
 fn periods_in_place(leg: &mut Worked, ccu: &mut Ccu) -> u32
     requires { ccu.old.periods ≡ 0 }
 {
@@ -40,7 +39,7 @@ fn periods_in_place(leg: &mut Worked, ccu: &mut Ccu) -> u32
     count
 }
 
-// A loop of farm and base station settles at the wanted place, and stays.
+// A loop of leg and base station settles at the wanted place, and stays there.
 #[test]
 fn the_loop_settles(rt: HostRuntime) {
     let mut leg = Worked::new(rt.alloc(), 1, Law::A).expect(&rt, "memory");

@@ -1,4 +1,4 @@
-//! The framer of a downlink: where its frames stand, and the same shift in each period.
+//! The framer of a downlink: where its frames are, and the same shift in each period.
 
 ghost use Rattle.std.specs.Prelude.{◌≤◌, ◌<◌};
 ghost use Rattle.down_framer.specs.Memory.{IsBetweenPeriods};
@@ -7,8 +7,8 @@ use down_framer::Framer;
 use std::alloc::{AllocError, Global};
 use time_align::Align;
 
-// What a period makes: its downlink octets, how many frames, and of the last one at which octet of the Pcm line it starts, and
-// its shift.
+// The result of a period: its downlink octets, the number of its frames, and for the last of them the octet of the
+// Pcm line at which it starts, and its shift.
 #[derive(Drop)]
 struct Made {
     down: [u8; 40],
@@ -17,8 +17,8 @@ struct Made {
     shift: i16,
 }
 
-// Works a period whose field is asked, at the end of which this many octets of the Pcm line were put in. A frame is a one and
-// zeros.
+// A period that asks for the shift of this field. At its end, `given` octets of the Pcm line were put in. A frame
+// is a one and zeros.
 fn period(framer: &mut Framer, align: &mut Align, field: u8, given: u32) -> Made
     requires between { IsBetweenPeriods framer.old }
     requires field { field ≤ 63 }
@@ -45,7 +45,7 @@ fn period(framer: &mut Framer, align: &mut Align, field: u8, given: u32) -> Made
     }
 }
 
-// A framer between its periods, the shift that is asked of it, and how many octets of the Pcm line were put in.
+// A framer between its periods, the shift that is asked for, and the number of octets of the Pcm line that were put in.
 #[derive(Drop)]
 struct Line {
     framer: Framer,
@@ -65,13 +65,13 @@ impl Line {
         })
     }
 
-    // Works a period whose field is asked.
+    // A period that asks for the shift of this field.
     fn period(&mut self, field: u8) -> Made {
         self.given = self.given.saturating_add(160);
         period(&mut self.framer, &mut self.align, field.min(63), self.given)
     }
 
-    // How many bits are in store, and how many octets are held, and to be skipped.
+    // How many bits are in store, and how many octets are held and to be skipped.
     fn holds(&self) -> [u32; 3] {
         [
             self.framer.stored(),
@@ -81,14 +81,14 @@ impl Line {
     }
 }
 
-// Octets that are all the same but for one.
+// Octets that are all the same except one.
 fn octets_with(same: u8, place: usize, other: u8) -> [u8; 40] {
     let mut octets = [same; 40];
     octets[place % 40] = other;
     octets
 }
 
-// Periods: the field that is asked, the downlink octets (all the same but for one), how many frames are made, where the frame
+// Periods: the field, the downlink octets (all the same except one), the number of frames made, where the frame
 // starts, and what the framer holds afterwards.
 static PERIODS: [(u8, u8, usize, u8, u32, u32, [u32; 3]); 5] = [
     (39, 0xFF, 0, 0xFF, 1, 0, [632, 0, 156]),
@@ -98,7 +98,7 @@ static PERIODS: [(u8, u8, usize, u8, u32, u32, [u32; 3]); 5] = [
     (0, 0x00, 38, 0x08, 1, 634, [308, 6, 0]),
 ];
 
-// How many of them are so, from the first on.
+// How many of them match, from the first on.
 fn are_framed(line: &mut Line) -> usize {
     let mut framed = 0usize;
     for (field, same, place, other, frames, start, held) in &PERIODS {
@@ -115,15 +115,15 @@ fn are_framed(line: &mut Line) -> usize {
     framed
 }
 
-// Field 39 in period 0, 63 in period 2, 40 in period 3. Frame 0 is put off by 39 steps, and 312 ones follow it; frame 1 has
-// 316 bits.
+// Field 39 in period 0, 63 in period 2, 40 in period 3. Frame 0 is put off by 39 steps, so 312 ones follow it;
+// frame 1 has 316 bits.
 #[test]
 fn frames_at_their_places(rt: HostRuntime) {
     let mut line = Line::new(rt.alloc()).expect(&rt, "memory");
     assert_eq!(rt; are_framed(&mut line), 5);
 }
 
-// The frames of 100 periods that each ask this field, and the last period that made two.
+// How many frames 100 periods make that each ask for the shift of this field, and the last period that made two.
 fn frames_of(line: &mut Line, field: u8) -> (u32, u32) {
     let mut frames = 0u32;
     let mut two_at = 0;
@@ -146,9 +146,9 @@ fn the_same_shift_in_each_period(rt: HostRuntime) {
     }
 }
 
-// A period of a line that asks for an advance in each period, as the hostile one of kind 3 does: how many frames it makes, and
-// where the last of them starts and its shift. Period 79 makes frames 79 and 80, of which the first takes the shift; frame 81
-// starts at octet 12,800.
+// Periods of a line that asks for an advance in each period, as the hostile line of kind 3 does: the period, how
+// many frames it makes, and the start and the shift of the last one. Period 79 makes frames 79 and 80, of which the
+// first takes the shift; frame 81 starts at octet 12,800.
 static ADVANCED: [(u32, u32, u32, i16); 5] = [
     (0, 1, 0, -2),
     (78, 1, 12_324, -2),
@@ -157,7 +157,7 @@ static ADVANCED: [(u32, u32, u32, i16); 5] = [
     (99, 1, 15_802, -2),
 ];
 
-// How many of them are so.
+// How many of them match.
 fn are_advanced(line: &mut Line) -> u32 {
     let mut advanced = 0u32;
     for k in 0..100 {

@@ -12,10 +12,10 @@ use std::test::Fail;
 use std::thread;
 use std::thread::Threads;
 
-// How often a caller works at most.
+// The greatest number of turns of a caller.
 const TURNS: u32 = 5_000_000;
 
-// Works call 1 until it is busy for this caller or for another.
+// Processes posts of call 1 until it is busy for this caller or for another.
 fn work_until_busy<R: Wait>(
     rt: &R,
     alloc: Global,

@@ -1,4 +1,4 @@
-//! Tests of a live farm: one caller posts to a call, works it, reads what came of its posts, and ends the farm.
+//! Tests of a live farm: one caller posts to a call, processes its posts, reads the results, and ends the farm.
 
 ghost use Rattle.std.specs.Prelude.{◌≡◌, ◌≤◌, ◌<◌, ◌+◌, length, slice_index_or, IfOk};
 ghost use Rattle.farm_live.specs.Live.{view_of, IsSeated};
@@ -26,7 +26,7 @@ fn numbered(answer: Result<u32, PostFault>) -> (bool, u32) {
     }
 }
 
-// Whose post was worked, its number, and how many were before it; or none, where the call is idle.
+// Whose post was processed, its number, and how many were before it; none, if the call is idle.
 fn worked(answer: Result<Turn, AllocError>) -> Option<(u32, u32, u32)> {
     match answer {
         Ok(
@@ -64,7 +64,7 @@ impl Alone {
         }
     }
 
-    // Posts a period without a frame and with a silent exchange, after this many posts at most.
+    // Posts a period without a frame and with a silent exchange, after at most `posts` posts.
     fn post<R: Wait>(&mut self, rt: &R, posts: u32) -> (bool, u32)
         requires posts { (s : _) → length (view_of (slice_index_or self.old.caller.seats.items 0 s)).made ≤ posts }
         requires few { posts < 100 }
@@ -75,7 +75,7 @@ impl Alone {
         numbered(answer)
     }
 
-    // Works the call.
+    // Processes the next post.
     fn work<R: Wait>(&mut self, rt: &R, alloc: Global) -> Option<(u32, u32, u32)>
         ensures { (s : _) → (view_of (slice_index_or self.new.caller.seats.items 0 s)).made ≡ (view_of (slice_index_or self.old.caller.seats.items 0 s)).made }
     {
@@ -83,7 +83,7 @@ impl Alone {
         worked(answer)
     }
 
-    // The Out and Down octets of the post with this number, if it was worked.
+    // The Out and Down octets of the post with this number, if it was processed.
     fn read<R: Wait>(&mut self, rt: &R, number: u32) -> Option<([u8; 160], [u8; 40])> {
         match self.live.read(rt, &mut self.caller, 1, 0, number) {
             Look::Found(entry) => {
@@ -96,7 +96,7 @@ impl Alone {
         }
     }
 
-    // Whether two posts are accepted, the third isn't, and is once a post was worked.
+    // Whether two posts are accepted, and a third one only after a post was processed.
     fn fills<R: Wait>(&mut self, rt: &R, alloc: Global) -> bool
         requires { (s : _) → length (view_of (slice_index_or self.old.caller.seats.items 0 s)).made ≤ 0 }
     {
@@ -109,12 +109,12 @@ impl Alone {
             && turn == Some((0, 0, 0))
     }
 
-    // Whether the first post's octets are read, and the third isn't worked yet.
+    // Whether the first post's octets are read, and the third post isn't processed yet.
     fn reads_the_first<R: Wait>(&mut self, rt: &R) -> bool {
         self.read(rt, 0) == Some(([0xD5; 160], [0xFF; 40])) && self.read(rt, 2) == None
     }
 
-    // Whether the other two posts are worked, and give idle frames, and then none is left.
+    // Whether the other two posts are processed and give idle frames, and then none remains.
     fn empties<R: Wait>(&mut self, rt: &R, alloc: Global) -> bool {
         for due in [Some((0, 1, 1)), Some((0, 2, 2)), None] {
             if self.work(rt, alloc) != due {
@@ -134,7 +134,7 @@ impl Alone {
     }
 }
 
-// Whether one call was closed, whose first post was worked, and the other two are left, in order.
+// Whether one call was closed, with its first post processed and the other two remaining, in order.
 fn leaves_two(closed: &[Closed]) -> bool {
     if closed.len() != 1 {
         return false;

@@ -1,7 +1,7 @@
-//! Tests of the crates that work one call, and two that are bridged; of a live farm, and of the base station's end.
+//! Tests of the crates that process one call or two bridged ones, of a live farm, and of the base station's end.
 //!
-//! They stand apart from what they test: a crate with tests is proved a second time with them; these go through public
-//! functions only.
+//! They have a crate of their own, since a crate with tests is proved a second time together with them. They call
+//! public functions only.
 #![tactic(auto)]
 
 #[cfg(test)]

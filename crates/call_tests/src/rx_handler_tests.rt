@@ -1,4 +1,4 @@
-//! The receive side: what is made of frames that are lost, unusable or descriptors of silence.
+//! The receive side: what it makes of lost frames, unusable frames and silence descriptors.
 
 use rx_handler::{Effective, Rx};
 use trau_frame::{Class, Kind, UpFrame};
@@ -35,8 +35,8 @@ fn up(kind: Kind, class: Class, taf: bool, p: &Params) -> UpFrame {
     }
 }
 
-// What comes in a period: nothing, or a frame by what it is worth. Its time alignment flag is set, but for a bad one and
-// for those between two such periods.
+// What comes in a period: nothing, or a frame of this class. Its time alignment flag is set, except for a bad frame
+// and for those named `Between`.
 #[derive(Clone, Copy)]
 enum Coming {
     Nothing,
@@ -76,8 +76,13 @@ fn take(rx: &mut Rx, coming: Coming) -> Effective {
     }
 }
 
-// What is heard in a period: whether it is good speech, and its first block maximum; none where the call is quiet.
-type Heard = Option<(bool, u8)>;
+// What is heard in a period: nothing, good speech or a made frame; the number is its first block maximum.
+#[derive(Clone, Copy, PartialEq)]
+enum Heard {
+    Quiet,
+    Good(u8),
+    Made(u8),
+}
 
 fn first(xmaxc: [u8; 4]) -> u8 {
     xmaxc[0]
@@ -85,13 +90,13 @@ fn first(xmaxc: [u8; 4]) -> u8 {
 
 fn hear(rx: &mut Rx, coming: Coming) -> Heard {
     match take(rx, coming) {
-        Effective::Quiet => None,
-        Effective::Speech(p) => Some((true, first(p.xmaxc))),
-        Effective::Made(p) => Some((false, first(p.xmaxc))),
+        Effective::Quiet => Heard::Quiet,
+        Effective::Speech(p) => Heard::Good(first(p.xmaxc)),
+        Effective::Made(p) => Heard::Made(first(p.xmaxc)),
     }
 }
 
-// Whether this is heard in these periods, from the first on.
+// Whether these periods are heard like this, from the first on.
 fn are_heard(rx: &mut Rx, rows: &[(Coming, Heard)]) -> bool {
     for (coming, heard) in rows {
         if hear(rx, *coming) != *heard {
@@ -105,10 +110,10 @@ fn gives(rx: &mut Rx, coming: Coming, wanted: Effective) -> bool {
     take(rx, coming) == wanted
 }
 
-// Whether the frames made where nothing comes have these first block maxima, and then two of them are silence.
+// Whether the frames that are made when nothing comes have these first block maxima, and then two of them are silence.
 fn fades(rx: &mut Rx, maxima: &[u8]) -> bool {
     for maximum in maxima {
-        if hear(rx, Coming::Nothing) != Some((false, *maximum)) {
+        if hear(rx, Coming::Nothing) != Heard::Made(*maximum) {
             return false;
         }
     }
@@ -138,31 +143,31 @@ fn lost_speech_fades(rt: HostRuntime) {
     assert!(rt; fades(&mut rx, &[12, 8, 4, 0, 0, 0, 0, 0, 0, 0, 0, 0, 0, 0]));
 }
 
-// The cells of a call in which nothing was heard yet, of comfort noise, of speech, and of an idle frame after noise and
-// after speech.
+// The table's cells for a call in which nothing was heard yet, for comfort noise, for speech, and for an idle frame
+// after noise and after speech.
 static CELLS: [(Coming, Heard); 22] = [
-    (Coming::Idle, None),
-    (Coming::Invalid, None),
-    (Coming::Missed, None),
-    (Coming::Nothing, None),
-    (Coming::Sid, Some((false, 20))),
-    (Coming::Bad, Some((false, 20))),
-    (Coming::Missed, Some((false, 20))),
-    (Coming::Other, Some((false, 20))),
-    (Coming::Invalid, Some((false, 20))),
-    (Coming::Missed, Some((false, 16))),
-    (Coming::Missed, Some((false, 12))),
-    (Coming::Nothing, Some((false, 8))),
-    (Coming::Sid, Some((false, 20))),
-    (Coming::Good, Some((true, 20))),
-    (Coming::Invalid, Some((false, 20))),
-    (Coming::Missed, Some((false, 16))),
-    (Coming::Other, Some((false, 12))),
-    (Coming::Good, Some((true, 20))),
-    (Coming::Sid, Some((false, 20))),
-    (Coming::Idle, None),
-    (Coming::Good, Some((true, 20))),
-    (Coming::Idle, None),
+    (Coming::Idle, Heard::Quiet),
+    (Coming::Invalid, Heard::Quiet),
+    (Coming::Missed, Heard::Quiet),
+    (Coming::Nothing, Heard::Quiet),
+    (Coming::Sid, Heard::Made(20)),
+    (Coming::Bad, Heard::Made(20)),
+    (Coming::Missed, Heard::Made(20)),
+    (Coming::Other, Heard::Made(20)),
+    (Coming::Invalid, Heard::Made(20)),
+    (Coming::Missed, Heard::Made(16)),
+    (Coming::Missed, Heard::Made(12)),
+    (Coming::Nothing, Heard::Made(8)),
+    (Coming::Sid, Heard::Made(20)),
+    (Coming::Good, Heard::Good(20)),
+    (Coming::Invalid, Heard::Made(20)),
+    (Coming::Missed, Heard::Made(16)),
+    (Coming::Other, Heard::Made(12)),
+    (Coming::Good, Heard::Good(20)),
+    (Coming::Sid, Heard::Made(20)),
+    (Coming::Idle, Heard::Quiet),
+    (Coming::Good, Heard::Good(20)),
+    (Coming::Idle, Heard::Quiet),
 ];
 
 #[test]
@@ -182,9 +187,9 @@ fn starts_noise(rx: &mut Rx) -> bool {
 }
 
 static MISSED_TWICE: [(Coming, Heard); 3] = [
-    (Coming::Bad, Some((false, 20))),
-    (Coming::Missed, Some((false, 20))),
-    (Coming::Missed, Some((false, 16))),
+    (Coming::Bad, Heard::Made(20)),
+    (Coming::Missed, Heard::Made(20)),
+    (Coming::Missed, Heard::Made(16)),
 ];
 
 // The good frame right after noise at 16 is unchanged.
@@ -197,11 +202,11 @@ fn good_speech_ends_noise_that_fell_once(rt: HostRuntime) {
 }
 
 static FALLING: [(Coming, Heard); 5] = [
-    (Coming::Bad, Some((false, 20))),
-    (Coming::Missed, Some((false, 20))),
-    (Coming::Missed, Some((false, 16))),
-    (Coming::Bad, Some((false, 12))),
-    (Coming::Missed, Some((false, 8))),
+    (Coming::Bad, Heard::Made(20)),
+    (Coming::Missed, Heard::Made(20)),
+    (Coming::Missed, Heard::Made(16)),
+    (Coming::Bad, Heard::Made(12)),
+    (Coming::Missed, Heard::Made(8)),
 ];
 
 #[test]
@@ -214,41 +219,41 @@ fn noise_falls_from_the_second_missed_descriptor(rt: HostRuntime) {
 }
 
 static DOWN: [(Coming, Heard); 10] = [
-    (Coming::Sid, Some((false, 20))),
-    (Coming::LowSid, Some((false, 18))),
-    (Coming::Nothing, Some((false, 16))),
-    (Coming::Nothing, Some((false, 14))),
-    (Coming::Nothing, Some((false, 12))),
-    (Coming::Nothing, Some((false, 10))),
-    (Coming::Nothing, Some((false, 8))),
-    (Coming::Nothing, Some((false, 6))),
-    (Coming::Nothing, Some((false, 4))),
-    (Coming::Nothing, Some((false, 4))),
+    (Coming::Sid, Heard::Made(20)),
+    (Coming::LowSid, Heard::Made(18)),
+    (Coming::Nothing, Heard::Made(16)),
+    (Coming::Nothing, Heard::Made(14)),
+    (Coming::Nothing, Heard::Made(12)),
+    (Coming::Nothing, Heard::Made(10)),
+    (Coming::Nothing, Heard::Made(8)),
+    (Coming::Nothing, Heard::Made(6)),
+    (Coming::Nothing, Heard::Made(4)),
+    (Coming::Nothing, Heard::Made(4)),
 ];
 
 static TURNED: [(Coming, Heard); 11] = [
-    (Coming::Sid, Some((false, 20))),
-    (Coming::LowSid, Some((false, 18))),
-    (Coming::Nothing, Some((false, 16))),
-    (Coming::Sid, Some((false, 16))),
-    (Coming::Nothing, Some((false, 17))),
-    (Coming::Nothing, Some((false, 17))),
-    (Coming::Nothing, Some((false, 18))),
-    (Coming::Nothing, Some((false, 18))),
-    (Coming::Nothing, Some((false, 19))),
-    (Coming::Nothing, Some((false, 19))),
-    (Coming::Nothing, Some((false, 20))),
+    (Coming::Sid, Heard::Made(20)),
+    (Coming::LowSid, Heard::Made(18)),
+    (Coming::Nothing, Heard::Made(16)),
+    (Coming::Sid, Heard::Made(16)),
+    (Coming::Nothing, Heard::Made(17)),
+    (Coming::Nothing, Heard::Made(17)),
+    (Coming::Nothing, Heard::Made(18)),
+    (Coming::Nothing, Heard::Made(18)),
+    (Coming::Nothing, Heard::Made(19)),
+    (Coming::Nothing, Heard::Made(19)),
+    (Coming::Nothing, Heard::Made(20)),
 ];
 
 static FALLEN: [(Coming, Heard); 5] = [
-    (Coming::Sid, Some((false, 20))),
-    (Coming::Missed, Some((false, 20))),
-    (Coming::Missed, Some((false, 16))),
-    (Coming::LowSid, Some((false, 4))),
-    (Coming::Sid, Some((false, 6))),
+    (Coming::Sid, Heard::Made(20)),
+    (Coming::Missed, Heard::Made(20)),
+    (Coming::Missed, Heard::Made(16)),
+    (Coming::LowSid, Heard::Made(4)),
+    (Coming::Sid, Heard::Made(6)),
 ];
 
-// A new descriptor is approached in eight steps from where the noise stands, and from itself once the level has fallen.
+// A new descriptor is approached in eight steps from the present noise, or from itself once the level has fallen.
 #[test]
 fn noise_moves(rt: HostRuntime) {
     assert!(rt; are_heard(&mut Rx::new(7), &DOWN));

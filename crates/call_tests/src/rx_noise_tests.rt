@@ -11,7 +11,7 @@ fn has_values(p: &Params) -> bool {
     fixed && p.larc == [1, 2, 3, 4, 5, 6, 7, 0] && p.xmaxc == [20; 4]
 }
 
-// The first draws of a source that starts at 7, worked by hand.
+// The first draws of a source that starts at 7, computed by hand.
 fn has_draws(p: &Params) -> bool {
     let (mc, pulses) = (p.mc, p.xmc[0]);
     mc[0] == 3 && pulses.starts_with(&[1, 2, 2])

@@ -5,7 +5,7 @@ use rx_subst::lost_frame;
 use trau_num::Draw;
 use trau_params::{Params, silence};
 
-// The first draws of a source that starts at 7, worked by hand, and maxima lower by 4.
+// The first draws of a source that starts at 7, computed by hand, and maxima lower by 4.
 fn is_second(p: &Params) -> bool {
     p.mc == [3, 0, 1, 0] && p.xmaxc == [16; 4]
 }

@@ -10,7 +10,7 @@ const QUIET: Trace = Trace {
     xmax: [0; 4],
 };
 
-// Sends so many frames, active or not: how many go out as speech.
+// Sends this many frames, active or not, and counts those that go out as speech.
 fn spoken(tx: &mut Tx, frames: u32, active: bool) -> u32 {
     let peak = if active { 256 } else { 255 };
     let mut speech = 0u32;
@@ -22,7 +22,7 @@ fn spoken(tx: &mut Tx, frames: u32, active: bool) -> u32 {
     speech
 }
 
-// How many frames of a first pause of 7 go out as speech, and of a burst and a pause after it.
+// How many frames go out as speech of a first pause of 7, of a burst, and of a pause after it.
 fn spoken_in_turn(burst: u32, pause: u32) -> (u32, u32, u32) {
     let mut tx = Tx::home();
     let first = spoken(&mut tx, 7, false);
@@ -30,7 +30,7 @@ fn spoken_in_turn(burst: u32, pause: u32) -> (u32, u32, u32) {
     (first, second, spoken(&mut tx, pause, false))
 }
 
-// A first pause, a burst and a pause: a pause has a hangover of four where it begins 24 frames or more after the last SID.
+// A first pause, a burst and a pause. A pause has a hangover of four if it begins 24 frames or more after the last SID.
 #[test]
 fn pauses_between_bursts(rt: HostRuntime) {
     for burst in 1..31 {
@@ -49,8 +49,8 @@ fn level_0_has_no_silence(rt: HostRuntime) {
     assert!(rt; Tx::home().send(&silence(), &QUIET, 0, 0, true).1);
 }
 
-// Frames by ratios 1 and 2 and the maximum of block 4, where all other ratios are 0 and all other maxima 511. The first
-// ratios have the sum -1637, so their mean is -410, just below a step; the maxima are 1 above sixteen times 511.
+// Frames by ratios 1 and 2 and the maximum of block 4; all other ratios are 0 and all other maxima 511. The sum of
+// the first ratios is -1637, so their mean is -410, just below a step; the maxima are 1 above sixteen times 511.
 static FRAMES: [(i16, i16, i16); 5] = [
     (0, 30000, 32767),
     (-410, 1000, 511),
@@ -104,8 +104,8 @@ fn sends(tx: &mut Tx, level: i16, wanted: (Params, bool)) -> bool {
     tx.send(&silence(), &QUIET, 0, level, true) == wanted
 }
 
-// From the fifth frame of a pause on each has a new descriptor of the last four; a new pause soon after has the last one.
-// Of the sixth the means are -307, 3500 and 383, of the seventh -205, 3000 and 255.
+// From the fifth frame of a pause on, each has a new descriptor of the last four. A new pause soon after has the
+// last one. The means are -307, 3500 and 383 for the sixth frame, -205, 3000 and 255 for the seventh.
 #[test]
 fn a_sid_of_the_last_four_frames(rt: HostRuntime) {
     let mut tx = Tx::home();
@@ -122,11 +122,11 @@ const LOW: Trace = Trace {
     xmax: [511; 4],
 };
 
-// The active frames between two pauses, how many frames of the second pause go out as speech, and the maximum's code of the
-// descriptor that goes out next: the last one of the first pause, or a new one of the second.
+// The active frames between two pauses, how many frames of the second pause go out as speech, and the maximum's
+// code of the next descriptor: the last one of the first pause, or a new one of the second.
 static BURSTS: [(u32, u32, u8); 4] = [(10, 0, 15), (22, 0, 15), (23, 4, 0), (30, 4, 0)];
 
-// Whether a pause of seven frames with these maxima, a burst, and a pause without any are so.
+// Whether a pause of seven frames with these maxima, a burst, and a pause with all maxima 0 give this.
 fn describes(burst: u32, hangover: u32, maximum: u8) -> bool {
     let mut tx = Tx::home();
     for _ in 0..7 {

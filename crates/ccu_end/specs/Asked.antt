@@ -1,6 +1,5 @@
 -- What a base station sends up in each period: the speech that it heard, and the time alignment that it asks for (this
--- project's profile, in the manner of GSM 08.60). A history has the newest period first; the frames of one period stand
--- in order.
+-- project's profile, modelled on GSM 08.60). A history has the newest period first; the frames of one period are in order.
 use Rattle.std.specs.Prelude.{ℕ, ◌+◌, ◌-◌, ◌/◌, ◌%◌, Bool, true, false, ◌&&◌, if◌then◌else◌, ◌==◌, nat_le, nat_lt, List, [], ◌∷◌, ◌++◌, length, replicate}
 use Rattle.std.specs.Prelude.{Option, Some, None}
 use Rattle.trau_frame.specs.declared.frames.DownFrame.{DownFrame}
@@ -10,47 +9,47 @@ use Rattle.trau_frame.specs.declared.frames.Class.TheVariants as classes
 use Rattle.trau_frame.specs.UpFrame.{UpWords}
 use Rattle.ccu_end.specs.Found.{FoundFrame}
 
--- the last of the frames, where there is one
+-- the last of the frames, if there is one
 abbrev pub last_of : List FoundFrame → Option FoundFrame
 last_of [] = None
 last_of (f ∷ []) = Some f
 last_of (f ∷ g ∷ fs) = last_of (g ∷ fs)
 
--- its place
+-- its place, or 0 if there is none
 abbrev pub place_in : Option FoundFrame → ℕ
 place_in None = 0
 place_in (Some f) = f.place
 
 -- ---- the field
 
--- by how many bits the wanted place lies behind place p, modulo 320
+-- bits from place p to the next wanted place, 0 to 319
 abbrev pub offset_of : ℕ → ℕ → ℕ
 offset_of want p = (want + 320 - p % 320) % 320
 
--- the alignment field that asks for frames so many bits later: a field up to 39 is a delay by so many steps of 500 us, 8
--- bits each, and 62 one of 250 us, 4 bits (GSM 08.60)
+-- the alignment field that asks for frames `offset` bits later: a field n up to 39 is a delay by n steps of 500 us, 8 bits each,
+-- and 62 one of 250 us, 4 bits (GSM 08.60)
 abbrev pub field_for : ℕ → ℕ
 field_for offset =
     if nat_le 8 offset then offset / 8
     else if offset == 4 then 62
     else 0
 
--- a period: the frames found in it, and the field sent in it, which is a request where it isn't 0
+-- a period: the frames found in it, and the field sent in it; a field other than 0 is a request
 pub record Answered : Type 0 where
   pub frames : List FoundFrame
   pub field : ℕ
 
--- each frame stands 320 bits behind the one before, and the first of them behind place p
+-- each frame is 320 bits after the one before, and the first of them 320 bits after place p
 abbrev pub in_step : ℕ → List FoundFrame → Bool
 in_step p [] = true
 in_step p (f ∷ fs) = f.place == p + 320 && in_step f.place fs
 
--- A request of the period that found `sent` waits as long as all frames found since are in step and fewer than eight.
+-- A request of the period in which `sent` were found waits as long as all frames found since are in step and fewer than eight.
 abbrev pub still_waits : List FoundFrame → List FoundFrame → Bool
 still_waits sent since = nat_lt (length since) 8 && in_step (place_in (last_of sent)) since
 
--- How many frames were found since the request that waits, or none where none waits. `since` are the frames found since
--- these periods; the newest that sent a request is looked for.
+-- How many frames were found since the newest request, if it still waits; None if it doesn't, or if there was none. `since`
+-- are the frames found after these periods.
 unfoldable pub waiting : List FoundFrame → List Answered → Option ℕ
 waiting since [] = None
 waiting since (a ∷ past) =
@@ -58,12 +57,13 @@ waiting since (a ∷ past) =
     else if still_waits a.frames since then Some (length since)
     else None
 
--- the field where a request waits, and where none does
+-- this field, but 0 while a request waits
 abbrev pub field_where : Option ℕ → ℕ → ℕ
 field_where None field = field
 field_where (Some count) field = 0
 
--- the field of the period behind these in which these frames were found: 0 where none was, and while a request waits
+-- the field of the period that follows the past and in which these frames were found: 0 without a frame, and while a request
+-- waits
 abbrev pub field_after : ℕ → List FoundFrame → List Answered → ℕ
 field_after want [] past = 0
 field_after want (f ∷ fs) past = field_where (waiting (f ∷ fs) past) (field_for (offset_of want (place_in (last_of (f ∷ fs)))))
@@ -80,7 +80,7 @@ speech_by None = None
 speech_by (Some down.Idle) = None
 speech_by (Some (down.Speech d sp)) = Some d
 
--- the data bits, where it is a speech frame
+-- the data bits, if it is a speech frame
 abbrev pub speech_in : Option FoundFrame → Option (List ℕ)
 speech_in None = None
 speech_in (Some f) = speech_by f.frame
@@ -90,8 +90,8 @@ abbrev pub up_words : Option (List ℕ) → ℕ → UpWords
 up_words None field = record { kind = kinds.Idle; class = classes.Unusable; taf = false; dtxd = true; align = field; d = replicate 260 1 }
 up_words (Some d) field = record { kind = kinds.Speech; class = classes.Good; taf = false; dtxd = true; align = field; d = d }
 
--- what is sent up in the newest of the periods in which these frames were found: the speech of the last frame found in
--- it, with its field; before the first period an idle frame
+-- what is sent up in the newest of the periods in which these frames were found: the speech of the last frame found in it, or
+-- an idle frame, with its field; before the first period an idle frame with field 0
 unfoldable pub asked : ℕ → List (List FoundFrame) → UpWords
 asked want [] = up_words None 0
 asked want (fs ∷ heard) = up_words (speech_in (last_of fs)) (field_after want fs (answered want heard))

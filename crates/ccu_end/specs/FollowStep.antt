@@ -1,4 +1,4 @@
--- One period of `follow`, after any periods for which the base station's end stands. A past has the newest period first.
+-- One period of `follow`, after any past that leads to the station's memory (`Stands`). A past has the newest period first.
 use Rattle.std.specs.Prelude.{◌≡◌, ℕ, ◌+◌, ◌≤◌, ◌<◌, List, [], ◌∷◌, length, take}
 use Rattle.std.specs.Io.KnownBytes.{IsAtEnd}
 use Rattle.trau_io.specs.Lines.{LineState, Rose}
@@ -10,7 +10,7 @@ use Rattle.ccu_end.specs.Heard.{CcuMemory, Stands}
 use Rattle.ccu_end.specs.Told.{lines_of, octets_saying}
 use Rattle.ccu_end.specs.Follows.{Moves}
 
--- the period was taken, and these are the frames found in it
+-- the whole period was read, and these are the frames found in it
 pub record Takes (ccu ccu' : CcuMemory) (given : List ℕ) (found : List FoundFrame) : Type 0 where
   pub long : length given ≡ 40
   pub counted : ccu'.periods ≡ ccu.periods + 1
@@ -24,7 +24,7 @@ pub record NoFault (up up' down down' : LineState) (desk desk' : DeskState) : Ty
   pub down_same : down'.faults ≡ down.faults
   pub desk_same : desk'.write_faults ≡ desk.write_faults
 
--- the period was answered, and its frames told
+-- the period was answered, and its frames were listed
 pub record IsTakenPeriod (ccu ccu' : CcuMemory) (up up' down down' : LineState) (desk desk' : DeskState) (given sent told : List ℕ) (count : ℕ) : Type 0 where
   pub found : List FoundFrame
   pub takes : Takes ccu ccu' given found
@@ -33,7 +33,7 @@ pub record IsTakenPeriod (ccu ccu' : CcuMemory) (up up' down down' : LineState) 
   pub told_is : told ≡ lines_of found
   pub calm : NoFault up up' down down' desk desk'
 
--- the line ended after so many octets of it
+-- the line ended after `left` octets of the period
 pub record EndsInside (up up' down down' : LineState) (desk desk' : DeskState) (given sent told : List ℕ) (left : ℕ) : Type 0 where
   pub left_is : left ≡ length given
   pub part : length given < 40
@@ -42,7 +42,7 @@ pub record EndsInside (up up' down down' : LineState) (desk desk' : DeskState) (
   pub nothing_told : told ≡ []
   pub calm : NoFault up up' down down' desk desk'
 
--- the incoming line failed inside it
+-- the incoming line failed inside the period
 pub record FailsInside (up up' down down' : LineState) (desk desk' : DeskState) (given sent told : List ℕ) : Type 0 where
   pub part : length given < 40
   pub nothing_sent : sent ≡ []
@@ -51,7 +51,7 @@ pub record FailsInside (up up' down down' : LineState) (desk desk' : DeskState) 
   pub down_same : down'.faults ≡ down.faults
   pub desk_same : desk'.write_faults ≡ desk.write_faults
 
--- the outgoing line failed inside its answer
+-- the outgoing line failed inside the period's answer
 pub record IsHalfAnswered (ccu ccu' : CcuMemory) (up up' down down' : LineState) (desk desk' : DeskState) (given sent told : List ℕ) : Type 0 where
   pub found : List FoundFrame
   pub takes : Takes ccu ccu' given found
@@ -62,7 +62,7 @@ pub record IsHalfAnswered (ccu ccu' : CcuMemory) (up up' down down' : LineState)
   pub rose : Rose down.faults down'.faults
   pub desk_same : desk'.write_faults ≡ desk.write_faults
 
--- the desk failed inside its lines of text
+-- the desk failed inside the period's lines of text
 pub record IsHalfTold (ccu ccu' : CcuMemory) (up up' down down' : LineState) (desk desk' : DeskState) (given sent told : List ℕ) : Type 0 where
   pub found : List FoundFrame
   pub takes : Takes ccu ccu' given found
@@ -73,7 +73,7 @@ pub record IsHalfTold (ccu ccu' : CcuMemory) (up up' down down' : LineState) (de
   pub down_same : down'.faults ≡ down.faults
   pub rose : Rose desk.write_faults desk'.write_faults
 
--- how a period ended, by what was read of it, sent for it and told of it
+-- how a period ended, with what was read of it, sent for it and printed for it
 abbrev pub PeriodEndsAs : CcuMemory → CcuMemory → LineState → LineState → LineState → LineState → DeskState → DeskState → List ℕ → List ℕ → List ℕ → PeriodEnd →
     Type 0
 PeriodEndsAs ccu ccu' up up' down down' desk desk' given sent told (Taken count) = IsTakenPeriod ccu ccu' up up' down down' desk desk' given sent told count

@@ -1,5 +1,5 @@
--- A whole `follow`: from the octets of a recorded downlink to those of an uplink, and to lines of text (this project's
--- profile). Periods have the oldest first, what is heard in them the newest.
+-- A whole `follow`, from the octets of a recorded downlink to those of an uplink and to lines of text (this project's
+-- profile). `periods` has the oldest first, `heard` the newest.
 use Rattle.std.specs.Prelude.{◌≡◌, ◌⊎◌, ℕ, ◌*◌, ◌-◌, ◌^◌, ◌<◌, ◌≤◌, List, [], ◌∷◌, ◌++◌, length, take, reverse}
 use Rattle.std.specs.List.{concat}
 use Rattle.std.specs.Io.KnownBytes.{Appends, IsAtEnd}
@@ -12,13 +12,13 @@ use Rattle.ccu_end.specs.Found.{FoundFrame}
 use Rattle.ccu_end.specs.Heard.{ArePeriods, AreHeard, all_of}
 use Rattle.ccu_end.specs.Told.{listed, sent_up}
 
--- the outgoing line gained those
+-- the outgoing line gained these octets
 pub record Gains (down down' : LineState) (sent : List ℕ) : Type 0 where
   pub written : Appends down.written down'.written sent
   pub to_come : down'.to_come ≡ down.to_come
   pub later : down.faults ≤ down'.faults
 
--- and the desk that text
+-- the desk gained this text
 pub record DeskHears (desk desk' : DeskState) (told : List ℕ) : Type 0 where
   pub written : Appends desk.written desk'.written told
   pub to_come : desk'.to_come ≡ desk.to_come
@@ -30,8 +30,8 @@ pub record Moves (up up' down down' : LineState) (desk desk' : DeskState) (given
   pub gains : Gains down down' sent
   pub hears : DeskHears desk desk' told
 
--- The line ended behind these periods, with so many octets left, or so many were taken that no more are. All of them are
--- answered, and all frames told.
+-- The line ended after these periods and `left` more octets, or 4,294,967,295 periods were read. All of them are answered, and
+-- all frames are listed.
 pub record EndsLine (up up' down down' : LineState) (desk desk' : DeskState) (want : ℕ) (periods : List (List ℕ)) (heard : List (List FoundFrame))
     (last sent told : List ℕ) (frames left : ℕ) : Type 0 where
   pub at_end : IsAtEnd up'.to_come ⊎ ((length periods ≡ 2 ^ 32 - 1) × (last ≡ []))
@@ -44,8 +44,9 @@ pub record EndsLine (up up' down down' : LineState) (desk desk' : DeskState) (wa
   pub down_same : down'.faults ≡ down.faults
   pub desk_same : desk'.write_faults ≡ desk.write_faults
 
--- The incoming line failed inside a period. All periods before it, fewer than are taken, are answered, and their frames told.
-pub record FailsToRead (up up' down down' : LineState) (desk desk' : DeskState) (want : ℕ) (periods : List (List ℕ)) (heard : List (List FoundFrame))
+-- The incoming line failed inside a period. All periods before it, fewer than 4,294,967,295, are answered, and their frames are
+-- listed.
+pub record FollowFailsToRead (up up' down down' : LineState) (desk desk' : DeskState) (want : ℕ) (periods : List (List ℕ)) (heard : List (List FoundFrame))
     (last sent told : List ℕ) : Type 0 where
   pub room : length periods < 2 ^ 32 - 1
   pub part : length last < 40
@@ -55,9 +56,9 @@ pub record FailsToRead (up up' down down' : LineState) (desk desk' : DeskState) 
   pub down_same : down'.faults ≡ down.faults
   pub desk_same : desk'.write_faults ≡ desk.write_faults
 
--- The outgoing line failed inside the answer of the last period: nothing was read behind that period, the line holds all
--- earlier answers and a proper front of its answer, and the frames of the earlier periods alone are told.
-pub record FailsToWrite (up up' down down' : LineState) (desk desk' : DeskState) (want : ℕ) (heard : List (List FoundFrame))
+-- The outgoing line failed inside the answer of the last period: nothing was read after that period, the line gained all earlier
+-- answers and a proper prefix of this one, and only the frames of the earlier periods are listed.
+pub record FollowFailsToWrite (up up' down down' : LineState) (desk desk' : DeskState) (want : ℕ) (heard : List (List FoundFrame))
     (last sent told : List ℕ) : Type 0 where
   pub nothing_more : last ≡ []
   pub newest : List FoundFrame
@@ -71,8 +72,8 @@ pub record FailsToWrite (up up' down down' : LineState) (desk desk' : DeskState)
   pub rose : Rose down.faults down'.faults
   pub desk_same : desk'.write_faults ≡ desk.write_faults
 
--- The desk failed inside the lines of text of the last period: nothing was read behind that period, which is answered as
--- all earlier ones are, and the desk holds all earlier lines and a proper front of its lines.
+-- The desk failed inside the lines of text of the last period: nothing was read after that period, all periods are answered, and
+-- the desk gained all earlier lines and a proper prefix of the period's.
 pub record FailsToTell (up up' down down' : LineState) (desk desk' : DeskState) (want : ℕ) (heard : List (List FoundFrame))
     (last sent told : List ℕ) : Type 0 where
   pub nothing_more : last ≡ []
@@ -87,17 +88,17 @@ pub record FailsToTell (up up' down down' : LineState) (desk desk' : DeskState) 
   pub down_same : down'.faults ≡ down.faults
   pub rose : Rose desk.write_faults desk'.write_faults
 
--- the end behind these periods: what was read behind them, what was sent, and what was told
+-- the end after these periods: what was read after them, what was sent, and what was printed
 abbrev pub EndsAs : LineState → LineState → LineState → LineState → DeskState → DeskState → ℕ → List (List ℕ) → List (List FoundFrame) → List ℕ → List ℕ →
     List ℕ → FollowEnd → Type 0
 EndsAs up up' down down' desk desk' want periods heard last sent told (Done frames left) =
     EndsLine up up' down down' desk desk' want periods heard last sent told frames left
-EndsAs up up' down down' desk desk' want periods heard last sent told ReadFailed = FailsToRead up up' down down' desk desk' want periods heard last sent told
-EndsAs up up' down down' desk desk' want periods heard last sent told WriteFailed = FailsToWrite up up' down down' desk desk' want heard last sent told
+EndsAs up up' down down' desk desk' want periods heard last sent told ReadFailed = FollowFailsToRead up up' down down' desk desk' want periods heard last sent told
+EndsAs up up' down down' desk desk' want periods heard last sent told WriteFailed = FollowFailsToWrite up up' down down' desk desk' want heard last sent told
 EndsAs up up' down down' desk desk' want periods heard last sent told DeskFailed = FailsToTell up up' down down' desk desk' want heard last sent told
 
--- A whole downlink. What its reads gave is whole periods, in which these frames were found, and then what was read behind
--- them: 4,294,967,295 periods at most, and nothing behind so many.
+-- A whole downlink. At most 4,294,967,295 periods were read: whole periods, in which these frames were found, and then maybe a
+-- part of one.
 pub record Follows (up up' down down' : LineState) (desk desk' : DeskState) (want : ℕ) (end : FollowEnd) : Type 0 where
   pub periods : List (List ℕ)
   pub heard : List (List FoundFrame)

@@ -14,19 +14,19 @@ use Rattle.ccu_end.specs.Read.{down_frame_in, HasLength}
 abbrev pub FoundFrame : Type 0
 FoundFrame = Place
 
--- what it carries are bits
+-- its data bits are bits
 abbrev pub HaveBits : FoundFrame → Type 0
 HaveBits f = IfSome f.frame HasBits
 
--- the 35 sync bits stand at p, and the first 316 bits from p on are there
+-- the 35 sync bits match at p, and the list has the 316 bits from p on
 abbrev pub is_found_at : List ℕ → ℕ → Bool
 is_found_at bits p = nat_le (p + 316) (length bits) && is_match (bit_in bits) p
 
--- No place from `low` on and before `high` has a frame.
+-- no frame is found from `low` on and before `high`
 abbrev pub NoneFound : List ℕ → ℕ → ℕ → Type 0
 NoneFound bits low high = (q : ℕ) → low ≤ q → q < high → is_found_at bits q ≡ false
 
--- These are all frames found from `low` on: each at the least place, and the next one is looked for 316 bits on.
+-- These are all frames found from `low` on: each at the lowest place, and the next one is looked for from 316 bits after it.
 abbrev pub FoundFrom : List ℕ → ℕ → List FoundFrame → Type 0
 FoundFrom bits low [] = (q : ℕ) → low ≤ q → is_found_at bits q ≡ false
 FoundFrom bits low (f ∷ fs) =
@@ -37,13 +37,13 @@ FoundFrom bits low (f ∷ fs) =
 abbrev pub Found : List ℕ → List FoundFrame → Type 0
 Found bits fs = FoundFrom bits 0 fs
 
--- ---- those that were made, where `frame` is the newest of some frames
+-- ---- those that were made; `frame` gives the newest of some frames
 
--- the downlink as far as it is made
+-- the downlink so far
 abbrev pub downlink : {A : Type 0} → (List (MadeFrame A) → DownFrame) → List (MadeFrame A) → List ℕ
 downlink frame fs = downlink_of (λ gs. down_bits (frame gs)) fs
 
--- a frame that starts at an octet of the Pcm line stands two bits for each octet behind the first 320 bits
+-- the place of a frame that starts at an octet of the Pcm line: 320 bits, and two for each octet before that one
 abbrev pub place_of : {A : Type 0} → MadeFrame A → ℕ
 place_of f = 320 + 2 * f.start
 
@@ -57,16 +57,16 @@ abbrev pub as_made : {A : Type 0} → (List (MadeFrame A) → DownFrame) → Lis
 as_made frame [] = []
 as_made frame (f ∷ fs) = as_made frame fs ++ (record { place = place_of f; frame = Some (frame (f ∷ fs)) }) ∷ []
 
--- those of which the first 316 bits are among the first n of the line
+-- the frames whose first 316 bits are among the first n bits of the line
 abbrev pub all_within : ℕ → List FoundFrame → List FoundFrame
 all_within n fs = filter (λ f. nat_le (f.place + 316) n) fs
 
--- ---- frames and their shifts, the oldest first, whoever made them
+-- ---- any frames and their shifts, the oldest first
 
 abbrev pub Shifted : Type 0
 Shifted = ℤ × DownFrame
 
--- 320 ones, and then each frame with what its shift adds or leaves out
+-- 320 ones, and then each frame with the bits that its shift adds or leaves out
 abbrev pub shifted_line : List Shifted → List ℕ
 shifted_line xs = replicate 320 1 ++ flat_map (λ x. frame_on_line x.0 (down_bits x.1)) xs
 
@@ -75,14 +75,14 @@ abbrev pub AreShifted : List Shifted → Type 0
 AreShifted [] = Unit {0}
 AreShifted (x ∷ xs) = IsShift x.0 × HasLength x.1 × AreShifted xs
 
--- the first one at p, and each further one 320 bits and two for each octet of the shift after the one before
+-- the frames at their places: the first at p, each further one 320 bits and two for each octet of the shift after the one before
 abbrev pub found_from : ℕ → List Shifted → List FoundFrame
 found_from p [] = []
 found_from p (x ∷ xs) = record { place = p; frame = Some x.1 } ∷ found_from (p + 2 * octets_to_next x.0) xs
 
 -- ---- places by shifts, the oldest first
 
--- a shift moves the next place by two bits for each of its octets: it stands 320 bits and the shift after the one before
+-- the first place is p; each further one is 320 bits and two for each octet of the shift after the one before
 abbrev pub places_from : ℕ → List ℤ → List ℕ
 places_from p [] = []
 places_from p (v ∷ vs) = p ∷ places_from (p + 2 * octets_to_next v) vs

@@ -1,6 +1,5 @@
--- The frames that a base station finds in each period of a downlink (this project's profile). A period has 40 octets. A
--- history has the newest period first; the frames of one period stand in order. The bits of a history are those in which an
--- uplink's frames are searched.
+-- The frames that a base station finds in each period of a downlink (this project's profile). A period has 40 octets. A history
+-- has the newest period first; the frames of one period are in order. The bits of a history are those of an uplink's search.
 use Rattle.std.specs.Prelude.{◌≡◌, ℕ, ◌+◌, ◌*◌, ◌≤◌, ◌<◌, List, [], ◌∷◌, ◌++◌, length, All, Option, option_to_list}
 pub use Rattle.frame_sync.specs.Periods.{ArePeriods}
 unfoldable pub use Rattle.frame_sync.specs.Periods.{line_bits}
@@ -20,7 +19,7 @@ all_of (fs ∷ heard) = all_of heard ++ fs
 abbrev pub EndsIn : ℕ → FoundFrame → Type 0
 EndsIn k f = (320 * k ≤ f.place + 315) × (f.place + 315 < 320 * k + 320)
 
--- each frame is one of the period that has its bit 315
+-- each frame is listed in the period that has its bit 315
 abbrev pub EachEnds : List (List FoundFrame) → Type 0
 EachEnds [] = Unit {0}
 EachEnds (fs ∷ heard) = All (EndsIn (length heard)) fs × EachEnds heard
@@ -32,7 +31,7 @@ pub record AreHeard (past : List (List ℕ)) (heard : List (List FoundFrame)) : 
   pub all : Found (line_bits past) (all_of heard)
   pub each : EachEnds heard
 
--- what is said of one period, as a list
+-- the frames of one period, as a list
 abbrev pub frames_of : Heard → List FoundFrame
 frames_of h = option_to_list h.first ++ option_to_list h.second
 
@@ -49,7 +48,7 @@ pub record CcuMemory : Type 0 where
   pub waiting : Option ℕ
   pub answer : UpWords
 
--- the memory is that after these periods, in which these frames were found
+-- this is the memory after these periods, in which these frames were found
 pub record Stands (past : List (List ℕ)) (heard : List (List FoundFrame)) (memory : CcuMemory) : Type 0 where
   pub whole : ArePeriods past
   pub found : AreHeard past heard

@@ -4,26 +4,26 @@ use Rattle.trau_frame.specs.UpFrame.{UpWords}
 use Rattle.ccu_end.specs.Found.{FoundFrame}
 use Rattle.ccu_end.specs.Asked.{last_of, offset_of, field_for, field_where, speech_in, up_words}
 
--- One more frame is found, at place p, where the next one was looked for from `low` on: 316 bits behind the one before.
+-- a request that waits, when the next frame is found at place p; `low` is the place 316 bits after the one before
 abbrev pub wait_next : Option ℕ → ℕ → ℕ → Option ℕ
 wait_next None low p = None
 wait_next (Some count) low p = if p == low + 4 && nat_lt count 7 then Some (count + 1) else None
 
--- and so on, over all of them
+-- the same over all frames of a period
 abbrev pub waits_over : Option ℕ → ℕ → List FoundFrame → Option ℕ
 waits_over w low [] = w
 waits_over w low (f ∷ fs) = waits_over (wait_next w low f.place) (f.place + 316) fs
 
--- the field where a request waits, or none does, and this is the last frame
+-- the field by the request that waits, if one does, and by the last frame
 abbrev pub field_now : Option ℕ → ℕ → Option FoundFrame → ℕ
 field_now w want None = 0
 field_now w want (Some f) = field_where w (field_for (offset_of want f.place))
 
--- the field of the period that found these
+-- the field of the period in which these frames were found
 abbrev pub period_field : Option ℕ → ℕ → ℕ → List FoundFrame → ℕ
 period_field w low want fs = field_now (waits_over w low fs) want (last_of fs)
 
--- whether a request waits after a period with this field
+-- the request that waits after a period with this field
 abbrev pub asked_with : Option ℕ → ℕ → Option ℕ
 asked_with w field = if field == 0 then w else Some 0
 

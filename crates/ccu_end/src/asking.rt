@@ -11,10 +11,11 @@ ghost use Rattle.ccu_end.specs.Step.{wait_next, waits_over, field_now};
 use crate::finds::{Found, Heard};
 use trau_frame::{Class, DownFrame, Kind, UpFrame};
 
-// A request that waits ends with the eighth frame.
+// A request waits no longer than to the eighth frame.
 const LAST_FRAME: u8 = 7;
 
-// Whether a request still waits, where one more frame is found at `place`; the next one was looked for from `low` on.
+// A waiting request (as the number of frames found since) when the next frame is found, at `place`. It was looked for from
+// `low` on, the place after the 316 bits of the frame before.
 fn wait_next(waiting: Option<u8>, low: u64, place: u64) -> Option<u8>
     requires { low < 2 ^ 62 }
     ensures { result ≡ wait_next waiting low place }
@@ -27,7 +28,7 @@ fn wait_next(waiting: Option<u8>, low: u64, place: u64) -> Option<u8>
     }
 }
 
-/// The same where the frames of a period are found.
+/// The same over the frames of a period.
 pub(crate) fn wait_over(waiting: Option<u8>, low: u64, heard: &Heard) -> Option<u8>
     requires low { low < 2 ^ 62 }
     requires places { All (λ f. f.place < 2 ^ 61) (frames_of heard.now) }
@@ -51,7 +52,7 @@ pub(crate) fn last_of(heard: &Heard) -> Option<&Found>
     heard.second.as_ref().or(heard.first.as_ref())
 }
 
-// By how many bits the wanted place lies behind `place`, modulo 320.
+// Bits from `place` to the next wanted place, 0 to 319.
 fn offset_of(want: u16, place: u64) -> u64
     requires { want ≤ 316 }
     ensures value { result ≡ offset_of want place }
@@ -60,7 +61,7 @@ fn offset_of(want: u16, place: u64) -> u64
     (u64::from(want) + 320 - place % 320) % 320
 }
 
-// The alignment field that asks for frames so many bits later.
+// The alignment field that asks for frames `offset` bits later.
 fn field_by(offset: u64) -> u8
     requires { offset < 320 }
     ensures value { result ≡ field_for offset }
@@ -73,7 +74,7 @@ fn field_by(offset: u64) -> u8
     }
 }
 
-/// The field of a period whose last frame this is: 0 where there is none, and while a request waits.
+/// The field of a period with this last frame: 0 without a frame, and while a request waits.
 pub(crate) fn field_where(waiting: Option<u8>, want: u16, last: Option<&Found>) -> u8
     requires { want ≤ 316 }
     ensures value { result ≡ field_now waiting want (option_copied last.entry) }
@@ -85,7 +86,7 @@ pub(crate) fn field_where(waiting: Option<u8>, want: u16, last: Option<&Found>) 
     }
 }
 
-// The data bits of a speech frame.
+// The data bits, if it is a speech frame.
 fn speech_in(last: Option<&Found>) -> Option<&[u8; 260]>
     requires { IfSome (option_copied last) HaveBits }
     ensures value { option_copied result ≡ speech_in (option_copied last.entry) }
@@ -113,7 +114,7 @@ fn up_frame(kind: Kind, class: Class, align: u8, d: [u8; 260]) -> UpFrame
     }
 }
 
-/// The uplink frame with the speech of this frame, or else an idle one.
+/// The uplink frame with the speech of this frame; an idle one if it has none.
 pub(crate) fn answer_with(last: Option<&Found>, align: u8) -> UpFrame
     requires bits { IfSome (option_copied last) HaveBits }
     requires six_bits { align ≤ 63 }

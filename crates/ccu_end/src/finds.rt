@@ -7,7 +7,7 @@ use trau_frame::DownFrame;
 pub struct Found {
     /// The place of its first bit, counted in bits from the start of the line.
     pub place: u64,
-    /// What it says, or none where its bits C1 to C5 are neither of the patterns of downlink frames.
+    /// What it says; None if its bits C1 to C5 are neither of the patterns of downlink frames.
     pub frame: Option<DownFrame>,
 }
 
@@ -15,6 +15,6 @@ pub struct Found {
 #[derive(Clone, Copy)]
 pub struct Heard {
     pub first: Option<Found>,
-    /// None where `first` is.
+    /// None if `first` is.
     pub second: Option<Found>,
 }

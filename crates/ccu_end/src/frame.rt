@@ -1,4 +1,4 @@
-//! A downlink frame is read.
+//! Reading a downlink frame.
 
 ghost use Rattle.std.specs.Prelude.{◌≡◌, ◌+◌, ◌≤◌, ◌<◌, IfSome, true};
 ghost use Rattle.trau_bits.specs.Bits.{AreBits};
@@ -9,7 +9,7 @@ ghost use Rattle.ccu_end.specs.Read.{down_frame_in, Alike};
 
 use trau_frame::{DownFrame, pattern, read_up};
 
-// The first 316 bits of the frame at place `o` of the window, and zeros for its time bits, which say nothing.
+// The first 316 bits of the frame at index `o` of the window, with zeros for its time bits, which aren't read.
 fn frame_from(window: &[u8; 640], o: usize) -> [u8; 320]
     requires within { o ≤ 324 }
     requires bits { AreBits window.now }
@@ -21,7 +21,8 @@ fn frame_from(window: &[u8; 640], o: usize) -> [u8; 320]
     bits
 }
 
-/// What the frame at place `o` of the window says. Its data bits stand where those of an uplink frame do.
+/// The downlink frame at index `o` of the window; None if C1 to C5 are no pattern of one. Its data bits have the same places
+/// as in an uplink frame.
 pub(crate) fn read_down(window: &[u8; 640], o: usize) -> Option<DownFrame>
     requires within { o ≤ 324 }
     requires bits { AreBits window.now }

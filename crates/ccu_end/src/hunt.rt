@@ -6,7 +6,7 @@ ghost use Rattle.ccu_end.specs.Window.{NoMatch};
 
 use trau_frame::{ones_match, zeros_match};
 
-// Whether the 35 sync bits of a frame stand at place `o`.
+// Whether the sync bits match those of a frame at index `o`, all 35.
 fn matches_at(window: &[u8; 640], o: usize) -> bool
     requires { o ≤ 324 }
     ensures { IsTrue result ↔ (is_match (bit_in window.now) o ≡ true) }
@@ -14,7 +14,7 @@ fn matches_at(window: &[u8; 640], o: usize) -> bool
     zeros_match(window, o) && ones_match(window, o)
 }
 
-/// The first place from `first` on whose sync bits match, among those whose first 316 bits are in the window.
+/// The first index from `first` on at which the sync bits match and the first 316 bits of the frame are in the window.
 pub(crate) fn find_match(window: &[u8; 640], first: usize) -> Option<usize>
     requires { first ≤ 640 }
     ensures found { IfSome result (λ o. (first ≤ o) × (o ≤ 324) × NoMatch window.now first o × (is_match (bit_in window.now) o ≡ true)) }

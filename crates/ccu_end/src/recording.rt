@@ -1,4 +1,4 @@
-//! A recorded downlink followed as a whole: the command `follow`.
+//! The command `follow`: a recorded downlink is followed to its end.
 
 ghost use Rattle.std.specs.Prelude.{◌≡◌, ◌+◌, ◌<◌, ◌≤◌, ◌%◌, length};
 ghost use Rattle.call_number.specs.CallNumber.{IsCallNumber};
@@ -23,30 +23,30 @@ use trau_io::{Desk, Failed, Filled, Line, Side, Trunk, read_block, tell, write_a
 /// How a followed downlink ended.
 #[derive(Clone, Copy)]
 pub(crate) enum FollowEnd {
-    /// At the end of the line, or after 4,294,967,295 periods: so many frames were found, and so many octets of the line,
-    /// fewer than 40, stand behind its last whole period.
+    /// At the end of the line, or after 4,294,967,295 periods. The numbers of frames that were found, and of octets after
+    /// the last whole period, fewer than 40.
     Done(u64, u32),
-    /// By the fault of the downlink.
+    /// The Up line failed, with the downlink.
     ReadFailed,
-    /// By the fault of the line of the answers.
+    /// The Down line failed, for the answers.
     WriteFailed,
-    /// By the fault of the desk.
+    /// The desk failed.
     DeskFailed,
 }
 
 /// How one period ended.
 #[derive(Clone, Copy)]
 pub(crate) enum PeriodEnd {
-    /// It is answered, and so many frames are told.
+    /// It was answered and its frames were listed; their number.
     Taken(u32),
-    /// The line ended after so many octets of it.
+    /// The line ended after this many octets of the period.
     LineEnded(u32),
     ReadFailed,
     WriteFailed,
     DeskFailed,
 }
 
-// Sends up the answer of the period that was fed last.
+// Sends up the answer of the newest period.
 fn send_up<T: Trunk>(ccu: &mut Ccu, call: u32, trunk: &mut T) -> Result<(), Failed>
     requires { IsCallNumber call }
     ensures same { ccu.new ≡ ccu.old }
@@ -64,14 +64,14 @@ fn send_up<T: Trunk>(ccu: &mut Ccu, call: u32, trunk: &mut T) -> Result<(), Fail
     write_all(trunk, down, &octets)
 }
 
-// The frames of a period, none, one or two.
+// The number of frames of a period, 0 to 2.
 fn count(heard: &Heard) -> u32
     ensures { result ≡ length (frames_of heard.now) }
 {
     u32::from(heard.first.is_some()) + u32::from(heard.second.is_some())
 }
 
-// Takes one period of the downlink, sends up its answer, and tells its frames.
+// Reads one period of the downlink, sends up its answer, and lists its frames.
 fn follow_period<T: Trunk, D: Desk>(
     ccu: &mut Ccu,
     call: u32,
@@ -104,7 +104,7 @@ fn follow_period<T: Trunk, D: Desk>(
     }
 }
 
-// Follows the downlink on a call's Up line up to its end, which 4,294,967,295 periods count as too.
+// Follows the downlink on a call's Up line up to its end, but for at most 4,294,967,295 periods.
 fn follow_line<T: Trunk, D: Desk>(call: u32, want: u16, trunk: &mut T, desk: &mut D) -> FollowEnd
     requires number { IsCallNumber call }
     requires high { want ≤ 316 }
@@ -127,7 +127,7 @@ fn follow_line<T: Trunk, D: Desk>(call: u32, want: u16, trunk: &mut T, desk: &mu
     FollowEnd::Done(frames, 0)
 }
 
-// The end of the tool where the downlink was followed so and the last line went out.
+// The end of the tool by that of the downlink, once the last line is written.
 fn end_of(call: u32, end: FollowEnd) -> ToolEnd
     requires { IsCallNumber call }
     ensures { IsEndOf call end result }
@@ -146,7 +146,7 @@ fn end_of(call: u32, end: FollowEnd) -> ToolEnd
     }
 }
 
-// Tells the last line of text.
+// Prints the last line of text.
 fn tell_last<D: Desk>(call: u32, end: FollowEnd, desk: &mut D) -> ToolEnd
     requires { IsCallNumber call }
     ensures { TellsLast call end (D.desk desk.old) (D.desk desk.new) result }
@@ -157,12 +157,15 @@ fn tell_last<D: Desk>(call: u32, end: FollowEnd, desk: &mut D) -> ToolEnd
     }
 }
 
-/// Follows a call's Up line as a recorded downlink: takes it in periods of 40 octets, writes the answer of each period, the
-/// uplink frame of 40 octets by which the alignment to places that are `want` modulo 320 is asked for (0 to 316, a multiple
-/// of 4), to the call's Down line, and tells a line of text for each frame found in it, its place in bits and what it says:
-/// `PLACE WORD`, WORD being `speech`, `idle` or `other`. A rest of less than a period is left. At the end it tells
-/// `follow frames N left R`, N being the number of frames, or `line C up failed` or `line C down failed`; the frames of a
-/// period whose answer couldn't be written aren't told. It takes no memory, and never answers Refused nor Memory.
+/// Follows a call's Up line as a recorded downlink, in periods of 40 octets.
+///
+/// For each period it writes the answer to the call's Down line: an uplink frame of 40 octets, which asks for the alignment
+/// to places that are `want` modulo 320 (0 to 316, a multiple of 4). Then it prints a line of text for each frame found in
+/// the period: `PLACE WORD`. PLACE is in bits; WORD is `speech`, `idle` or `other`. If an answer can't be written, the frames
+/// of its period aren't listed.
+///
+/// At the end it prints `follow frames N left R`, N being the number of frames and R the octets after the last whole period,
+/// or `line C up failed` or `line C down failed`. It doesn't allocate, and never ends with `Refused` or `Memory`.
 pub fn follow<T: Trunk, D: Desk>(call: u32, want: u16, trunk: &mut T, desk: &mut D) -> ToolEnd
     requires number { IsCallNumber call }
     requires high { want ≤ 316 }

@@ -21,7 +21,7 @@ pub struct Ccu {
     periods: u32,
     // The bits of the last one.
     last: [u8; 320],
-    // The place behind the newest frame: the next one is looked for from there on.
+    // The place from which on the next frame is looked for, after the first 316 bits of the newest.
     low: u64,
     // The wanted place modulo 320.
     want: u16,
@@ -45,8 +45,8 @@ impl Model for Ccu {
     ghost invariant = { λ s. (s.low ≤ 320 * s.periods) × AreBits s.last };
 }
 
-// The least frame from place `low` on whose bit 315 is one of the period that begins at place `base`; `low` goes behind
-// its first 316 bits. The window has the bits of the period before and of this one.
+// The first frame from place `low` on whose bit 315 is in the period that begins at place `base`. `low` moves past its first
+// 316 bits. The window has the bits of the period before and of this one.
 fn take_next(window: &[u8; 640], base: u64, low: &mut u64) -> Option<Found>
     requires small { base < 2 ^ 60 }
     requires near { low.old ≤ base + 320 }
@@ -65,7 +65,7 @@ fn take_next(window: &[u8; 640], base: u64, low: &mut u64) -> Option<Found>
     })
 }
 
-// The frames found in the period that begins at place `base`, from place `low` on, which goes behind them.
+// The frames found from place `low` on in the period that begins at place `base`. `low` moves past them.
 fn take_period(window: &[u8; 640], base: u64, low: &mut u64) -> Heard
     requires small { base < 2 ^ 60 }
     requires near { low.old ≤ base }
@@ -94,8 +94,8 @@ impl Ccu {
     ghost use Rattle.ccu_end.specs.Asked.{asked};
     ghost use Rattle.ccu_end.specs.Step.{waiting_after, answer_after};
 
-    /// The end before the first period, which wants frames at places that are `want` modulo 320: a multiple of 4, at most
-    /// 316.
+    /// The station's end before the first period. It wants frames at places that are `want` modulo 320: a multiple of 4, at
+    /// most 316.
     pub fn new(want: u16) -> Ccu
         requires high { want ≤ 316 }
         requires fours { want % 4 ≡ 0 }
@@ -112,12 +112,11 @@ impl Ccu {
         }
     }
 
-    /// Takes the 40 octets of the next period, and gives the frames found in it. A line has at most 4,294,967,295
-    /// periods.
+    /// Takes the 40 octets of the next period, and returns the frames found in it. A line has at most 4,294,967,295 periods.
     pub fn feed(&mut self, octets: &[u8; 40]) -> Heard
         requires { self.old.periods < 4294967295 }
 
-        // By the bits of the period before and of this one.
+        // By what is kept of the earlier periods, and the bits of this one.
         ensures frames { AreNext (self.old.last ++ bits_of octets.now) (320 * self.old.periods) self.old.low (frames_of result) }
         ensures low { self.new.low ≡ low_after self.old.low (frames_of result) }
         ensures counted { self.new.periods ≡ self.old.periods + 1 }
@@ -126,7 +125,7 @@ impl Ccu {
         ensures answer { self.new.answer ≡ answer_after self.old.waiting self.old.low self.old.want (frames_of result) }
         ensures want { self.new.want ≡ self.old.want }
 
-        // After any past, all frames found in its periods and these are those found in all bits so far, each in the
+        // For any past: the frames found in its periods and in this one are those found in all bits so far, each in the
         // period of its bit 315.
         ensures history { (past : List (List ℕ)) (heard : List (List FoundFrame)) → Stands past heard self.old →
             Stands (octets.now ∷ past) (frames_of result ∷ heard) self.new }
@@ -147,14 +146,14 @@ impl Ccu {
         heard
     }
 
-    /// Writes the uplink frame of the period that was fed last over all bits: the speech of the last frame found in it,
-    /// or else an idle frame, with the alignment that is asked for.
+    /// Overwrites the bits with the uplink frame of the newest period: the speech of the last frame found in it, or else an
+    /// idle frame, with the alignment that is asked for.
     pub fn answer(&mut self, bits: &mut [u8; 320])
         ensures same { self.new ≡ self.old }
         ensures bits { bits.new ≡ bits_saying self.old.answer }
         ensures are_bits { AreBits bits.new }
 
-        // After any past, it is what is asked by the frames found in its periods.
+        // For any past: it is what the definition `asked` gives for the frames found in its periods.
         ensures history { (past : List (List ℕ)) (heard : List (List FoundFrame)) → Stands past heard self.old →
             bits.new ≡ bits_saying (asked self.old.want heard) }
     {

@@ -55,7 +55,7 @@ pub(crate) fn lines(heard: &Heard) -> ArrayString<64>
     text
 }
 
-// The last line of text where so many frames were found and so many octets are left.
+// The last line of text of a line that was read to its end: the numbers of frames found and of octets left.
 fn done_line(frames: u64, left: u32) -> ArrayString<64>
     ensures { (call : ℕ) → result.bytes ≡ last_text call (Done frames left) }
 {
@@ -69,7 +69,7 @@ fn done_line(frames: u64, left: u32) -> ArrayString<64>
     text
 }
 
-/// The last line of text, none where the desk failed.
+/// The last line of text; empty if the desk failed.
 pub(crate) fn last_line(call: u32, end: FollowEnd) -> ArrayString<64>
     ensures { result.bytes ≡ last_text call end }
 {

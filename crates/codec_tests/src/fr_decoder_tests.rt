@@ -1,11 +1,12 @@
-//! The decoder from home: what a silent start gives.
+//! The decoder from the home state: a silent start, and lags that no encoder sends.
 
 ghost use Rattle.std.specs.Prelude.{◌≤◌};
 
 use fr_decoder::Decoder;
 use trau_params::Params;
 
-// What the encoder gives for 160 samples 0 from home, decoded from home, with this lag in place of 40.
+// The encoder's parameters for 160 zero samples from the home state, with this lag in place of 40, decoded from the
+// home state.
 fn silent_start(nc: u8) -> [i16; 160]
     requires { nc ≤ 127 }
 {
@@ -22,13 +23,13 @@ fn silent_start(nc: u8) -> [i16; 160]
     x
 }
 
-// The first samples were worked by hand from the standard's formulas.
+// The first samples were computed by hand from the standard's formulas.
 #[test]
 fn decodes_a_first_frame(rt: HostRuntime) {
     assert!(rt; silent_start(40).starts_with(&[8, 0, 0, 8, 8, 8, 16]));
 }
 
-// At home the last used lag is 40, which a lag that no encoder sends gives way to.
+// In the home state the last used lag is 40. It replaces a lag that no encoder sends.
 #[test]
 fn a_first_lag_out_of_range_is_40(rt: HostRuntime) {
     assert!(rt; silent_start(127) == silent_start(40));
@@ -48,7 +49,7 @@ fn greatest(nc: u8) -> Params
     )
 }
 
-// Whether ten such frames decode from home as those with lag 40.
+// Whether ten such frames decode from the home state as those with lag 40.
 fn decode_as_lag_40() -> bool {
     let mut ones = Decoder::home();
     let mut others = Decoder::home();
@@ -64,7 +65,7 @@ fn decode_as_lag_40() -> bool {
     true
 }
 
-// A hostile line of frames whose data bits are all 1 never has a lag of its own.
+// On a hostile line of frames whose data bits are all 1, no frame has a lag that can be used.
 #[test]
 fn every_lag_of_ones_is_40(rt: HostRuntime) {
     assert!(rt; decode_as_lag_40());

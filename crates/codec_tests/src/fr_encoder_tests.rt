@@ -1,9 +1,9 @@
-//! The encoder from home: what a silent start is coded to.
+//! The encoder from the home state: a silent start.
 
 use fr_encoder::Encoder;
 use trau_params::{Params, Trace};
 
-// What libgsm gives for 160 samples 0 from home.
+// The parameters that libgsm gives for 160 zero samples from the home state.
 fn silent_start() -> Params {
     Params::new(
         [32, 32, 20, 11, 8, 5, 3, 2],
@@ -15,7 +15,7 @@ fn silent_start() -> Params {
     )
 }
 
-// Whether all that led to the parameters is 0.
+// Whether the values before coding are all 0.
 fn is_silent(trace: &Trace) -> bool {
     trace.lar == [0; 8] && trace.xmax == [0; 4]
 }

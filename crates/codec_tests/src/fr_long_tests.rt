@@ -5,7 +5,7 @@ ghost use Rattle.fr_long.specs.Scaling.{AreScaled};
 
 use fr_long::{Ltp, LtpDecoder, LtpHistory, correlate};
 
-// One sample at the front of a block.
+// A block whose first sample is 1000, with zeros after it.
 fn pulse() -> [i16; 40] {
     let mut erp = [0; 40];
     erp[0] = 1000;
@@ -34,7 +34,7 @@ fn has_codes(ltp: &Ltp, nc: u8, bc: u8) -> bool {
     ltp.nc == nc && ltp.bc == bc
 }
 
-// Whether it has this sample of what is predicted, and this one of what is left.
+// Whether it has this predicted sample, and this sample of the remainder.
 fn has_samples(ltp: &Ltp, place: usize, dpp: i16, place_left: usize, e: i16) -> bool
     requires place { place < 40 }
     requires left { place_left < 40 }
@@ -95,7 +95,7 @@ fn three_blocks_before() -> LtpHistory {
     history
 }
 
-// The wanted values are worked by a separate text of the standard's steps, over plain integers.
+// The expected values come from a separate program of the standard's steps, over plain integers.
 #[test]
 fn predicts_two_blocks_in_turn(rt: HostRuntime) {
     let mut history = three_blocks_before();
@@ -111,7 +111,7 @@ fn correlates_the_loudest_block(rt: HostRuntime) {
     assert!(rt; correlate(&[-512; 40], &[-32768; 120]) == [1342177280; 81]);
 }
 
-// A block of one sample.
+// A block whose first sample is 1, with zeros after it.
 fn unit() -> [i16; 40]
     ensures { AreScaled result }
 {
@@ -120,7 +120,7 @@ fn unit() -> [i16; 40]
     wt
 }
 
-// Each residual is its own place, of which 120 is the newest sample's end.
+// Each residual is its own place in the history, from 0 for the oldest.
 #[test]
 fn correlates_with_the_residual_a_lag_before(rt: HostRuntime) {
     let mut past = [0; 120];

@@ -2,13 +2,13 @@
 
 use fr_lpc::{analyse, autocorrelate, peak, quantise};
 
-// Whether a frame has these ratios and these codes of them.
+// Whether a frame has these ratios and these codes.
 fn gives(s: &mut [i16; 160], lar: [i16; 8], larc: [u8; 8]) -> bool {
     let lpc = analyse(s);
     lpc.lar == lar && lpc.larc == larc
 }
 
-// Without correlation each coefficient is 0, and its code that of a ratio of 0.
+// Without correlation each coefficient is 0, and its code is that of a ratio of 0.
 #[test]
 fn silence_has_ratios_of_0(rt: HostRuntime) {
     let mut s = [0; 160];
@@ -20,7 +20,7 @@ fn the_greatest_ratios_have_the_greatest_codes(rt: HostRuntime) {
     assert!(rt; quantise(&[32767; 8]) == [63, 63, 31, 31, 15, 15, 7, 7]);
 }
 
-// Both ends in turn.
+// The least and the greatest sample in turn.
 fn full_scale() -> [i16; 160] {
     let mut s = [32767; 160];
     for i in 0..80 {
@@ -29,7 +29,7 @@ fn full_scale() -> [i16; 160] {
     s
 }
 
-// The values of these two frames were computed apart from this crate, in Python from the text of GSM 06.10.
+// The values of these two frames were computed independently of this crate, in Python from the text of GSM 06.10.
 #[test]
 fn analyses_full_scale(rt: HostRuntime) {
     let mut s = full_scale();

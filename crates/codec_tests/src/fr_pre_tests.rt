@@ -1,4 +1,4 @@
-//! Preprocessing: silence, steps and what it keeps from frame to frame.
+//! Preprocessing: silence, steps, and the state between frames.
 
 use fr_pre::PreState;
 
@@ -22,7 +22,7 @@ fn silence_stays_silent(rt: HostRuntime) {
     assert!(rt; s == [0; 160] && state == PreState::home());
 }
 
-// The numbers were computed apart from this crate, from the text of GSM 06.10.
+// The numbers were computed independently of this crate, from the text of GSM 06.10.
 #[test]
 fn a_constant_fades(rt: HostRuntime) {
     let mut state = PreState::home();
@@ -32,7 +32,7 @@ fn a_constant_fades(rt: HostRuntime) {
     assert!(rt; has_words(&state, 4000, 95042714, 2900));
 }
 
-// A frame of both ends in turn.
+// The greatest and the least sample in turn.
 fn ends() -> [i16; 160] {
     let mut x = [-32760; 160];
     for k in 0..80 {
@@ -41,7 +41,7 @@ fn ends() -> [i16; 160] {
     x
 }
 
-// The numbers are from there too.
+// The numbers were computed in the same way.
 #[test]
 fn meets_the_ends(rt: HostRuntime) {
     let mut state = PreState::home();

@@ -25,7 +25,7 @@ fn codes_the_ends_of_the_maxima(rt: HostRuntime) {
     assert!(rt; maxima == [0, 15, 16, 63]);
 }
 
-// Pulses between which there is silence.
+// A few pulses with silence between them.
 fn pulses() -> [i16; 40] {
     let mut e = [0; 40];
     e[3] = -450;
@@ -40,12 +40,13 @@ fn is_at(rpe: &Rpe, mc: u8, xmax: i16, xmaxc: u8) -> bool {
     rpe.mc == mc && rpe.xmax == xmax && rpe.xmaxc == xmaxc
 }
 
-// Whether a block has these codes, the third, the fifth and the last.
+// Whether a block has these codes of the third, the fifth and the last pulse.
 fn has_codes(rpe: &Rpe, codes: [u8; 3]) -> bool {
     [rpe.xmc[2], rpe.xmc[4], rpe.xmc[12]] == codes
 }
 
-// Expected by a short Python text of GSM 06.10, sections 4.2.13 to 4.2.17, written apart from this crate.
+// The expected values come from a short Python program of GSM 06.10, sections 4.2.13 to 4.2.17, written independently
+// of this crate.
 #[test]
 fn encodes_a_block(rt: HostRuntime) {
     let rpe = encode_block(&pulses());

@@ -1,4 +1,4 @@
-//! The short-term filters, beside those of `plain_filters`.
+//! The short-term filters, compared with those of `plain_filters`.
 
 ghost use Rattle.std.specs.Prelude.{◌<◌};
 ghost use Rattle.trau_params.specs.Widths.{FitLarc};
@@ -9,7 +9,7 @@ use trau_num::Draw;
 
 // Ratio i is twice mult_r(INVA, (code + MIC) * 1024 - 2 * B), by hand:
 // 1 to 4: 0, 0, 4096 - 4096 and -5120 + 5120 are 0.
-// 5: 19223 * (0 - 188) + 16384 = -3597540, of which the 32768th part is -109.8, so -110.
+// 5: 19223 * (0 - 188) + 16384 = -3597540; divided by 32768 that is -109.8, so -110.
 // 6: 17476 * (-3072 + 3584) + 16384 = 8964096, so 273.
 // 7: 31454 * (-1024 + 682) + 16384 = -10740884, so -328.
 // 8: 29708 * (-2048 + 2288) + 16384 = 7146304, so 218.
@@ -27,14 +27,14 @@ fn silence_stays_silent(rt: HostRuntime) {
     assert!(rt; s == [0; 160]);
 }
 
-// One sample at the front of a frame.
+// A frame with one sample at its beginning, and zeros after it.
 fn pulse(sample: i16) -> [i16; 160] {
     let mut d = [0; 160];
     d[0] = sample;
     d
 }
 
-// The samples were computed apart from this crate, from the text of GSM 06.10 and with its v[0] to v[8].
+// The samples were computed independently of this crate, from the text of GSM 06.10 and with its v[0] to v[8].
 #[test]
 fn filters_two_frames(rt: HostRuntime) {
     let mut state = ShortState::home();
@@ -46,18 +46,18 @@ fn filters_two_frames(rt: HostRuntime) {
     assert!(rt; first == [117, -59, 123] && second == [1005, -410, 343, -352]);
 }
 
-// Whether a frame's samples at the edges of the parts are these.
+// Whether these are a frame's samples at the edges of the parts.
 fn has_edges(s: &[i16; 160], samples: [i16; 8]) -> bool {
     [s[0], s[12], s[13], s[26], s[27], s[39], s[40], s[159]] == samples
 }
 
-// Whether the first five samples of a frame are these, and those at its last edge and its end.
+// Whether these are a frame's first five samples, the two at the last edge of its parts, and its last sample.
 fn has_ends(s: &[i16; 160], samples: [i16; 8]) -> bool {
     [s[0], s[1], s[2], s[3], s[4], s[39], s[40], s[159]] == samples
 }
 
-// The residual was computed apart from this crate, by a short Python text of GSM 06.10, sections 4.2.8 to 4.2.10.
-// The samples lie at the edges of the parts; those of the second frame clamp.
+// The residual was computed independently of this crate, by a short Python program of GSM 06.10, sections 4.2.8 to
+// 4.2.10. The samples lie at the edges of the parts; those of the second frame clamp.
 #[test]
 fn analyses_two_frames(rt: HostRuntime) {
     let mut state = ShortState::home();
@@ -73,7 +73,8 @@ fn analyses_two_frames(rt: HostRuntime) {
     assert!(rt; has_ends(&s, samples));
 }
 
-// How loud a frame of random samples is: shifted down by so many places, or each sample the greatest or the least.
+// The level of a frame of random samples: shifted down by this number of places, or each sample the greatest or the
+// least.
 #[derive(Clone, Copy, Drop)]
 enum Level {
     Shifted(u8),
@@ -119,7 +120,7 @@ fn random_codes(random: &mut Draw) -> [u8; 8]
     }
 }
 
-// Whether so many frames, each from the ones before it, are synthesised as the standard writes it.
+// Whether this number of frames, one after another, are synthesised as the standard writes it.
 fn synthesises_plainly(level: Level, frames: u32) -> bool {
     let mut random = Draw { r: 1 };
     let mut state = ShortState::home();
@@ -155,7 +156,7 @@ fn synthesises_deemphasised_plainly(level: Level, frames: u32) -> bool {
     true
 }
 
-// Whether so many frames, each from the ones before it, are analysed as the standard writes it.
+// Whether this number of frames, one after another, are analysed as the standard writes it.
 fn analyses_plainly(level: Level, frames: u32) -> bool {
     let mut random = Draw { r: 3 };
     let mut state = ShortState::home();

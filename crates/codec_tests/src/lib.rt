@@ -1,6 +1,6 @@
 //! Tests of the codec's crates.
 //!
-//! They stand apart from what they test: a crate with tests is proved a second time with them; these go through public
+//! They are in a crate of their own, because a crate with tests is proved a second time with them. They call public
 //! functions only.
 #![tactic(auto)]
 

@@ -31,7 +31,7 @@ fn reflection(ratio: i16) -> i16 {
     if ratio < 0 { sub(0, r) } else { r }
 }
 
-// The coefficients in force at sample k, between two frames' ratios.
+// The coefficients in force at sample k, from the previous frame's ratios and this frame's.
 fn coefficients(k: usize, old: &[i16; 8], new: &[i16; 8]) -> [i16; 8] {
     let mut rp = [0; 8];
     for i in 0..8 {
@@ -64,7 +64,7 @@ fn analysed(rp: &[i16; 8], u: &mut [i16; 8], s: i16) -> i16 {
     di
 }
 
-/// One direction's filter: the frame before's ratios, and v[0] to v[8] of synthesis or u[0] to u[7] of analysis.
+/// One direction's filter: the previous frame's ratios, and v[0] to v[8] of synthesis or u[0] to u[7] of analysis.
 #[derive(Drop)]
 pub(crate) struct PlainFilter {
     ratios: [i16; 8],
@@ -82,7 +82,7 @@ impl PlainFilter {
         }
     }
 
-    /// The samples of a frame, of the codes of its ratios and its residual.
+    /// The samples of a frame, from the codes of its ratios and its residual.
     pub(crate) fn synthesise(&mut self, larc: &[u8; 8], d: &[i16; 160]) -> [i16; 160]
         requires { FitLarc larc.now }
     {
@@ -95,7 +95,7 @@ impl PlainFilter {
         s
     }
 
-    /// The residual of a frame, of the codes of its ratios and its samples.
+    /// The residual of a frame, from the codes of its ratios and its samples.
     pub(crate) fn analyse(&mut self, larc: &[u8; 8], s: &[i16; 160]) -> [i16; 160]
         requires { FitLarc larc.now }
     {
@@ -109,7 +109,7 @@ impl PlainFilter {
     }
 }
 
-/// The samples after de-emphasis (section 4.3.5), behind the last one before.
+/// The samples after de-emphasis (section 4.3.5). `before` is the last one of the previous frame.
 pub(crate) fn deemphasised(s: &[i16; 160], before: i16) -> [i16; 160] {
     let mut msr = before;
     let mut sro = [0; 160];

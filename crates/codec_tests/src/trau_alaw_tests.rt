@@ -1,4 +1,4 @@
-//! A-law and mu-law: the ends of their ranges, and octets that come back.
+//! A-law and mu-law: the ends of their ranges, and octets that are expanded and compressed again.
 
 use trau_alaw::{
     Law, compress, compress_law, expand, expand_law, idle_octet, recompress, recompress_law,
@@ -17,7 +17,7 @@ fn compresses_the_ends(rt: HostRuntime) {
     assert!(rt; least == [0xD5, 0x55, 0xD4] && greatest == [0xAA, 0x2A]);
 }
 
-// The first octet that doesn't come back.
+// The first octet that expanding and compressing changes.
 fn first_changed() -> Option<u8> {
     for octet in 0..=255 {
         if recompress(octet) != octet {
@@ -45,7 +45,7 @@ fn plain_octet(x: i16) -> u8 {
     (sign | code) ^ 0x55
 }
 
-// The first sample that is compressed to another octet.
+// The first sample that `compress` and `plain_octet` compress to different octets.
 fn first_apart() -> Option<i16> {
     for x in i16::MIN..=i16::MAX {
         if compress(x) != plain_octet(x) {
@@ -60,7 +60,7 @@ fn compresses_all_samples_plainly(rt: HostRuntime) {
     assert_eq!(rt; first_apart(), None);
 }
 
-// Whether all octets of mu-law but 0x7F come back.
+// Whether expanding and compressing changes 0x7F of mu-law, and no other octet.
 fn all_but_one_come_back() -> bool {
     for octet in 0..=255 {
         let comes_back = recompress_law(Law::Mu, octet) == octet;

@@ -2,14 +2,14 @@
 
 use trau_params::{Params, rewritten, silence};
 
-// Whether all bits of parameters are this one.
+// Whether each of the 260 bits of parameters is `bit`.
 fn are_bits(params: &Params, bit: u8) -> bool {
     let mut bits = [2; 260];
     params.to_bits(&mut bits);
     bits == [bit; 260]
 }
 
-// Whether parameters are read from their own bits.
+// Whether writing the bits of parameters and reading them gives the same parameters.
 fn come_back(params: &Params) -> bool {
     let mut bits = [2; 260];
     params.to_bits(&mut bits);

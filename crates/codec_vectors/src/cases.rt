@@ -1,10 +1,10 @@
-//! The cases: what goes into the codec, the search and the base station's end, and the answers to it.
+//! The cases: the inputs of the codec, of the search and of the base station's end, and the recorded answers.
 
 use crate::comparison::{Answers, Comparison};
 use crate::{alaw, decoder, encoder, farm, search, station};
 use std::{fs, io};
 
-// What is compared with the answers, with the files that go in.
+// What is compared with the answers, and the input files for it.
 #[derive(Clone, Copy)]
 enum Kind {
     /// The A-law of all samples.
@@ -23,19 +23,19 @@ enum Kind {
     Parameters(&'static str),
     /// The downlink frame of silence.
     Silence,
-    /// The counts of what stands on each uplink of a farm.
+    /// The counts of the frames, misses and empty periods on each uplink of a farm.
     Counts(&'static [&'static str]),
     /// What the search finds on lines with one frame.
     Offsets,
-    /// And on lines with several.
+    /// What the search finds on lines with several frames.
     Lines,
     /// The frames that a base station finds on a downlink.
     Found(&'static str),
-    /// What it sends up, where it wants frames at a place.
+    /// The octets that a base station sends up, if it wants frames at a place.
     Asked(&'static str, u16),
 }
 
-/// A case: what its line begins with, and the file of the answers.
+/// A case: the beginning of its printed line, what is compared, and the file of the answers.
 pub(crate) struct Case {
     name: &'static str,
     kind: Kind,
@@ -145,7 +145,7 @@ fn answers_of(kind: Kind, octets: &[u8]) -> Answers<'_> {
     }
 }
 
-// Compares what comes of what goes in.
+// Compares the results for a case's input with the answers.
 fn compare(rt: &HostRuntime, comparison: &mut Comparison, kind: Kind) -> io::Result<()> {
     match kind {
         Kind::Compress => alaw::compress_all(comparison),

@@ -1,13 +1,13 @@
-//! What a case found: how many values were compared, and the first that differs.
+//! The result of a case: the number of equal values, and the first difference.
 
 use std::str::{SplitWhitespace, from_utf8};
 use std::{io, slice};
 use trau_alaw::compress;
 
-// An answer that is missing or no number: no value of a case.
+// An answer that is missing or isn't a number. No case has this value.
 const MISSING: i32 = i32::MIN;
 
-/// The recorded answers that are still to come.
+/// The recorded answers that haven't been compared yet.
 #[derive(Drop)]
 pub(crate) enum Answers<'a> {
     Octets(slice::Iter<'a, u8>),
@@ -16,7 +16,7 @@ pub(crate) enum Answers<'a> {
 }
 
 impl<'a> Answers<'a> {
-    /// The answers that a text has as words.
+    /// The words of a text as answers.
     pub(crate) fn of_text(octets: &'a [u8]) -> Self {
         Answers::Words(from_utf8(octets).unwrap_or("").split_whitespace())
     }
@@ -33,7 +33,7 @@ impl<'a> Answers<'a> {
     }
 }
 
-/// How many values were equal up to the first difference, and the values that were compared last: behind a difference
+/// The number of equal values up to the first difference, and the values that were compared last. After a difference
 /// nothing is compared.
 #[derive(Drop)]
 pub(crate) struct Comparison<'a> {
@@ -69,7 +69,8 @@ impl<'a> Comparison<'a> {
         self.compare(wanted, got);
     }
 
-    /// Compares a sample with the next answer: a text has samples, and octets are their A-law.
+    /// Compares a sample with the next answer. The answers of a text are samples; those of octets are A-law codes of
+    /// samples.
     pub(crate) fn compare_sample(&mut self, sample: i16) {
         let got = match self.answers {
             Answers::Octets(_) => i32::from(compress(sample)),
@@ -85,7 +86,7 @@ impl<'a> Comparison<'a> {
         }
     }
 
-    /// An answer that is left behind the last value is a difference too.
+    /// Ends the comparison. An answer that remains after the last value is a difference too.
     pub(crate) fn end(&mut self) {
         let left = self.answers.next();
         if left != MISSING {

@@ -6,7 +6,7 @@ use trau_bits::unpack;
 use trau_frame::{read_up, sync_matches};
 use trau_params::Params;
 
-// Compares the samples of a frame; they are 0 where the octets are none.
+// Compares the samples of a frame, which are 0 if the octets have no sync pattern.
 fn decode(comparison: &mut Comparison, decoder: &mut Decoder, octets: &[u8; 40]) {
     let mut bits = [0; 320];
     unpack(octets, &mut bits);
@@ -20,7 +20,7 @@ fn decode(comparison: &mut Comparison, decoder: &mut Decoder, octets: &[u8; 40])
     }
 }
 
-/// Compares the samples of an aligned uplink, decoded from home.
+/// Compares the samples of an aligned uplink, decoded from the home state.
 pub(crate) fn decode_line(comparison: &mut Comparison, up: &[u8]) {
     let mut decoder = Decoder::home();
     for octets in up.as_chunks::<40>().0 {

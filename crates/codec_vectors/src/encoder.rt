@@ -24,7 +24,8 @@ fn compare_blocks(comparison: &mut Comparison, p: &Params) {
     }
 }
 
-/// Compares the parameters of each frame of A-law, encoded from home, in the order in which a frame carries them.
+/// Compares the parameters of each frame of A-law, encoded from the home state, in the order in which a frame carries
+/// them.
 pub(crate) fn encode_line(comparison: &mut Comparison, pcm: &[u8]) {
     let mut encoder = Encoder::home();
     for octets in pcm.as_chunks::<160>().0 {
@@ -45,7 +46,7 @@ fn down_octets(params: &Params) -> [u8; 40] {
     octets
 }
 
-/// Compares the octets of the downlink frame of 160 samples 0, and its peak, which is 0.
+/// Compares the octets of the downlink frame for 160 zero samples, and its peak, which is 0.
 pub(crate) fn encode_silence(comparison: &mut Comparison) {
     let (params, _trace, peak) = Encoder::home().encode(&[0; 160]);
     comparison.compare_octets(&down_octets(&params));

@@ -9,7 +9,8 @@ use crate::comparison::Comparison;
 use frame_sync::{FrameSync, Yield};
 use trau_frame::{Class, Kind, read_up};
 
-// Which of the eight counts of a call a frame belongs to: good, silence descriptor, invalid one, bad, idle or other.
+// The number of the count, of the eight counts of a call, for a frame: good, silence descriptor, invalid descriptor,
+// bad, idle or other, from 0 on.
 fn frame_count(bits: &[u8; 320]) -> usize
     requires bits { AreBits bits.now }
     requires synced { Synced bits.now }
@@ -26,7 +27,7 @@ fn frame_count(bits: &[u8; 320]) -> usize
     }
 }
 
-// Likewise for a frame or a miss.
+// The number of the count for a frame, or for a miss, which is 6.
 fn yield_count(found: Yield) -> usize
     requires { CarriesFrame found }
     ensures { result < 8 }
@@ -37,7 +38,7 @@ fn yield_count(found: Yield) -> usize
     }
 }
 
-// Which count the next period of an uplink belongs to.
+// The number of the count for the next period of an uplink, which is 7 if nothing ends in it.
 fn next_count(sync: &mut FrameSync, octets: &[u8; 40]) -> usize
     requires { sync.old.periods < 4294967295 }
     ensures count { result < 8 }
@@ -65,7 +66,7 @@ fn counts(up: &[u8], periods: u32) -> [i32; 8] {
     counts
 }
 
-/// Compares the counts of an uplink. Before its answers stands of how many periods they are.
+/// Compares the counts of an uplink. The answer before them is the number of periods that they count.
 pub(crate) fn count_call(comparison: &mut Comparison, up: &[u8]) {
     let periods = u32::try_from(comparison.answers.next()).unwrap_or(0);
     for count in &counts(up, periods) {

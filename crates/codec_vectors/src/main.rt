@@ -1,9 +1,9 @@
 //! Runs recorded vectors through the codec, the search for frames and the base station's end, and prints a line for each
 //! case.
 //!
-//! The answers lie in `data/`, and README.md tells whose they are.
-//! A case that agrees prints how many values were compared; one that doesn't prints the first difference.
-//! `cases` has the table of the cases; each fills a `Comparison`, value by value.
+//! `data/` has the answers, and README.md says where they come from. A case that agrees prints the number of values
+//! compared; one that doesn't prints the first difference. `cases` has the table of the cases; each fills a
+//! `Comparison`, value by value.
 #![tactic(auto)]
 
 mod alaw;

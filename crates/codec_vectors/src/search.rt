@@ -1,4 +1,4 @@
-//! The search for frames on lines made here.
+//! The search for frames on generated lines.
 
 ghost use Rattle.trau_bits.specs.Bits.{AreBits};
 ghost use Rattle.frame_sync.specs.Periods.{CarriesFrame};
@@ -28,7 +28,7 @@ fn line(places: &[usize]) -> [u8; 480] {
     octets
 }
 
-// The place of a frame whose bits are right, or a number that no place has.
+// The place of a frame whose bits are those of `FRAME`, or else a number that no place has.
 fn frame_told(place: u64, bits: &[u8; 320]) -> i32
     requires { AreBits bits.now }
 {
@@ -41,7 +41,7 @@ fn frame_told(place: u64, bits: &[u8; 320]) -> i32
     }
 }
 
-// A yield as a number: of a frame its place, of a miss -2 less its place.
+// A yield as a number: the place of a frame, or -2 less the place of a miss.
 fn told(found: Yield) -> i32
     requires { CarriesFrame found }
 {
@@ -51,7 +51,7 @@ fn told(found: Yield) -> i32
     }
 }
 
-// Compares what each of the twelve periods gives of a line with frames at these places, -1 for nothing.
+// Compares the yield of each of the twelve periods of a line with frames at these places, or -1 for none.
 fn search(comparison: &mut Comparison, places: &[usize]) {
     let octets = line(places);
     let mut sync = FrameSync::new();
@@ -72,17 +72,17 @@ pub(crate) fn search_offsets(comparison: &mut Comparison) {
     }
 }
 
-// Lines worked by hand: where their frames begin.
+// Lines whose answers were worked out by hand: the places of their frames.
 static LINES: [[usize; 11]; 3] = [
-    // Five bits too many behind the second frame: three misses, and then the search finds the frames again.
+    // Five extra bits after the second frame: three misses, and then the search finds the frames again.
     [0, 320, 645, 965, 1285, 1605, 1925, 2245, 2565, 2885, 3205],
     // A pattern between two frames, where two frames are missing: the lock holds.
     [0, 370, 960, 1280, 1600, 1920, 2240, 2560, 2880, 3200, 3520],
-    // A pattern before the first frame: the search locks on it, and is rid of it after three misses.
+    // A pattern before the first frame: the search locks on it, and loses it after three misses.
     [3, 400, 720, 1040, 1360, 1680, 2000, 2320, 2640, 2960, 3280],
 ];
 
-/// Compares what the search gives for each of the lines.
+/// Compares the yields of each of the lines.
 pub(crate) fn search_lines(comparison: &mut Comparison) {
     for places in &LINES {
         search(comparison, places);

@@ -7,7 +7,7 @@ use ccu_end::{Ccu, Found, Heard};
 use trau_bits::pack;
 use trau_frame::DownFrame;
 
-// The end that wants this place, to a multiple of 4 below 320.
+// The end that wants frames at this place, rounded down to a multiple of 4 and taken modulo 320.
 fn end_of(want: u16) -> Ccu
     ensures { result.periods ≡ 0 }
 {
@@ -22,7 +22,7 @@ fn feed(ccu: &mut Ccu, octets: &[u8; 40]) -> Heard
     ccu.feed(octets)
 }
 
-// The octets of its answer.
+// The octets of the end's answer.
 fn answer(ccu: &mut Ccu) -> [u8; 40]
     ensures { ccu.new.periods ≡ ccu.old.periods }
 {
@@ -33,7 +33,7 @@ fn answer(ccu: &mut Ccu) -> [u8; 40]
     octets
 }
 
-// Compares a frame's place, and what it says: 1 for speech, 0 for idle, -1 for neither.
+// Compares a frame's place, and its contents: 1 for speech, 0 for idle, -1 for neither.
 fn compare_found(comparison: &mut Comparison, found: &Option<Found>) {
     if let Some(Found { place, frame }) = found {
         comparison.compare_next(i32::try_from(*place).unwrap_or(-1));

@@ -9,7 +9,7 @@ use Rattle.command_words.specs.Run.{AsksResume, AsksRun, AsksSave}
 use Rattle.command_words.specs.Slots.{AsksSlot}
 use Rattle.command_words.specs.Words.{Names}
 
--- the tool of this name, at work on this call
+-- the tool of this name on this call
 abbrev pub IsToolOn : Asked → List ℕ → ℕ → Type 0
 IsToolOn (Run s) name call = ⊥
 IsToolOn (Save s) name call = ⊥
@@ -24,7 +24,7 @@ IsToolOn (Follow c want) name call = ⊥
 IsToolOn (Split c) name call = ⊥
 IsToolOn (Merge c) name call = ⊥
 
--- words ask for a tool's work on a call
+-- words ask for a tool
 abbrev pub AsksTool : List (List ℕ) → Asked → Type 0
 AsksTool words (Run s) = ⊥
 AsksTool words (Save s) = ⊥
@@ -39,7 +39,7 @@ AsksTool words (Follow c want) = ⊥
 AsksTool words (Split c) = ⊥
 AsksTool words (Merge c) = ⊥
 
--- what words ask for: a run, one to a mark or from a mark on, a drill, a live drill, a tool's work, the base station's end, or a command on a slot
+-- what words ask for
 abbrev pub Asks : List (List ℕ) → Asked → Type 0
 Asks words (Run s) = AsksRun words s
 Asks words (Save s) = AsksSave words s

@@ -1,4 +1,4 @@
--- The words of a drill (this project's profile), by the command that the crate `clap` is given.
+-- The words of a drill (this project's profile), by a command of the crate `clap`.
 use Rattle.std.specs.Prelude.{◌≡◌, ℕ, List, [], ◌∷◌, Option, codes}
 use Rattle.clap.specs.Words.{App, Text, fault_of, matches_of, first_of}
 use Rattle.command_words.specs.declared.asked.Settings.{Settings}
@@ -10,7 +10,7 @@ drill_app =
     with_option (codes "calls") (with_option (codes "seed") (with_option (codes "periods") (with_option (codes "slice")
     (with_option (codes "batch") (with_option (codes "workers") (bare_app (codes "drill")))))))
 
--- a drill, by the text that each option's name has for a value
+-- the drill that options give; `text_of` has the text of each option, by its name
 pub record GivesDrill (text_of : Text → Option Text) (drawn_from count : ℕ) (s : Settings) : Type 0 where
   pub seed : IsValueOf (text_of (codes "seed")) 0 4294967295 1 drawn_from
   pub calls : IsValueOf (text_of (codes "calls")) 1 256 64 count

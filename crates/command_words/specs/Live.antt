@@ -1,4 +1,4 @@
--- The words of a live drill (this project's profile), by the command that the crate `clap` is given.
+-- The words of a live drill (this project's profile), by a command of the crate `clap`.
 use Rattle.std.specs.Prelude.{◌≡◌, List, [], ◌∷◌, Option, codes}
 use Rattle.clap.specs.Words.{App, Text, fault_of, matches_of, first_of}
 use Rattle.command_words.specs.declared.live.LiveSettings.{LiveSettings}
@@ -10,7 +10,7 @@ live_app =
     with_option (codes "inbox") (with_option (codes "callers") (with_option (codes "periods") (with_option (codes "calls")
     (with_option (codes "seed") (bare_app (codes "live"))))))
 
--- a live drill, by the text that each option's name has for a value
+-- the live drill that options give; `text_of` has the text of each option, by its name
 pub record GivesLive (text_of : Text → Option Text) (s : LiveSettings) : Type 0 where
   pub seed : IsValueOf (text_of (codes "seed")) 0 4294967295 1 s.seed
   pub calls : IsValueOf (text_of (codes "calls")) 1 256 64 s.calls

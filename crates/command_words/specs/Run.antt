@@ -1,4 +1,4 @@
--- The words of a run (this project's profile), by the command that the crate `clap` is given.
+-- The words of a run (this project's profile), by a command of the crate `clap`.
 use Rattle.std.specs.Prelude.{◌≡◌, List, [], ◌∷◌, Option, is_some, true, codes}
 use Rattle.clap.specs.Words.{App, Text, fault_of, matches_of, first_of}
 use Rattle.command_words.specs.declared.asked.Settings.{Settings}
@@ -8,17 +8,17 @@ use Rattle.command_words.specs.Options.{bare_app, with_option, GivesSettings}
 abbrev pub run_app : App
 run_app = with_option (codes "periods") (with_option (codes "slice") (with_option (codes "batch") (with_option (codes "workers") (bare_app (codes "run")))))
 
--- options are taken, and give these settings: `clap`, by its own function of the command and the words, finds no fault
--- with them, and the text that it has for each option is a number of that option's range
+-- options are taken and give these settings: by the definitions of `clap` they have no fault, and the text of each option is
+-- a number in its range
 pub record AreOptions (options : List Text) (s : Settings) : Type 0 where
   pub taken : fault_of run_app options ≡ []
   pub gives : GivesSettings 4294967295 4294967295 (λ name. first_of name (matches_of run_app options)) s
 
--- the text that they have for `--periods`, if they have it
+-- the text of `--periods`, if it is given
 abbrev pub periods_option : List Text → Option Text
 periods_option options = first_of (codes "periods") (matches_of run_app options)
 
--- `--periods` is among them
+-- `--periods` is given
 abbrev pub GivePeriods : List Text → Type 0
 GivePeriods options = is_some (periods_option options) ≡ true
 
@@ -28,7 +28,7 @@ pub record AsksRun (words : List Text) (s : Settings) : Type 0 where
   pub spelled : words ≡ codes "run" ∷ options
   pub are : AreOptions options s
 
--- words ask for a run to a mark: `save`, and the options of a run, of which `--periods` is one
+-- words ask for a run up to a mark: `save`, and the options of a run with `--periods`
 pub record AsksSave (words : List Text) (s : Settings) : Type 0 where
   pub options : List Text
   pub spelled : words ≡ codes "save" ∷ options

@@ -9,7 +9,7 @@ pub record NamesSlot (words : List (List ℕ)) (name : List ℕ) (call : ℕ) : 
   pub high : call ≤ 4093
   pub spelled : words ≡ name ∷ decimal call ∷ []
 
--- the command of this name, at work on this slot
+-- the command of this name on this slot
 abbrev pub IsSlotOn : Asked → List ℕ → ℕ → Type 0
 IsSlotOn (Run s) name call = ⊥
 IsSlotOn (Save s) name call = ⊥

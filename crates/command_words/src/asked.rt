@@ -4,29 +4,29 @@ use crate::LiveSettings;
 use std::alloc::AllocError;
 use thiserror::Error;
 
-/// How a run is to work.
+/// The settings of a run.
 #[derive(Clone, Copy, Debug, PartialEq, Eq)]
 pub struct Settings {
     /// Threads, 1 to 64.
     pub workers: u32,
     /// The most periods of 20 ms of a round, 1 to 250.
     pub batch: u32,
-    /// The most periods that a worker works of a job at a time, 1 to 250.
+    /// The most periods of a job that a worker processes at a time, 1 to 250.
     pub slice: u32,
     /// The most periods of the run, 1 to 4,294,967,295.
     pub periods: u32,
 }
 
-/// What the words ask for. The tools name a call, 1 to 4,096.
+/// What the words ask for. The calls of tools are 1 to 4,096.
 #[derive(Clone, Copy, Debug, PartialEq, Eq)]
 pub enum Asked {
     /// A run of all calls that orders open.
     Run(Settings),
-    /// The same to a mark at the end of its periods, which the words name.
+    /// A run up to a mark, after the number of periods that the words give.
     Save(Settings),
-    /// The same from a mark on.
+    /// A run from a mark on.
     Resume(Settings),
-    /// A run of so many calls, 1 to 256, over lines in memory that are drawn from a seed, for at most 1,000 periods.
+    /// A run of 1 to 256 calls for at most 1,000 periods. Its lines are in memory and drawn from a seed.
     Drill {
         seed: u32,
         calls: u32,
@@ -42,15 +42,15 @@ pub enum Asked {
     Encode(u32),
     /// The good speech frames of a call's uplink, decoded, on its Out line.
     Decode(u32),
-    /// The downlink recorded on a call's Up line, 1 to 4,096, followed as its base station would that wants frames at places
-    /// that are `want` modulo 320: 0 to 316, a multiple of 4.
+    /// The base station's end of the downlink recorded on the Up line of a call, 1 to 4,096. The station wants frames at
+    /// places (in bits) that are `want` modulo 320: 0 to 316, a multiple of 4.
     Follow {
         call: u32,
         want: u16,
     },
-    /// The time slot on a call's Pcm line, cut into four channels for this call's Down line and the next three's: 1 to 4,093.
+    /// The time slot on the Pcm line of a call, 1 to 4,093, cut into four channels for the Down lines of this call and the next three.
     Split(u32),
-    /// The channels on a call's Up line and the next three's, put together to a time slot: 1 to 4,093.
+    /// The channels on the Up lines of a call, 1 to 4,093, and of the next three, put together to a time slot.
     Merge(u32),
 }
 

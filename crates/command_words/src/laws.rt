@@ -1,4 +1,4 @@
-//! What makes "what the words ask for" one thing.
+//! The law that words ask for one thing at most.
 
 ghost use Rattle.command_words.specs.Asking.{AskForOne};
 

@@ -1,13 +1,18 @@
 //! The words of the command line: what they ask for.
 //!
-//! Right below the top call, which carries out what this crate reads. The first word names the command; the number of
-//! a tool's call is read by `decimal_number`, and the options of `run`, `save`, `resume`, `drill` and `live` by `clap`,
-//! whose own function of the words says which it takes and what each option's value is.
+//! Right below the top function, which runs what this crate reads. The first word names the command. `decimal_number` reads
+//! numbers; `clap` reads the options of `run`, `save`, `resume`, `drill` and `live`. The contracts say by `clap`'s own
+//! definition which options are taken and what their values are.
 //!
-//! `asked` has what words can ask for, `words` the whole reading, `tools` the words of the four tools, `slots` those of the
-//! commands on time slots, `follow` those of the base station's end, `run`, `drill` and `live` those of a run (also to
-//! a mark or from one on), of a drill and of a live drill, `options` what these share, `laws` the law that words ask for
-//! one thing.
+//! - `asked`: what words can ask for
+//! - `words`: the whole reading
+//! - `tools`: the words of the four tools
+//! - `slots`: those of the commands on time slots
+//! - `follow`: those of the base station's end
+//! - `run`: the options of `run`, `save` and `resume`
+//! - `drill`, `live`: those of a drill and of a live drill
+//! - `options`: what these three share
+//! - `laws`: the law that words ask for one thing at most
 //!
 //! The commands, their options and ranges are this project's profile.
 //! Definitions: `specs/Words.antt` (a command's word and a call), `specs/Slots.antt` (a command on a time slot),

@@ -1,4 +1,4 @@
-//! Commands with options, and how a run is to work by these.
+//! Commands with options, and the settings that the options give.
 
 ghost use Rattle.std.specs.Prelude.{◌≡◌, ℕ, [], true, false, IfOk, IfSome, IsErrOf, IsNone, fold, map, string_bytes};
 ghost use Rattle.clap.specs.Words.{app_of, rule_of, first_value, found_of, fault_of, is_simple_and_free, HasMatchesOf};
@@ -19,7 +19,7 @@ fn option<'a>(alloc: Global, name: &'a str) -> Arg<'a>
     Arg::new(alloc, name).long(name).action(ArgAction::Set)
 }
 
-/// A command that is given its options alone, and knows no help and no version.
+/// A command whose words are its options only, without flags for help and version.
 pub(crate) fn bare_command<'a>(alloc: Global, name: &'a str) -> Command<'a>
     ensures { app_of result ≡ bare_app name.entry.now }
 {
@@ -43,8 +43,8 @@ pub(crate) fn with_options<'a>(
     Ok(command)
 }
 
-/// What a command finds in its words. `Usage` says that they aren't options of its own, each at most once and with a value;
-/// that is stated of commands without rules between their options, as those of this program are.
+/// What a command finds in its words. `Usage`: they aren't options of this command, each at most once and with a value.
+/// The contract says so for commands without rules between their options; all commands of this program are.
 pub(crate) fn matches_in<'a>(
     command: Command<'a>,
     words: &'a [String],
@@ -62,7 +62,7 @@ pub(crate) fn matches_in<'a>(
     }
 }
 
-/// The value of an option, or its default where it isn't given.
+/// The value of an option, or its default if it isn't given.
 pub(crate) fn value(
     matches: &ArgMatches<'_>,
     name: &str,
@@ -79,7 +79,7 @@ pub(crate) fn value(
     }
 }
 
-/// How a run is to work, for at most `most` periods.
+/// The settings of a run of at most `most` periods, of `default` without `--periods`.
 pub(crate) fn settings_of(matches: &ArgMatches<'_>, most: u32, default: u32) -> Option<Settings>
     ensures some { IfSome result (λ s. GivesSettings most default (first_value (found_of matches.now)) s) }
     ensures none { IsNone result → (s : TheSettings) → GivesSettings most default (first_value (found_of matches.now)) s → ⊥ }

@@ -11,11 +11,10 @@ use crate::{Settings, WordsFault};
 use clap::{ArgMatches, Command};
 use std::alloc::{AllocError, Global};
 
-// How a run is asked to work.
+// The settings of a run, and whether its periods were given.
 #[derive(Clone, Copy)]
 struct RunOptions {
     settings: Settings,
-    // Whether the words have `--periods`.
     has_periods: bool,
 }
 

@@ -6,10 +6,10 @@ ghost use Rattle.command_words.specs.Slots.{AsksSlot, IsSlotOn};
 use crate::Asked;
 use decimal_number::number_of_text;
 
-// The last call with three behind it.
+// The last call that three more follow.
 const HIGHEST_SLOT: u32 = 4093;
 
-// The work of the command of this name on a slot.
+// The command of this name on a slot.
 fn slot_named(name: &str, call: u32) -> Option<Asked>
     ensures some { IfSome result (λ a. IsSlotOn a name.now call) }
     ensures none { IsNone result → (a : OneAsked) → IsSlotOn a name.now call → ⊥ }
@@ -21,7 +21,7 @@ fn slot_named(name: &str, call: u32) -> Option<Asked>
     }
 }
 
-/// A command on a slot and its call, if the words are theirs.
+/// The command on a slot that the words ask for, if they ask for one.
 pub(crate) fn read_slot(words: &[String]) -> Option<Asked>
     ensures some { IfSome result (λ a. AsksSlot (map (λ w. string_bytes w) words.now) a) }
     ensures none { IsNone result → (a : OneAsked) → AsksSlot (map (λ w. string_bytes w) words.now) a → ⊥ }

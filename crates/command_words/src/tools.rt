@@ -8,7 +8,7 @@ use crate::Asked;
 use call_number::LAST_CALL;
 use decimal_number::number_of_text;
 
-// The work of the tool of this name on a call.
+// The tool of this name on a call.
 fn tool_named(name: &str, call: u32) -> Option<Asked>
     ensures some { IfSome result (λ a. IsToolOn a name.now call) }
     ensures none { IsNone result → (a : OneAsked) → IsToolOn a name.now call → ⊥ }
@@ -22,7 +22,7 @@ fn tool_named(name: &str, call: u32) -> Option<Asked>
     }
 }
 
-/// A tool and its call, if the words are theirs.
+/// The tool that the words ask for, with its call, if they ask for one.
 pub(crate) fn read_tool(words: &[String]) -> Option<Asked>
     ensures some { IfSome result (λ a. AsksTool (map (λ w. string_bytes w) words.now) a) }
     ensures none { IsNone result → (a : OneAsked) → AsksTool (map (λ w. string_bytes w) words.now) a → ⊥ }

@@ -1,4 +1,4 @@
-//! All words.
+//! The words of all commands.
 
 ghost use Rattle.std.specs.Prelude.{◌≡◌, ◌∷◌, ℕ, List, IfOk, IfSome, IsNone, IsErrOf, map, string_bytes};
 ghost use Rattle.command_words.specs.declared.asked.Asked.{Asked as OneAsked};
@@ -14,7 +14,7 @@ use crate::tools::read_tool;
 use crate::{Asked, WordsFault};
 use std::alloc::Global;
 
-// The words behind this one, if it is the first.
+// The words after the first, if that is `command`.
 fn options_of<'a>(words: &'a [String], command: &str) -> Option<&'a [String]>
     ensures some { IfSome result (λ options. map (λ w. string_bytes w) words.now ≡ command.now ∷ map (λ w. string_bytes w) options.now) }
     ensures none { IsNone result → (options : List (List ℕ)) → map (λ w. string_bytes w) words.now ≡ command.now ∷ options → ⊥ }
@@ -31,10 +31,10 @@ fn options_of<'a>(words: &'a [String], command: &str) -> Option<&'a [String]>
 /// |---|---|
 /// | `relay C`, `frames C`, `encode C`, `decode C` | a tool's work on call C, 1 to 4,096 |
 /// | `follow C W` | the base station's end of a downlink on call C, 1 to 4,096; W is 0 to 316, a multiple of 4 |
-/// | `split C`, `merge C` | a time slot cut into channels, or put together of them, call C being 1 to 4,093 |
+/// | `split C`, `merge C` | a time slot cut into channels, or put together of them; C is 1 to 4,093 |
 /// | `run` and its options | a run |
-/// | `save` and these, `--periods` among them | a run to a mark |
-/// | `resume` and these | a run from a mark on |
+/// | `save` and the same options, with `--periods` | a run up to a mark |
+/// | `resume` and the same options | a run from a mark on |
 /// | `drill` and its options | a drill |
 /// | `live` and its options | a live drill |
 ///
@@ -42,17 +42,17 @@ fn options_of<'a>(words: &'a [String], command: &str) -> Option<&'a [String]>
 ///
 /// The options of `run` are `--workers` (1 to 64, else 4), `--batch` (1 to 250, else 50), `--slice` (1 to 250, else 5)
 /// and `--periods` (1 to 4,294,967,295, else that), each at most once and in any order, with a value as the next word
-/// or behind `=` in the same one. A last word `--` is taken. `drill` has these too, but for `--periods` (1 to 1,000, else
-/// 200), and `--seed` (0 to 4,294,967,295, else 1) and `--calls` (1 to 256, else 64). The options of `live` are `--seed`,
-/// `--calls` and `--periods` as of `drill`, `--callers` (1 to 64, else 4) and `--inbox` (1 to 1,024, else 8).
+/// or after `=` in the same one. A last word `--` is taken. `drill` has these too, but its `--periods` are 1 to 1,000, else
+/// 200; it also has `--seed` (0 to 4,294,967,295, else 1) and `--calls` (1 to 256, else 64). The options of `live` are
+/// `--seed`, `--calls` and `--periods` as for `drill`, `--callers` (1 to 64, else 4) and `--inbox` (1 to 1,024, else 8).
 ///
-/// Other words are `Usage`. `Memory` may come in place of any answer of `run`, `save`, `resume`, `drill` and `live`.
+/// Other words give `Usage`. For `run`, `save`, `resume`, `drill` and `live`, any answer may be `Memory` instead.
 pub fn read_words(alloc: Global, words: &[String]) -> Result<Asked, WordsFault>
-    // What is answered is what the words ask for.
+    // The answer is what the words ask for.
     ensures ok { IfOk result (λ asked. Asks (map (λ w. string_bytes w) words.now) asked) }
-    // Usage comes only where they ask for nothing.
+    // Usage only if they ask for nothing.
     ensures usage { IsErrOf result WordsFault.Usage → (asked : OneAsked) → Asks (map (λ w. string_bytes w) words.now) asked → ⊥ }
-    // Memory comes only behind the commands that take options.
+    // Memory only for commands that take options.
     ensures memory { IsErrOf result WordsFault.Memory → TakeOptions (map (λ w. string_bytes w) words.now) }
 {
     if let Some(options) = options_of(words, "run") {

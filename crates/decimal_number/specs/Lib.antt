@@ -1,3 +1,3 @@
--- What it is to spell a number, and to part a text at an octet.
+-- Spelling a number, and splitting a text at an octet.
 pub mod Number
 pub mod Splits

@@ -1,4 +1,4 @@
--- Lists of octets that an octet parts.
+-- Lists of octets, split at an octet.
 use Rattle.std.specs.Prelude.{◌≡◌, ℕ, List, ◌∷◌, ◌++◌, eqb, false}
 use Rattle.std.specs.List.{All}
 
@@ -6,7 +6,7 @@ use Rattle.std.specs.List.{All}
 abbrev pub Lacks : ℕ → List ℕ → Type 0
 Lacks octet octets = All (λ b. eqb b octet ≡ false) octets
 
--- the octet stands first behind this front, and this back follows it
+-- the octets are `front`, then this octet, which isn't in `front`, then `back`
 pub record SplitsAt (octet : ℕ) (octets front back : List ℕ) : Type 0 where
   pub front_lacks : Lacks octet front
   pub whole : octets ≡ front ++ octet ∷ back

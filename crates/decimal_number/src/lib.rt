@@ -1,11 +1,12 @@
-//! Decimal numbers, as the words of a command line, the lines of orders and those of a mark spell them.
+//! Decimal numbers in the words of a command line, in the lines of orders and in those of a mark.
 //!
-//! At the bottom: takes a text or octets and a range, and gives the number that they spell, if they
-//! spell one. Its users, `command_words`, `trau_orders` and `farm_checkpoint`, know no other numerals.
-//! The latter two also part their lines here, at an octet.
+//! The functions take a text or octets and a range, and give the number that they spell, if they spell one.
+//! `command_words`, `trau_orders` and `farm_checkpoint` accept no other spelling. The latter two also split their lines
+//! here, at an octet.
 //!
-//! The spelling, digits with no sign, no space and no zero in front, is this project's profile.
-//! Definitions: `specs/Number.antt`, `specs/Splits.antt`. Lemmas for users: `proofs/Numbers.antt`.
+//! The spelling is this project's profile: digits without a sign, a space or a leading zero.
+//!
+//! Definitions: `specs/Number.antt`, `specs/Splits.antt`. `proofs/Numbers.antt` has lemmas for other crates.
 #![tactic(auto)]
 
 mod split;
@@ -15,7 +16,7 @@ ghost use Rattle.decimal_number.specs.Number.{IsPlain, IsNumber, SpellsOneNumber
 
 pub use split::split_at_octet;
 
-/// The number from `low` to `high` that a whole text spells. Where `low` is above `high` there is none.
+/// The number from `low` to `high` that a whole text spells. If `low` is above `high` there is none.
 pub fn number_of_text(text: &str, low: u32, high: u32) -> Option<u32>
     ensures some { IfSome result (λ n. IsNumber low high text.now n) }
     ensures none { IsNone result → (n : ℕ) → IsNumber low high text.now n → ⊥ }
@@ -29,7 +30,7 @@ pub fn number_of_text(text: &str, low: u32, high: u32) -> Option<u32>
     }
 }
 
-/// The same of octets, of which not all are texts.
+/// The same for octets, which need not be a text.
 pub fn number_of_octets(octets: &[u8], low: u32, high: u32) -> Option<u32>
     ensures some { IfSome result (λ n. IsNumber low high octets.now n) }
     ensures none { IsNone result → (n : ℕ) → IsNumber low high octets.now n → ⊥ }
@@ -40,12 +41,12 @@ pub fn number_of_octets(octets: &[u8], low: u32, high: u32) -> Option<u32>
     }
 }
 
-/// The law that makes "the number that it spells" one number: no text spells two, in whatever ranges.
+/// A law: no text spells two numbers, in any ranges.
 pub fn spells_one_number()
     ensures { SpellsOneNumber }
 {}
 
-// The standard library's reader also takes a sign and zeros in front, so these are refused first.
+// The standard library's parser also takes a sign and leading zeros, so these are refused first.
 fn is_plain(octets: &[u8]) -> bool
     ensures { IsTrue result ↔ IsPlain octets.now }
 {

@@ -1,9 +1,9 @@
-//! The first part of a list of octets.
+//! Splitting of octets.
 
 ghost use Rattle.std.specs.Prelude.{IsNone, IfSome};
 ghost use Rattle.decimal_number.specs.Splits.{Lacks, SplitsAt};
 
-/// What stands before the first such octet, and what stands behind it; none if there is no such octet.
+/// The octets before the first such octet, and those after it; none if there is no such octet.
 pub fn split_at_octet(octets: &[u8], octet: u8) -> Option<(&[u8], &[u8])>
     ensures some { IfSome result (λ parts. SplitsAt octet octets.now parts.0.now parts.1.now) }
     ensures none { IsNone result → Lacks octet octets.now }

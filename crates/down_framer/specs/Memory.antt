@@ -1,7 +1,7 @@
--- What a framer holds, and how that is balanced.
+-- The state of a framer, and its balance.
 use Rattle.std.specs.Prelude.{◌≡◌, ℕ, ◌+◌, ◌*◌, ◌<◌, List, [], length, replicate}
 
--- the bits in store, the octets held, and how many octets are to be skipped
+-- the bits in store, the octets held, and the number of octets to skip
 pub record FramerMemory : Type 0 where
   pub stored : List ℕ
   pub held : List ℕ

@@ -1,10 +1,10 @@
--- What a framer holds, by absolute places of the Pcm line and of the downlink.
+-- The state of a framer, by absolute places of the Pcm line and of the downlink.
 use Rattle.std.specs.Prelude.{◌≡◌, ℕ, ◌+◌, ◌-◌, ◌*◌, ◌<◌, zero, suc, List, [], ◌∷◌, ◌++◌, length, drop}
 use Rattle.down_framer.specs.Memory.{FramerMemory}
 use Rattle.down_framer.specs.Made.{Period, MadeFrame, next_start, grown, made_frames, downlink_of}
 
--- The octets held are those of the Pcm line from the next frame's start on, or so many are to be skipped as the start
--- lies past the line; the bits in store are those of the downlink as far as it is made, without the first `out`.
+-- The octets held are those of the Pcm line from the next frame's start on. If that start lies past the end of the line, the octets up to it are to
+-- be skipped. The bits in store are those of the downlink so far, without the first `out`.
 pub record Holds (pcm line : List ℕ) (out start : ℕ) (s : FramerMemory) : Type 0 where
   pub held : s.held ≡ drop start pcm
   pub to_skip : s.to_skip ≡ start - length pcm
@@ -23,7 +23,7 @@ abbrev pub pcm_of : List PcmPeriod → List ℕ
 pcm_of [] = []
 pcm_of (p ∷ past) = pcm_of past ++ p.load
 
--- Between periods, after those of the past: the law of places. `bits` are those of the newest of some frames.
+-- The state between periods, after those of the past. `bits` gives the bits of the newest of some frames.
 pub record StandsBetween (bits : List PcmFrame → List ℕ) (past : List PcmPeriod) (s : FramerMemory) : Type 0 where
   -- each period brought 160 octets
   pub pcm : length (pcm_of past) ≡ 160 * length past
@@ -33,12 +33,12 @@ pub record StandsBetween (bits : List PcmFrame → List ℕ) (past : List PcmPer
   pub line : length (downlink_of bits (made_frames past)) ≡ 320 + 2 * next_start (made_frames past)
   pub places : Holds (pcm_of past) (downlink_of bits (made_frames past)) (320 * length past) (next_start (made_frames past)) s
 
--- the frames after so many tries to make one in period p
+-- the frames after n tries to make one in period p
 abbrev pub tries : {A : Type 0} → ℕ → Period A → List (Period A) → List (MadeFrame A)
 tries zero p past = made_frames past
 tries (suc n) p past = grown p past (tries n p past)
 
--- Within period p, its octets put and the frames made so far.
+-- The state within period p, after its octets were put and frames `fs` were made.
 pub record StandsWithin (bits : List PcmFrame → List ℕ) (p : PcmPeriod) (past : List PcmPeriod) (fs : List PcmFrame) (s : FramerMemory) : Type 0 where
   pub pcm : length (pcm_of (p ∷ past)) ≡ 160 * length past + 160
   pub tried : (n : ℕ) × (fs ≡ tries n p past)

@@ -1,4 +1,4 @@
-//! Octets that are held and bits that are in store.
+//! The octets held and the bits in store.
 
 ghost use Rattle.std.specs.Prelude.{◌≡◌, ◌≤◌, ◌<◌, ◌+◌, ◌-◌, ◌*◌, ℕ, List, [], ◌∷◌, ◌++◌, length, take, drop, IfOk, nat_le};
 ghost use Rattle.time_align.specs.Shift.{IsShift};
@@ -14,9 +14,9 @@ use std::alloc::{AllocError, Global};
 use std::marker::Model;
 use trau_bits::pack;
 
-/// The downlink of one call: bits of made frames that are not yet out, octets of the Pcm line that no frame has taken
-/// yet, and how many of those to come are to be skipped. A period is one `put`, then a `frame` as long as one is
-/// `ready`, then one `take`.
+/// The downlink of one call: bits of made frames that haven't gone out yet, octets of the Pcm line that no frame has
+/// taken yet, and the number of coming octets to skip. In each period, call `put` once, then `frame` as long as `ready`
+/// is true, then `take` once.
 #[derive(Drop)]
 pub struct Framer {
     bits: HeapCircularBuffer<u8>,
@@ -37,7 +37,7 @@ impl Model for Framer {
 
 const ONES: [u8; 320] = [1; 320];
 
-// Copies the first items of a ring, which lie in two pieces.
+// Copies the first items of a ring, which lie in two slices.
 fn copy_first(ring: &HeapCircularBuffer<u8>, to: &mut [u8])
     requires { length to.old ≤ length ring.now.items }
     ensures { to.new ≡ take (length to.old) ring.now.items }
@@ -49,7 +49,7 @@ fn copy_first(ring: &HeapCircularBuffer<u8>, to: &mut [u8])
     to[cut..].copy_from_slice(&back[..rest]);
 }
 
-// How many octets lie between the starts of a frame and of the next one.
+// The number of octets from the start of a frame to the start of the next one.
 fn step_of(shift: i16) -> usize
     requires { IsShift shift }
     ensures value { result ≡ octets_to_next shift }
@@ -59,7 +59,7 @@ fn step_of(shift: i16) -> usize
 }
 
 impl Framer {
-    /// A framer before the first period: 320 ones are in store. It has room for every period.
+    /// A framer before the first period, with 320 ones in store. It has room for every period.
     pub fn new(alloc: Global) -> Result<Framer, AllocError>
         ensures value { IfOk result (λ framer. framer ≡ home_memory) }
         ensures between { IfOk result (λ framer. IsBetweenPeriods framer) }
@@ -75,13 +75,14 @@ impl Framer {
         })
     }
 
-    /// Takes the 160 octets of a period from the Pcm line: skips what is to be skipped, and holds the rest.
+    /// Takes the 160 octets of a period from the Pcm line. Those that are to be skipped are dropped, and the rest are
+    /// held.
     pub fn put(&mut self, octets: &[u8; 160])
         requires between { IsBetweenPeriods self.old }
         ensures step { self.new ≡ after_put self.old octets.now }
         ensures within { IsWithinPeriod self.new }
 
-        // By absolute places, of whatever lines.
+        // By absolute places, for any lines.
         ensures places { (pcm line : List ℕ) (out start : ℕ) → Holds pcm line out start self.old →
             Holds (pcm ++ octets.now) line out start self.new }
 
@@ -93,7 +94,7 @@ impl Framer {
         self.skip = 0;
     }
 
-    /// Whether a frame is to be made: 160 octets are held.
+    /// Whether a frame is to be made: at least 160 octets are held.
     pub fn ready(&self) -> bool
         ensures value { result ≡ nat_le 160 (length self.now.held) }
         ensures history { (bits : List PcmFrame → List ℕ) (p : PcmPeriod) (past : List PcmPeriod) (fs : List PcmFrame) →
@@ -107,7 +108,7 @@ impl Framer {
         requires ready { 160 ≤ length self.now.held }
         ensures value { octets.new ≡ take 160 self.now.held }
 
-        // By absolute places, of whatever lines.
+        // By absolute places, for any lines.
         ensures places { (pcm line : List ℕ) (out start : ℕ) → Holds pcm line out start self.now →
             octets.new ≡ take 160 (drop start pcm) }
 
@@ -118,8 +119,8 @@ impl Framer {
         copy_first(&self.octets, octets);
     }
 
-    /// Takes the next frame, of 320 bits: puts it into store with what its shift adds or leaves out, and takes its
-    /// octets away. The shift is in octets of the Pcm line, 0 to 156 or -2.
+    /// Takes the 320 bits of the next frame. Stores them, with the ones that its shift adds or without the bits that it
+    /// leaves out, and drops the octets of the frame. The shift is in octets of the Pcm line, 0 to 156 or -2.
     pub fn frame(&mut self, f: &[u8; 320], shift: i16)
         requires ready { 160 ≤ length self.old.held }
         requires shift { IsShift shift }
@@ -128,7 +129,7 @@ impl Framer {
         ensures within { IsWithinPeriod self.new }
         ensures taken { length self.new.held ≤ length self.old.held - 158 }
 
-        // By absolute places, of whatever lines.
+        // By absolute places, for any lines.
         ensures places { (pcm line : List ℕ) (out start : ℕ) → out ≤ length line → Holds pcm line out start self.old →
             Holds pcm (line ++ frame_on_line shift f.now) out (start + octets_to_next shift) self.new }
 
@@ -148,7 +149,7 @@ impl Framer {
         self.skip = (step - gone) as u32;
     }
 
-    /// Gives out the 320 bits of a period in which no frame is left to be made, as 40 octets.
+    /// Gives out the 320 bits of a period as 40 octets. No frame of the period may be left to be made.
     pub fn take(&mut self, octets: &mut [u8; 40])
         requires within { IsWithinPeriod self.old }
         requires not_ready { length self.old.held < 160 }
@@ -156,7 +157,7 @@ impl Framer {
         ensures between { IsBetweenPeriods self.new }
         ensures bits { bits_of octets.new ≡ take 320 self.old.stored }
 
-        // By absolute places, of whatever lines.
+        // By absolute places, for any lines.
         ensures places { (pcm line : List ℕ) (out start : ℕ) → Holds pcm line out start self.old →
             Holds pcm line (out + 320) start self.new × (bits_of octets.new ≡ take 320 (drop out line)) }
 
@@ -170,21 +171,21 @@ impl Framer {
         pack(&bits, octets);
     }
 
-    /// How many bits are in store.
+    /// The number of bits in store.
     pub fn stored(&self) -> u32
         ensures { result ≡ length self.now.stored }
     {
         self.bits.len() as u32
     }
 
-    /// How many octets are held.
+    /// The number of octets held.
     pub fn held(&self) -> u32
         ensures { result ≡ length self.now.held }
     {
         self.octets.len() as u32
     }
 
-    /// How many octets of those to come are to be skipped.
+    /// The number of coming octets to skip.
     pub fn to_skip(&self) -> u32
         ensures { result ≡ self.now.to_skip }
     {

@@ -8,7 +8,7 @@ use Rattle.std.proofs.lemmas.List.{length-take, length-replicate}
 use Rattle.call_number.specs.CallNumber.{IsCallNumber}
 use Rattle.trau_io.specs.declared.line.Line.{Line}
 use Rattle.trau_io.specs.declared.line.Side.{Side}
-use Rattle.trau_io.specs.Places.{place_of}
+use Rattle.trau_io.specs.Indices.{index_of_line}
 use Rattle.trau_io.specs.Lines.{LineState}
 use Rattle.trau_io.specs.Memory.{MemoryLine, state_of, states_of, known_line}
 use Rattle.trau_orders.specs.Lists.{AreOrders}
@@ -31,7 +31,7 @@ known-call d c s first = elim (cases_Bool (c == 0)) [
 ]
 
 -- the state of a line is that of the one at its index
-pub known-line : (d : DrillMemory) (c : ℕ) (s : Side) (l : MemoryLine) → 1 ≤ c → slice_get d.lines (place_of c s) ≡ Some l →
+pub known-line : (d : DrillMemory) (c : ℕ) (s : Side) (l : MemoryLine) → 1 ≤ c → slice_get d.lines (index_of_line c s) ≡ Some l →
     known_lines d c s ≡ state_of l
 known-line d c s l first found = known-call d c s first ∙ ap known_line found
 
@@ -45,8 +45,8 @@ told-same m n e =
 -- a line that is listed is of a call's number
 pub numbered : (lines : List Line) (c : ℕ) (s : Side) → is_listed lines c s ≡ true → IsCallNumber c
 numbered [] c s e = cc
-numbered (l ∷ lines) c s e = elim (or_cases (place_of l.call l.side == place_of c s) (is_listed lines c s) e) [
-  | inl q ↦ subst IsCallNumber ((one_line c l.call s l.side (eqb-true (place_of l.call l.side) (place_of c s) q)).0) l.number
+numbered (l ∷ lines) c s e = elim (or_cases (index_of_line l.call l.side == index_of_line c s) (is_listed lines c s) e) [
+  | inl q ↦ subst IsCallNumber ((one_line c l.call s l.side (eqb-true (index_of_line l.call l.side) (index_of_line c s) q)).0) l.number
   | inr q ↦ numbered lines c s q
 ]
 

@@ -5,7 +5,7 @@ use Rattle.std.specs.Prelude.{◌&&◌, nat_le, if◌then◌else◌, unwrap_or}
 use Rattle.std.proofs.lemmas.Bool.{cases_Bool, true≢false}
 use Rattle.trau_io.specs.declared.line.Side.{Side}
 use Rattle.trau_io.specs.declared.line.Side.TheVariants.{Up, Pcm, Down, Out}
-use Rattle.trau_io.specs.Places.{number_of_side, place_of}
+use Rattle.trau_io.specs.Indices.{number_of_side, index_of_line}
 use Rattle.trau_io.specs.Lines.{LineState}
 use Rattle.trau_io.specs.Memory.{MemoryLine, new_line, state_of}
 use Rattle.trau_orders.specs.declared.order.Order.{Order}
@@ -82,9 +82,9 @@ module _ (seed calls periods : ℕ) (d e : DrillMemory) (orders : List Order) (p
   -- each line of a call is one, with its room
   stands : (c : ℕ) (s : Side) → 1 ≤ c → c ≤ calls → Stands c s
   stands c s first last =
-      let f = found_in e.lines (place_of c s) (omega (arith, x.rooms.long, high c s (omega (arith, last, x.few)))) in
-      let within : place_of c s < 4 * (e.calls + 1) = subst (λ (n : ℕ). place_of c s < 4 * (n + 1)) (sym calls_stay) (below c calls s last) in
-      let has = x.rooms.each (place_of c s) f.0 (low c s first) within f.1 in
+      let f = found_in e.lines (index_of_line c s) (omega (arith, x.rooms.long, high c s (omega (arith, last, x.few)))) in
+      let within : index_of_line c s < 4 * (e.calls + 1) = subst (λ (n : ℕ). index_of_line c s < 4 * (n + 1)) (sym calls_stay) (below c calls s last) in
+      let has = x.rooms.each (index_of_line c s) f.0 (low c s first) within f.1 in
       record {
         line = f.0;
         known = known-line e c s f.0 first f.1;

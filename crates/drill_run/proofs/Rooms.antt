@@ -9,7 +9,7 @@ use Rattle.std.proofs.lemmas.Option.{slice_get-get_or, slice_get_within}
 use Rattle.trau_io.specs.declared.line.Failed.{Failed}
 use Rattle.trau_io.specs.declared.line.Side.{Side}
 use Rattle.trau_io.specs.declared.line.Side.TheVariants.{Up, Pcm, Down, Out}
-use Rattle.trau_io.specs.Places.{number_of_side, place_of}
+use Rattle.trau_io.specs.Indices.{number_of_side, index_of_line}
 use Rattle.trau_io.specs.Memory.{MemoryLine, is_failing, cut_of, read_answer, write_answer, after_read, after_write}
 use Rattle.farm_drill.specs.Lines.{AreDrilled, drilled_line, line_of_call}
 use Rattle.drill_run.specs.Rooms.{IsAmple, AreAmple, DrillMemory, room_by}
@@ -114,25 +114,25 @@ writes d p bytes now res a low high answer after =
 
 -- ---- places
 
-pub low : (call : ℕ) (s : Side) → 1 ≤ call → 4 ≤ place_of call s
+pub low : (call : ℕ) (s : Side) → 1 ≤ call → 4 ≤ index_of_line call s
 low call Up l = omega arith
 low call Pcm l = omega arith
 low call Down l = omega arith
 low call Out l = omega arith
 
-pub high : (call : ℕ) (s : Side) → call ≤ 4096 → place_of call s < 16388
+pub high : (call : ℕ) (s : Side) → call ≤ 4096 → index_of_line call s < 16388
 high call Up l = omega arith
 high call Pcm l = omega arith
 high call Down l = omega arith
 high call Out l = omega arith
 
-pub below : (call calls : ℕ) (s : Side) → call ≤ calls → place_of call s < 4 * (calls + 1)
+pub below : (call calls : ℕ) (s : Side) → call ≤ calls → index_of_line call s < 4 * (calls + 1)
 below call calls Up l = omega arith
 below call calls Pcm l = omega arith
 below call calls Down l = omega arith
 below call calls Out l = omega arith
 
-pub side_at : (call : ℕ) (s : Side) → place_of call s % 4 ≡ number_of_side s
+pub side_at : (call : ℕ) (s : Side) → index_of_line call s % 4 ≡ number_of_side s
 side_at call Up = omega arith
 side_at call Pcm = omega arith
 side_at call Down = omega arith
@@ -148,7 +148,7 @@ small Out = omega arith
 record IsPlace (i : ℕ) : Type 0 where
   pub call : ℕ
   pub side : Side
-  pub is : i ≡ place_of call side
+  pub is : i ≡ index_of_line call side
 
 line_at : (i c k : ℕ) → i ≡ 4 * c + k → k < 4 → IsPlace i
 line_at i c zero e l = record { call = c; side = Up; is = e }
@@ -187,8 +187,8 @@ ample_drilled seed calls periods lines few are = record { long = are.count; each
         let is = at.is in
         let first : 1 ≤ c = omega (arith, is, low, small s) in
         let last : c ≤ calls = omega (arith, is, below) in
-        let made : slice_get lines (place_of c s) ≡ Some (drilled_line seed calls periods c s) = are.each c s (omega (arith, last, few)) in
-        let here : slice_get lines (place_of c s) ≡ Some l = subst (λ (k : ℕ). slice_get lines k ≡ Some l) is e in
+        let made : slice_get lines (index_of_line c s) ≡ Some (drilled_line seed calls periods c s) = are.each c s (omega (arith, last, few)) in
+        let here : slice_get lines (index_of_line c s) ≡ Some l = subst (λ (k : ℕ). slice_get lines k ≡ Some l) is e in
         let found : Some (line_of_call seed c periods s) ≡ Some l =
         subst (λ (x : MemoryLine). Some x ≡ Some l) (drilled-of_call seed calls periods c s first last) (sym made ∙ here) in
         let side : i % 4 ≡ number_of_side s = ap (λ (k : ℕ). k % 4) is ∙ side_at c s in

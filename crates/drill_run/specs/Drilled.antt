@@ -14,7 +14,7 @@ use Rattle.farm_report.specs.Lines.{report_text}
 use Rattle.farm_report.specs.Sums.{sum_line}
 use Rattle.farm_run.specs.Runs.{Leaves, none_fails}
 
--- the run of a drill: its orders over its lines, of which none fails, to the last of its periods
+-- the run of a drill: its orders over its lines, up to its last period; no line fails
 abbrev pub drilled_run : ℕ → ℕ → ℕ → Run
 drilled_run seed calls periods = record {
   lines = λ c. record { up = up_line seed c periods; pcm = pcm_line seed c periods; up_failed = false; pcm_failed = false };
@@ -22,13 +22,13 @@ drilled_run seed calls periods = record {
   periods = periods;
 }
 
--- The text of a run of which no line fails, with its sums: the report, and a line for each call, in rising order of their
--- numbers, of what the run gives its outgoing lines.
+-- The text of a run in which no line fails: the report, followed by a line for each call, in call-number order, with the sums of
+-- what the run gives its outgoing lines.
 unfoldable pub text_with_sums : Run → List ℕ
 text_with_sums r = report_text (report_of r []) ++ flat_map (λ c. sum_line c (out_of_call r c) (down_of_call r c)) (calls_in r)
 
--- This is the text of a drill; and there are lines that hold what the drill's do, on which its run leaves what it gives them, and
--- none of them fails. Which lines were worked it doesn't say.
+-- This is the text of a drill. There are lines with the drill's contents on which its run leaves what it gives them, and none of
+-- them fails. This doesn't say which lines the drill processed.
 pub record IsDrilled (seed calls periods : ℕ) (text : List ℕ) : Type 0 where
   pub before : ℕ → Side → LineState
   pub now : ℕ → Side → LineState

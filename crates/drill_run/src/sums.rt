@@ -13,7 +13,7 @@ use farm_report::{CallLine, Report, sum, write_report};
 use std::alloc::{AllocError, Global};
 use trau_io::{Line, Side};
 
-// The sums of a call's outgoing lines, at the end of a text.
+// Appends the sums of a call's outgoing lines to a text.
 fn put_sum(text: &mut String, trunk: &DrillTrunk, call: u32) -> Result<(), AllocError>
     requires { IsCallNumber call }
     ensures { OnOk result (string_bytes text.new ≡ string_bytes text.old ++
@@ -26,7 +26,7 @@ fn put_sum(text: &mut String, trunk: &DrillTrunk, call: u32) -> Result<(), Alloc
     farm_report::put_sums(text, call, out, down)
 }
 
-// The sums of these calls, in their order.
+// Appends the sums of these calls, in their order.
 fn put_sums(text: &mut String, trunk: &DrillTrunk, calls: &[CallLine]) -> Result<(), AllocError>
     requires { All (λ line. IsCallNumber line.end.call) calls.now }
     ensures { OnOk result (string_bytes text.new ≡ string_bytes text.old ++ flat_map (λ line.

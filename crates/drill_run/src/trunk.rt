@@ -1,4 +1,4 @@
-//! The lines of a drill, of which none fails before it is full.
+//! The lines of a drill. None fails before it is full.
 
 ghost use Rattle.std.specs.Prelude.{◌≡◌, ◌<◌, length, Some};
 ghost use Rattle.trau_io.specs.Lines.{Reads, Writes, OthersStay};
@@ -7,7 +7,7 @@ ghost use Rattle.drill_run.specs.Rooms.{AreAmple, known_lines};
 use std::marker::Model;
 use trau_io::{Failed, Line, MemTrunk, Trunk};
 
-/// The lines of a drill of so many calls and periods.
+/// The lines of a drill of `calls` calls and `periods` periods.
 #[derive(Drop)]
 pub(crate) struct DrillTrunk {
     lines: MemTrunk,
@@ -38,7 +38,8 @@ impl DrillTrunk {
         }
     }
 
-    /// A law: whatever was done to the lines, they have their rooms.
+    /// For the prover only: reading the field brings in the type's invariant. Whatever was done to the lines, they have their
+    /// rooms.
     pub(crate) fn has_rooms(&self)
         ensures { AreAmple self.now }
     {

@@ -15,7 +15,7 @@ use std::sync::Wait;
 use std::thread::Threads;
 use trau_orders::{OrderFault, Orders, one_answer};
 
-// The orders of a text that has no bad line.
+// The orders of a text without a bad line.
 fn orders_of(alloc: Global, text: &[u8]) -> Result<Orders, AllocError>
     requires within { IsWithin text.now }
     requires good { (n : ℕ) → IsFirstBad (text_lines text.now) n → ⊥ }
@@ -30,11 +30,11 @@ fn orders_of(alloc: Global, text: &[u8]) -> Result<Orders, AllocError>
     }
 }
 
-/// A drill of so many calls, 1 to 256, whose lines are drawn from a seed: they are run over lines in memory at this pace, for
-/// its number of periods, at most 1,000. The answer is the report and, for each call, the sums of the octets of its outgoing
-/// lines. An error says that there was no memory.
+/// Runs a drill of `calls` calls, at most 256, whose lines are drawn from `seed`: over lines in memory, at this pace, for the
+/// pace's number of periods, at most 1,000. Returns the report, followed by the sums of the octets of each call's outgoing lines.
+/// An error says that memory ran out.
 ///
-/// The run waits for its workers: that it returns isn't proved.
+/// The run waits for its workers; that it returns isn't proved.
 pub fn run_drill<R: Threads + Wait + Sync, G: Gate + Sync>(
     rt: &R,
     alloc: Global,
@@ -48,7 +48,7 @@ pub fn run_drill<R: Threads + Wait + Sync, G: Gate + Sync>(
     requires periods { pace.now.periods ≤ 1000 }
     ensures { IfOk result (λ text. IsDrilled seed calls pace.now.periods (string_bytes text)) }
 {
-    // A law: lines spell one list of orders at most, and then have no bad one.
+    // A law: lines spell at most one list of orders, and if they do, none is bad.
     one_answer();
     let (lines, text) = drill(alloc, seed, calls, pace.periods)?;
     let orders = orders_of(alloc, &text)?;

@@ -4,7 +4,7 @@ use Rattle.std.specs.List.{All, AllPairs}
 use Rattle.call_number.specs.CallNumber.{IsCallNumber}
 use Rattle.farm_checkpoint.specs.declared.mark.MarkCall.{MarkCall}
 
--- what is seen of a mark
+-- a mark as contracts see it
 pub record MarkView : Type 0 where
   pub period : ℕ
   pub calls : List MarkCall
@@ -23,11 +23,11 @@ pub record AreOpenAtMark (period : ℕ) (calls : List MarkCall) : Type 0 where
   pub each : All (IsOpenAtMark period) calls
   pub rising : NumbersRise calls
 
--- its sums are numbers modulo 2 ^ 32
+-- its sums are below 2 ^ 32
 abbrev pub HasSums : MarkCall → Type 0
 HasSums call = (call.out ≤ 4294967295) × (call.down ≤ 4294967295)
 
--- a mark's period is one at which a run may stand, its calls may be open there, and its sums are sums
+-- a mark's period is from 1 to 2 ^ 32 - 1, its calls may be open there, and their sums are below 2 ^ 32
 pub record IsMark (mark : MarkView) : Type 0 where
   pub at_least : 1 ≤ mark.period
   pub at_most : mark.period ≤ 4294967295

@@ -1,4 +1,4 @@
-//! By which calls two lists differ.
+//! How two lists of calls differ.
 
 ghost use Rattle.std.specs.Prelude.{◌≡◌, ◌≢◌, ◌≤◌, ◌<◌, ◌↔◌, length, take, IsNone, IfSome};
 ghost use Rattle.farm_checkpoint.specs.Marks.{NumbersRise};
@@ -6,7 +6,7 @@ ghost use Rattle.farm_checkpoint.specs.Differences.{IsLeastDifference, DifferAt}
 
 use crate::MarkCall;
 
-// How many entries at the front the lists have in common.
+// The length of the lists' longest common prefix.
 fn count_common(one: &[MarkCall], other: &[MarkCall]) -> usize
     ensures within { (result ≤ length one.now) × (result ≤ length other.now) }
     ensures same { take result one.now ≡ take result other.now }
@@ -19,7 +19,7 @@ fn count_common(one: &[MarkCall], other: &[MarkCall]) -> usize
     common
 }
 
-/// The least number of a call that one of two lists has otherwise, or alone.
+/// The least call number whose entries differ, or that only one of the lists has.
 pub(crate) fn first_difference(one: &[MarkCall], other: &[MarkCall]) -> Option<u32>
     requires one_rises { NumbersRise one.now }
     requires other_rises { NumbersRise other.now }

@@ -1,10 +1,10 @@
-//! Why a text isn't taken as one that begins with a mark.
+//! Why a mark couldn't be read from a text.
 
 use crate::MarkCall;
 use std::alloc::AllocFailed;
 use thiserror::Error;
 
-/// Why a text isn't taken as one that begins with a mark.
+/// Why a mark couldn't be read from a text.
 #[derive(Clone, Copy, Debug, Drop, PartialEq, Eq, Error)]
 pub enum MarkFault {
     /// The first line that isn't in the grammar, counted from 1.

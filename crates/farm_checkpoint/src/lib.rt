@@ -1,13 +1,13 @@
-//! The mark of a checkpoint: where a run stood at a period of 20 ms, as a text.
+//! The mark of a checkpoint: the state of a run at a period of 20 ms, as a text.
 //!
-//! A run that goes on later from its recordings works them again from the start, and tells by the mark that it stands
-//! where the first part ended. The mark has the calls that were open, each with its first period and the sums of the
-//! octets of its outgoing lines. Here it is written, read back, and compared.
+//! A run that is resumed later processes its recordings again from the start. The mark then shows whether it has
+//! reached the state in which the first part ended. A mark lists the calls that were open, each with its first
+//! period and the sums of the octets of its outgoing lines. This crate writes, reads and compares marks.
 //!
 //! The text is this project's profile.
-//! Definitions: `specs/Marks.antt` (what a mark is), `specs/Text.antt` (its text, and the first line that isn't in the
-//! grammar), `specs/Differences.antt` (the least call number by which two lists differ). What the private functions
-//! give stands in `specs/Reading.antt` and `specs/Fields.antt`.
+//! Definitions: `specs/Marks.antt` (what a mark is), `specs/Text.antt` (its text, and the first line that isn't in
+//! the grammar), `specs/Differences.antt` (the least call number by which two lists differ), `specs/Reading.antt`
+//! and `specs/Fields.antt` (the results of the private functions).
 #![tactic(auto)]
 
 mod compare;

@@ -1,4 +1,4 @@
-//! The numbers of a line, each behind its words.
+//! The fields of a mark's lines: words and a number.
 
 ghost use Rattle.std.specs.Prelude.{◌≡◌, ◌++◌, ◌∷◌, ◌<◌, ◌≤◌, ℕ, List, decimal, IsNone, IfSome};
 ghost use Rattle.farm_checkpoint.specs.Marks.{IsOpenAtMark, HasSums};
@@ -10,7 +10,7 @@ use crate::MarkCall;
 use call_number::LAST_CALL;
 use decimal_number::{number_of_octets, split_at_octet};
 
-/// What stands behind these words.
+/// The rest of a text after these words.
 pub(crate) fn behind<'a>(text: &'a [u8], words: &[u8]) -> Option<&'a [u8]>
     ensures some { IfSome result (λ rest. text.now ≡ words.now ++ rest.now) }
     ensures none { IsNone result → (rest : List ℕ) → text.now ≡ words.now ++ rest → ⊥ }
@@ -18,7 +18,8 @@ pub(crate) fn behind<'a>(text: &'a [u8], words: &[u8]) -> Option<&'a [u8]>
     text.strip_prefix(words)
 }
 
-// The number from `low` to `high` behind these words and before this octet, which is no digit, and what follows.
+// Reads these words, a number from `low` to `high` and the octet `stop`, which is no digit. Returns the number and
+// the rest.
 fn number_behind<'a>(
     text: &'a [u8],
     words: &[u8],
@@ -36,7 +37,7 @@ fn number_behind<'a>(
     Some((number, rest))
 }
 
-/// The period of a mark's first line, and what follows the line.
+/// The period of a mark's first line, and the text after the line.
 pub(crate) fn read_period(text: &[u8]) -> Option<(u32, &[u8])>
     ensures some { IfSome result (λ read. (1 ≤ read.0) × (read.0 ≤ 4294967295) × (text.now ≡ save_line read.0 ++ read.1.now)) }
     ensures none { IsNone result → (period : ℕ) (rest : List ℕ) → 1 ≤ period → period ≤ 4294967295 →
@@ -45,7 +46,7 @@ pub(crate) fn read_period(text: &[u8]) -> Option<(u32, &[u8])>
     number_behind(text, b"save ", b'\n', 1, u32::MAX)
 }
 
-/// The call of a line, with a number above this one, and what follows the line.
+/// The call of a line, whose number must be greater than `above`, and the text after the line.
 pub(crate) fn read_call(text: &[u8], above: u32, period: u32) -> Option<(MarkCall, &[u8])>
     requires above { above ≤ 4096 }
     requires period { 1 ≤ period }

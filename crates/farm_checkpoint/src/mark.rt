@@ -7,7 +7,7 @@ ghost use Rattle.farm_checkpoint.specs.Differences.{IsLeastDifference};
 use crate::compare::first_difference;
 use std::marker::Model;
 
-/// A call that is open where a run is marked.
+/// A call that is open at a mark.
 #[derive(Clone, Copy, Debug, PartialEq, Eq)]
 pub struct MarkCall {
     /// Its number, 1 to 4,096.
@@ -20,10 +20,10 @@ pub struct MarkCall {
     pub down: u32,
 }
 
-/// Where a run stood at a period. Contracts see its period and its calls.
+/// The state of a run at a period. Contracts see its period and its calls.
 #[derive(Drop)]
 pub struct Mark {
-    /// The period of 20 ms before whose orders the run stood, at least 1.
+    /// The period of 20 ms at whose start, before its orders, the run is marked; at least 1.
     pub period: u32,
     /// The open calls, in rising order of their numbers.
     pub calls: Vec<MarkCall>,
@@ -38,8 +38,8 @@ impl Model for Mark {
 }
 
 impl Mark {
-    /// By which call the mark's calls and those of another run differ: `None` where the lists are equal, else the least
-    /// number that has other entries in them, or an entry in one alone. The numbers of calls rise in both.
+    /// How the mark's calls differ from those of another run: `None` if the lists are equal, else the least call
+    /// number whose entries differ or that only one list has. The calls' numbers rise in both lists.
     pub fn differs(&self, calls: &[MarkCall]) -> Option<u32>
         requires own_rise { NumbersRise self.now.calls }
         requires others_rise { NumbersRise calls.now }

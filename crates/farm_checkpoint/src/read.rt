@@ -1,4 +1,4 @@
-//! A mark, read from the front of a text.
+//! Reads a mark at the start of a text.
 
 ghost use Rattle.std.specs.Prelude.{◌≡◌, ◌++◌, ◌≤◌, ℕ, List, length, IfOk, IsErrOf};
 ghost use Rattle.farm_checkpoint.specs.Marks.{MarkView};
@@ -11,7 +11,7 @@ use std::alloc::Global;
 
 const ORDERS_LINE: &[u8] = b"orders\n";
 
-// The calls of the lines behind the first one, and what follows the line `orders`.
+// The calls of the lines after the first one, and the text after the line `orders`.
 fn read_calls(alloc: Global, period: u32, text: &[u8]) -> Result<(Vec<MarkCall>, &[u8]), MarkFault>
     requires period { 1 ≤ period }
     requires size { length text.now ≤ 1310720 }
@@ -32,9 +32,9 @@ fn read_calls(alloc: Global, period: u32, text: &[u8]) -> Result<(Vec<MarkCall>,
     }
 }
 
-/// The mark that a text of at most 1,310,720 octets begins with, and the number of octets before the orders that follow.
-/// A text that begins with none answers `Line`, with the number of the first line that isn't in the grammar, counted
-/// from 1. A line without its LF isn't in it.
+/// The mark at the start of a text of at most 1,310,720 octets, and the mark's length in octets; orders follow it.
+/// A text that doesn't begin with a mark gives `Line` with the number, from 1, of the first line that isn't in the
+/// grammar. A line without its LF isn't in the grammar.
 pub fn read_mark(alloc: Global, text: &[u8]) -> Result<(Mark, u32), MarkFault>
     requires { length text.now ≤ 1310720 }
     ensures ok { IfOk result (λ read. IsRead text.now read.0 read.1) }

@@ -21,7 +21,7 @@ fn put_call(text: &mut String, call: MarkCall) -> Result<(), AllocError>
     write!(text, "call {call} from {from} out {out} down {down}\n")
 }
 
-// The lines of calls, at the end of a text.
+// Appends the lines of calls to a text.
 fn put_calls(text: &mut String, calls: &[MarkCall]) -> Result<(), AllocError>
     ensures text { OnOk result (string_bytes text.new ≡ string_bytes text.old ++ flat_map call_text calls.now) }
     ensures sums { OnOk result (All HasSums calls.now) }
@@ -32,8 +32,8 @@ fn put_calls(text: &mut String, calls: &[MarkCall]) -> Result<(), AllocError>
     Ok(())
 }
 
-/// The text of a mark, whose period is at least 1 and whose calls are open there, in rising order of their numbers. It is
-/// a mark's text, so it is read again.
+/// The text of a mark whose period is at least 1 and whose calls are open there, in rising order of their numbers.
+/// It is a mark's text, so it can be read again.
 pub fn write_mark(alloc: Global, m: &Mark) -> Result<String, AllocError>
     requires period { 1 ≤ m.now.period }
     requires are_open { AreOpenAtMark m.now.period m.now.calls }

@@ -8,7 +8,7 @@ use Rattle.std.proofs.lemmas.Option.{slice_get-get_or}
 use Rattle.call_number.specs.declared.TheConstants.{NUMBERS}
 use Rattle.trau_io.specs.declared.line.Side.{Side}
 use Rattle.trau_io.specs.declared.line.Side.TheVariants.{Up, Pcm, Down, Out}
-use Rattle.trau_io.specs.Places.{number_of_side, place_of}
+use Rattle.trau_io.specs.Indices.{number_of_side, index_of_line}
 use Rattle.trau_io.specs.Memory.{MemoryLine, new_line}
 use Rattle.farm_drill.specs.Lines.{line_of_call, drilled_line, AreDrilled}
 
@@ -20,10 +20,10 @@ small Pcm = omega arith
 small Down = omega arith
 small Out = omega arith
 
-within : (call : ℕ) (s : Side) → call < NUMBERS → place_of call s < 16388
+within : (call : ℕ) (s : Side) → call < NUMBERS → index_of_line call s < 16388
 within call s h = omega (arith, h, small s)
 
-other_call : (c call : ℕ) (s side : Side) → c ≢ call → place_of c s ≢ place_of call side
+other_call : (c call : ℕ) (s side : Side) → c ≢ call → index_of_line c s ≢ index_of_line call side
 other_call c call s side other = λ same. other (omega (arith, same, small s, small side))
 
 get-same : (xs : List MemoryLine) (i : ℕ) (x : MemoryLine) → i < length xs → slice_get (slice_set xs i x) i ≡ Some x
@@ -77,9 +77,9 @@ pub none_set : (seed periods : ℕ) (lines : List MemoryLine) → length lines �
 none_set seed periods lines long all = record {
   count = long;
   each = λ call s h.
-      let inside : place_of call s < length lines = omega (arith, long, within call s h) in
-      slice_get-get_or lines (place_of call s) (new_line [] [] [] 0) inside
-      ∙ ap Some (all (place_of call s) (new_line [] [] [] 0) inside ∙ sym (drilled-none seed periods call s));
+      let inside : index_of_line call s < length lines = omega (arith, long, within call s h) in
+      slice_get-get_or lines (index_of_line call s) (new_line [] [] [] 0) inside
+      ∙ ap Some (all (index_of_line call s) (new_line [] [] [] 0) inside ∙ sym (drilled-none seed periods call s));
 }
 
 -- the lines of a call set one after the other
@@ -87,86 +87,86 @@ pub record AreSet (seed call periods : ℕ) (before now : List MemoryLine) : Typ
   pub up : List MemoryLine
   pub pcm : List MemoryLine
   pub down : List MemoryLine
-  pub set_up : up ≡ slice_set before (place_of call Up) (line_of_call seed call periods Up)
-  pub set_pcm : pcm ≡ slice_set up (place_of call Pcm) (line_of_call seed call periods Pcm)
-  pub set_down : down ≡ slice_set pcm (place_of call Down) (line_of_call seed call periods Down)
-  pub set_out : now ≡ slice_set down (place_of call Out) (line_of_call seed call periods Out)
+  pub set_up : up ≡ slice_set before (index_of_line call Up) (line_of_call seed call periods Up)
+  pub set_pcm : pcm ≡ slice_set up (index_of_line call Pcm) (line_of_call seed call periods Pcm)
+  pub set_down : down ≡ slice_set pcm (index_of_line call Down) (line_of_call seed call periods Down)
+  pub set_out : now ≡ slice_set down (index_of_line call Out) (line_of_call seed call periods Out)
 
 module _ (seed call periods : ℕ) (before : List MemoryLine) (low : 1 ≤ call) (high : call ≤ 256) (are : AreDrilled seed (call - 1) periods before) where
   at : Side → MemoryLine
   at s = line_of_call seed call periods s
 
   with_up : List MemoryLine
-  with_up = slice_set before (place_of call Up) (at Up)
+  with_up = slice_set before (index_of_line call Up) (at Up)
 
   with_pcm : List MemoryLine
-  with_pcm = slice_set with_up (place_of call Pcm) (at Pcm)
+  with_pcm = slice_set with_up (index_of_line call Pcm) (at Pcm)
 
   with_down : List MemoryLine
-  with_down = slice_set with_pcm (place_of call Down) (at Down)
+  with_down = slice_set with_pcm (index_of_line call Down) (at Down)
 
   with_out : List MemoryLine
-  with_out = slice_set with_down (place_of call Out) (at Out)
+  with_out = slice_set with_down (index_of_line call Out) (at Out)
 
   long_up : length with_up ≡ 16388
   unfolding with_up
-  long_up = length-set before (place_of call Up) (at Up) ∙ are.count
+  long_up = length-set before (index_of_line call Up) (at Up) ∙ are.count
 
   long_pcm : length with_pcm ≡ 16388
   unfolding with_pcm
-  long_pcm = length-set with_up (place_of call Pcm) (at Pcm) ∙ long_up
+  long_pcm = length-set with_up (index_of_line call Pcm) (at Pcm) ∙ long_up
 
   long_down : length with_down ≡ 16388
   unfolding with_down
-  long_down = length-set with_pcm (place_of call Down) (at Down) ∙ long_pcm
+  long_down = length-set with_pcm (index_of_line call Down) (at Down) ∙ long_pcm
 
   long_out : length with_out ≡ 16388
   unfolding with_out
-  long_out = length-set with_down (place_of call Out) (at Out) ∙ long_down
+  long_out = length-set with_down (index_of_line call Out) (at Out) ∙ long_down
 
-  past_up : (p : ℕ) → p < 16388 → p ≢ place_of call Up → slice_get with_up p ≡ slice_get before p
+  past_up : (p : ℕ) → p < 16388 → p ≢ index_of_line call Up → slice_get with_up p ≡ slice_get before p
   unfolding with_up
-  past_up p h ne = get-other before (place_of call Up) p (at Up) (omega (arith, h, are.count)) ne
+  past_up p h ne = get-other before (index_of_line call Up) p (at Up) (omega (arith, h, are.count)) ne
 
-  past_pcm : (p : ℕ) → p < 16388 → p ≢ place_of call Pcm → slice_get with_pcm p ≡ slice_get with_up p
+  past_pcm : (p : ℕ) → p < 16388 → p ≢ index_of_line call Pcm → slice_get with_pcm p ≡ slice_get with_up p
   unfolding with_pcm
-  past_pcm p h ne = get-other with_up (place_of call Pcm) p (at Pcm) (omega (arith, h, long_up)) ne
+  past_pcm p h ne = get-other with_up (index_of_line call Pcm) p (at Pcm) (omega (arith, h, long_up)) ne
 
-  past_down : (p : ℕ) → p < 16388 → p ≢ place_of call Down → slice_get with_down p ≡ slice_get with_pcm p
+  past_down : (p : ℕ) → p < 16388 → p ≢ index_of_line call Down → slice_get with_down p ≡ slice_get with_pcm p
   unfolding with_down
-  past_down p h ne = get-other with_pcm (place_of call Down) p (at Down) (omega (arith, h, long_pcm)) ne
+  past_down p h ne = get-other with_pcm (index_of_line call Down) p (at Down) (omega (arith, h, long_pcm)) ne
 
-  past_out : (p : ℕ) → p < 16388 → p ≢ place_of call Out → slice_get with_out p ≡ slice_get with_down p
+  past_out : (p : ℕ) → p < 16388 → p ≢ index_of_line call Out → slice_get with_out p ≡ slice_get with_down p
   unfolding with_out
-  past_out p h ne = get-other with_down (place_of call Out) p (at Out) (omega (arith, h, long_down)) ne
+  past_out p h ne = get-other with_down (index_of_line call Out) p (at Out) (omega (arith, h, long_down)) ne
 
-  here : (s : Side) → slice_get with_out (place_of call s) ≡ Some (at s)
+  here : (s : Side) → slice_get with_out (index_of_line call s) ≡ Some (at s)
   unfolding with_up with_pcm with_down with_out
   here Up =
-      past_out (place_of call Up) (omega (arith, high)) (λ e. absurd (omega (arith, e)))
-      ∙ past_down (place_of call Up) (omega (arith, high)) (λ e. absurd (omega (arith, e)))
-      ∙ past_pcm (place_of call Up) (omega (arith, high)) (λ e. absurd (omega (arith, e)))
-      ∙ get-same before (place_of call Up) (at Up) (omega (arith, high, are.count))
+      past_out (index_of_line call Up) (omega (arith, high)) (λ e. absurd (omega (arith, e)))
+      ∙ past_down (index_of_line call Up) (omega (arith, high)) (λ e. absurd (omega (arith, e)))
+      ∙ past_pcm (index_of_line call Up) (omega (arith, high)) (λ e. absurd (omega (arith, e)))
+      ∙ get-same before (index_of_line call Up) (at Up) (omega (arith, high, are.count))
   here Pcm =
-      past_out (place_of call Pcm) (omega (arith, high)) (λ e. absurd (omega (arith, e)))
-      ∙ past_down (place_of call Pcm) (omega (arith, high)) (λ e. absurd (omega (arith, e)))
-      ∙ get-same with_up (place_of call Pcm) (at Pcm) (omega (arith, high, long_up))
+      past_out (index_of_line call Pcm) (omega (arith, high)) (λ e. absurd (omega (arith, e)))
+      ∙ past_down (index_of_line call Pcm) (omega (arith, high)) (λ e. absurd (omega (arith, e)))
+      ∙ get-same with_up (index_of_line call Pcm) (at Pcm) (omega (arith, high, long_up))
   here Down =
-      past_out (place_of call Down) (omega (arith, high)) (λ e. absurd (omega (arith, e)))
-      ∙ get-same with_pcm (place_of call Down) (at Down) (omega (arith, high, long_pcm))
-  here Out = get-same with_down (place_of call Out) (at Out) (omega (arith, high, long_down))
+      past_out (index_of_line call Down) (omega (arith, high)) (λ e. absurd (omega (arith, e)))
+      ∙ get-same with_pcm (index_of_line call Down) (at Down) (omega (arith, high, long_pcm))
+  here Out = get-same with_down (index_of_line call Out) (at Out) (omega (arith, high, long_down))
 
-  elsewhere : (c : ℕ) (s : Side) → c < NUMBERS → c ≢ call → slice_get with_out (place_of c s) ≡ slice_get before (place_of c s)
+  elsewhere : (c : ℕ) (s : Side) → c < NUMBERS → c ≢ call → slice_get with_out (index_of_line c s) ≡ slice_get before (index_of_line c s)
   elsewhere c s h other =
-      let inside : place_of c s < 16388 = within c s h in
-      past_out (place_of c s) inside (other_call c call s Out other) ∙ past_down (place_of c s) inside (other_call c call s Down other)
-      ∙ past_pcm (place_of c s) inside (other_call c call s Pcm other) ∙ past_up (place_of c s) inside (other_call c call s Up other)
+      let inside : index_of_line c s < 16388 = within c s h in
+      past_out (index_of_line c s) inside (other_call c call s Out other) ∙ past_down (index_of_line c s) inside (other_call c call s Down other)
+      ∙ past_pcm (index_of_line c s) inside (other_call c call s Pcm other) ∙ past_up (index_of_line c s) inside (other_call c call s Up other)
 
-  each : (c : ℕ) (s : Side) → c < NUMBERS → slice_get with_out (place_of c s) ≡ Some (drilled_line seed call periods c s)
+  each : (c : ℕ) (s : Side) → c < NUMBERS → slice_get with_out (index_of_line c s) ≡ Some (drilled_line seed call periods c s)
   unfolding at
   each c s h = elim (cases_eq c call) [
     | inl same ↦
-        subst (λ (k : ℕ). slice_get with_out (place_of k s) ≡ Some (drilled_line seed call periods k s)) (sym same)
+        subst (λ (k : ℕ). slice_get with_out (index_of_line k s) ≡ Some (drilled_line seed call periods k s)) (sym same)
         (here s ∙ ap Some (sym (drilled-of_call seed call periods call s low (omega arith))))
     | inr other ↦ elsewhere c s h other ∙ are.each c s h ∙ ap Some (drilled-same seed call periods c s other low)
   ]
@@ -179,7 +179,7 @@ pub one_more_set : (seed call periods : ℕ) (before now : List MemoryLine) → 
 unfolding at with_up with_pcm with_down with_out
 one_more_set seed call periods before now low high are old =
     let same : now ≡ with_out seed call periods before low high old =
-    are.set_out ∙ ap (λ (t : List MemoryLine). slice_set t (place_of call Out) (line_of_call seed call periods Out))
-    (are.set_down ∙ ap (λ (t : List MemoryLine). slice_set t (place_of call Down) (line_of_call seed call periods Down))
-    (are.set_pcm ∙ ap (λ (t : List MemoryLine). slice_set t (place_of call Pcm) (line_of_call seed call periods Pcm)) are.set_up)) in
+    are.set_out ∙ ap (λ (t : List MemoryLine). slice_set t (index_of_line call Out) (line_of_call seed call periods Out))
+    (are.set_down ∙ ap (λ (t : List MemoryLine). slice_set t (index_of_line call Down) (line_of_call seed call periods Down))
+    (are.set_pcm ∙ ap (λ (t : List MemoryLine). slice_set t (index_of_line call Pcm) (line_of_call seed call periods Pcm)) are.set_up)) in
     subst (AreDrilled seed call periods) (sym same) (all_set seed call periods before low high old)

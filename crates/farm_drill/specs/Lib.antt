@@ -1,4 +1,4 @@
--- What the lines and orders of a drill are, and those of hostile uplinks.
+-- The lines and orders of a drill, and hostile uplinks.
 pub mod Draws
 pub mod Uplink
 pub mod Lines

@@ -18,14 +18,14 @@ bridging periods call = record { stamp = periods / 4; what = Bridge call (call +
 abbrev pub unbridging : ℕ → ℕ → Order
 unbridging periods call = record { stamp = periods / 2; what = Unbridge call }
 
--- the first call of each four is bridged with the one after it, where there is one
+-- the first of each four calls is bridged with the next one, if there is one
 abbrev pub is_bridged : ℕ → Bool
 is_bridged call = call % 4 == 1
 
 unfoldable pub bridged_calls : ℕ → List ℕ
 bridged_calls calls = filter is_bridged (range_with_len 1 (calls - 1))
 
--- all calls are opened, then bridges begin, then they end; each in rising order of the calls' numbers
+-- all calls are opened, then bridges begin, then they end; each in call-number order
 unfoldable pub drilled_orders : ℕ → ℕ → List Order
 drilled_orders calls periods =
     map opening (range_with_len 1 calls)

@@ -25,8 +25,8 @@ kind_drawn t = if nat_lt t 244 then Speech else Idle
 abbrev pub field_drawn : ℕ → ℕ
 field_drawn a = if a == 0 then 39 else if a == 1 then 63 else 0
 
--- the frame of a period: its first draw, 260 draws for D1 to D260, and its last. TAF is 1 in the last of each 24
--- periods, and DTXd always
+-- the frame of a period: its first draw, 260 draws for D1 to D260, and its last. TAF is 1 in the last of each 24 periods, DTXd in
+-- all
 abbrev pub frame_drawn : ℕ → ℕ → ℕ → UpWords
 frame_drawn seed call period =
     let first = first_draw period in
@@ -39,7 +39,7 @@ frame_drawn seed call period =
       d = drawn_bits seed call (first + 1) 260;
     }
 
--- the 40 octets of a period: those of the frame's bits, or octets 00 where there is no frame
+-- the 40 octets of a period: those of the frame's bits, or octets 00 if there is no frame
 unfoldable pub up_octets : ℕ → ℕ → ℕ → List ℕ
 up_octets seed call period =
     if nat_lt (draw seed call (first_draw period)) 250 then octets_of (bits_saying (frame_drawn seed call period))

@@ -4,14 +4,14 @@ ghost use Rattle.std.specs.Prelude.{◌≡◌, ℕ, ◌+◌, ◌<◌, length};
 ghost use Rattle.trau_bits.specs.Bits.{AreBits};
 ghost use Rattle.farm_drill.specs.Draws.{draw_state, draw, draws, drawn_bits};
 
-/// The generator of a call, behind some number of draws.
+/// The generator of a call, after some number of draws.
 #[derive(Drop)]
 pub struct Generator {
     x: u32,
 }
 
 impl Generator {
-    /// Before a call's first draw.
+    /// The generator before a call's first draw.
     pub fn new(seed: u32, call: u32) -> Generator
         requires { call < 4096 }
         ensures { result.x ≡ draw_state seed call 0 }
@@ -30,7 +30,7 @@ impl Generator {
         (self.x / 16_777_216) as u8
     }
 
-    /// The next draws, over all of the octets.
+    /// Fills the octets with the next draws.
     pub(crate) fn fill(&mut self, octets: &mut [u8])
         ensures now { (seed call n : ℕ) → self.old.x ≡ draw_state seed call n → self.new.x ≡ draw_state seed call (n + length octets.old) }
         ensures octets { (seed call n : ℕ) → self.old.x ≡ draw_state seed call n → octets.new ≡ draws seed call n (length octets.old) }

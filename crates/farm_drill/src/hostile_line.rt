@@ -1,17 +1,50 @@
-//! Uplinks as no base station sends them.
+//! Uplinks that no base station sends.
 
 ghost use Rattle.std.specs.Prelude.{◌≡◌, ◌*◌, ◌≤◌, IfOk};
 ghost use Rattle.trau_bits.specs.Bits.{AreBits};
 ghost use Rattle.trau_params.specs.Bits260.{bits260};
-ghost use Rattle.farm_drill.specs.Hostile.{zero_fields, good_bits, zero_bits, cut_bits, hostile_octets, hostile_line};
+ghost use Rattle.farm_drill.specs.Hostile.{zero_fields, good_bits, zero_bits, cut_bits, hostile_kind, hostile_octets, hostile_line};
 
 use crate::frames::{bits, octets};
 use std::alloc::{AllocError, Global};
 use trau_frame::{Class, Kind, UpFrame};
 use trau_params::Params;
 
-// Bits of a frame of zero samples up to where a line of kind 4 cuts it.
+/// What a hostile line consists of.
+#[derive(Clone, Copy)]
+pub enum HostileKind {
+    /// Zeros alone.
+    Zeros,
+    /// Ones alone.
+    Ones,
+    /// Frames of zero samples that ask for the greatest delay.
+    GreatestDelay,
+    /// Frames of zero samples that ask for an advance.
+    Advance,
+    /// Frames of zero samples without their last 15 bits.
+    Cut,
+    /// Good frames whose data bits are all 1.
+    DataOnes,
+}
+
+// How many bits of each frame of zero samples a line of cut frames has.
 const CUT: usize = 305;
+
+// What the line with a number consists of.
+#[tactic(auto, unfolding(crate::specs::Hostile::hostile_kind))]
+fn kind_of(number: u8) -> HostileKind
+    requires { number ≤ 5 }
+    ensures { result ≡ hostile_kind number }
+{
+    match number {
+        0 => HostileKind::Zeros,
+        1 => HostileKind::Ones,
+        2 => HostileKind::GreatestDelay,
+        3 => HostileKind::Advance,
+        4 => HostileKind::Cut,
+        _ => HostileKind::DataOnes,
+    }
+}
 
 // The data bits of a frame of zero samples.
 fn zero_data() -> [u8; 260]
@@ -53,7 +86,7 @@ fn zero(align: u8) -> [u8; 320]
     good(align, zero_data())
 }
 
-// The bits of a period of a line of cut frames.
+// The bits of a period of a line of kind 4.
 fn cut(period: u32) -> [u8; 320]
     requires { period ≤ 1000 }
     ensures value { result ≡ cut_bits period }
@@ -69,32 +102,32 @@ fn cut(period: u32) -> [u8; 320]
 
 // The octets of a period of a hostile line.
 #[tactic(auto, unfolding(crate::specs::Hostile::hostile_octets))]
-fn period_octets(kind: u8, period: u32) -> [u8; 40]
-    requires kind { kind ≤ 5 }
-    requires period { period ≤ 1000 }
+fn period_octets(kind: HostileKind, period: u32) -> [u8; 40]
+    requires { period ≤ 1000 }
     ensures { result ≡ hostile_octets kind period }
 {
     match kind {
-        0 => [0x00; 40],
-        1 => [0xFF; 40],
-        2 => octets(&zero(39)),
-        3 => octets(&zero(63)),
-        4 => octets(&cut(period)),
-        _ => octets(&good(0, [1; 260])),
+        HostileKind::Zeros => [0x00; 40],
+        HostileKind::Ones => [0xFF; 40],
+        HostileKind::GreatestDelay => octets(&zero(39)),
+        HostileKind::Advance => octets(&zero(63)),
+        HostileKind::Cut => octets(&cut(period)),
+        HostileKind::DataOnes => octets(&good(0, [1; 260])),
     }
 }
 
-/// An Up line of so many periods of 40 octets, at most 1,000, that tries what uplinks may do: 0 is all zeros, 1 all
-/// ones; in 2 and 3 each frame asks for the greatest delay, or for an advance; in 4 each frame is cut behind its
-/// 305th bit, which is as near as two places can match; in 5 all data bits are 1.
+/// An Up line of `periods` periods of 40 octets, at most 1,000, that tries what uplinks may do. By its kind: 0 is all zeros and 1
+/// all ones; in 2 each frame asks for the greatest delay and in 3 for an advance; in 4 each frame is cut after its 305th bit, the
+/// least distance at which two places can match; in 5 all data bits are 1.
 pub fn hostile(alloc: Global, kind: u8, periods: u32) -> Result<Vec<u8>, AllocError>
     requires kind { kind ≤ 5 }
     requires periods { periods ≤ 1000 }
     ensures { IfOk result (λ line. line.items ≡ hostile_line kind periods) }
 {
+    let consists_of = kind_of(kind);
     let mut line = Vec::with_capacity(alloc, 40 * periods as usize)?;
     for period in 0..periods {
-        line.extend_from_slice(&period_octets(kind, period))?;
+        line.extend_from_slice(&period_octets(consists_of, period))?;
     }
     Ok(line)
 }

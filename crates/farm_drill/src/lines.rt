@@ -2,7 +2,7 @@
 
 ghost use Rattle.std.specs.Prelude.{◌≡◌, ◌-◌, ◌≤◌, [], slice_set, IfOk, OnOk};
 ghost use Rattle.call_number.specs.CallNumber.{IsCallNumber};
-ghost use Rattle.trau_io.specs.Places.{place_of};
+ghost use Rattle.trau_io.specs.Indices.{index_of_line};
 ghost use Rattle.trau_io.specs.Memory.{new_line};
 ghost use Rattle.farm_drill.specs.Lines.{up_line, pcm_line, AreDrilled};
 
@@ -16,14 +16,14 @@ const DOWN_OCTETS: u32 = 40;
 
 const OUT_OCTETS: u32 = 160;
 
-// What a call's lines give.
+// The octets of a call's incoming lines.
 #[derive(Drop)]
 struct Incoming {
     up: Vec<u8>,
     pcm: Vec<u8>,
 }
 
-// The octets of a call's incoming lines. Their memory is taken before the first draw.
+// Draws a call's incoming lines. Takes their memory before the first draw.
 fn draw_lines(alloc: Global, seed: u32, call: u32, periods: u32) -> Result<Incoming, AllocError>
     requires call { call ≤ 256 }
     requires periods { periods ≤ 1000 }
@@ -43,7 +43,7 @@ fn draw_lines(alloc: Global, seed: u32, call: u32, periods: u32) -> Result<Incom
     })
 }
 
-// Sets a line of which no operation is cut or fails.
+// Sets a line on which no operation is cut or fails.
 fn set_line(
     trunk: &mut MemTrunk,
     alloc: Global,
@@ -53,14 +53,14 @@ fn set_line(
     room: u32,
 ) -> Result<(), AllocError>
     requires { IsCallNumber call }
-    ensures { OnOk result (trunk.new ≡ slice_set trunk.old (place_of call side) (new_line contents.items [] [] room)) }
+    ensures { OnOk result (trunk.new ≡ slice_set trunk.old (index_of_line call side) (new_line contents.items [] [] room)) }
 {
     let line = Line { call, side };
     let (cuts, fails) = (Vec::new(alloc), Vec::new(alloc));
     trunk.set(alloc, line, contents, cuts, fails, room)
 }
 
-/// Sets the four lines of a call, where those of the calls before it are set.
+/// Sets the four lines of a call, after those of the calls before it.
 pub(crate) fn set_call(
     trunk: &mut MemTrunk,
     alloc: Global,

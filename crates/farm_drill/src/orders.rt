@@ -1,4 +1,4 @@
-//! The text of a drill's orders. A text is of no use where memory ran out.
+//! The text of a drill's orders. If memory runs out, nothing is said of the text.
 
 ghost use Rattle.std.specs.Prelude.{◌≡◌, ◌++◌, ◌∷◌, [], ◌≤◌, map, filter, OnOk, IfOk, string_bytes};
 ghost use Rattle.std.specs.List.{range_with_len};
@@ -14,7 +14,7 @@ fn put_opening(text: &mut String, call: u32) -> Result<(), AllocError>
     write!(text, "{stamp} open {call}\n")
 }
 
-// The order that begins the call's bridge, if one is ordered.
+// The order that begins the call's bridge, if it has one.
 fn put_bridging(text: &mut String, periods: u32, call: u32) -> Result<(), AllocError>
     requires { call ≤ 256 }
     ensures { OnOk result (string_bytes text.new ≡ string_bytes text.old ++ text_of (map (bridging periods) (filter is_bridged (call ∷ [])))) }
@@ -25,7 +25,7 @@ fn put_bridging(text: &mut String, periods: u32, call: u32) -> Result<(), AllocE
     write!(text, "{} bridge {call} {}\n", periods / 4, call + 1)
 }
 
-// And the one that ends it.
+// The order that ends the call's bridge, if it has one.
 fn put_unbridging(text: &mut String, periods: u32, call: u32) -> Result<(), AllocError>
     ensures { OnOk result (string_bytes text.new ≡ string_bytes text.old ++ text_of (map (unbridging periods) (filter is_bridged (call ∷ [])))) }
 {
@@ -56,7 +56,7 @@ fn put_bridgings(text: &mut String, count: u32, periods: u32) -> Result<(), Allo
     Ok(())
 }
 
-// And those that end them.
+// The orders that end the bridges of calls 1 to `count`.
 fn put_unbridgings(text: &mut String, count: u32, periods: u32) -> Result<(), AllocError>
     requires { count ≤ 256 }
     ensures { OnOk result (string_bytes text.new ≡ string_bytes text.old ++ text_of (map (unbridging periods) (filter is_bridged (range_with_len 1 count)))) }
@@ -77,7 +77,7 @@ pub(crate) fn orders_text(alloc: Global, calls: u32, periods: u32) -> Result<Vec
 {
     let mut text = String::new(alloc);
     put_openings(&mut text, calls)?;
-    // No call is after the last one.
+    // The last call has no call after it to be bridged with.
     let followed = calls.saturating_sub(1);
     put_bridgings(&mut text, followed, periods)?;
     put_unbridgings(&mut text, followed, periods)?;

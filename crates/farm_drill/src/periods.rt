@@ -40,7 +40,7 @@ fn field(a: u8) -> u8
     }
 }
 
-/// The uplink's octets of a period, of which the generator is at the first draw. It takes 262 draws.
+/// The uplink's octets of a period. The generator is at the period's first draw, and takes 262 draws.
 pub fn uplink(generator: &mut Generator, period: u32) -> [u8; 40]
     ensures now { (seed call : ℕ) → generator.old.x ≡ draw_state seed call (first_draw period) →
         generator.new.x ≡ draw_state seed call (first_loud_draw period) }
@@ -64,7 +64,8 @@ pub fn uplink(generator: &mut Generator, period: u32) -> [u8; 40]
     octets(&bits(&frame))
 }
 
-/// The octets of a period from the exchange. Where the line is loud they take 160 draws, behind those for the uplink.
+/// The octets of a period from the exchange. The generator is after the draws for the uplink. If the line is loud, it takes 160
+/// draws.
 pub fn pcm(generator: &mut Generator, period: u32) -> [u8; 160]
     ensures now { (seed call : ℕ) → generator.old.x ≡ draw_state seed call (first_loud_draw period) →
         generator.new.x ≡ draw_state seed call (first_draw (period + 1)) }

@@ -11,7 +11,7 @@ use Rattle.farm_live.specs.declared.post.BookOf.{BookOf}
 use Rattle.farm_live.specs.declared.post.Post.{Post}
 use Rattle.farm_live.specs.declared.post.Entry.{Entry}
 
--- what it is of, the history, and the posts that wait
+-- whose book it is, the history, and the posts that wait
 pub record BookState : Type 0 where
   pub is_of : BookOf
   pub history : List Entry
@@ -32,11 +32,11 @@ empty_book is_of = record { is_of = is_of; history = []; inbox = [] }
 unfoldable pub record_of : BookState → List Post
 record_of k = map (λ e. e.post) k.history ++ k.inbox
 
--- those of one caller
+-- the posts of one caller
 abbrev pub of_caller : ℕ → List Post → List Post
 of_caller c ps = filter (λ p. p.caller == c) ps
 
--- their numbers go up by one from n on
+-- the posts' numbers go up by one from n on
 abbrev pub NumberedFrom : ℕ → List Post → Type 0
 NumberedFrom n [] = Unit {0}
 NumberedFrom n (p ∷ ps) = (p.number ≡ n) × NumberedFrom (suc n) ps
@@ -50,7 +50,7 @@ who_at call = record { number = call; law = A }
 abbrev pub HasPeriod : Post → Type 0
 HasPeriod p = (length p.up ≡ 40) × (length p.pcm ≡ 160)
 
--- the period of an entry
+-- the period of a post
 abbrev pub period_of : Post → CallPeriod
 period_of p = period_with new_settings p.up p.pcm None
 
@@ -59,32 +59,30 @@ abbrev pub periods_after : List CallPeriod → List Entry → List CallPeriod
 periods_after ts [] = ts
 periods_after ts (e ∷ es) = periods_after (period_of e.post ∷ ts) es
 
--- each entry's post has the octets of a period, and its outgoing octets are those that the call's definition gives it after all periods
--- before it
+-- each entry's post has the octets of a period, and its outgoing octets are those that the call's definition gives for it after all earlier periods
 abbrev pub IsWorkedFrom : Who → List CallPeriod → List Entry → Type 0
 IsWorkedFrom who ts [] = Unit {0}
 IsWorkedFrom who ts (e ∷ es) =
     HasPeriod e.post × (e.out ≡ out_of who (period_of e.post ∷ ts)) × (bits_of e.down ≡ down_now who (period_of e.post ∷ ts))
     × IsWorkedFrom who (period_of e.post ∷ ts) es
 
--- a history of a call from its first period on, by its octets; that each caller's posts are numbered in order, those of the
--- history and those that wait, is said beside it
+-- a history of a call from its first period on, by its octets; the numbers of the posts are no part of this
 abbrev pub IsLegal : ℕ → List Entry → Type 0
 IsLegal call es = IsWorkedFrom (who_at call) [] es
 
--- ---- what is done with a book
+-- ---- operations on a book
 
--- a post at the back of the inbox
+-- after a post was put at the back of the inbox
 abbrev pub with_post : BookState → Post → BookState
 with_post k x = record { is_of = k.is_of; history = k.history; inbox = k.inbox ++ x ∷ [] }
 
--- the first post was worked: its entry is one more at the end of the history
+-- the first post was processed, and its entry is added at the end of the history
 pub record Worked (old : BookState) (e : Entry) (new : BookState) : Type 0 where
   pub first : (rest : List Post) × (old.inbox ≡ e.post ∷ rest) × (new.inbox ≡ rest)
   pub history : new.history ≡ old.history ++ e ∷ []
   pub is_of : new.is_of ≡ old.is_of
 
--- an entry is that of a caller's post with this number
+-- the entry is that of a caller's post with this number
 abbrev pub is_of_post : ℕ → ℕ → Entry → Bool
 is_of_post caller number e = (e.post.caller == caller) && (e.post.number == number)
 

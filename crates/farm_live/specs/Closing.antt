@@ -15,14 +15,14 @@ use Rattle.farm_live.specs.Slot.{times}
 use Rattle.farm_live.specs.Turns.{Closes}
 use Rattle.farm_live.specs.Live.{view_of, book_at, IsSeated}
 
--- what these callers know of the call with index k: the view of each
+-- a caller's view of the call with index k, and below the views of several callers
 abbrev pub view_at : ℕ → Caller → List View
 view_at k c = map view_of (take 1 (drop k c.seats.items))
 
 abbrev pub views_at : ℕ → List Caller → List View
 views_at k cs = flat_map (view_at k) cs
 
--- a view that has what these views have
+-- a view that has all that these views have
 pub record HasAll (vs : List View) (v : View) : Type 0 where
   pub made : v.made ≡ flat_map (λ u. u.made) vs
   pub seen : v.seen ≡ flat_map (λ u. u.seen) vs
@@ -37,7 +37,7 @@ module _ {Q A : Type 0} where
     pub all : HasAll vs (view_of s)
     pub some : (c : ℕ) × (0 < times c (view_of s).callers)
 
-  -- at each call there is one seat of all these callers
+  -- at each call one seat has what all these callers know
   pub record AreJoined (inbox : ℕ) (slots : List (Slotted (Option Token) (Doing Token View) Q A)) (cs : List Caller) (seats : List Seat) : Type 0 where
     pub one_each : length seats ≡ length slots
     pub each : (k : ℕ) (slot : Slotted (Option Token) (Doing Token View) Q A) (s : Seat) → k < length slots →
@@ -47,7 +47,7 @@ module _ {Q A : Type 0} where
   abbrev pub AreAllSeated : ℕ → List (Slotted (Option Token) (Doing Token View) Q A) → List Caller → Type 0
   AreAllSeated inbox slots cs = All (IsSeated inbox slots) cs
 
-  -- the first seats, so many, aren't joined with those of one caller more yet, and the others are
+  -- the first n seats aren't joined with those of one more caller yet, and the others are
   pub record AreHalfJoined (inbox : ℕ) (slots : List (Slotted (Option Token) (Doing Token View) Q A)) (cs : List Caller) (c : Caller) (n : ℕ)
       (seats : List Seat) : Type 0 where
     pub one_each : length seats ≡ length slots
@@ -56,18 +56,18 @@ module _ {Q A : Type 0} where
     pub left : (k : ℕ) (slot : Slotted (Option Token) (Doing Token View) Q A) (s : Seat) → k < n → k < length slots →
         IsJoined (book_at inbox k) (slice_index_or slots k slot) (views_at k cs) (slice_index_or seats k s)
 
--- the closed call's entries and what is left of it are those of a book that was taken for good by one with this view
+-- the closed call's entries and remaining posts are those of a book that a caller with this view took for good
 abbrev pub IsClosedAs : ℕ → View → Closed → Type 0
 IsClosedAs call v d = (b : BookState) × Closes v b × (d.call ≡ call) × (d.entries.items ≡ b.history) × (d.left.items ≡ b.inbox)
 
--- this call was closed by what these views tell, and its history is legal
+-- this call was closed with what these views know, and its history is legal
 abbrev pub IsClosedBy : ℕ → List View → Closed → Type 0
 IsClosedBy call vs d = (v : View) × HasAll vs v × IsClosedAs call v d × IsLegal call d.entries.items
 
--- the first calls were closed, so many, each by what all these callers know of it
+-- the first calls were closed, each with what all these callers know of it
 abbrev pub AreClosedTo : List Caller → List Closed → Type 0
 AreClosedTo cs ds = (k : ℕ) (d : Closed) → k < length ds → IsClosedBy (k + 1) (views_at k cs) (slice_index_or ds k d)
 
--- all of them
+-- all calls were closed
 abbrev pub AreClosed : ℕ → List Caller → List Closed → Type 0
 AreClosed n cs ds = (length ds ≡ n) × AreClosedTo cs ds

@@ -20,7 +20,7 @@ use Rattle.farm_live.specs.Turns.{IsPosted, new_view}
 abbrev pub view_of : Seat → View
 view_of s = view s.pass
 
--- what the call with this index, from 0, is: its number is one more
+-- the call with this index, from 0, and the room of its inbox; its number is one more
 abbrev pub book_at : ℕ → ℕ → BookOf
 book_at inbox k = record { call = k + 1; room = inbox }
 
@@ -28,15 +28,15 @@ book_at inbox k = record { call = k + 1; room = inbox }
 abbrev pub next_post : ℕ → List ℕ → List ℕ → View → Post
 next_post caller up pcm v = record { caller = caller; number = length (of_caller caller v.made); up = up; pcm = pcm }
 
--- Ok gives the post's number, Full gives the post back
+-- `Ok` gives the post's number, `Full` gives the post back
 abbrev pub HasAnswered : Post → View → View → Result ℕ PostFault → Type 0
 HasAnswered x v w (Ok number) = IsPosted x v w posted.Did × (number ≡ x.number)
 HasAnswered x v w (Err (fault.Full post)) = IsPosted x v w posted.Full × (post ≡ x)
 HasAnswered x v w (Err fault.Busy) = IsPosted x v w posted.Busy
 
 module _ {Q A : Type 0} where
-  -- a caller's seat at the slot of a call, in between its functions: the caller doesn't have the book in hand, is one of
-  -- the callers whose view it is, and counts its posts
+  -- a caller's seat at the slot of a call, between its functions: the caller doesn't have the book in hand, its number is one of the
+  -- view's, and it counts its posts
   pub record IsSeat (book : BookOf) (slot : Slotted (Option Token) (Doing Token View) Q A) (caller : ℕ) (s : Seat) : Type 0 where
     pub pass : IsPassOf slot s.pass
     pub capacity : ruled_capacity slot ≡ 1
@@ -58,7 +58,7 @@ module _ {Q A : Type 0} where
 abbrev pub IsCallOf : {X : Type 0} → List X → ℕ → Type 0
 IsCallOf slots call = (1 ≤ call) × (call ≤ length slots)
 
--- P holds of what a caller knew of the call and of what it knows now; of each other call it knows what it knew
+-- P holds of what a caller knew of the call and of what it knows now; of each other call it knows the same as before
 pub record Turns (P : View → View → Type 0) (call : ℕ) (old new : Caller) : Type 0 where
   pub number : new.number ≡ old.number
   pub this : (s : Seat) → P (view_of (slice_index_or old.seats.items (call - 1) s)) (view_of (slice_index_or new.seats.items (call - 1) s))
@@ -66,12 +66,12 @@ pub record Turns (P : View → View → Type 0) (call : ℕ) (old new : Caller) 
 
 -- ---- a new farm
 
--- each caller has its own number, and the last one all that are left
+-- each caller has its own number, and the last one all that remain
 abbrev pub numbers_of : ℕ → ℕ → List ℕ
 numbers_of callers i = if i + 1 == callers then drop i all_callers else take 1 (drop i all_callers)
 
 module _ {Q A : Type 0} where
-  -- a seat at a new call, of a caller with these numbers: the empty book was seen, and nothing was posted
+  -- a seat at a new call, of a caller with these numbers: it saw the empty book, and posted nothing
   pub record IsNewSeat (callers : List ℕ) (book : BookOf) (slot : Slotted (Option Token) (Doing Token View) Q A) (s : Seat) : Type 0 where
     pub pass : IsPassOf slot s.pass
     pub capacity : ruled_capacity slot ≡ 1

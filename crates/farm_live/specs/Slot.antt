@@ -19,7 +19,7 @@ abbrev pub bit : Bool → ℕ
 bit true = 1
 bit false = 0
 
--- how often a number stands in a list
+-- how often a number is in a list
 abbrev pub is_at : ℕ → ℕ → ℕ
 is_at c d = bit (d == c)
 
@@ -35,7 +35,7 @@ ascending k (suc n) = k ∷ ascending (suc k) n
 unfoldable pub all_callers : List ℕ
 all_callers = ascending 0 64
 
--- ---- what the slot holds
+-- ---- the contents of the slot
 
 abbrev pub books : Token → ℕ
 books (Here b) = 1
@@ -63,7 +63,7 @@ AllSeen now (k ∷ ks) = BeginsWith now k × AllSeen now ks
 abbrev pub number_of_callers : View → ℕ
 number_of_callers v = weigh (λ _. 1) v.callers
 
--- of one's own callers all posts were made here, and of others none
+-- the posts of a caller that are in the book, if the view has its number; none, if not
 abbrev pub own_posts : ℕ → List Post → List Post
 own_posts zero posts = []
 own_posts (suc n) posts = posts
@@ -76,7 +76,7 @@ pub record FitsBook (now : BookState) (v : View) : Type 0 where
   pub few : length v.made ≤ 16777216 * number_of_callers v
   pub rest : v.callers ≡ [] → v.holds ≡ false
 
--- each caller's posts are numbered in order, and there are no callers but all
+-- each caller's posts are numbered in order, and all are of callers that a slot can have
 pub record IsRecord (posts : List Post) : Type 0 where
   pub numbered : (c : ℕ) → NumberedFrom 0 (of_caller c posts)
   pub known : (c : ℕ) → times c all_callers ≡ 0 → of_caller c posts ≡ []
@@ -93,11 +93,11 @@ IsSlot items views =
 
 -- ---- the steps
 
--- the first view holds a book that isn't there yet, and has all callers' numbers
+-- the first view has all callers' numbers, and holds a book that doesn't exist yet
 abbrev pub founder : View
 founder = record { callers = all_callers; is_of = no_call; holds = true; taken = no_book; seen = []; made = []; takings = 0; misses = 0 }
 
--- the first number goes to a new view, which has seen as much, and the others stay
+-- the first number goes to a new view, which has seen as much; the others stay
 abbrev pub rest_view : View → View
 rest_view v = record v { callers = drop 1 v.callers }
 
@@ -120,21 +120,20 @@ both_of v w = record {
 abbrev pub spent : View
 spent = record { callers = []; is_of = no_call; holds = false; taken = no_book; seen = []; made = []; takings = 0; misses = 0 }
 
--- no book was found
+-- after a miss
 abbrev pub missed : View → View
 missed v = record v { misses = v.misses + 1 }
 
--- Another caller had the book in hand, so this view doesn't have the numbers of all 64. The count of misses rose, and nothing
--- else changed.
+-- Another caller had the book in hand, so this view doesn't have the numbers of all 64. A miss was counted, and nothing else changed.
 pub record HasMissed (v w : View) : Type 0 where
   pub counted : w ≡ missed v
   pub others : number_of_callers v < 64
 
--- the book was taken
+-- after the book was taken
 abbrev pub took : View → BookState → View
 took v b = record v { holds = true; taken = b; seen = b ∷ []; takings = v.takings + 1 }
 
--- what the rule tells of a book that was taken
+-- what the rule says of a book that was taken
 pub record BookTells (v : View) (b : BookState) : Type 0 where
   pub seen : AllSeen b v.seen
   pub made : (c : ℕ) → of_caller c v.made ≡ own_posts (times c v.callers) (of_caller c (record_of b))
@@ -147,11 +146,11 @@ abbrev pub Took : View → Token → View → Type 0
 Took v (Here b) w = (w ≡ took v b) × BookTells v b
 Took v Out w = HasMissed v w
 
--- the posts that are in the book and weren't when it was taken
+-- the posts in the book that weren't there when it was taken
 abbrev pub added : View → BookState → List Post
 added v b = drop (length (record_of v.taken)) (record_of b)
 
--- the book was given back
+-- after the book was given back
 abbrev pub gave : View → BookState → View
 gave v b = record v { is_of = b.is_of; holds = false; seen = b ∷ []; made = v.made ++ added v b }
 
@@ -159,14 +158,13 @@ abbrev pub Gave : View → Token → View → Type 0
 Gave v (Here b) w = w ≡ gave v b
 Gave v Out w = w ≡ v
 
--- it may be given back like this: it begins with what was taken, and the posts that are new are numbered on, and are
--- of this view's callers
+-- it may be given back like this: it begins with the book that was taken, and its new posts continue the numbers and are of this view's callers
 pub record May (v : View) (b : BookState) : Type 0 where
   pub begins : BeginsWith b v.taken
   pub own : (c : ℕ) → times c v.callers ≡ 0 → of_caller c (added v b) ≡ []
   pub numbered : (c : ℕ) → NumberedFrom (length (of_caller c v.made)) (of_caller c (added v b))
   pub few : length (v.made ++ added v b) ≤ 16777216 * number_of_callers v
-  -- it is of the same call, or this view has all callers
+  -- its call is the same, or this view has all callers
   pub is_of : (b.is_of ≡ v.taken.is_of) × (v.is_of ≡ v.taken.is_of) ⊎ ((h : ℕ → ℕ) → weigh h v.callers ≡ weigh h all_callers)
 
 abbrev pub MatchTaken : Taken → (BookState → Type 0) → Type 0 → Type 0 → Type 0

@@ -13,8 +13,8 @@ use Rattle.farm_live.specs.declared.turns.Look.TheVariants as look
 use Rattle.farm_live.specs.Book.{BookState, no_book, empty_book, record_of, of_caller, NumberedFrom, IsLegal, with_post, Worked, is_of_post, most_posts}
 use Rattle.farm_live.specs.Slot.{AllSeen, own_posts, times, all_callers, number_of_callers, HasMissed}
 
--- The book was taken once. It begins with all that was seen of it, its history is legal, each caller's posts in it are
--- numbered in order, and those of this view's callers are the ones that they made.
+-- The book was taken once. It begins with all that was seen of it, its history is legal, each caller's posts in it are numbered in order,
+-- and the posts of this view's callers are those that they made.
 pub record Held (v w : View) : Type 0 where
   pub takings : w.takings ≡ v.takings + 1
   pub misses : w.misses ≡ v.misses
@@ -27,7 +27,7 @@ pub record Held (v w : View) : Type 0 where
   pub few : length (record_of w.taken) ≤ most_posts
   pub mine : length v.made ≤ 16777216 * number_of_callers v
 
--- .. and it was given back as `back`, with these posts more
+-- .. and it was given back as `back`, with these additional posts
 pub record Turned (v w : View) (back : BookState) (more : List Post) : Type 0 where
   pub took : Held v w
   pub free : w.holds ≡ false
@@ -39,14 +39,14 @@ pub record Turned (v w : View) (back : BookState) (more : List Post) : Type 0 wh
 abbrev pub Looked : View → View → Type 0
 Looked v w = Turned v w w.taken []
 
--- The post stands at the back of the inbox, if that isn't full. A call is busy where another caller has its book in hand,
--- which changes the count of misses alone.
+-- The post is at the back of the inbox, unless that is full. If another caller has the book in hand, the call is busy, and only the count
+-- of misses changes.
 abbrev pub IsPosted : Post → View → View → Posted → Type 0
 IsPosted x v w posted.Did = Turned v w (with_post w.taken x) (x ∷ []) × (length w.taken.inbox < v.is_of.room)
 IsPosted x v w posted.Full = Looked v w × (length w.taken.inbox ≡ v.is_of.room)
 IsPosted x v w posted.Busy = HasMissed v w
 
--- The first post of the inbox as taken was worked, and its entry is one more at the end of the history.
+-- The first post of the inbox was processed, and its entry is added at the end of the history.
 pub record HasWorkedPost (v w : View) (e : Entry) : Type 0 where
   pub back : BookState
   pub worked : Worked w.taken e back
@@ -60,13 +60,13 @@ HasTurned v w (Ok turn.Idle) = Looked v w × (w.taken.inbox ≡ [])
 HasTurned v w (Ok turn.Busy) = HasMissed v w
 HasTurned v w (Err _) = Looked v w
 
--- The entry stands in the history as taken, or none of this post does.
+-- The history as taken has this entry of the post, or none.
 abbrev pub HasLooked : ℕ → ℕ → View → View → Look → Type 0
 HasLooked of number v w (look.Found e) = Looked v w × (find (is_of_post of number) w.taken.history ≡ Some e)
 HasLooked of number v w look.NotYet = Looked v w × (find (is_of_post of number) w.taken.history ≡ None)
 HasLooked of number v w look.Busy = HasMissed v w
 
--- the view of these callers of a new call, whose empty book lies in the slot
+-- the view of these callers at a new call, whose empty book is in the slot
 abbrev pub new_view : List ℕ → BookOf → View
 new_view callers is_of = record {
   callers = callers;
@@ -79,7 +79,7 @@ new_view callers is_of = record {
   misses = 0;
 }
 
--- What the book tells a view that takes it for good.
+-- What a view that takes the book for good knows of it.
 pub record Closes (v : View) (b : BookState) : Type 0 where
   pub legal : IsLegal b.is_of.call b.history
   pub begins : AllSeen b v.seen

@@ -1,4 +1,4 @@
--- A call as a whole by what was posted to it: A-law, level 256, discontinuous transmission as the uplink asks, no bridge.
+-- A whole call by its posts: A-law, level 256, discontinuous transmission as the uplink asks, no bridge.
 use Rattle.std.specs.Prelude.{ℕ, pos, List, [], length, replicate}
 use Rattle.std.specs.List.{flat_map}
 use Rattle.trau_orders.specs.declared.order.DtxMode.TheVariants.{Uplink}
@@ -20,7 +20,7 @@ call_of_posts call ps = record {
   spans = [];
 }
 
--- what a history has on the outgoing lines
+-- the octets of a history on the outgoing lines
 abbrev pub outs_of : List Entry → List ℕ
 outs_of es = flat_map (λ e. e.out) es
 

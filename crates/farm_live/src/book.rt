@@ -17,7 +17,7 @@ use trau_alaw::Law;
 #[derive(Drop)]
 pub struct Book {
     of: BookOf,
-    // In a box, since the book goes through its slot with each turn.
+    // Boxed, since the book moves through its slot with each turn.
     leg: Box<Leg>,
     history: Vec<Entry>,
     inbox: HeapCircularBuffer<Post>,
@@ -41,8 +41,8 @@ impl Model for Book {
 }
 
 impl Book {
-    /// The book of a new call, with room for the posts that may wait, twice: for the inbox, and for what is left of it
-    /// at the end.
+    /// The book of a new call. It has room for a full inbox twice: for the inbox itself, and for the posts that
+    /// `close` returns.
     pub(crate) fn new(alloc: Global, of: BookOf) -> Result<Book, AllocError>
         requires { IsCallNumber of.call }
         ensures { IfOk result (λ b. b ≡ empty_book of) }
@@ -56,7 +56,7 @@ impl Book {
         })
     }
 
-    /// How many posts were worked.
+    /// How many posts were processed.
     pub(crate) fn len(&self) -> usize
         ensures { result ≡ length self.now.history }
     {
@@ -75,7 +75,7 @@ impl Book {
         self.inbox.try_push_back(post).is_ok()
     }
 
-    /// Works the first post, if there is one.
+    /// Processes the first post that waits, if there is one.
     pub(crate) fn work(&mut self) -> Result<Option<Entry>, AllocError>
         requires few { length self.old.history < 4294967295 }
         ensures answer { MatchResult result (λ r. MatchOption r ((self.old.inbox ≡ []) × (self.new ≡ self.old)) (λ e. Worked self.old e self.new))
@@ -107,7 +107,7 @@ impl Book {
         None
     }
 
-    /// The history, and the posts that are left.
+    /// The history, and the posts that still wait.
     pub(crate) fn close(self) -> (Vec<Entry>, Vec<Post>)
         ensures { (result.0.items ≡ self.history) × (result.1.items ≡ self.inbox) }
     {
@@ -125,7 +125,7 @@ impl Book {
     }
 }
 
-// Works a post as the next period of a leg.
+// Processes a post as the next period of a leg.
 fn period(leg: &mut Leg, post: Post) -> Entry
     requires few { periods_of_leg leg.old < 4294967295 }
     ensures post { result.post ≡ post }

@@ -1,4 +1,4 @@
-//! The end of a farm: what all callers know of a call is put together, and its book is taken for good.
+//! The end of a farm: what its callers know of each call is joined, and the call's book is taken for good.
 
 ghost use Rattle.std.specs.Prelude.{◌≡◌, ◌++◌, ◌∷◌, [], false, ℕ, ◌<◌, List, reverse, length, vec_capacity, ◌≤◌};
 ghost use Rattle.crossbeam_queue.specs.Passes.{IsPassOf, ruled_capacity};
@@ -11,7 +11,7 @@ use crate::slot::{Slot, take_in};
 use crate::turns;
 use std::sync::Wait;
 
-/// Puts what these callers know to what `first` knows, the last one's first.
+/// Joins the passes of these callers into those of `first`, the last caller's first.
 pub(crate) fn join_all(slots: &[Slot], first: &mut Caller, mut others: Vec<Caller>)
     requires { (inbox : ℕ) × (cs : List _) × AreJoined inbox slots.now cs first.old.seats.items × AreAllSeated inbox slots.now others.items }
     ensures { (inbox : ℕ) (cs : List _) → AreJoined inbox slots.now cs first.old.seats.items → AreAllSeated inbox slots.now others.items →
@@ -22,7 +22,7 @@ pub(crate) fn join_all(slots: &[Slot], first: &mut Caller, mut others: Vec<Calle
     }
 }
 
-// Puts what a caller knows to what others know, call by call.
+// Joins a caller's passes into those of `first`, call by call.
 fn join(slots: &[Slot], first: &mut Caller, other: Caller)
     requires { (inbox : ℕ) × (cs : List _) × AreJoined inbox slots.now cs first.old.seats.items × IsSeated inbox slots.now other }
     ensures { (inbox : ℕ) (cs : List _) → AreJoined inbox slots.now cs first.old.seats.items → IsSeated inbox slots.now other →
@@ -35,7 +35,7 @@ fn join(slots: &[Slot], first: &mut Caller, other: Caller)
     }
 }
 
-// Puts what a caller knows of one call to what others know.
+// Joins a caller's pass of one call into that of `first`.
 fn join_seat(slot: &Slot, first: &mut Seat, other: Seat)
     requires slot { IsPassOf slot.now first.old.pass × IsPassOf slot.now other.pass }
     requires free { (view_of other).holds ≡ false }

@@ -1,4 +1,4 @@
-//! Laws of live farms, each the contract of a function that does nothing.
+//! Laws of live farms. Each is the contract of a function that does nothing.
 
 ghost use Rattle.std.specs.Prelude.{◌≡◌, ℕ, List, map};
 ghost use Rattle.trau_bits.specs.Bits.{bits_of};
@@ -18,8 +18,8 @@ pub fn one_caller_is_never_busy()
     ensures { (v w : View) → v.callers ≡ numbers_of 1 0 → HasMissed v w → ⊥ }
 {}
 
-/// The octets of a legal history of a call, entry after entry, are those on the lines of the call as a whole whose periods
-/// are the posts: A-law, level 256, discontinuous transmission as the uplink asks, no bridge.
+/// The octets of a legal history, entry after entry, are those on the lines of the whole call whose periods are the
+/// posts: A-law, level 256, discontinuous transmission as the uplink asks, no bridge.
 pub fn legal_histories_are_whole_calls()
     ensures out { (call : ℕ) (es : List Entry) → IsLegal call es → outs_of es ≡ out (call_of_posts call (map (λ e. e.post) es)) }
     ensures down { (call : ℕ) (es : List Entry) → IsLegal call es →

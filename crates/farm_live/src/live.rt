@@ -17,9 +17,9 @@ use std::sync::Wait;
 /// Why a post wasn't accepted.
 #[derive(Drop)]
 pub enum PostFault {
-    /// The inbox has as many posts as it may. The post comes back; its number is the caller's next one still.
+    /// The inbox is full. The post comes back, and its number is still the caller's next one.
     Full { post: Post },
-    /// Another caller has the book: the count of misses rose, and nothing else changed.
+    /// Another caller has the book. A miss was counted, and nothing else changed.
     Busy,
 }
 
@@ -28,13 +28,13 @@ pub enum PostFault {
 pub struct Closed {
     /// Its number, from 1.
     pub call: u32,
-    /// The posts that were worked, in order, with what came of them.
+    /// The processed posts with their results, in order.
     pub entries: Vec<Entry>,
-    /// The posts that were accepted and not worked, in order.
+    /// The posts that were accepted and not processed, in order.
     pub left: Vec<Post>,
 }
 
-/// What a caller has at one call: its pass of the slot, and how many posts it made.
+/// A caller's seat at one call: its pass of the slot, and the number of its posts.
 #[derive(Drop)]
 pub(crate) struct Seat {
     pub(crate) pass: SlotPass,
@@ -62,7 +62,7 @@ impl Caller {
 pub struct Live {
     pub(crate) inbox: u32,
     pub(crate) slots: Vec<Slot>,
-    // The room of what `close` answers.
+    // Memory for the result of `close`.
     pub(crate) closed: Vec<Closed>,
     ghost few: { length slots.items ≤ 256 },
     ghost empty: { closed.items ≡ [] },
@@ -70,8 +70,8 @@ pub struct Live {
 }
 
 impl Live {
-    /// A farm of the calls 1 to `calls`, at most 256, at each of which 1 to 1,024 posts may wait, and its callers, numbered
-    /// from 0, at most 64. Takes the memory of the inboxes and of `close`.
+    /// A farm of the calls 1 to `calls`, at most 256, and its callers, at most 64, numbered from 0. At each call 1
+    /// to 1,024 posts may wait (`inbox`). Takes the memory of the inboxes and of `close`.
     pub fn new<R: Wait>(
         rt: &R,
         alloc: Global,
@@ -98,9 +98,9 @@ impl Live {
         ))
     }
 
-    /// Ends the farm, which these callers are of, and answers each call's history and the posts that are left in its inbox,
-    /// by the call's number. Takes no memory. Each caller's posts are among the entries and then among what is left, each
-    /// once and in order.
+    /// Ends the farm of these callers. Returns each call's history and the posts that remain in its inbox, in
+    /// call-number order. Takes no memory. Each caller's posts are among the entries and then among the remaining
+    /// posts, each once and in order.
     pub fn close<R: Wait>(self, rt: &R, callers: Vec<Caller>) -> Vec<Closed>
         requires some { 0 < length callers.items }
         requires farm { AreAllSeated self.inbox self.slots.items callers.items }
@@ -119,11 +119,11 @@ impl Live {
         close_all(rt, slots.as_slice(), &mut all, closed)
     }
 
-    /// Posts a period to a call of the farm: its 40 octets of the Up line and its 160 of the Pcm line. Takes the book, puts
-    /// the post at the back of the inbox, and gives the book back. Answers the post's number, counted from 0 for each caller
-    /// and call. `Full` comes exactly where the inbox has as many posts as it may when the book is taken, and `Busy` only
-    /// where another caller has the book. Both leave the inbox as it was, and use no number. The caller is one of this farm, and
-    /// makes at most 16,777,216 posts to a call.
+    /// Posts a period to a call of the farm: its 40 octets of the Up line and its 160 of the Pcm line. Takes the
+    /// book, puts the post at the back of the inbox, and gives the book back. Returns the post's number, counted
+    /// from 0 for each caller and call. If the inbox is full when the book is taken, the result is `Full`. If
+    /// another caller has the book, it may be `Busy`. Both leave the inbox unchanged and use up no number. The
+    /// caller is one of this farm, and makes at most 16,777,216 posts to a call.
     pub fn post<R: Wait>(
         &self,
         rt: &R,
@@ -143,10 +143,10 @@ impl Live {
         post_at(rt, &self.slots[k], number, &mut caller.seats[k], up, pcm)
     }
 
-    /// Works the first post that waits at a call of the farm, whoever made it. Takes the book, makes room in the history
-    /// where a post waits, works it as the call's next period, and gives the book back. `Idle` comes exactly where no post
-    /// waits when the book is taken, and `Busy` only where another caller has the book. Where memory is wanting nothing was
-    /// done. The caller is one of this farm.
+    /// Processes the first post that waits at a call of the farm, whoever made it. Takes the book, makes room in
+    /// the history if a post waits, processes the post as the call's next period, and gives the book back. `Idle`
+    /// means that no post waited when the book was taken, `Busy` that another caller had the book. If memory runs
+    /// out, the book is unchanged. The caller is one of this farm.
     pub fn work<R: Wait>(
         &self,
         rt: &R,
@@ -164,9 +164,9 @@ impl Live {
         work_at(rt, &self.slots[k], number, &mut caller.seats[k])
     }
 
-    /// What came of the post with this number that caller `of` made to a call of the farm. Takes the book, looks through its
-    /// history, and gives it back. `NotYet` comes exactly where the history has no such post when the book is taken, and
-    /// `Busy` only where another caller has the book. The caller is one of this farm.
+    /// Looks up the result of the post with this number that caller `of` made to a call of the farm. Takes the
+    /// book, searches its history, and gives it back. `NotYet` means that the history had no such post when the
+    /// book was taken, `Busy` that another caller had the book. The caller is one of this farm.
     pub fn read<R: Wait>(
         &self,
         rt: &R,

@@ -36,8 +36,8 @@ pub(crate) fn open_all<R: Wait>(
     Ok((slots, seats))
 }
 
-/// The callers of these slots, numbered from 0, whose seats are made of those of all callers. Each has its own number, and
-/// the last one all that are left.
+/// The callers of these slots, numbered from 0. They share out the seats of all callers: each gets its own number,
+/// and the last caller all that remain.
 pub(crate) fn seat_all(
     alloc: Global,
     slots: &[Slot],
@@ -61,7 +61,7 @@ pub(crate) fn seat_all(
     Ok(rows)
 }
 
-// The seats of the first caller whose number is left.
+// The seats of the first caller whose number remains.
 fn first_row(alloc: Global, slots: &[Slot], all: &mut [Seat]) -> Result<Vec<Seat>, AllocError>
     requires { (inbox : ℕ) × (cs : List ℕ) × IsNewRow cs inbox slots.now all.old }
     ensures rest { (inbox : ℕ) (cs : List ℕ) → IsNewRow cs inbox slots.now all.old → IfOk result (λ _. IsNewRow (drop 1 cs) inbox slots.now all.new) }
@@ -75,7 +75,7 @@ fn first_row(alloc: Global, slots: &[Slot], all: &mut [Seat]) -> Result<Vec<Seat
     Ok(seats)
 }
 
-// The seat of the first caller whose number is left.
+// The seat of the first caller whose number remains.
 fn first_seat(slot: &Slot, all: &mut Seat) -> Seat
     requires { (book : BookOf) × (cs : List ℕ) × IsNewSeat cs book slot.now all.old }
     ensures rest { (book : BookOf) (cs : List ℕ) → IsNewSeat cs book slot.now all.old → IsNewSeat (drop 1 cs) book slot.now all.new }

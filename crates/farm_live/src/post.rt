@@ -1,4 +1,4 @@
-//! What callers post, and what comes of it.
+//! What callers post, and the results.
 
 /// A period of 20 ms that a caller posts to a call.
 #[derive(Clone, Copy, Drop)]
@@ -13,7 +13,7 @@ pub struct Post {
     pub pcm: [u8; 160],
 }
 
-/// A post that was worked.
+/// A post that was processed.
 #[derive(Clone, Copy, Drop)]
 pub struct Entry {
     /// What was posted.
@@ -24,7 +24,7 @@ pub struct Entry {
     pub down: [u8; 40],
 }
 
-/// What a book is of: a call by its number, and how many posts may wait in its inbox.
+/// The call of a book, by its number, and how many posts may wait in its inbox.
 #[derive(Clone, Copy, Drop)]
 pub struct BookOf {
     /// The call's number, from 1.

@@ -1,9 +1,9 @@
 //! The slot of a call: the rule that holds whoever takes the book, and the steps that keep it.
 //!
-//! A slot is a queue for one token. It has the book, or a mark that a caller has it in hand, so it never counts as
-//! empty: taking the book puts the mark there, and giving it back takes the mark away. Each caller has a pass of the
-//! slot, whose view says what the caller knows: what it saw of the book, and what it posted. The rule ties all views to
-//! the book as it is now.
+//! A slot is a queue for one token: the book, or a mark that a caller has the book in hand. So it never counts as
+//! empty: taking the book puts the mark there, and giving it back takes the mark away. Each caller has a pass of
+//! the slot, with a view of what the caller knows: what it saw of the book, and what it posted. The rule ties all
+//! views to the present book.
 
 ghost use Rattle.std.specs.Prelude.{◌≡◌, ◌<◌, ℕ, true, false, [], ◌∷◌};
 ghost use Rattle.crossbeam_queue.specs.Passes.{view, IsSamePass, IsPassOf, ruled_capacity};
@@ -18,7 +18,7 @@ use std::alloc::{AllocError, Global};
 use std::collections::LinkedList;
 use std::sync::Wait;
 
-/// What lies in a slot: the book, or a mark that a caller has it.
+/// The token in a slot: the book, or a mark that a caller has it.
 #[derive(Drop)]
 pub enum Token {
     /// The book.
@@ -29,9 +29,10 @@ pub enum Token {
 
 /// What a caller knows of a call. No value of it is made.
 ///
-/// `callers` has the numbers of the callers whose view it is: one of each that `new` makes, all that are left for the
-/// last, and more where views are joined. `taken` is the book as it was taken last, `seen` what was last seen of it, and
-/// `made` the posts that were accepted. `takings` counts how often the book was taken, `misses` how often another had it.
+/// `callers` has the numbers of the callers whose view it is: for each caller that `new` makes its own, for the
+/// last one all that remain, and more after joins. `taken` is the book as it was last taken, `seen` what was last
+/// seen of it, and `made` the accepted posts. `takings` counts how often the book was taken, `misses` how often
+/// another caller had it.
 pub struct View {
     pub callers: LinkedList<u32>,
     pub is_of: BookOf,
@@ -54,7 +55,7 @@ impl Protocol<Token, View> for OneBook {
     ghost first = { founder };
 }
 
-/// Takes what lies in the slot.
+/// Takes the token out of the slot.
 pub struct Takes;
 
 impl Outcome<Token, View> for Takes {
@@ -63,7 +64,7 @@ impl Outcome<Token, View> for Takes {
     ghost then = { Took };
 }
 
-/// Puts the mark there, or takes it away, which changes nothing that is known.
+/// Puts the mark there, or takes it away. What is known stays the same.
 pub struct Marks;
 
 impl Outcome<Token, View> for Marks {
@@ -81,7 +82,7 @@ impl Outcome<Token, View> for Gives {
     ghost then = { Gave };
 }
 
-/// One caller more, and one less.
+/// Splits off one caller's view, and joins two views.
 pub struct Callers;
 
 impl Split<View> for Callers {
@@ -106,25 +107,25 @@ pub type Slot = RuledArrayQueue<Token, View, OneBook>;
 /// A caller's pass of a slot. It has no bytes.
 pub type SlotPass = Pass<Token, View>;
 
-/// What came of taking the book: the book; that another caller has it; or nothing.
+/// The result of taking the book.
 #[derive(Drop)]
 pub enum Taken {
     /// The book.
     Got(Book),
     /// Another caller has it.
     Busy,
-    /// Nothing: it has to be tried again.
+    /// Neither: try again.
     Again,
 }
 
-/// A slot without a book, and the pass of all callers, which has it in hand.
+/// A slot without a book, and the pass of all callers, which has the book in hand.
 pub fn new_slot(alloc: Global) -> Result<(Slot, SlotPass), AllocError>
     ensures { Rattle.std.specs.Prelude.IfOk result (λ r. IsPassOf r.0 r.1 × (ruled_capacity r.0 ≡ 1) × (view r.1 ≡ Rattle.farm_live.specs.Slot.founder)) }
 {
     Slot::ruled(alloc, 1)
 }
 
-/// Takes the book, if the slot has it. Who has all callers' numbers never finds it taken.
+/// Takes the book, if the slot has it. A view with all callers' numbers never finds it taken.
 pub fn take_book<R: Wait>(rt: &R, slot: &Slot, me: &mut SlotPass) -> Taken
     requires slot { IsPassOf slot.now me.old × (ruled_capacity slot.now ≡ 1) }
     requires free { (view me.old).holds ≡ false }
@@ -139,7 +140,7 @@ pub fn take_book<R: Wait>(rt: &R, slot: &Slot, me: &mut SlotPass) -> Taken
     }
 }
 
-/// Gives the book back, in the place of the mark. That is never refused.
+/// Gives the book back in place of the mark. This is never refused.
 pub fn give_back<R: Wait>(rt: &R, slot: &Slot, me: &mut SlotPass, book: Book)
     requires slot { IsPassOf slot.now me.old × (ruled_capacity slot.now ≡ 1) }
     requires held { (view me.old).holds ≡ true }
@@ -150,7 +151,7 @@ pub fn give_back<R: Wait>(rt: &R, slot: &Slot, me: &mut SlotPass, book: Book)
     let _ = slot.force_push_as::<Gives, Marks, R>(rt, me, Token::Here(book));
 }
 
-/// Gives the first caller's number to a new pass.
+/// Splits off a new pass, with the first caller's number.
 pub fn pass_of_first(slot: &Slot, me: &mut SlotPass) -> SlotPass
     requires slot { IsPassOf slot.now me.old }
     requires fresh { (view me.old).made ≡ [] }
@@ -161,7 +162,7 @@ pub fn pass_of_first(slot: &Slot, me: &mut SlotPass) -> SlotPass
     slot.another::<Callers>(me)
 }
 
-/// Takes in what another pass knows.
+/// Joins another pass into this one.
 pub fn take_in(slot: &Slot, me: &mut SlotPass, other: SlotPass)
     requires slot { IsPassOf slot.now me.old × IsPassOf slot.now other }
     requires free { (view other).holds ≡ false }

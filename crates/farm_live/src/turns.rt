@@ -14,21 +14,21 @@ use std::alloc::{AllocError, Global};
 use std::sync::Wait;
 use std::thread;
 
-/// What came of a post.
+/// The result of a post.
 #[derive(Drop)]
 pub enum Posted {
-    /// It stands in the inbox.
+    /// It is in the inbox.
     Did,
-    /// The inbox has as many posts as it may.
+    /// The inbox is full.
     Full,
     /// Another caller has the book.
     Busy,
 }
 
-/// What came of working a call.
+/// The result of processing a call's next post.
 #[derive(Drop)]
 pub enum Turn {
-    /// This post was worked, and its entry is the last one of the history.
+    /// This post was processed; its entry is the last one of the history.
     Did {
         /// Who posted it.
         caller: u32,
@@ -39,18 +39,18 @@ pub enum Turn {
     },
     /// No post waits.
     Idle,
-    /// Another caller has the book: the count of misses rose, and nothing else changed.
+    /// Another caller has the book. A miss was counted, and nothing else changed.
     Busy,
 }
 
-/// What was found of a post.
+/// The result of looking for a post.
 #[derive(Drop)]
 pub enum Look {
-    /// It was worked.
+    /// It was processed.
     Found(Entry),
-    /// It wasn't worked, or there is none such.
+    /// It wasn't processed, or it doesn't exist.
     NotYet,
-    /// Another caller has the book: the count of misses rose, and nothing else changed.
+    /// Another caller has the book. A miss was counted, and nothing else changed.
     Busy,
 }
 
@@ -72,7 +72,7 @@ fn take_or_miss<R: Wait>(rt: &R, slot: &Slot, me: &mut SlotPass) -> Option<Book>
     unreachable!()
 }
 
-/// Posts to the call, if no other caller has it in hand and its inbox isn't full.
+/// Posts to the call, unless another caller has it in hand or its inbox is full.
 pub(crate) fn post<R: Wait>(rt: &R, slot: &Slot, me: &mut SlotPass, x: Post) -> Posted
     requires slot { IsPassOf slot.now me.old × (ruled_capacity slot.now ≡ 1) }
     requires free { (view me.old).holds ≡ false }
@@ -90,7 +90,7 @@ pub(crate) fn post<R: Wait>(rt: &R, slot: &Slot, me: &mut SlotPass, x: Post) -> 
     if done { Posted::Did } else { Posted::Full }
 }
 
-/// Works the first post of the call, if no other caller has it in hand and its inbox isn't empty.
+/// Processes the first post of the call, unless another caller has it in hand or its inbox is empty.
 pub(crate) fn work<R: Wait>(rt: &R, slot: &Slot, me: &mut SlotPass) -> Result<Turn, AllocError>
     requires slot { IsPassOf slot.now me.old × (ruled_capacity slot.now ≡ 1) }
     requires free { (view me.old).holds ≡ false }
@@ -118,7 +118,7 @@ pub(crate) fn work<R: Wait>(rt: &R, slot: &Slot, me: &mut SlotPass) -> Result<Tu
     })
 }
 
-/// The entry of a caller's post with this number, if no other caller has the call in hand and the post was worked.
+/// The entry of a caller's post with this number, if no other caller has the call in hand and the post was processed.
 pub(crate) fn read<R: Wait>(rt: &R, slot: &Slot, me: &mut SlotPass, of: u32, number: u32) -> Look
     requires slot { IsPassOf slot.now me.old × (ruled_capacity slot.now ≡ 1) }
     requires free { (view me.old).holds ≡ false }

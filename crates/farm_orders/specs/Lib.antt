@@ -1,4 +1,4 @@
--- How the orders of a run are read from the desk, and a mark before them.
+-- How the orders of a run, or a mark and its orders, are read from the desk.
 pub mod Faults
 pub mod Given
 pub mod Reading

@@ -1,4 +1,4 @@
-//! Why the orders of a run aren't taken, or a mark before them.
+//! Why the orders of a run, or a mark and its orders, aren't taken.
 
 use farm_checkpoint::MarkFault;
 use std::alloc::AllocError;
@@ -8,7 +8,7 @@ use trau_orders::OrderFault;
 /// Why the orders of a run aren't taken.
 #[derive(Clone, Copy, Debug, Drop, PartialEq, Eq, Error)]
 pub enum OrdersFault {
-    /// The desk failed before the text had ended.
+    /// The desk failed before its text ended.
     #[error("orders unread")]
     Unread,
     /// More than 1,048,576 octets, or more than 65,536 lines.
@@ -47,13 +47,13 @@ impl From<OrderFault> for OrdersFault {
     }
 }
 
-/// Why a mark and the orders behind it aren't taken.
+/// Why a mark and the orders after it aren't taken.
 #[derive(Clone, Copy, Debug, Drop, PartialEq, Eq, Error)]
 pub enum MarkedFault {
     /// The first line that isn't in the grammar of a mark, counted from 1.
     #[error("save line {0}")]
     Mark(u32),
-    /// The text as a whole, or its orders, whose lines are counted from the first behind the mark.
+    /// The text as a whole, or its orders. Their lines are counted from the first after the mark.
     #[error("{0}")]
     Orders(OrdersFault),
 }

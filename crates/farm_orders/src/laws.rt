@@ -1,4 +1,4 @@
-//! A law of marks and orders, the contract of a function that does nothing.
+//! A law of marks and orders.
 
 ghost use Rattle.std.specs.Prelude.{◌≡◌, ◌++◌, ℕ, List, Some};
 ghost use Rattle.trau_io.specs.Desks.{DeskState};
@@ -10,8 +10,8 @@ ghost use Rattle.farm_orders.specs.Marked.{TellsMarked};
 
 use farm_checkpoint::marks_are_short;
 
-/// Behind any mark there is room for all orders that may stand without one: a text of a mark, and of orders within their own
-/// limits, is within the limit of the whole.
+/// Any mark leaves room for all orders that are taken without one: the text of a mark, followed by orders within their own
+/// limits, is within the limit of the whole text.
 pub fn marks_leave_room()
     ensures { (mark : MarkView) (rest : List ℕ) (orders : List Order) (desk : DeskState) → IsMark mark → IsWithin rest →
         AreLines (text_lines rest) orders → desk.to_come ≡ Some (mark_text mark ++ rest) → TellsMarked mark orders desk }

@@ -1,4 +1,4 @@
-//! A mark, and the orders of a run behind it.
+//! A mark, and the orders of a run after it.
 
 ghost use Rattle.std.specs.Prelude.{◌≡◌, ◌≤◌, ℕ, List, Some, length, IsErrOf};
 ghost use Rattle.trau_io.specs.Lines.{Rose};
@@ -15,12 +15,12 @@ use trau_orders::Orders;
 
 const MOST_OCTETS: usize = 1_310_720;
 
-/// A mark, and the orders behind it.
+/// A mark, and the orders after it.
 #[derive(Drop)]
 pub struct MarkedOrders {
     /// The mark, with which the text begins.
     pub mark: Mark,
-    /// The orders that the lines behind it spell.
+    /// The orders that the lines after it spell.
     pub orders: Orders,
 }
 
@@ -34,25 +34,28 @@ fn marked_of(alloc: Global, text: &[u8]) -> Result<MarkedOrders, MarkedFault>
     Ok(MarkedOrders { mark, orders })
 }
 
-/// Reads a mark and the orders of a run behind it from the desk, to the end of their text or until just past its limit of
+/// Reads a mark and the orders of a run after it from the desk, to the end of the text or to one octet past its limit of
 /// 1,310,720 octets.
 ///
-/// A desk that fails before that gives `Orders(Unread)`. Then, in this order: a text of more octets gives
-/// `Orders(TooLong)`; one with a line that isn't in the mark's grammar `Mark`, with the number of the first; and orders
-/// behind the mark that `read_orders` doesn't take `Orders` with what it gives of them. Their lines are counted from the
-/// first behind the mark. `Orders(Memory)` may come in place of any answer; the room for the text is asked for before the
-/// desk is read.
+/// Errors, in the order in which they are looked for:
+/// - `Orders(Unread)`: the desk failed before that.
+/// - `Orders(TooLong)`: the text has more octets.
+/// - `Mark`: a line isn't in the mark's grammar; the number of the first such line.
+/// - `Orders` with the error of `read_orders` for the orders after the mark. Their lines are counted from the first after
+///   the mark.
+///
+/// Any answer may be `Orders(Memory)` instead. The memory for the text is allocated before the desk is read.
 pub fn read_marked_orders<D: Desk>(alloc: Global, desk: &mut D) -> Result<MarkedOrders, MarkedFault>
-    // What was read of the desk, and that the answer is that of this text.
+    // What was read of the desk, and the answer to that.
     ensures reads { ReadsMarked (D.desk desk.old) (D.desk desk.new) result }
-    // Unread comes only where the count of reading rose, and always where it became greater.
+    // With Unread a fault of reading was counted; with any other answer the count is unchanged.
     ensures unread { IsErrOf result (MarkedFault.Orders Unread) → Rose (D.desk desk.old).read_faults (D.desk desk.new).read_faults }
     ensures calm { (IsErrOf result (MarkedFault.Orders Unread) → ⊥) → (D.desk desk.new).read_faults ≡ (D.desk desk.old).read_faults }
     ensures later { (D.desk desk.old).read_faults ≤ (D.desk desk.new).read_faults }
     // Nothing is written.
     ensures written { (D.desk desk.new).written ≡ (D.desk desk.old).written }
     ensures write_faults { (D.desk desk.new).write_faults ≡ (D.desk desk.old).write_faults }
-    // Of a desk that tells its text, the answer is that of the whole text.
+    // If the desk's text is known, the answer is the one to the whole text, or the desk failed.
     ensures told { (text : List ℕ) → (D.desk desk.old).to_come ≡ Some text → AnswersMarkedTold text result }
 {
     let text = read_text(alloc, desk, MOST_OCTETS)?;

@@ -8,14 +8,14 @@ use crate::OrdersFault;
 use std::alloc::{AllocError, Global};
 use trau_io::{Desk, Filled, read_desk};
 
-// A block of octets 0.
+// `size` octets 0.
 fn block_of(alloc: Global, size: usize) -> Result<Vec<u8>, AllocError>
     ensures { IfOk result (λ block. length block.items ≡ size) }
 {
     vec![in alloc; 0; size]
 }
 
-/// Reads the desk to the end of its text, or until just past `most` octets. The room is asked for before that.
+/// Reads the desk to the end of its text, or to one octet past `most`. The memory is allocated before that.
 pub(crate) fn read_text<D: Desk>(
     alloc: Global,
     desk: &mut D,

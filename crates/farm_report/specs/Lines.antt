@@ -21,7 +21,7 @@ line_of [] = codes "\n"
 line_of (word ∷ []) = word ++ codes "\n"
 line_of (word ∷ next ∷ words) = word ++ (codes " " ++ line_of (next ∷ words))
 
--- the refusals are numbered
+-- the number of a refusal
 abbrev pub number_of : Refusal → ℕ
 number_of (AlreadyOpen c) = 1
 number_of (NotOpen c) = 2
@@ -41,7 +41,7 @@ refused_call (SameCall c) = c
 refused_call (Draining c d) = c
 refused_call (NumberUsed c) = c
 
--- and the other call of the bridge that it is about
+-- the other call of the bridge that a refusal is about
 abbrev pub partner_words : Refusal → List (List ℕ)
 partner_words (AlreadyOpen c) = []
 partner_words (NotOpen c) = []
@@ -94,7 +94,7 @@ call_lines c = end_line c ++ counts_line c.end.call c.counts
 abbrev pub failed_line : Line → List ℕ
 failed_line line = failed_text line.call line.side
 
--- the greatest end of the calls, or 0 where there are none
+-- the greatest end of a call, or 0 if there are none
 abbrev pub last_end : List CallLine → ℕ
 last_end calls = fold (λ at call. max at call.end.at) 0 calls
 

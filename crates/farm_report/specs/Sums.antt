@@ -1,4 +1,4 @@
--- The sums of octets of a call's outgoing lines, as a text tells them (this project's profile).
+-- The sums of octets of a call's outgoing lines, as text (this project's profile).
 use Rattle.std.specs.Prelude.{ℕ, ◌^◌, ◌%◌, List, [], ◌∷◌, codes, decimal}
 use Rattle.std.specs.List.{sum}
 use Rattle.farm_report.specs.Lines.{line_of}

@@ -1,4 +1,4 @@
--- What is seen of a report: its numbers and its lists.
+-- A report as contracts see it: its numbers and its lists.
 use Rattle.std.specs.Prelude.{ℕ, List}
 use Rattle.trau_io.specs.declared.line.Line.{Line}
 use Rattle.switchboard.specs.declared.act.Reply.{Reply}

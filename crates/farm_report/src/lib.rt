@@ -1,10 +1,11 @@
-//! The report of a run: what became of its orders, bridges and calls, as text.
+//! The report of a run: the results of its orders, bridges and calls, as text.
 //!
-//! At the end of a run: takes the board's replies and spans, the calls' ends and counts and the lines that failed, as
-//! the rounds told them, and gives the text that goes to the desk.
+//! At the end of a run it takes the board's replies and spans, and from the rounds the calls' ends and counts and
+//! the lines that failed. From these it makes the text that goes to the desk.
 //!
-//! The text is this project's profile. `report` has the report, `lines` how each kind of line is written, `text` the
-//! whole and the failed lines alone, `sums` a line of sums, as drills have behind or in place of a report.
+//! The text is this project's profile. `report` has the report, `lines` how each kind of line is written, `text`
+//! the whole text and that of the failed lines alone, `sums` a line of sums, which drills print after a report or
+//! in place of one.
 //! Definitions: `specs/Lines.antt` (each line, and the whole text), `specs/Numbered.antt` (the numbers of a line),
 //! `specs/Sums.antt`, `specs/View.antt`.
 #![tactic(auto)]

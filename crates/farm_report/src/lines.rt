@@ -1,5 +1,5 @@
-//! The lines of a report, each written at the end of a text. A text is of no use where memory ran out. A line is mostly a
-//! table of its numbers, each behind its words: one loop writes them all.
+//! The lines of a report, each appended to a text. If memory runs out, the text is of no use. Most lines are a
+//! table of numbers, each after its words, which one loop writes.
 
 ghost use Rattle.std.specs.Prelude.{◌≡◌, ◌++◌, ◌∷◌, [], ℕ, List, codes, decimal, OnOk, string_bytes};
 ghost use Rattle.trau_io.specs.Texts.{side_word};
@@ -11,11 +11,11 @@ use std::alloc::AllocError;
 use switchboard::{Refusal, Reply};
 use trau_io::{Cause, Counts, Line, Side};
 
-/// What a report tells in lines of its own.
+/// A part of a report that has its own lines.
 pub(crate) trait Told {
     ghost lines: { Self → List ℕ };
 
-    /// Writes its lines at the end of a text.
+    /// Appends its lines to a text.
     fn put(&self, text: &mut String) -> Result<(), AllocError>
         ensures { OnOk result (string_bytes text.new ≡ string_bytes text.old ++ lines self.now) };
 }
@@ -27,7 +27,7 @@ fn put_side(text: &mut String, before: &str, side: Side, after: &str) -> Result<
     write!(text, "{before}{}{after}", side.word())
 }
 
-// Numbers, each behind its words, and then the words of the end.
+// Numbers, each after its words, and then the words of the end.
 fn put_numbers(text: &mut String, numbers: &[(&str, u64)], end: &str) -> Result<(), AllocError>
     ensures { OnOk result (string_bytes text.new ≡ string_bytes text.old ++ numbers_told numbers.now end.now) }
 {
@@ -131,7 +131,7 @@ impl Told for CallLine {
     }
 }
 
-// A call and its periods: how its line begins.
+// The beginning of a call's line: the call and its periods.
 fn put_periods(text: &mut String, line: &CallLine) -> Result<(), AllocError>
     ensures { OnOk result (string_bytes text.new ≡ string_bytes text.old ++ (codes "call "
         ++ (decimal line.now.end.call ++ (codes " from " ++ (decimal line.now.from ++ (codes " to " ++ (decimal line.now.end.at ++ codes " "))))))) }
@@ -147,7 +147,7 @@ fn put_periods(text: &mut String, line: &CallLine) -> Result<(), AllocError>
     )
 }
 
-// The words that a call's line ends with.
+// The words at the end of a call's line.
 fn put_cause(text: &mut String, cause: Cause) -> Result<(), AllocError>
     ensures { OnOk result (string_bytes text.new ≡ string_bytes text.old ++ line_of (cause_words cause)) }
 {
@@ -192,7 +192,7 @@ impl Told for Line {
     }
 }
 
-/// Writes the last line, with how many of the orders were left.
+/// Writes the last line, with the number of orders that weren't executed.
 pub(crate) fn put_last(text: &mut String, calls: &[CallLine], left: u32) -> Result<(), AllocError>
     ensures { OnOk result (string_bytes text.new ≡ string_bytes text.old ++ last_line calls.now left) }
 {

@@ -1,10 +1,10 @@
-//! What a report tells.
+//! What a report says.
 
 use std::marker::Model;
 use switchboard::{Reply, Span};
 use trau_io::{CallEnd, Counts, Line};
 
-/// A call of the run: from its first period to its end, with what was counted of its periods.
+/// A call of the run: its first period, its end, and what was counted over its periods.
 #[derive(Clone, Copy, Debug, PartialEq, Eq)]
 pub struct CallLine {
     pub end: CallEnd,
@@ -12,7 +12,7 @@ pub struct CallLine {
     pub counts: Counts,
 }
 
-/// A bridge of the run, with the handed frames that were sent and lost.
+/// A bridge of the run, with the numbers of handed frames that were sent and lost.
 #[derive(Clone, Copy, Debug, PartialEq, Eq)]
 pub struct SpanLine {
     pub span: Span,
@@ -20,18 +20,18 @@ pub struct SpanLine {
     pub sent_a: u32,
     /// Frames of call `b` that call `a` sent.
     pub sent_b: u32,
-    /// Frames of call `a` that call `b` left unsent.
+    /// Frames of call `a` that call `b` didn't send.
     pub lost_a: u32,
-    /// Frames of call `b` that call `a` left unsent.
+    /// Frames of call `b` that call `a` didn't send.
     pub lost_b: u32,
 }
 
-/// What a run tells of itself. The text follows the lists as they stand. Contracts see its numbers and its lists.
+/// The report of a run. Its text follows the order of the lists. Contracts see its numbers and its lists.
 #[derive(Drop)]
 pub struct Report {
     /// The executed orders.
     pub replies: Vec<Reply>,
-    /// The bridges, in the order of their acceptance.
+    /// The bridges, in the order in which they were accepted.
     pub spans: Vec<SpanLine>,
     /// The calls, in rising order of their numbers.
     pub calls: Vec<CallLine>,

@@ -16,7 +16,7 @@ pub fn sum(octets: &[u8]) -> u32
     sum
 }
 
-/// A line with the sums of a call's outgoing lines, at the end of a text.
+/// Appends a line with the sums of a call's outgoing lines.
 pub fn put_sums(text: &mut String, call: u32, out: u32, down: u32) -> Result<(), AllocError>
     ensures { OnOk result (string_bytes text.new ≡ string_bytes text.old ++ sums_told call out down) }
 {

@@ -9,7 +9,7 @@ use crate::lines::{Told, put_last};
 use std::alloc::{AllocError, Global};
 use trau_io::Line;
 
-// The lines of each of these, in order.
+// Appends the lines of each item, in order.
 fn put_all<T: Told>(text: &mut String, told: &[T]) -> Result<(), AllocError>
     ensures { OnOk result (string_bytes text.new ≡ string_bytes text.old ++ flat_map T.lines told.now) }
 {
@@ -19,7 +19,7 @@ fn put_all<T: Told>(text: &mut String, told: &[T]) -> Result<(), AllocError>
     Ok(())
 }
 
-// The text of a report, at the end of a text.
+// Appends the text of a report.
 fn put_report(text: &mut String, report: &Report) -> Result<(), AllocError>
     ensures { OnOk result (string_bytes text.new ≡ string_bytes text.old ++ report_text report.now) }
 {
@@ -30,8 +30,8 @@ fn put_report(text: &mut String, report: &Report) -> Result<(), AllocError>
     put_last(text, &report.calls, report.left)
 }
 
-/// The text of a report: a line for each order, for each bridge, two for each call, one for each line that failed,
-/// and the last.
+/// The text of a report: a line for each order and each bridge, two for each call, one for each line that failed,
+/// and the last line.
 pub fn write_report(alloc: Global, report: &Report) -> Result<String, AllocError>
     ensures { IfOk result (λ text. string_bytes text ≡ report_text report.now) }
 {

@@ -1,4 +1,4 @@
--- Blocks of a line, by the tool that takes them (this project's profile; uplink frames are those of GSM 08.60).
+-- Blocks of a line, by the tool that reads them (this project's profile; uplink frames are those of GSM 08.60).
 use Rattle.std.specs.Prelude.{◌≡◌, ℕ, ◌<◌, ◌≤◌, List, [], length}
 use Rattle.trau_bits.specs.Bits.{bits_of}
 use Rattle.trau_frame.specs.Relay.{IsGoodSpeech}
@@ -16,7 +16,7 @@ pub record IsGoodBlock (block : List ℕ) : Type 0 where
   pub whole : length block ≡ 40
   pub good : IsGoodSpeech (bits_of block)
 
--- what was read of a block of an uplink that is refused: it isn't a good speech frame, or the line ended inside it
+-- a refused block of an uplink, as far as it was read: it isn't a good speech frame, or the line ended inside it
 pub record IsRefusedBlock (block : List ℕ) (line_ended : Type 0) : Type 0 where
   pub some : 0 < length block
   pub bound : length block ≤ 40
@@ -29,13 +29,13 @@ IsTaken Relay block = IsGoodBlock block
 IsTaken Decode block = IsGoodBlock block
 IsTaken Encode block = length block ≡ 160
 
--- what was read of a block that the tool refuses; no block of a Pcm line is refused
+-- a block that the tool refuses, as far as it was read; no block of a Pcm line is refused
 abbrev pub IsRefused : Tool → List ℕ → Type 0 → Type 0
 IsRefused Relay block line_ended = IsRefusedBlock block line_ended
 IsRefused Decode block line_ended = IsRefusedBlock block line_ended
 IsRefused Encode block line_ended = ⊥
 
--- what the tool may leave of its line behind the last block: of a Pcm line the octets that are no whole block
+-- the octets after the last block, at the line's end: none of an uplink, less than a block of a Pcm line
 abbrev pub IsLeft : Tool → List ℕ → Type 0
 IsLeft Relay rest = rest ≡ []
 IsLeft Decode rest = rest ≡ []

@@ -16,7 +16,7 @@ use Rattle.farm_tools.specs.declared.end.ToolEnd.{ToolEnd}
 use Rattle.farm_tools.specs.declared.end.ToolEnd.TheVariants.{Done, LineFault, DeskFault, Memory}
 use Rattle.farm_tools.specs.Causes.{IsCalm}
 
--- the last line of text: how many yields were listed and how many octets are left, or that the line failed; where the desk failed there is none
+-- the last line of text: how many yields were listed and how many octets are left, or that the line failed; none if the desk failed
 abbrev pub list_text : ℕ → ListEnd → List ℕ
 list_text call (list.Done yields left) = codes "frames " ++ (decimal yields ++ (codes " left " ++ (decimal left ++ codes "\n")))
 list_text call list.ReadFailed = failed_text call Up
@@ -29,7 +29,8 @@ IsListEnd call list.ReadFailed (LineFault line) = (line.call ≡ call) × (line.
 IsListEnd call list.DeskFailed DeskFault = Unit {0}
 IsListEnd call end result = ⊥
 
--- The last line went out: whole, and the tool ended as its listing; or a proper front of it before the desk failed; or there was no memory for it.
+-- The last line was written, and the tool ended as its listing; or the desk failed after a proper prefix of the line; or memory
+-- ran out before it.
 abbrev pub TellsListEnd : ℕ → ListEnd → DeskState → DeskState → ToolEnd → Type 0
 TellsListEnd call end desk desk' result =
     (IsListEnd call end result × Tells desk desk' (Ok tt) (list_text call end))
@@ -44,8 +45,8 @@ pub record FramesRun (before now : ℕ → Side → LineState) (desk desk' : Des
   pub others : OthersStay before now call Up
   pub tells : TellsListEnd call end middle desk' result
 
--- 4 comes only where the desk's writing count rose, 6 only where the uplink's count rose; where one became greater, its
--- status comes, 4 before 6; each yields to 5, want of memory
+-- With status 4 a fault of writing to the desk was counted, with 6 a fault of the uplink. If the desk's count grew, the status
+-- is 4. If the uplink's count grew, it is 6 or 4. Each may be 5, out of memory, instead.
 pub record FramesCauses (up up' : LineState) (desk desk' : DeskState) (status : ℕ) : Type 0 where
   pub known : (status ≡ 0) ⊎ (status ≡ 4) ⊎ (status ≡ 5) ⊎ (status ≡ 6)
   pub desk_failed : status ≡ 4 → Rose desk.write_faults desk'.write_faults
@@ -53,8 +54,8 @@ pub record FramesCauses (up up' : LineState) (desk desk' : DeskState) (status : 
   pub line_failed : status ≡ 6 → Rose up.faults up'.faults
   pub line_rose : up.faults < up'.faults → (status ≡ 4) ⊎ (status ≡ 5) ⊎ (status ≡ 6)
 
--- what the command leaves where the uplink held `octets` and the desk `text`: a line of text for each yield of the whole periods,
--- 4,294,967,295 at most, and the last line; nothing is read behind so many periods
+-- The result of the command if the uplink had `octets` to come and the desk held `text`: a line of text for each yield of the
+-- whole periods, of 4,294,967,295 at most, and the last line. `rest` is not read.
 pub record LeavesListing (call : ℕ) (up' : LineState) (desk' : DeskState) (octets text : List ℕ) (status : ℕ) : Type 0 where
   pub periods : List (List ℕ)
   pub last : List ℕ
@@ -68,7 +69,7 @@ pub record LeavesListing (call : ℕ) (up' : LineState) (desk' : DeskState) (oct
   pub desk_holds : desk'.written ≡ Some (text ++ (listed periods ++ list_text call (list.Done (length (all_yields periods)) (length last))))
   pub done : status ≡ 0
 
--- the command where nothing failed and there was memory, of an uplink and a desk that tell what they hold
+-- the command if nothing failed, memory sufficed, and the content of the uplink and of the desk is known
 abbrev pub CleanFrames : ℕ → LineState → LineState → DeskState → DeskState → ℕ → Type 0
 CleanFrames call up up' desk desk' status =
     IsCalm up.faults up'.faults → IsCalm desk.write_faults desk'.write_faults → status ≢ 5 → (octets text : List ℕ) → up.to_come ≡ Some octets →

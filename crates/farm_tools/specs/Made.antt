@@ -1,4 +1,4 @@
--- What a tool makes of the blocks that it takes, and the lines that it works.
+-- What a tool makes of the blocks that it takes, and the lines that it reads and writes.
 use Rattle.std.specs.Prelude.{ℕ, ℤ, true, List, map, flat_map, codes}
 use Rattle.trau_bits.specs.Bits.{bits_of, octets_of}
 use Rattle.trau_frame.specs.declared.frames.DownFrame.TheVariants.{Speech}

@@ -10,11 +10,11 @@ use Rattle.farm_tools.specs.declared.end.RunEnd.TheVariants.{Done, Refused, Read
 use Rattle.farm_tools.specs.Blocks.{block_length, IsLeft, IsRefused, IsTaken}
 use Rattle.farm_tools.specs.Made.{made}
 
--- every line but these two of one call is as it was, its count included
+-- every line but these two of one call is unchanged, its fault count included
 abbrev pub AllButTwo : (ℕ → Side → LineState) → (ℕ → Side → LineState) → ℕ → Side → Side → Type 0
 AllButTwo before now call a b = (c : ℕ) (s : Side) → (c ≡ call → s ≡ a → ⊥) → (c ≡ call → s ≡ b → ⊥) → now c s ≡ before c s
 
--- the incoming line gave these octets, and the outgoing line gained those
+-- `given` was read of the incoming line, and the outgoing line gained `sent`
 pub record Moves (inc inc' out out' : LineState) (given sent : List ℕ) : Type 0 where
   pub read : Consumes inc.to_come inc'.to_come given
   pub written : Appends out.written out'.written sent
@@ -28,7 +28,7 @@ pub record NoFault (inc inc' out out' : LineState) : Type 0 where
   pub inc_same : inc'.faults ≡ inc.faults
   pub out_same : out'.faults ≡ out.faults
 
--- the incoming line ended after so many whole blocks, with so many octets left; or so many blocks were taken that no more are
+-- the incoming line ended after `count` whole blocks and `left` more octets, or 4,294,967,295 blocks were taken
 pub record EndsLine (tool : Tool) (inc inc' out out' : LineState) (count left : ℕ) (last more : List ℕ) : Type 0 where
   pub at_end : IsAtEnd inc'.to_come ⊎ ((count ≡ 2 ^ 32 - 1) × (last ≡ []))
   pub left_is : left ≡ length last
@@ -49,7 +49,7 @@ pub record FailsToRead (tool : Tool) (inc inc' out out' : LineState) (last more 
   pub rose : Rose inc.faults inc'.faults
   pub out_same : out'.faults ≡ out.faults
 
--- the outgoing line failed inside what was made of a block, and holds a proper front of it
+-- the outgoing line failed inside what is made of a block, and gained a proper prefix of it
 pub record FailsToWrite (tool : Tool) (inc inc' out out' : LineState) (blocks : List (List ℕ)) (last more : List ℕ) : Type 0 where
   pub taken : IsTaken tool last
   pub whole : List ℕ
@@ -59,16 +59,16 @@ pub record FailsToWrite (tool : Tool) (inc inc' out out' : LineState) (blocks : 
   pub inc_same : inc'.faults ≡ inc.faults
   pub rose : Rose out.faults out'.faults
 
--- the end of a run after these blocks: what was read behind them, and what was written for that; no read fails behind so many
--- blocks that no more are taken
+-- the end of a run: the blocks that were taken, what was read after them (`last`), and what was written for that (`more`); a read
+-- fails only before 4,294,967,295 blocks are taken
 abbrev pub EndsAs : Tool → LineState → LineState → LineState → LineState → List (List ℕ) → List ℕ → List ℕ → RunEnd → Type 0
 EndsAs tool inc inc' out out' blocks last more (Done n left) = (n ≡ length blocks) × EndsLine tool inc inc' out out' n left last more
 EndsAs tool inc inc' out out' blocks last more (Refused n) = (n ≡ length blocks) × ComesToRefused tool inc inc' out out' last more
 EndsAs tool inc inc' out out' blocks last more ReadFailed = (length blocks < 2 ^ 32 - 1) × FailsToRead tool inc inc' out out' last more
 EndsAs tool inc inc' out out' blocks last more WriteFailed = FailsToWrite tool inc inc' out out' blocks last more
 
--- A whole run. What its reads gave is blocks that were taken, of which all was made and written, and then what was read behind
--- them: 4,294,967,295 blocks at most, and nothing behind so many.
+-- A whole run. At most 4,294,967,295 blocks were read: those that were taken, and then maybe one more or a part of one. All that
+-- is made of the taken blocks was written, and then maybe a part of what is made of the next.
 pub record Runs (tool : Tool) (inc inc' out out' : LineState) (end : RunEnd) : Type 0 where
   pub blocks : List (List ℕ)
   pub last : List ℕ

@@ -1,4 +1,4 @@
--- One block of a run, after any blocks for which the work stands.
+-- One block of a run, after any blocks that lead to what the tool keeps (`Stands`).
 use Rattle.std.specs.Prelude.{◌≡◌, ℕ, List, [], ◌∷◌, ◌++◌, length}
 use Rattle.std.specs.Io.KnownBytes.{IsAtEnd}
 use Rattle.trau_io.specs.Lines.{LineState}
@@ -18,13 +18,13 @@ pub record GoesOn (work work' : Work) (inc inc' out out' : LineState) (given sen
   pub made_more : (blocks : List (List ℕ)) → Stands work blocks → made (tool_of work) (blocks ++ given ∷ []) ≡ made (tool_of work) blocks ++ sent
   pub calm : NoFault inc inc' out out'
 
--- how a block ends where its line ended after these octets of it
+-- how a block ends if the line ended after these octets of it
 abbrev pub EndsInside : Tool → List ℕ → BlockEnd → Type 0
 EndsInside tool given (LineEnded left) = (left ≡ length given) × IsLeft tool given
 EndsInside tool given Refused = IsRefused tool given (Unit {0})
 EndsInside tool given end = ⊥
 
--- the line ended inside the block, with so many octets left, or before it
+-- the line ended after `left` octets of the block, maybe none
 pub record EndsHere (tool : Tool) (inc inc' out out' : LineState) (left : ℕ) (given sent : List ℕ) : Type 0 where
   pub at_end : IsAtEnd inc'.to_come
   pub left_is : left ≡ length given
@@ -32,7 +32,7 @@ pub record EndsHere (tool : Tool) (inc inc' out out' : LineState) (left : ℕ) (
   pub nothing_sent : sent ≡ []
   pub calm : NoFault inc inc' out out'
 
--- how a block ended, by what was read of it and written for it
+-- how a block ended, with what was read of it and written for it
 abbrev pub BlockEndsAs : Work → Work → LineState → LineState → LineState → LineState → List ℕ → List ℕ → BlockEnd → Type 0
 BlockEndsAs work work' inc inc' out out' given sent Taken = GoesOn work work' inc inc' out out' given sent
 BlockEndsAs work work' inc inc' out out' given sent (LineEnded left) = EndsHere (tool_of work) inc inc' out out' left given sent

@@ -14,7 +14,7 @@ use Rattle.farm_tools.specs.declared.end.ToolEnd.TheVariants.{Done, LineFault, D
 use Rattle.farm_tools.specs.Made.{in_side, name_of, out_side}
 use Rattle.farm_tools.specs.Runs.{AllButTwo, Runs}
 
--- what the text says of the octets that are left of the incoming line
+-- the last part of the text; for `encode`, how many octets of the incoming line are left
 abbrev pub left_text : Tool → ℕ → List ℕ
 left_text Relay left = codes "\n"
 left_text Decode left = codes "\n"
@@ -35,7 +35,8 @@ IsEndOf tool call run.ReadFailed (LineFault line) = (line.call ≡ call) × (lin
 IsEndOf tool call run.WriteFailed (LineFault line) = (line.call ≡ call) × (line.side ≡ out_side tool)
 IsEndOf tool call end result = ⊥
 
--- The text of a run's end went out: whole, and the tool ended as its run; or a proper front of it before the desk failed; or there was no memory for it.
+-- The text of a run's end was written, and the tool ended as its run; or the desk failed after a proper prefix of the text; or
+-- memory ran out before it.
 abbrev pub TellsEnd : Tool → ℕ → RunEnd → DeskState → DeskState → ToolEnd → Type 0
 TellsEnd tool call end desk desk' result =
     (IsEndOf tool call end result × Tells desk desk' (Ok tt) (text_of tool call end))
@@ -49,7 +50,7 @@ pub record ToolRuns (tool : Tool) (before now : ℕ → Side → LineState) (des
   pub others : AllButTwo before now call (in_side tool) (out_side tool)
   pub tells : TellsEnd tool call end desk desk' result
 
--- the status that stands for an end
+-- the status of an end
 abbrev pub status_of : ToolEnd → ℕ
 status_of Done = 0
 status_of (LineFault line) = 6

@@ -1,4 +1,4 @@
--- The work of a tool, by what it keeps from block to block.
+-- What a tool keeps from block to block.
 use Rattle.std.specs.Prelude.{◌≡◌, ℕ, ◌≤◌, ◌<◌, List, [], ◌∷◌, ◌++◌, map, reverse, take}
 use Rattle.fr_decoder.specs.Stands as decoder
 use Rattle.fr_encoder.specs.Stands as encoder
@@ -14,13 +14,13 @@ tool_of Relay = tool.Relay
 tool_of (Decode d) = tool.Decode
 tool_of (Encode e) = tool.Encode
 
--- the work after these blocks
+-- what the tool keeps after these blocks
 abbrev pub Stands : Work → List (List ℕ) → Type 0
 Stands Relay blocks = Unit {0}
 Stands (Decode d) blocks = decoder.Stands (reverse (map relayed_fields blocks)) d
 Stands (Encode e) blocks = encoder.Stands (reverse (map block_samples blocks)) e
 
--- what is made of one more block that is taken: so many octets at the front of `octets`
+-- what is made of the next block, which is taken: the first `count` octets of `octets`
 pub record Makes (work work' : Work) (block octets : List ℕ) (count : ℕ) : Type 0 where
   pub some : 0 < count
   pub bound : count ≤ 160

@@ -1,7 +1,7 @@
 //! The tools, and how they end.
 use trau_io::Line;
 
-/// A tool that works the blocks of one line of a call into another.
+/// A tool: it reads the blocks of one line of a call, and writes another.
 #[derive(Clone, Copy, Debug, PartialEq, Eq)]
 pub enum Tool {
     /// Good speech frames of the uplink, bits unchanged, to the downlink.
@@ -19,23 +19,23 @@ pub enum ToolEnd {
     Done,
     /// This line failed.
     LineFault(Line),
-    /// The desk failed while the text went out.
+    /// The desk failed while the text was written.
     DeskFault,
-    /// After so many blocks came one that isn't a good speech frame, or the line ended inside it.
+    /// A block isn't a good speech frame, or the line ended inside it. How many blocks preceded it.
     Refused(u32),
-    /// There was no memory for the text.
+    /// Memory ran out before the text was written.
     Memory,
 }
 
 /// How a run over the blocks of a line ended.
 #[derive(Clone, Copy)]
 pub enum RunEnd {
-    /// After so many blocks, at the end of the line, with so many octets left behind the last of them.
+    /// At the end of the line, or after 4,294,967,295 blocks. The numbers of blocks, and of octets left after the last of them.
     Done(u32, u32),
-    /// After so many blocks, at one that is refused.
+    /// At a block that is refused. How many blocks preceded it.
     Refused(u32),
-    /// By the fault of the incoming line.
+    /// The incoming line failed.
     ReadFailed,
-    /// By the fault of the outgoing line.
+    /// The outgoing line failed.
     WriteFailed,
 }

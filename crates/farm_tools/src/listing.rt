@@ -22,7 +22,7 @@ fn list_text(alloc: Global, call: u32, end: ListEnd) -> Result<String, AllocErro
     }
 }
 
-// The end of the tool whose listing ended so and whose last line went out.
+// The end of the tool by that of its listing, once the last line is written.
 fn list_end(call: u32, end: ListEnd) -> ToolEnd
     requires { IsCallNumber call }
     ensures { IsListEnd call end result }
@@ -37,7 +37,7 @@ fn list_end(call: u32, end: ListEnd) -> ToolEnd
     }
 }
 
-// Tells the last line of text of a listing.
+// Prints the last line of text of a listing.
 fn tell_end<D: Desk>(alloc: Global, call: u32, end: ListEnd, desk: &mut D) -> ToolEnd
     requires { IsCallNumber call }
     ensures { TellsListEnd call end (D.desk desk.old) (D.desk desk.new) result }
@@ -51,10 +51,10 @@ fn tell_end<D: Desk>(alloc: Global, call: u32, end: ListEnd, desk: &mut D) -> To
     }
 }
 
-/// Lists the frames of a call's uplink: takes it in periods of 40 octets, searches it for frames at any bit, and tells
-/// a line of text for each yield of the search, its place in bits and what was found there: `PLACE WORD`, WORD being
-/// `good`, `sid`, `invalid`, `bad`, `idle`, `other` or `miss`. A rest of less than a period is left. At the end it tells
-/// `frames N left R`, N being the number of yields, or `line C up failed`. It never answers Refused.
+/// Lists the frames of a call's uplink: reads it in periods of 40 octets, searches it for frames at any bit, and prints a
+/// line of text for each yield of the search: `PLACE WORD`. PLACE is in bits; WORD is `good`, `sid`, `invalid`, `bad`,
+/// `idle`, `other` or `miss`. At the end it prints `frames N left R`, N being the number of yields and R the octets after
+/// the last whole period, or `line C up failed`. It never ends with `Refused`.
 pub fn frames<T: Trunk, D: Desk>(alloc: Global, call: u32, trunk: &mut T, desk: &mut D) -> ToolEnd
     requires { IsCallNumber call }
     ensures runs { FramesRun (T.lines trunk.old) (T.lines trunk.new) (D.desk desk.old) (D.desk desk.new) call result }

@@ -14,16 +14,16 @@ use trau_io::{Filled, Line, Trunk, read_block, write_all};
 /// How one block ended.
 #[derive(Clone, Copy)]
 pub enum BlockEnd {
-    /// It was taken, and what was made of it is written.
+    /// It was taken, and what is made of it was written.
     Taken,
     Refused,
-    /// The line ended, with so many octets left.
+    /// The line ended after this many octets of the block.
     LineEnded(u32),
     ReadFailed,
     WriteFailed,
 }
 
-// How a block ends inside which its line ended after `count` octets.
+// The end of a block if the line ended after `count` octets of it.
 fn ended_inside(tool: Tool, count: usize) -> BlockEnd
     requires { count < block_length tool }
     ensures { (given : List ℕ) → length given ≡ count → EndsInside tool given result }
@@ -34,7 +34,7 @@ fn ended_inside(tool: Tool, count: usize) -> BlockEnd
     }
 }
 
-// Takes one block, and writes what the work makes of it.
+// Reads one block, and writes what the tool makes of it.
 fn run_block<T: Trunk>(work: &mut Work, call: u32, trunk: &mut T) -> BlockEnd
     requires { IsCallNumber call }
     ensures same { tool_of work.new ≡ tool_of work.old }
@@ -68,8 +68,8 @@ fn run_block<T: Trunk>(work: &mut Work, call: u32, trunk: &mut T) -> BlockEnd
     }
 }
 
-/// Runs a tool over the blocks of a call's line, up to the first refused block or the end of the line, which
-/// 4,294,967,295 blocks count as too.
+/// Runs a tool over the blocks of a call's line, up to the first refused block or the end of the line, but over at most
+/// 4,294,967,295 blocks.
 pub fn run_tool<T: Trunk>(tool: Tool, call: u32, trunk: &mut T) -> RunEnd
     requires { IsCallNumber call }
     ensures runs { Runs tool (T.lines trunk.old call (in_side tool)) (T.lines trunk.new call (in_side tool)) (T.lines trunk.old call (out_side tool))

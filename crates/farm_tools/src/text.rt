@@ -44,7 +44,7 @@ impl Tool {
         }
     }
 
-    /// The octets of a block of the line that the tool reads: 40 of an uplink, 160 of a Pcm line.
+    /// Octets of a block of the line that the tool reads: 40 of an uplink, 160 of a Pcm line.
     pub fn block_length(self) -> usize
         ensures { result ≡ block_length self }
     {
@@ -55,7 +55,7 @@ impl Tool {
     }
 }
 
-/// The text of a call's line that failed, as `line 7 up failed`. It takes no memory.
+/// The text for a line that failed, as `line 7 up failed`. It doesn't allocate.
 pub fn failed_line(call: u32, side: Side) -> ArrayString<64>
     ensures text { result.bytes ≡ failed_text call side }
     ensures short { length result.bytes ≤ 28 }
@@ -70,7 +70,7 @@ pub fn failed_line(call: u32, side: Side) -> ArrayString<64>
     text
 }
 
-/// The same in memory.
+/// The same text, allocated.
 pub fn failed_text(alloc: Global, call: u32, side: Side) -> Result<String, AllocError>
     ensures { IfOk result (λ text. string_bytes text ≡ failed_text call side) }
 {

@@ -11,7 +11,7 @@ use crate::text::end_text;
 use std::alloc::Global;
 use trau_io::{Desk, Line, Trunk, tell};
 
-// The end of a tool whose run ended so and whose text went out.
+// The end of a tool by that of its run, once its text is written.
 fn end_of(tool: Tool, call: u32, end: RunEnd) -> ToolEnd
     requires { IsCallNumber call }
     ensures { IsEndOf tool call end result }
@@ -51,9 +51,9 @@ fn work<T: Trunk, D: Desk>(
 }
 
 /// Copies the good speech frames of a call's uplink, bits unchanged, to its downlink: for each block of 40 octets
-/// the downlink speech frame with the same data bits and SP 1. It stops at the first block that isn't a good
-/// speech frame or that the line's end cuts short. At the end it tells `relay frames N`, `relay refused N` or
-/// `line C SIDE failed`, one line of text.
+/// the downlink speech frame with the same data bits and SP 1. It stops at the first block that isn't a good speech
+/// frame or in which the line ends. At the end it prints one line of text: `relay frames N`, `relay refused N` or
+/// `line C SIDE failed`.
 pub fn relay<T: Trunk, D: Desk>(alloc: Global, call: u32, trunk: &mut T, desk: &mut D) -> ToolEnd
     requires { IsCallNumber call }
     ensures runs { ToolRuns tool.Relay (T.lines trunk.old) (T.lines trunk.new) (D.desk desk.old) (D.desk desk.new) call result }
@@ -64,8 +64,8 @@ pub fn relay<T: Trunk, D: Desk>(alloc: Global, call: u32, trunk: &mut T, desk: &
 }
 
 /// Decodes the good speech frames of a call's uplink to its Out line: for each block of 40 octets the 160 A-law
-/// octets (G.711) of its samples, decoded from home over all blocks so far (GSM 06.10). It stops as `relay` does,
-/// and tells `decode frames N`, `decode refused N` or `line C SIDE failed`.
+/// octets (G.711) of its samples, decoded from the reset state over all blocks so far (GSM 06.10). It stops as `relay`
+/// does, and prints `decode frames N`, `decode refused N` or `line C SIDE failed`.
 pub fn decode<T: Trunk, D: Desk>(alloc: Global, call: u32, trunk: &mut T, desk: &mut D) -> ToolEnd
     requires { IsCallNumber call }
     ensures runs { ToolRuns tool.Decode (T.lines trunk.old) (T.lines trunk.new) (D.desk desk.old) (D.desk desk.new) call result }
@@ -76,8 +76,8 @@ pub fn decode<T: Trunk, D: Desk>(alloc: Global, call: u32, trunk: &mut T, desk: 
 }
 
 /// Encodes a call's Pcm line to its downlink: for each block of 160 A-law octets (G.711) the downlink speech frame
-/// of their samples, encoded from home over all blocks so far (GSM 06.10), with SP 1. A rest of less than a block
-/// is left; no block is refused. It tells `encode frames N left R` or `line C SIDE failed`.
+/// of their samples, encoded from the reset state over all blocks so far (GSM 06.10), with SP 1. No block is refused.
+/// It prints `encode frames N left R`, R being the octets after the last whole block, or `line C SIDE failed`.
 pub fn encode<T: Trunk, D: Desk>(alloc: Global, call: u32, trunk: &mut T, desk: &mut D) -> ToolEnd
     requires { IsCallNumber call }
     ensures runs { ToolRuns tool.Encode (T.lines trunk.old) (T.lines trunk.new) (D.desk desk.old) (D.desk desk.new) call result }

@@ -7,7 +7,7 @@ ghost use Rattle.farm_tools.specs.Blocks.{IsGoodBlock};
 use trau_bits::unpack;
 use trau_frame::{Class, Kind, read_up, sync_matches};
 
-/// The bits D1 to D260 of a block of 40 octets, where it is a good speech frame.
+/// The bits D1 to D260 of a block of 40 octets; None if it isn't a good speech frame.
 pub fn good_data(block: &[u8]) -> Option<[u8; 260]>
     requires { length block.now ≡ 40 }
     ensures good { IsSome result ↔ IsGoodBlock block.now }

@@ -23,7 +23,7 @@ use trau_frame::{DownFrame, write_down};
 use trau_io::Side;
 use trau_params::Params;
 
-/// The work of a tool, with what it keeps from block to block.
+/// A tool, with what it keeps from block to block.
 #[derive(Drop)]
 pub enum Work {
     Relay,
@@ -34,7 +34,7 @@ pub enum Work {
 impl Work {
     ghost use Rattle.farm_tools.specs.Work.{tool_of, Stands, Makes};
 
-    /// The work before the first block.
+    /// A tool before its first block.
     pub fn new(tool: Tool) -> Work
         ensures tool { tool_of result ≡ tool }
         ensures stands { Stands result [] }
@@ -46,7 +46,7 @@ impl Work {
         }
     }
 
-    /// The tool whose work it is.
+    /// Which tool it is.
     pub fn tool(&self) -> Tool
         ensures { result ≡ tool_of self.now }
     {
@@ -57,8 +57,8 @@ impl Work {
         }
     }
 
-    /// Makes the octets of one more block into the front of `octets`, and answers how many; None where the block
-    /// is refused.
+    /// Writes what is made of the next block to the start of `octets`, and returns how many octets that is; None if the
+    /// block is refused.
     pub fn make(&mut self, block: &[u8], octets: &mut [u8; 160]) -> Option<usize>
         requires { length block.now ≡ block_length (tool_of self.old) }
         ensures same { tool_of self.new ≡ tool_of self.old }
@@ -85,7 +85,7 @@ fn downlink_frame(d: &[u8; 260], octets: &mut [u8; 160]) -> usize
     40
 }
 
-// The A-law of the next frame, whose data bits these are.
+// The 160 A-law octets of the next frame, which has these data bits.
 fn decoded_octets(decoder: &mut Decoder, d: &[u8; 260], octets: &mut [u8; 160]) -> usize
     requires { AreBits d.now }
     ensures length { result ≡ 160 }

@@ -1,4 +1,4 @@
--- What a frame gives to long-term synthesis (GSM 06.10, section 4.3). A history has the newest block first.
+-- The input of long-term synthesis from a frame (GSM 06.10, section 4.3). A history has the newest block first.
 use Rattle.std.specs.Prelude.{ℕ, ℤ, List, [], ◌∷◌, ◌++◌, slice_index, slice_index_or}
 use Rattle.trau_params.specs.Fields.{Fields}
 use Rattle.fr_rpe.specs.Pulses.{block_of}

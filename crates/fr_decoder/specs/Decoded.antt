@@ -1,4 +1,4 @@
--- The decoded list: the samples of all frames from home (GSM 06.10, section 4.3). A history has the newest frame first.
+-- The decoded list: the samples of all frames from the home state (GSM 06.10, section 4.3). A history has the newest frame first.
 use Rattle.std.specs.Prelude.{ℤ, pos, List, [], ◌∷◌, ◌++◌, map, reverse}
 use Rattle.trau_params.specs.Fields.{Fields}
 use Rattle.fr_long.specs.Synthesis.{LtpBlock}
@@ -12,12 +12,12 @@ unfoldable pub blocks_of : List Fields → List LtpBlock
 blocks_of [] = []
 blocks_of (f ∷ past) = four_blocks f (blocks_of past)
 
--- what each frame gives to short-term synthesis: its ratio codes and its residual
+-- the input of short-term synthesis from each frame: its ratio codes and its residual
 unfoldable pub residual_frames : List Fields → List ResidualFrame
 residual_frames [] = []
 residual_frames (f ∷ past) = residual_frame f.larc (frame_residual f (blocks_of past)) ∷ residual_frames past
 
--- the last de-emphasised sample: 0 at home
+-- the last de-emphasised sample, 0 in the home state
 unfoldable pub last_msr : List Fields → ℤ
 last_msr [] = pos 0
 last_msr (f ∷ past) = let before = last_msr past in last_of before (deemphasised before (synthesis_of (residual_frames (f ∷ past))).0)

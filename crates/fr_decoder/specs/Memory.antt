@@ -3,12 +3,12 @@ use Rattle.std.specs.Prelude.{ℤ, pos}
 use Rattle.fr_long.specs.Memory as ltp
 use Rattle.fr_short.specs.Memory as short
 
--- what the decoder keeps: the memories of long-term and short-term synthesis, and the last de-emphasised sample
+-- the memories of long-term and short-term synthesis, and the last de-emphasised sample
 pub record DecoderMemory : Type 0 where
   pub long_term : ltp.LtpMemory
   pub short_term : short.ShortMemory
   pub msr : ℤ
 
--- the memory at home
+-- the memory in the home state
 abbrev pub home_memory : DecoderMemory
 home_memory = record { long_term = ltp.home_memory; short_term = short.home_memory; msr = pos 0 }

@@ -26,7 +26,7 @@ decoded_frame memory f =
     let msr = deemphasised memory.msr short.0 in
     (map truncated msr, record { long_term = long.1; short_term = short.1; msr = last_of memory.msr msr })
 
--- frames one after another from home, the newest first: all samples, and the memory after them
+-- frames one after another from the home state, the newest first: all samples, and the memory after them
 unfoldable pub decoded_in_turn : List Fields → List ℤ × DecoderMemory
 decoded_in_turn [] = ([], home_memory)
 decoded_in_turn (f ∷ past) =

@@ -46,7 +46,7 @@ impl Decoder {
         }
     }
 
-    /// Decodes a frame into its 160 samples `x`, 13 bits left-justified in 16. What `x` held before is lost.
+    /// Decodes a frame into its 160 samples `x`, 13 bits left-justified in 16. `x` is overwritten.
     #[tactic(auto, unfolding(crate::specs::Step::decoded_frame, crate::specs::Decoded::blocks_of, crate::specs::Decoded::residual_frames, crate::specs::Decoded::last_msr, crate::specs::Decoded::samples_of))]
     pub fn decode(&mut self, p: &Params, x: &mut [i16; 160])
         ensures step { decoded_frame self.old (fields_of p.now) ≡ (x.new, self.new) }

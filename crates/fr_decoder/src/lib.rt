@@ -1,15 +1,15 @@
 //! The full rate decoder (GSM 06.10, section 4.3): a frame of parameters to 160 samples.
 //!
-//! Takes the parameters that a speech frame carries (`trau_params`), or that stand for one that was lost, and
-//! gives the 160 samples of a period of 20 ms, 13 bits left-justified in 16, which then become octets of a line.
-//! A frame goes through the stages of the standard: its four blocks of pulses (`fr_rpe`), long-term synthesis
-//! (`fr_long`), short-term synthesis and de-emphasis (`fr_short`), and here truncation.
+//! It takes the parameters of a speech frame (`trau_params`), or those that replace a lost frame, and gives the 160
+//! samples of a period of 20 ms, 13 bits left-justified in 16, for a line's octets. A frame goes through the stages of
+//! the standard: the pulses of its four blocks (`fr_rpe`), long-term synthesis (`fr_long`), short-term synthesis and
+//! de-emphasis (`fr_short`), and truncation, which is in this crate.
 //!
 //! `residual` has the four blocks, `truncation` the last step, `decoder` the whole, `laws` a law.
 //!
-//! Definitions: `specs/Decoded.antt` (all frames from home, as one list), `specs/Blocks.antt` and
-//! `specs/Truncation.antt` (its parts), `specs/Memory.antt`, `specs/Step.antt` and `specs/Stands.antt` (what is kept, one
-//! frame, and what the memory stands for).
+//! Definitions: `specs/Decoded.antt` (all frames from the home state, as one list), `specs/Blocks.antt` and
+//! `specs/Truncation.antt` (its parts), `specs/Memory.antt`, `specs/Step.antt` and `specs/Stands.antt` (the state, one
+//! frame, and the past that a state stands for).
 #![tactic(auto)]
 
 mod decoder;

@@ -24,7 +24,7 @@ fn block_residual(long_term: &mut LtpDecoder, p: &Params, j: usize) -> [i16; 40]
     long_term.synth(p.nc[j], p.bc[j], &erp)
 }
 
-// Puts a block of a frame in its place, behind those before it.
+// Writes a block into the frame from `start` on.
 fn put(frame: &mut [i16; 160], start: usize, block: &[i16; 40])
     requires { start + 40 ≤ 160 }
     ensures { take (start + 40) frame.new ≡ take start frame.old ++ block.now }

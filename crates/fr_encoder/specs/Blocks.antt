@@ -5,7 +5,7 @@ use Rattle.fr_long.specs.Stands.{after_zeros}
 use Rattle.fr_rpe.specs.Encoding.{mc_of, xmaxc_of, xmc_of, xmax_of}
 use Rattle.fr_rpe.specs.Pulses.{block_of}
 
--- what a block is coded to, and its maximum before it was coded
+-- the codes of a block, and its maximum before coding
 pub record CodedBlock : Type 0 where
   pub nc : ℕ
   pub bc : ℕ
@@ -14,7 +14,7 @@ pub record CodedBlock : Type 0 where
   pub xmc : List ℕ
   pub xmax : ℤ
 
--- block d of 40 residuals after the earlier reconstructed ones: what it is coded to, and its reconstructed residuals
+-- block d of 40 residuals after the earlier reconstructed ones: its codes, and its reconstructed residuals
 unfoldable pub coded_block : List ℤ → List ℤ → CodedBlock × List ℤ
 coded_block d earlier =
     let p = prediction_of d earlier in (
@@ -26,11 +26,11 @@ coded_block d earlier =
 abbrev pub block_at : List ℤ → ℕ → List ℤ
 block_at d j = take 40 (drop (40 * j) d)
 
--- a block after all reconstructed residuals of the past: what it is coded to, and all of them with its own
+-- a block after all reconstructed residuals of the past: its codes, and all reconstructed residuals with its own
 unfoldable pub block_after : List ℤ → List ℤ → CodedBlock × List ℤ
 block_after past d = let coded = coded_block d (after_zeros past) in (coded.0, past ++ coded.1)
 
--- the four blocks of a frame in turn, and all reconstructed residuals after them
+-- the four blocks of a frame in turn: their codes, and all reconstructed residuals after them
 unfoldable pub four_coded_blocks : List ℤ → List ℤ → List CodedBlock × List ℤ
 four_coded_blocks past d =
     let first = block_after past (block_at d 0) in
@@ -39,7 +39,7 @@ four_coded_blocks past d =
     let fourth = block_after third.1 (block_at d 3) in
     (first.0 ∷ second.0 ∷ third.0 ∷ fourth.0 ∷ [], fourth.1)
 
--- what the blocks of a frame are coded to, field by field
+-- the codes of a frame's blocks, field by field
 pub record BlockFields : Type 0 where
   pub nc : List ℕ
   pub bc : List ℕ

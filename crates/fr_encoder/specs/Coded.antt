@@ -1,4 +1,4 @@
--- What the encoder's structs say.
+-- The encoder's structs as plain fields.
 use Rattle.std.specs.Prelude.{ℤ, List}
 use Rattle.trau_params.specs.declared.params.Params.{Params}
 use Rattle.fr_encoder.specs.declared.block.CodedBlock.{CodedBlock as BlockStruct}

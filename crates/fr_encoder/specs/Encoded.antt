@@ -1,4 +1,4 @@
--- The encoded list: what all frames of samples from home are coded to (GSM 06.10, section 4.2). A history has the newest frame first.
+-- The encoded list: the encodings of all frames of samples from the home state (GSM 06.10, section 4.2). A history has the newest frame first.
 use Rattle.std.specs.Prelude.{ℤ, List, [], ◌∷◌, ◌++◌, reverse}
 use Rattle.trau_params.specs.Fields.{Fields, fields_of}
 use Rattle.trau_params.specs.declared.params.Params.{Params}
@@ -9,15 +9,14 @@ use Rattle.fr_lpc.specs.Ratios.{ratio_codes, ratios_of_frame}
 use Rattle.fr_short.specs.Analysis.{SampleFrame, sample_frame, analysis_of}
 use Rattle.fr_encoder.specs.Blocks.{BlockFields, block_fields, four_coded_blocks}
 
--- what a frame is encoded to: its fields; before they were coded the log area ratios and the blocks' maxima; and the peak
--- of its preprocessed samples
+-- the encoding of a frame: its fields, the log area ratios and the blocks' maxima before coding, and the peak of its preprocessed samples
 pub record Encoded : Type 0 where
   pub fields : Fields
   pub lar : List ℤ
   pub xmax : List ℤ
   pub peak : ℤ
 
--- the same of what the encoder gives
+-- the same, from the encoder's result
 abbrev pub encoded_of : Params → Trace → ℤ → Encoded
 encoded_of params trace peak = record { fields = fields_of params; lar = trace.lar; xmax = trace.xmax; peak = peak }
 
@@ -32,11 +31,11 @@ encoding s blocks =
       peak = peak_of s;
     }
 
--- what preprocessed samples s give to short-term analysis: the codes of their ratios, and s without the low bits that were lost
+-- the input of short-term analysis from preprocessed samples s: the codes of their ratios, and s without the lost low bits
 abbrev pub analysed : List ℤ → SampleFrame
 analysed s = sample_frame (ratio_codes (ratios_of_frame s)) (samples_after s)
 
--- what each frame gives to short-term analysis
+-- the input of short-term analysis from each frame
 unfoldable pub sample_frames : List (List ℤ) → List SampleFrame
 sample_frames [] = []
 sample_frames (x ∷ past) = analysed (newest_preprocessed x past) ∷ sample_frames past
@@ -50,7 +49,7 @@ unfoldable pub reconstructed : List (List ℤ) → List ℤ
 reconstructed [] = []
 reconstructed (x ∷ past) = (four_coded_blocks (reconstructed past) (analysed_residual x past)).1
 
--- what a frame is encoded to after the frames of the past
+-- the encoding of a frame after the frames of the past
 unfoldable pub encoding_of : List ℤ → List (List ℤ) → Encoded
 encoding_of x past =
     encoding (newest_preprocessed x past) (block_fields (four_coded_blocks (reconstructed past) (analysed_residual x past)).0)

@@ -1,10 +1,10 @@
-//! What a block is coded to.
+//! A coded block.
 
 ghost use Rattle.std.specs.Prelude.{pos, ◌≤ℤ◌};
 
 use trau_params::Block;
 
-/// The codes of a block, and its maximum before it was coded.
+/// The codes of a block, and its maximum before coding.
 #[derive(Clone, Copy)]
 pub(crate) struct CodedBlock {
     pub(crate) codes: Block,

@@ -12,7 +12,7 @@ use fr_long::LtpHistory;
 use fr_rpe::encode_block;
 use trau_params::{Block, Params};
 
-// Codes a block of 40 residuals, and takes what a decoder makes of it into the history.
+// Codes a block of 40 residuals, and adds the residuals that a decoder reconstructs to the history.
 fn code_block(history: &mut LtpHistory, d: &[i16; 40]) -> CodedBlock
     ensures step { next_block history.old d.now ≡ (codes_of result, history.new) }
     ensures history { (past : List ℤ) → HistoryStands past history.old →
@@ -45,8 +45,8 @@ fn block_at(s: &[i16; 160], j: usize) -> [i16; 40]
     d
 }
 
-/// Codes the four blocks of a frame's residual in turn: the frame of these codes of its ratios and of the blocks, and
-/// the four block maxima before they were coded.
+/// Codes the four blocks of a frame's residual in turn. Returns the parameters, with the ratio codes `larc` and the
+/// codes of the blocks, and the four block maxima before coding.
 pub(crate) fn code_blocks(
     history: &mut LtpHistory,
     larc: [u8; 8],

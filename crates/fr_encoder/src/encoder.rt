@@ -50,9 +50,9 @@ impl Encoder {
         }
     }
 
-    /// Encodes a frame of 160 samples `x`, 13 bits left-justified in 16: its parameters; the log area ratios and
-    /// the four block maxima before they were coded; and the peak, the greatest magnitude of its preprocessed
-    /// samples. The three lowest bits of a sample count for nothing.
+    /// Encodes a frame of 160 samples `x`, 13 bits left-justified in 16. The three lowest bits of each sample are
+    /// ignored. Returns the parameters, the log area ratios and the four block maxima before coding, and the peak: the
+    /// greatest magnitude of the preprocessed samples.
     pub fn encode(&mut self, x: &[i16; 160]) -> (Params, Trace, i16)
         ensures step { encoded_frame self.old x.now ≡ (encoded_of result.0 result.1 result.2, self.new) }
 

@@ -8,7 +8,7 @@ use Rattle.fr_lpc.specs.Scaling.{scaling_of, scaled_down}
 unfoldable pub autocorrelation_of : List ℤ → ℕ → ℤ
 autocorrelation_of s k = fold ◌+ℤ◌ (pos 0) (map (λ i. l_mult_of (entry s i) (entry s (i - k))) (range_with_len k (160 - k)))
 
--- the same as a plain sum, which it is where no product is clamped: over i = k to 159 of 2 * s[i] * s[i - k]
+-- the same as a plain sum, which is equal if no product is clamped: over i = k to 159 of 2 * s[i] * s[i - k]
 abbrev pub plain_autocorrelation : List ℤ → ℕ → ℤ
 plain_autocorrelation s k = fold ◌+ℤ◌ (pos 0) (map (λ i. entry s i *ℤ entry s (i - k) *ℤ pos 2) (range_with_len k (160 - k)))
 
@@ -16,7 +16,7 @@ plain_autocorrelation s k = fold ◌+ℤ◌ (pos 0) (map (λ i. entry s i *ℤ e
 unfoldable pub autocorrelations_of : List ℤ → List ℤ
 autocorrelations_of s = map (autocorrelation_of s) (range_with_len 0 9)
 
--- the autocorrelations of a frame, made of its samples shifted down
+-- the autocorrelations of a frame, from its samples shifted down
 abbrev pub autocorrelations_of_frame : List ℤ → List ℤ
 autocorrelations_of_frame s = autocorrelations_of (scaled_down (scaling_of s) s)
 

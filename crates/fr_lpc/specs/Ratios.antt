@@ -38,7 +38,7 @@ most = pos 31 ∷ pos 31 ∷ pos 15 ∷ pos 15 ∷ pos 7 ∷ pos 7 ∷ pos 3 ∷
 unfoldable pub quantised_ratio : ℤ → ℤ → ℤ → ℤ
 quantised_ratio a b lar = floor_shr (add_of (add_of (mult_of a lar) b) (pos 256)) 9
 
--- LARc of a ratio, by A, B, MIC and MAC of its place: how far above MIC the quantised ratio lies, once it is brought within MIC and MAC
+-- LARc of a ratio, by A, B, MIC and MAC of its place: the quantised ratio, limited to MIC to MAC, less MIC
 unfoldable pub ratio_code : ℤ → ℤ → ℤ → ℤ → ℤ → ℕ
 ratio_code a b mic mac lar = unsigned_abs (int_max mic (int_min (quantised_ratio a b lar) mac) -ℤ mic)
 

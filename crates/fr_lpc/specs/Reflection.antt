@@ -10,32 +10,32 @@ normalised acf =
     let shift = norm_of (unsigned_abs (entry acf 0)) in
     map (λ i. floor_shr (entry acf i *ℤ pos (2 ^ shift)) 16) (range_with_len 0 9)
 
--- r[n]: the quotient of the magnitude of P[1] and P[0], with the sign that P[1] doesn't have
+-- r[n]: the magnitude of P[1] divided by P[0], with the opposite sign of P[1]
 unfoldable pub coefficient_of : ℤ → ℤ → ℤ
 coefficient_of p0 p1 = let size = div_of (abs_of p1) p0 in if is_positive p1 then neg_ℤ size else size
 
--- P[m] after the step with coefficient r, from the old P and the old K, where `left` coefficients are left to find
+-- P[m] after the step with coefficient r, from the old P and the old K, when `left` coefficients remain to be found
 abbrev pub next_p : ℕ → ℤ → List ℤ → List ℤ → ℕ → ℤ
 next_p left r p k m =
     if m == 0 then add_of (entry p 0) (mult_r_of r (entry p 1))
     else if nat_le m left then add_of (entry p (m + 1)) (mult_r_of r (entry k m))
     else entry p m
 
--- K[m] after it
+-- K[m] after the same step
 abbrev pub next_k : ℕ → ℤ → List ℤ → List ℤ → ℕ → ℤ
 next_k left r p k m =
     if m == 0 then entry k 0
     else if nat_le m left then add_of (entry k m) (mult_r_of r (entry p (m + 1)))
     else entry k m
 
--- P and K after the step, each made anew
+-- P and K after the step
 unfoldable pub p_after : ℕ → ℤ → List ℤ → List ℤ → List ℤ
 p_after left r p k = map (next_p left r p k) (range_with_len 0 9)
 
 unfoldable pub k_after : ℕ → ℤ → List ℤ → List ℤ → List ℤ
 k_after left r p k = map (next_k left r p k) (range_with_len 0 9)
 
--- the last coefficients, as many as said, from P and K: all 0 once P[0] is below the magnitude of P[1]
+-- the remaining coefficients, from P and K: all 0 as soon as P[0] is below the magnitude of P[1]
 unfoldable pub coefficients_from : ℕ → List ℤ → List ℤ → List ℤ
 coefficients_from zero p k = []
 coefficients_from (suc left) p k =

@@ -11,7 +11,7 @@ AreWithin bound xs = (i : ℕ) → i < length xs → unsigned_abs (entry xs i) �
 unfoldable pub peak_of : List ℤ → ℤ
 peak_of s = fold int_max (pos 0) (map abs_of s)
 
--- scalauto, by smax: by how many places the samples are shifted down; `-` of natural numbers is 0 at least
+-- scalauto, by smax: the number of places by which the samples are shifted down; `-` of natural numbers gives at least 0
 unfoldable pub scaling_of_peak : ℕ → ℕ
 scaling_of_peak smax = if smax == 0 then 0 else 4 - norm_of (smax * 2 ^ 16)
 
@@ -23,7 +23,7 @@ scaling_of s = scaling_of_peak (unsigned_abs (peak_of s))
 unfoldable pub scaled_sample : ℕ → ℤ → ℤ
 scaled_sample scalauto x = mult_r_of x (floor_shr (pos 16384) (scalauto - 1))
 
--- the samples shifted down, which the sums are made of
+-- the samples shifted down, from which the sums are computed
 unfoldable pub scaled_down : ℕ → List ℤ → List ℤ
 scaled_down scalauto s = if scalauto == 0 then s else map (scaled_sample scalauto) s
 
@@ -31,6 +31,6 @@ scaled_down scalauto s = if scalauto == 0 then s else map (scaled_sample scalaut
 unfoldable pub scaled_up : ℕ → List ℤ → List ℤ
 scaled_up scalauto s = if scalauto == 0 then s else map (λ x. shl_of x scalauto) s
 
--- the samples that all later steps take: shifted down and up again, their low bits lost
+-- the samples for all later steps: shifted down and up again, so that low bits are lost
 abbrev pub samples_after : List ℤ → List ℤ
 samples_after s = let scalauto = scaling_of s in scaled_up scalauto (scaled_down scalauto s)

@@ -20,9 +20,9 @@ pub struct Lpc {
     pub ghost larc_fit: { FitLarc larc },
 }
 
-/// Finds the linear prediction of a frame `s` of 160 preprocessed samples of 16 bits (a period of 20 ms), and
-/// shifts `s` down and up again on the way: where the frame is loud, up to four low bits of each sample are lost
-/// for all later steps (GSM 06.10, sections 4.2.4 to 4.2.7).
+/// Finds the linear prediction of a frame `s` of 160 preprocessed samples of 16 bits (a period of 20 ms). On the way,
+/// `s` is shifted down and up again: if the frame is loud, each sample loses up to four low bits for all later steps
+/// (GSM 06.10, sections 4.2.4 to 4.2.7).
 pub fn analyse(s: &mut [i16; 160]) -> Lpc
     ensures samples { s.new ≡ samples_after s.old }
     ensures lar { result.lar ≡ ratios_of_frame s.old }

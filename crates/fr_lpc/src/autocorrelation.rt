@@ -9,7 +9,7 @@ ghost use Rattle.fr_lpc.specs.Autocorrelation.{autocorrelation_of, autocorrelati
 use std::simd::prelude::*;
 use trau_lanes::{neighbours, products, sums, wide};
 
-// Eight of some scaled samples, from place `at` on.
+// Eight scaled samples, from place `at` on.
 fn eight(samples: &[i16], at: usize) -> i32x8
     requires place { at + 8 ≤ length samples.now }
     requires scaled { (k : ℕ) → unsigned_abs (entry samples.now k) ≤ 2048 }
@@ -18,7 +18,7 @@ fn eight(samples: &[i16], at: usize) -> i32x8
     wide(i16x8::from_slice(&samples[at..]))
 }
 
-// The samples behind eight zeros.
+// Eight zeros, then the samples.
 fn delayed(s: &[i16; 160]) -> [i16; 168]
     ensures zeros { (k : ℕ) → k < 8 → entry result k ≡ pos 0 }
     ensures samples { (k : ℕ) → k < 160 → entry result (8 + k) ≡ entry s.now k }
@@ -30,8 +30,8 @@ fn delayed(s: &[i16; 160]) -> [i16; 168]
     past
 }
 
-// The autocorrelation at lag `k`, from the samples and the same behind eight zeros. The doubling that each product
-// has in the standard is one of the sum.
+// The autocorrelation at lag `k`. `past` has eight zeros, then the samples. The standard doubles each product; here the
+// sum is doubled.
 fn autocorrelation(s: &[i16; 160], past: &[i16; 168], k: usize) -> i32
     requires lag { k ≤ 8 }
     requires scaled { AreWithin 2048 s.now }
@@ -50,8 +50,8 @@ fn autocorrelation(s: &[i16; 160], past: &[i16; 168], k: usize) -> i32
     (halves[0] + halves[1] + halves[2] + halves[3]) * 2
 }
 
-/// The autocorrelations at lags 0 to 8 of samples `s`, scaled to magnitudes up to 2,048: the sum over i = k to 159
-/// of `2 * s[i] * s[i - k]` is number k.
+/// The autocorrelations at lags 0 to 8 of samples `s`, scaled to magnitudes up to 2,048. Entry k is the sum over i = k
+/// to 159 of `2 * s[i] * s[i - k]`.
 #[tactic(auto, unfolding(crate::specs::Autocorrelation::autocorrelations_of))]
 pub fn autocorrelate(s: &[i16; 160]) -> [i32; 9]
     requires { AreWithin 2048 s.now }

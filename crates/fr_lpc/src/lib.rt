@@ -1,9 +1,8 @@
 //! Linear prediction of the full rate codec's encoder (GSM 06.10, sections 4.2.4 to 4.2.7).
 //!
-//! First of the encoder's stages after preprocessing: takes the 160 preprocessed samples of a frame (16 bits,
-//! a period of 20 ms), finds the eight log area ratios of the filter that predicts them, and codes these. The
-//! samples come back with the low bits lost that the scaling around the autocorrelation takes, as short-term
-//! analysis wants them.
+//! The encoder's stage after preprocessing: it takes the 160 preprocessed samples of a frame (16 bits, a period of 20
+//! ms), finds the eight log area ratios of the filter that predicts them, and codes these. The scaling around the
+//! autocorrelation clears low bits of the samples, and short-term analysis takes the samples without them.
 //!
 //! `scaling` shifts the samples down and up, `autocorrelation` has their sums, `reflection` the recursion that
 //! finds the reflection coefficients, `ratios` the log area ratios and their codes, `analysis` all of a frame.

@@ -21,7 +21,7 @@ fn greatest_magnitude(s: &[i16; 160]) -> i16
     ensures not_negative { pos 0 ≤ℤ result }
     ensures greatest { (i : ℕ) → i < length s.now → abs_of (entry s.now i) ≤ℤ result }
 
-    // The range of 16 bits, said for a function that reads no sample itself.
+    // The range of 16 bits, for a caller that reads no sample itself.
     ensures words { AreWithin 32768 s.now }
 {
     let mut most = 0i16;
@@ -44,7 +44,7 @@ fn scaling_of_peak(peak: i16) -> u8
     4u8.saturating_sub(norm(i32::from(peak) * 65536))
 }
 
-/// By how many places the samples are shifted down: as many as bring each magnitude to 2^11 at most.
+/// The number of places by which the samples are shifted down, which brings each magnitude to at most 2^11.
 pub(crate) fn scaling(s: &[i16; 160]) -> u8
     ensures value { result ≡ scaling_of s.now }
     ensures at_most_4 { result ≤ 4 }

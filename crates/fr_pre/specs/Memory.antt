@@ -12,7 +12,7 @@ pub record PreMemory : Type 0 where
   pub l_z2 : ℤ
   pub mp : ℤ
 
--- the memory at home
+-- the memory in the home state
 abbrev pub home_memory : PreMemory
 home_memory = record { z1 = pos 0; l_z2 = pos 0; mp = pos 0 }
 
@@ -20,11 +20,11 @@ home_memory = record { z1 = pos 0; l_z2 = pos 0; mp = pos 0 }
 abbrev pub memory_of : PreState → PreMemory
 memory_of state = record { z1 = state.z1; l_z2 = state.l_z2; mp = state.mp }
 
--- the state at home
+-- the home state
 abbrev home_state : PreState
 home_state = record { z1 = pos 0; l_z2 = pos 0; mp = pos 0; z1_bound = zero-le; offset_bound = zero-le }
 
--- the state of these numbers, if they are in bounds, and else that at home
+-- the state with these numbers if they are in bounds, else the home state
 unfoldable pub state_of : PreMemory → PreState
 state_of memory =
     dite (dec_le (unsigned_abs memory.z1) (2 ^ 14))
@@ -33,7 +33,7 @@ state_of memory =
     (λ _. home_state))
     (λ _. home_state)
 
--- it gives a state's own numbers back
+-- from the numbers of a state it gives the same state
 pub same_state : (s : PreState) → state_of (memory_of s) ≡ s
 unfolding state_of
 same_state s = dif_pos (dec_le _ _) le_prop s.z1_bound _ _ ∙ dif_pos (dec_le _ _) le_prop s.offset_bound _ _

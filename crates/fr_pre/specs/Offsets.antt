@@ -1,5 +1,5 @@
--- Offset compensation by what it takes away (GSM 06.10, section 4.2.2): L_z2 is 2^15 of the downscaled sample and an
--- offset, which follows the mean of the samples slowly, with the other sign.
+-- Offset compensation as a sequence of offsets (GSM 06.10, section 4.2.2): L_z2 is 2^15 times the downscaled sample plus an offset, which slowly
+-- follows the mean of the samples, with the opposite sign.
 use Rattle.std.specs.Prelude.{◌≡◌, ℕ, ◌+◌, ◌<◌, ◌≤◌, ◌^◌, ℤ, pos, ◌+ℤ◌, ◌-ℤ◌, ◌*ℤ◌, List, ◌∷◌, unsigned_abs}
 use Rattle.trau_num.specs.Num.{clamp16, floor_shr, entry}
 use Rattle.fr_pre.specs.Preprocessing.{downscaled, preemphasised}
@@ -12,11 +12,11 @@ next_offset offset so = floor_shr (offset *ℤ pos 32735 +ℤ (pos 16384 -ℤ so
 unfoldable pub without_offset : ℤ → ℤ → ℤ
 without_offset so offset = clamp16 (so +ℤ floor_shr (offset +ℤ pos 16384) 15)
 
--- a downscaled sample is at most 2^14
+-- the magnitude of a downscaled sample is at most 2^14
 abbrev pub IsDownscaled : ℤ → Type 0
 IsDownscaled so = unsigned_abs so ≤ 2 ^ 14
 
--- an offset that samples from home can give, whatever they are
+-- the magnitude of an offset is at most 2^29, after any samples from the home state
 abbrev pub IsOffset : ℤ → Type 0
 IsOffset offset = unsigned_abs offset ≤ 2 ^ 29
 
@@ -26,7 +26,7 @@ pub record AreDownscaled (before : ℤ) (x so : List ℤ) : Type 0 where
   pub each : (k : ℕ) → k < 160 → entry so (k + 1) ≡ downscaled (entry x k)
   pub within : (k : ℕ) → k < 161 → IsDownscaled (entry so k)
 
--- the offset at each sample of a frame, of which the first follows the offset before
+-- the offset at each sample of a frame; the first follows from the offset `before`
 pub record AreOffsets (before : ℤ) (so offsets : List ℤ) : Type 0 where
   pub each : (k : ℕ) → k < 160 → entry offsets k ≡ next_offset (entry (before ∷ offsets) k) (entry so k)
   pub within : (k : ℕ) → k < 160 → IsOffset (entry offsets k)

@@ -1,7 +1,7 @@
 //! The sum L_z2 of the offset compensation, as a downscaled sample and an offset (GSM 06.10, section 4.2.2).
 //!
-//! Whatever the samples from home are, the offset is at most 2^29. So no sum of two long words of the standard is
-//! clamped, and its two products, of the high and the low part of L_z2, are one product.
+//! After any samples from the home state, the magnitude of the offset is at most 2^29. So none of the standard's sums
+//! of long words is clamped, and its two products, of the high and the low part of L_z2, can be computed as one.
 
 ghost use Rattle.std.specs.Prelude.{◌≡◌, ℕ, pos, ◌+ℤ◌, ◌-ℤ◌, ◌*ℤ◌, unsigned_abs, ◌≤◌, ◌^◌};
 ghost use Rattle.trau_num.specs.Num.{floor_shr};
@@ -25,8 +25,8 @@ pub(crate) fn sum(z1: i16, offset: i32) -> i32
     i32::from(z1) * 32768 + offset
 }
 
-// What a downscaled sample adds to 2^15 of the next offset, with the half that rounds it. It depends on no offset, so
-// the chain from one offset to the next is a product, a sum and a shift.
+// The term of a downscaled sample in 2^15 times the next offset, with the half for rounding. It doesn't depend on the
+// offset, so an offset follows from the one before by a product, a sum and a shift.
 fn pull(so: i16) -> i64
     requires { IsDownscaled so }
     ensures value { result ≡ pos 16384 -ℤ so *ℤ pos 1081344 }
@@ -35,7 +35,7 @@ fn pull(so: i16) -> i64
     16384 - i64::from(so) * 1081344
 }
 
-/// The offset at the sample after the downscaled sample `so`, where that at `so` is `offset`.
+/// The offset at the next sample, from the offset and the downscaled sample `so` at this one.
 #[tactic(auto, using(crate::proofs::Floors::offset_stays), unfolding(crate::specs::Offsets::next_offset))]
 pub(crate) fn next_offset(offset: i64, so: i16) -> i64
     requires offset { IsOffset offset }
@@ -46,7 +46,7 @@ pub(crate) fn next_offset(offset: i64, so: i16) -> i64
     (offset * 32735 + pull(so)) >> 15
 }
 
-// 1 / 2^15 of an offset, rounded.
+// An offset divided by 2^15, rounded.
 fn rounded(offset: i32) -> i32
     requires { IsOffset offset }
     ensures value { result ≡ floor_shr (offset +ℤ pos 16384) 15 }

@@ -3,7 +3,7 @@
 ghost use Rattle.std.specs.Prelude.{◌≡◌, ℤ, List, ◌∷◌, ◌++◌};
 ghost use Rattle.fr_pre.specs.History.{samples_of_frames, preprocessed, newest_preprocessed};
 
-/// The preprocessed list of a whole list of samples is that of its frames, one after another.
+/// Preprocessing a whole list of samples gives the same as preprocessing its frames one after another.
 pub fn one_list()
     ensures { (frame : List ℤ) (past : List (List ℤ)) →
         preprocessed (samples_of_frames (frame ∷ past)) ≡ preprocessed (samples_of_frames past) ++ newest_preprocessed frame past }

@@ -1,6 +1,6 @@
 //! Passes over a frame (GSM 06.10, sections 4.2.1 to 4.2.3).
 //!
-//! Only the offset of one sample depends on that of the sample before, so it has a loop of its own.
+//! Only the offset depends on its own value at the sample before, so it has a loop of its own.
 
 ghost use Rattle.std.specs.Prelude.{◌≡◌, ℕ, ◌<◌};
 ghost use Rattle.trau_num.specs.Num.{entry};
@@ -25,7 +25,8 @@ fn preemphasised(mp: i16, sof: i16) -> i16
     plus(sof, -28180, mp)
 }
 
-/// Downscales the samples `x` of a frame, after the last one `before` of the frame before.
+/// Downscales the samples `x` of a frame. The result begins with `before`, the last downscaled sample of the previous
+/// frame.
 pub(crate) fn downscale(before: i16, x: &[i16; 160]) -> [i16; 161]
     requires { IsDownscaled before }
     ensures { AreDownscaled before x.now result }
@@ -38,8 +39,8 @@ pub(crate) fn downscale(before: i16, x: &[i16; 160]) -> [i16; 161]
     so
 }
 
-/// Follows the offset over the downscaled samples `so`, from the offset `before` at the first, which is the last of
-/// the frame before.
+/// Follows the offset over the downscaled samples `so`. `before` is the offset at the first of them, the last sample of
+/// the previous frame.
 pub(crate) fn follow(before: i64, so: &[i16; 161]) -> [i32; 160]
     requires offset { IsOffset before }
     requires samples { (k : ℕ) → k < 161 → IsDownscaled (entry so.now k) }
@@ -54,7 +55,7 @@ pub(crate) fn follow(before: i64, so: &[i16; 161]) -> [i32; 160]
     offsets
 }
 
-/// The samples without their offsets, after the last one `before` of the frame before.
+/// The samples without their offsets. The result begins with `before`, the last such sample of the previous frame.
 pub(crate) fn compensate(before: i16, so: &[i16; 161], offsets: &[i32; 160]) -> [i16; 161]
     requires { (k : ℕ) → k < 160 → IsOffset (entry offsets.now k) }
     ensures { AreFree before so.now offsets.now result }
@@ -67,7 +68,7 @@ pub(crate) fn compensate(before: i16, so: &[i16; 161], offsets: &[i32; 160]) -> 
     sof
 }
 
-/// Preemphasises samples `sof` into `s`. What `s` held before is lost.
+/// Preemphasises the samples `sof` into `s`, which is overwritten.
 pub(crate) fn preemphasise(sof: &[i16; 161], s: &mut [i16; 160])
     ensures { ArePreemphasised sof.now s.new }
 {

@@ -1,13 +1,13 @@
-//! What preprocessing keeps from frame to frame.
+//! The state of preprocessing between frames.
 
 ghost use Rattle.std.specs.Prelude.{◌≤◌, ◌^◌, pos, ◌-ℤ◌, ◌*ℤ◌, unsigned_abs};
 
 use crate::compensation::{offset_in, sum};
 use crate::passes::{compensate, downscale, follow, preemphasise};
 
-/// The state of preprocessing in one call: the last downscaled sample, the sum of the offset compensation, and the
-/// last sample before preemphasis. Any samples from home keep both bounds, under which no sum of two long words is
-/// clamped.
+/// The state of preprocessing in one call: the last downscaled sample, the sum of the offset compensation, and the last
+/// sample before preemphasis. After any samples from the home state both bounds hold, and under them no sum of two long
+/// words is clamped.
 #[derive(Clone, Copy, Debug, PartialEq, Eq)]
 #[repr(C)]
 pub struct PreState {
@@ -38,8 +38,8 @@ impl PreState {
         }
     }
 
-    /// Preprocesses the samples `x` of a frame, 13 bits left-justified in 16, into `s`. The three lowest bits of a
-    /// sample count for nothing, and what `s` held before is lost.
+    /// Preprocesses the samples `x` of a frame, 13 bits left-justified in 16, into `s`, which is overwritten. The three
+    /// lowest bits of each sample are ignored.
     pub fn preprocess(&mut self, x: &[i16; 160], s: &mut [i16; 160])
         ensures step { preprocessed_frame (memory_of self.old) x.now ≡ (s.new, memory_of self.new) }
 

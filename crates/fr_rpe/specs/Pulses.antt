@@ -5,7 +5,7 @@ use Rattle.trau_num.specs.Num.{add_of, mult_r_of, floor_shr}
 use Rattle.fr_rpe.specs.declared.scale.Scale.{Scale}
 use Rattle.fr_rpe.specs.Scale.{scale_of, factor_of, scale_shift}
 
--- half of the last place that a shift leaves: 2^(5 - exp), and 0 where the exponent is 6
+-- half of the last place that a shift keeps: 2^(5 - exp), and 0 if the exponent is 6
 abbrev pub rounding_of : ℕ → ℕ
 rounding_of shift = if shift == 0 then 0 else 2 ^ (shift - 1)
 
@@ -19,7 +19,7 @@ pulse_of scale code =
     let size = mult_r_of (factor_of scale.mantissa) (level_of code) in
     floor_shr (add_of size (pos (rounding_of (scale_shift scale)))) (scale_shift scale)
 
--- the place k of the grid that starts at mc: the pulse i where k is mc + 3 i with i below 13, and 0 elsewhere
+-- sample k of a block with the pulses on the grid from mc on: pulse i if k is mc + 3 i with i below 13, and 0 elsewhere
 abbrev pub on_grid : ℕ → (ℕ → ℤ) → ℕ → ℤ
 on_grid mc pulse k = if nat_le mc k && ((k - mc) % 3 == 0 && nat_lt ((k - mc) / 3) 13) then pulse ((k - mc) / 3) else pos 0
 

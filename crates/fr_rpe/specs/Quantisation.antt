@@ -38,6 +38,6 @@ pulse_code_of scale pulse = unsigned_abs (floor_shr (mult_of (levelled scale pul
 unfoldable pub pulse_codes_of : ℕ → List ℤ → List ℕ
 pulse_codes_of xmaxc pulses = map (λ i. pulse_code_of (scale_of xmaxc) (entry pulses i)) (range_with_len 0 13)
 
--- a magnitude for which a scale has room: at its level it is below the mantissa's next step
+-- a scale has room for a magnitude: at its level, the magnitude is below the mantissa's next step
 abbrev pub IsBelowScale : Scale → ℕ → Type 0
 IsBelowScale scale magnitude = magnitude * 2 ^ scale_shift scale < (scale.mantissa + 9) * 2 ^ 11

@@ -10,7 +10,7 @@ factors = pos 18431 ∷ pos 20479 ∷ pos 22527 ∷ pos 24575 ∷ pos 26623 ∷ 
 abbrev pub factor_of : ℕ → ℤ
 factor_of mantissa = entry factors mantissa
 
--- At most n times, a mantissa of at most 7 is doubled and one more, and the exponent falls by one. At last 8 is taken off the mantissa.
+-- While the mantissa is at most 7, and at most n times, it is replaced by 2 * mantissa + 1 and the exponent falls by one. Then 8 is subtracted.
 abbrev pub normalised_scale : ℕ → ℤ → ℕ → Scale
 normalised_scale zero exponent mantissa = record { exponent = exponent; mantissa = mantissa - 8 }
 normalised_scale (suc n) exponent mantissa =
@@ -24,6 +24,6 @@ scale_of xmaxc =
     else if nat_le xmaxc 15 then normalised_scale 3 (pos 0) xmaxc
     else normalised_scale 3 (pos (xmaxc / 8 - 1)) (xmaxc - 8 * (xmaxc / 8 - 1))
 
--- 6 - exp: how far a pulse of this scale is shifted
+-- 6 - exp: the number of places by which a pulse of this scale is shifted
 abbrev pub scale_shift : Scale → ℕ
 scale_shift scale = unsigned_abs (pos 6 -ℤ scale.exponent)

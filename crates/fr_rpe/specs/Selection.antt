@@ -8,7 +8,7 @@ use Rattle.trau_num.specs.Num.{l_mult_of, floor_shr, entry}
 unfoldable pub pulses_on_grid : List ℤ → ℕ → List ℤ
 pulses_on_grid x m = map (λ i. entry x (m + 3 * i)) (range_with_len 0 13)
 
--- what one sample adds to its grid's energy: twice the square of a quarter of it
+-- the energy of one sample: twice the square of a quarter of it
 unfoldable pub sample_energy : ℤ → ℤ
 sample_energy x = l_mult_of (floor_shr x 2) (floor_shr x 2)
 
@@ -20,7 +20,7 @@ energy_up_to n x m = fold ◌+ℤ◌ (pos 0) (map (λ i. sample_energy (entry x 
 abbrev pub grid_energy : List ℤ → ℕ → ℤ
 grid_energy x m = energy_up_to 13 x m
 
--- the four grids, each by the place that it starts at
+-- the four grids, each by its first sample
 unfoldable pub grids : List ℕ
 grids = range_with_len 0 4
 
@@ -28,7 +28,7 @@ grids = range_with_len 0 4
 unfoldable pub is_strongest : List ℤ → ℕ → Bool
 is_strongest x m = list_all (λ n. int_le (grid_energy x n) (grid_energy x m)) grids
 
--- Mc: the first of the strongest grids (there is one, so no block gets the 0 for none)
+-- Mc: the first of the strongest grids; there always is one, so the default 0 never counts
 unfoldable pub grid_of : List ℤ → ℕ
 grid_of x = unwrap_or (find (is_strongest x) grids) 0
 
@@ -38,7 +38,7 @@ pub record IsStrongestGrid (x : List ℤ) (m : ℕ) : Type 0 where
   pub greatest : (n : ℕ) → n < 4 → grid_energy x n ≤ℤ grid_energy x m
   pub least : (n : ℕ) → n < m → grid_energy x n <ℤ grid_energy x m
 
--- the energies of the first n samples of each grid, which are at most n times that of a sample
+-- the energies of the first n samples of each grid, each within 0 to 2^27 * n
 pub record AreEnergies (n : ℕ) (x sums : List ℤ) : Type 0 where
   pub each : (m : ℕ) → m < 4 → entry sums m ≡ energy_up_to n x m
   pub at_least : (m : ℕ) → m < 4 → pos 0 ≤ℤ entry sums m

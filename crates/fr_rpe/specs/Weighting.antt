@@ -1,4 +1,4 @@
--- The block filter that weighs the residual of long-term prediction (GSM 06.10, section 4.2.13).
+-- The block filter that weights the residual of long-term prediction (GSM 06.10, section 4.2.13).
 use Rattle.std.specs.Prelude.{ℕ, ◌+◌, ◌-◌, ℤ, pos, neg_ℤ, ◌+ℤ◌, ◌*ℤ◌, if◌then◌else◌, nat_lt, List, [], ◌∷◌, map, fold}
 use Rattle.std.specs.List.{range_with_len}
 use Rattle.trau_num.specs.Num.{clamp16, floor_shr, entry}
@@ -17,7 +17,7 @@ sample_around e p = if nat_lt p 5 then pos 0 else entry e (p - 5)
 unfoldable pub padded_block : List ℤ → List ℤ
 padded_block e = map (sample_around e) (range_with_len 0 50)
 
--- the sum of e[k + i - 5] * H[i] over i of 0 to 10, over a padded block, and the rounding of the shift to come
+-- the sum of e[k + i - 5] * H[i] over i = 0 to 10, for a padded block, plus the rounding for the shift that follows
 unfoldable pub weighted_sum : List ℤ → ℕ → ℤ
 weighted_sum padded k =
     fold ◌+ℤ◌ (pos 4096) (map (λ i. entry impulse_response i *ℤ entry padded (k + i)) (range_with_len 0 11))

@@ -9,16 +9,15 @@ ghost use Rattle.fr_rpe.specs.Scale.{scale_of};
 use crate::scale::Scale;
 use trau_num::{clamp, scaled};
 
-/// The block of 40 samples, 16 bits each, that the parameters stand for: grid position `mc` of 2 bits,
-/// maximum `xmaxc` of 6 bits, thirteen pulses `xmc` of 3 bits. The encoder uses it too, to know what the
-/// decoder will make.
+/// The block of 40 samples, 16 bits each, that the parameters stand for: grid position `mc` of 2 bits, maximum `xmaxc`
+/// of 6 bits, thirteen pulses `xmc` of 3 bits. The encoder calls it too, because it predicts from the decoder's blocks.
 pub fn decode_block(mc: u8, xmaxc: u8, xmc: &[u8; 13]) -> [i16; 40]
     requires grid { mc < 4 }
     requires max { xmaxc < 64 }
     requires codes { All (λ code. code < 8) xmc.now }
     ensures { result ≡ block_of mc xmaxc xmc.now }
 {
-    // Eight pulses at once cost less than thirteen one by one.
+    // The pulses of all eight codes at once cost less than thirteen pulses one by one.
     let pulses = pulses_by_code(xmaxc);
     let mut ep = [0; 40];
     for i in 0..13 {
@@ -51,7 +50,7 @@ fn level(code: u8) -> i16
     (2 * i16::from(code) - 7) * 4096
 }
 
-// Half of the last place that a shift leaves.
+// The rounding for a shift: half of the last place that it keeps.
 fn rounding(shift: u8) -> i16
     requires { shift ≤ 10 }
     ensures { result ≡ pos (rounding_of shift) }
@@ -68,7 +67,7 @@ fn pulse(level: i16, factor: i16, rounding: i16, shift: u8) -> i16
     sum(factor, level, rounding) >> shift
 }
 
-// A level times a factor, with the rounding of the shift to come.
+// A level times a factor, plus the rounding for the shift that follows.
 #[tactic(auto, unfolding(trau_num::specs::Num::add_of))]
 fn sum(factor: i16, level: i16, rounding: i16) -> i16
     requires { pos 0 ≤ℤ factor }

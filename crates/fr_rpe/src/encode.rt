@@ -13,8 +13,8 @@ use crate::rpe::Rpe;
 use crate::selection::{pulses_on_grid, strongest_grid};
 use crate::weighting::weighted;
 
-/// The parameters of a block of 40 samples, 16 bits each, that long-term prediction left, and the block
-/// that a decoder makes of them.
+/// The parameters of a block of 40 samples, 16 bits each, after long-term prediction, and the block that a decoder
+/// reconstructs from them.
 pub fn encode_block(e: &[i16; 40]) -> Rpe
     ensures mc { result.mc ≡ mc_of e.now }
     ensures strongest { IsStrongestGrid (weighted_block e.now) result.mc }

@@ -20,8 +20,7 @@ pub(crate) fn maximum(pulses: &[i16; 13]) -> i16
     most
 }
 
-/// The code, of 6 bits, of a block's maximum, which isn't negative. The downlink's comfort noise codes its
-/// mean maximum by it too.
+/// The 6-bit code of a block's maximum, which isn't negative.
 pub fn quantise_max(xmax: i16) -> u8
     requires { pos 0 ≤ℤ xmax }
     ensures value { result ≡ coded_maximum (unsigned_abs xmax) }
@@ -30,7 +29,7 @@ pub fn quantise_max(xmax: i16) -> u8
     coded(xmax.unsigned_abs())
 }
 
-/// The same, with what the coding of the pulses needs: that the code leaves room for the maximum.
+/// The same. Its clause `room`, that the scale of the code has room for the maximum, serves the coding of the pulses.
 #[tactic(auto, unfolding(crate::specs::Quantisation::coded_maximum))]
 pub(crate) fn coded(xmax: u16) -> u8
     requires { xmax < 2 ^ 15 }

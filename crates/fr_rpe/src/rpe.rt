@@ -1,4 +1,4 @@
-//! What pulse coding makes of a block.
+//! The result of the pulse coding of a block.
 
 ghost use Rattle.std.specs.Prelude.{◌<◌, pos, ◌≤ℤ◌, All};
 
@@ -13,7 +13,7 @@ pub struct Rpe {
     pub xmc: [u8; 13],
     /// The maximum before it was coded, which isn't negative.
     pub xmax: i16,
-    /// The 40 samples of 16 bits that a decoder makes of the parameters.
+    /// The 40 samples of 16 bits that a decoder reconstructs.
     pub ep: [i16; 40],
     pub ghost mc_fits: { mc < 4 },
     pub ghost xmaxc_fits: { xmaxc < 64 },

@@ -2,7 +2,7 @@
 
 ghost use Rattle.std.specs.Prelude.{◌≡◌, ℕ, ◌<◌, ◌≤◌, pos, neg_ℤ, ◌≤ℤ◌};
 
-/// How large the pulses of a block are.
+/// The scale of the pulses of a block.
 #[derive(Clone, Copy)]
 pub(crate) struct Scale {
     /// -4 to 6.
@@ -58,7 +58,7 @@ impl Scale {
         }
     }
 
-    /// How far a pulse of this scale is shifted: 0 to 10 places.
+    /// The number of places, 0 to 10, by which a pulse of this scale is shifted.
     pub(crate) fn shift(self) -> u8
         requires at_least { neg_ℤ (pos 4) ≤ℤ self.exponent }
         requires at_most { self.exponent ≤ℤ pos 6 }
@@ -68,7 +68,7 @@ impl Scale {
         (6 - self.exponent) as u8
     }
 
-    /// The factor of the mantissa, which undoes its division.
+    /// The factor of the mantissa, for decoding.
     pub(crate) fn factor(self) -> i16
         requires { self.mantissa < 8 }
         ensures value { result ≡ factor_of self.mantissa }

@@ -6,7 +6,7 @@ ghost use Rattle.fr_rpe.specs.Selection.{sample_energy, grid_of, pulses_on_grid,
 
 use trau_num::product;
 
-/// The grid of a weighted block that is coded: the least of 0 to 3 with the greatest energy.
+/// The grid of a weighted block to be coded: the first of 0 to 3 with the greatest energy.
 pub(crate) fn strongest_grid(x: &[i16; 40]) -> u8
     ensures value { result ≡ grid_of x.now }
     ensures strongest { IsStrongestGrid x.now result }
@@ -21,7 +21,7 @@ pub(crate) fn strongest_grid(x: &[i16; 40]) -> u8
     best as u8
 }
 
-// The four sums grow side by side: one pass over the block.
+// All four sums are computed in one pass over the block.
 fn energies(x: &[i16; 40]) -> [i32; 4]
     ensures { AreEnergies 13 x.now result }
 {
@@ -32,7 +32,7 @@ fn energies(x: &[i16; 40]) -> [i32; 4]
     sums
 }
 
-// One sample of each grid more.
+// Adds sample i of each grid to the grid's sum.
 fn add_samples(sums: &mut [i32; 4], x: &[i16; 40], i: usize)
     requires place { i < 13 }
     requires so_far { AreEnergies i x.now sums.old }

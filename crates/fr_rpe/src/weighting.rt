@@ -1,4 +1,4 @@
-//! The block filter that weighs what is left of a block (GSM 06.10, section 4.2.13).
+//! The block filter that weights the residual of long-term prediction (GSM 06.10, section 4.2.13).
 
 ghost use Rattle.std.specs.Prelude.{◌≡◌, ℕ, ◌+◌, ◌*◌, ◌^◌, ◌<◌, ◌≤◌, pos, neg_ℤ, ◌+ℤ◌, ◌*ℤ◌, ◌≤ℤ◌, unsigned_abs};
 ghost use Rattle.trau_num.specs.Num.{entry};
@@ -6,7 +6,7 @@ ghost use Rattle.fr_rpe.specs.Weighting.{padded_block, weighted_sum, weighted_bl
 
 use trau_num::{clamp, product};
 
-/// The weighted block of a block of 40 samples.
+/// Weights a block of 40 samples.
 pub(crate) fn weighted(e: &[i16; 40]) -> [i16; 40]
     ensures { result ≡ weighted_block e.now }
 {
@@ -18,7 +18,7 @@ pub(crate) fn weighted(e: &[i16; 40]) -> [i16; 40]
     x
 }
 
-// Zeros stand for the samples outside of the block, so that each sum has all of its terms.
+// The block with five zeros on both sides, so that each sum has all of its terms.
 fn padded(e: &[i16; 40]) -> [i16; 50]
     ensures { result ≡ padded_block e.now }
 {
@@ -38,7 +38,7 @@ fn weighted_sum(padded: &[i16; 50], k: usize) -> i32
     plus_last_five(first_four(padded, k), padded, k)
 }
 
-// The rounding, and the first four of them.
+// The rounding, and the first four of the nine taps.
 fn first_four(padded: &[i16; 50], k: usize) -> i32
     requires { k < 40 }
     ensures value { result ≡ pos 4096 +ℤ neg_ℤ (pos 134) *ℤ entry padded.now k +ℤ neg_ℤ (pos 374) *ℤ entry padded.now (k + 1)
@@ -51,7 +51,7 @@ fn first_four(padded: &[i16; 50], k: usize) -> i32
     plus_tap(sum, 5741, padded[k + 4])
 }
 
-// The other five behind them, from the greatest on.
+// The last five of the nine taps, from the greatest on.
 fn plus_last_five(sum: i32, padded: &[i16; 50], k: usize) -> i32
     requires place { k < 40 }
     requires room { unsigned_abs sum ≤ 272076800 }

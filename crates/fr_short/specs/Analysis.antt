@@ -1,10 +1,10 @@
--- Short-term analysis (GSM 06.10, section 4.2.10): one frame from the memory before it, and all frames from home.
+-- Short-term analysis (GSM 06.10, section 4.2.10): one frame from the memory before it, and all frames from the home state.
 use Rattle.std.specs.Prelude.{ℕ, ◌+◌, ℤ, pos, List, [], ◌∷◌, replicate}
 use Rattle.trau_num.specs.Num.{add_of, mult_r_of}
 use Rattle.fr_short.specs.Ratios.{decoded_ratios}
 use Rattle.fr_short.specs.Reflection.{coefficients_at}
 
--- d and sav through the sections, the first one first: the d that comes out of the last, and the sav that each keeps as its u
+-- d and sav through the sections, from first to last: the d that the last gives, and the sav that each section keeps as its u
 abbrev pub analysis_lattice : List ℤ → List ℤ → ℤ → ℤ → ℤ × List ℤ
 analysis_lattice [] us d sav = (d, [])
 analysis_lattice (r ∷ rs) [] d sav = (d, [])
@@ -12,7 +12,7 @@ analysis_lattice (r ∷ rs) (u ∷ us) d sav =
     let beyond = analysis_lattice rs us (add_of d (mult_r_of r u)) (add_of u (mult_r_of r d)) in
     (beyond.0, sav ∷ beyond.1)
 
--- samples from place k of a frame on, with these coefficients at each place: what comes out, and the sections at the end
+-- the samples of a frame from sample k on, with the coefficients at each sample: the residual, and the sections at the end
 unfoldable pub analysed_samples : (ℕ → List ℤ) → ℕ → List ℤ → List ℤ → List ℤ × List ℤ
 analysed_samples rs k us [] = ([], us)
 analysed_samples rs k us (s ∷ ss) =
@@ -20,7 +20,7 @@ analysed_samples rs k us (s ∷ ss) =
     let rest = analysed_samples rs (k + 1) x.1 ss in
     (x.0 ∷ rest.0, rest.1)
 
--- what one frame gives to the analysis: its ratio codes, and its 160 preprocessed samples
+-- the input of analysis for one frame: the ratio codes, and the 160 preprocessed samples
 pub record SampleFrame : Type 0 where
   pub codes : List ℕ
   pub samples : List ℤ
@@ -29,12 +29,12 @@ pub record SampleFrame : Type 0 where
 abbrev pub sample_frame : List ℕ → List ℤ → SampleFrame
 sample_frame codes samples = record { codes = codes; samples = samples }
 
--- the decoded ratios of the newest of a list of frames, the newest first: at home all are 0
+-- the decoded ratios of the newest frame, the first in the list; in the home state all are 0
 unfoldable pub newest_sample_ratios : List SampleFrame → List ℤ
 newest_sample_ratios [] = replicate 8 (pos 0)
 newest_sample_ratios (f ∷ past) = decoded_ratios f.codes
 
--- all frames from home, the newest first: the residual of the newest, and the sections after it
+-- all frames from the home state, the newest first: the residual of the newest, and the sections after it
 unfoldable pub analysis_of : List SampleFrame → List ℤ × List ℤ
 analysis_of [] = ([], replicate 8 (pos 0))
 analysis_of (f ∷ past) =

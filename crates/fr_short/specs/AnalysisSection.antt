@@ -7,11 +7,11 @@ use Rattle.fr_short.specs.Reflection.{part_of}
 abbrev pub coefficient_at : List (List ℤ) → ℕ → ℕ → ℤ
 coefficient_at parts i k = entry (slice_index_or parts (part_of k) []) i
 
--- u at sample k: at the first what the frame before left, and then the sav of the sample before
+-- u at sample k: the sav of the sample before, or for the first sample the u from the previous frame
 abbrev pub u_at : ℤ → List ℤ → ℕ → ℤ
 u_at first savs k = entry (first ∷ savs) k
 
--- d of sample k after the section, with the section's coefficient at each sample
+-- d of sample k after the section; `rs` gives the section's coefficient at each sample
 abbrev pub next_d : (ℕ → ℤ) → ℤ → List ℤ → List ℤ → ℕ → ℤ
 next_d rs first ds savs k = add_of (entry ds k) (mult_r_of (rs k) (u_at first savs k))
 

@@ -8,7 +8,7 @@ use Rattle.trau_num.specs.Num.{add_of, abs_of, floor_shr, entry}
 unfoldable pub part_of : ℕ → ℕ
 part_of k = if nat_lt k 13 then 0 else if nat_lt k 27 then 1 else if nat_lt k 40 then 2 else 3
 
--- the first sample of a part, and the end of the frame after the last
+-- the first sample of a part, or the end of the frame for part 4
 unfoldable pub part_start : ℕ → ℕ
 part_start part = if part == 0 then 0 else if part == 1 then 13 else if part == 2 then 27 else if part == 3 then 40 else 160
 

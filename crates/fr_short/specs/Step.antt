@@ -1,4 +1,4 @@
--- One frame from the memory before it (GSM 06.10, sections 4.2.10 and 4.3.4), of each direction.
+-- One frame in each direction, from the memory before it (GSM 06.10, sections 4.2.10 and 4.3.4).
 use Rattle.std.specs.Prelude.{ℕ, ℤ, List}
 use Rattle.fr_short.specs.Ratios.{decoded_ratios}
 use Rattle.fr_short.specs.Reflection.{coefficients_at}

@@ -1,8 +1,8 @@
 //! The analysis lattice (GSM 06.10, section 4.2.10), one section after the other over the whole frame.
 //!
-//! In a section no sample waits for the one before it, since what it takes from that one came from the section
-//! before; so the compiler makes lanes of a loop over the samples, several at once. Three quarters of a frame are its last
-//! part, in which the section has one coefficient: that has a loop of its own.
+//! Within a section, no sample waits for the section's result for the sample before: it only needs that sample's result
+//! from the previous section. So the compiler can process several samples at once, in lanes. The last part of the
+//! frame, three quarters of it, has a loop of its own, because the section's coefficient is the same there.
 
 ghost use Rattle.std.specs.Prelude.{◌≡◌, ℕ, ◌<◌, ◌≤◌, unsigned_abs, slice_index_or, [], ◌+◌, nat_lt, if◌then◌else◌};
 ghost use Rattle.trau_num.specs.Num.{add_of, mult_r_of, entry};
@@ -14,7 +14,7 @@ ghost use Rattle.fr_short.specs.Words.{AreEightFactors};
 use crate::reflection::{part_start, parts};
 use trau_num::plus;
 
-// Fills the places of one of the first three parts with r; those of earlier parts stay.
+// Sets the entries of one of the first three parts to r. Those of earlier parts stay.
 fn fill_part(rs: &mut [i16; 40], part: usize, r: i16)
     requires { part < 3 }
     ensures { (k : ℕ) → k < part_start (part + 1) → entry rs.new k ≡ (if nat_lt k (part_start part) then entry rs.old k else r) }
@@ -36,7 +36,7 @@ fn spread(parts: &[[i16; 8]; 4], i: usize) -> [i16; 40]
     rs
 }
 
-// Both outputs of a section with coefficient r, of which u is what the sample before left.
+// Both outputs of a section with coefficient r, where u is the value that the sample before left.
 fn outputs(r: i16, u: i16, d: i16) -> (i16, i16)
     requires { unsigned_abs r ≤ 32767 }
     ensures d { result.0 ≡ add_of d (mult_r_of r u) }
@@ -45,7 +45,7 @@ fn outputs(r: i16, u: i16, d: i16) -> (i16, i16)
     (plus(d, r, u), plus(u, r, d))
 }
 
-// Passes d and sav of each sample through section i, and gives the u that it leaves to the next frame.
+// Passes d and sav of each sample through section i. Returns the u for the next frame.
 fn pass(
     parts: &[[i16; 8]; 4],
     i: usize,
@@ -77,7 +77,8 @@ fn pass(
     u
 }
 
-/// Filters the samples of a frame into their residual, between the previous frame's ratios and this frame's.
+/// Filters the samples of a frame into their residual, with coefficients from the previous frame's ratios and this
+/// frame's.
 pub(crate) fn analyse(old: &[i16; 8], new: &[i16; 8], us: &mut [i16; 8], s: &mut [i16; 160])
     ensures residual { s.new ≡ (analysed_samples (coefficients_at old.now new.now) 0 us.old s.old).0 }
     ensures sections { us.new ≡ (analysed_samples (coefficients_at old.now new.now) 0 us.old s.old).1 }

@@ -7,7 +7,7 @@ ghost use Rattle.fr_short.specs.Words.{AreEightFactors};
 
 use trau_num::{abs16, add};
 
-/// The first sample of a part of a frame, and for part 4 the end of the frame.
+/// The first sample of a part of a frame, or the end of the frame for part 4.
 #[tactic(auto, unfolding(crate::specs::Reflection::part_start))]
 pub(crate) fn part_start(part: usize) -> usize
     ensures value { result ≡ part_start part }

@@ -1,4 +1,4 @@
-//! What one direction of the short-term filters remembers.
+//! The state of one direction of the short-term filters.
 
 ghost use Rattle.std.specs.Prelude.{◌≡◌, List, [], ◌∷◌};
 ghost use Rattle.trau_params.specs.Widths.{FitLarc};
@@ -45,8 +45,8 @@ impl ShortState {
         }
     }
 
-    /// Filters the residual `d` of a frame into its 160 samples `s`, with the eight codes of its log area ratios,
-    /// each within its width (GSM 06.10, section 4.3.4). What `s` held before is lost.
+    /// Filters the residual `d` of a frame into its 160 samples `s`, which are overwritten. `larc` has the eight codes
+    /// of its log area ratios, each within its width (GSM 06.10, section 4.3.4).
     #[tactic(auto, unfolding(crate::specs::Step::synthesised_frame, crate::specs::Synthesis::newest_ratios, crate::specs::Synthesis::synthesis_of))]
     pub fn synthesise_frame(&mut self, larc: &[u8; 8], d: &[i16; 160], s: &mut [i16; 160])
         requires { FitLarc larc.now }
@@ -64,7 +64,7 @@ impl ShortState {
     }
 
     /// The same with de-emphasis after it (GSM 06.10, section 4.3.5), into `msr`. `before` is the last de-emphasised
-    /// sample of the frame before; that of this frame is answered.
+    /// sample of the previous frame. Returns the last one of this frame.
     #[tactic(auto, unfolding(crate::specs::Step::synthesised_frame, crate::specs::Synthesis::newest_ratios, crate::specs::Synthesis::synthesis_of))]
     pub fn synthesise_deemphasised(
         &mut self,
@@ -89,8 +89,8 @@ impl ShortState {
         last
     }
 
-    /// Filters the 160 samples `s` of a frame, preprocessed, into their residual, which it leaves in `s`, with the
-    /// eight codes of the frame's log area ratios, each within its width (GSM 06.10, section 4.2.10).
+    /// Replaces the 160 preprocessed samples `s` of a frame by their residual. `larc` has the eight codes of the
+    /// frame's log area ratios, each within its width (GSM 06.10, section 4.2.10).
     #[tactic(auto, unfolding(crate::specs::Step::analysed_frame, crate::specs::Analysis::newest_sample_ratios, crate::specs::Analysis::analysis_of))]
     pub fn analyse_frame(&mut self, larc: &[u8; 8], s: &mut [i16; 160])
         requires { FitLarc larc.now }

@@ -1,8 +1,8 @@
 //! The synthesis lattice (GSM 06.10, section 4.3.4), with the eight sections of a sample in the lanes of a vector.
 //!
-//! Lane 0 is the last section, which a sample passes first. The rounded products with what the sections hold
-//! don't wait for one another; the words behind each section do. They are guessed as sums that wrap, which
-//! takes three steps, and checked: where no difference is clamped, and seldom is one, the guess stands.
+//! Lane 0 is the last section, which a sample passes first. The rounded products with the sections' values don't wait
+//! for one another, but the word after each section needs the one before it. These words are guessed as sums that wrap,
+//! which takes three steps, and then checked. The guess is right unless a difference is clamped, which is rare.
 
 ghost use Rattle.std.specs.Prelude.{◌≡◌, ℤ, pos, reverse, length};
 ghost use Rattle.trau_num.specs.Num.{add_of, mult_r_of};
@@ -18,7 +18,7 @@ use std::simd::prelude::*;
 use trau_lanes::{minus_lanes, plus_lanes, scaled_lanes, shift_in};
 use trau_num::{add, mult_r, sub};
 
-// The words behind each section, one after the other.
+// The words after each section, one after the other.
 #[cold]
 #[inline(never)]
 fn in_turn(sample: i16, steps: i16x8) -> i16x8
@@ -35,7 +35,7 @@ fn in_turn(sample: i16, steps: i16x8) -> i16x8
     i16x8::from_array(words)
 }
 
-// The sample less the steps up to each lane, which are the words behind each section where none is clamped.
+// The sample less the steps up to each lane. These are the words after each section if no difference is clamped.
 fn guess(sample: i16, steps: i16x8) -> i16x8
     requires { length steps ≡ 8 }
     ensures { EightWords result }
@@ -47,7 +47,7 @@ fn guess(sample: i16, steps: i16x8) -> i16x8
     four + zero.shuffle(four, [0, 0, 0, 0, 8, 9, 10, 11])
 }
 
-// The words behind each section, from what is subtracted in each.
+// The words after each section; `steps` has what each section subtracts.
 fn behind(sample: i16, steps: i16x8) -> i16x8
     requires { EightWords steps }
     ensures value { result ≡ words_behind sample steps }
@@ -78,7 +78,7 @@ fn pass(rs: i16x8, vs: &mut i16x8, sample: i16) -> i16
     words.to_array()[7]
 }
 
-// The last of eight words in the first lane.
+// The words in reverse order: the last one in lane 0.
 fn backwards(words: &[i16; 8]) -> i16x8
     ensures value { result ≡ reverse words.now }
     ensures words { EightWords result }
@@ -88,7 +88,7 @@ fn backwards(words: &[i16; 8]) -> i16x8
     ])
 }
 
-// What is made of each sample that leaves the sections, with what was made of the sample before.
+// A further step for each filtered sample; `before` is its result for the sample before.
 trait Step {
     ghost next: { ℤ → ℤ → ℤ };
 
@@ -96,7 +96,7 @@ trait Step {
         ensures { result ≡ next sample before };
 }
 
-// Samples as they are.
+// No further step.
 struct Plain;
 
 impl Step for Plain {
@@ -107,7 +107,7 @@ impl Step for Plain {
     }
 }
 
-// De-emphasis after the last sample that was de-emphasised.
+// De-emphasis.
 struct Deemphasis;
 
 impl Step for Deemphasis {
@@ -118,10 +118,11 @@ impl Step for Deemphasis {
     }
 }
 
-// Filters the residual `d` of a frame between the previous frame's ratios and this frame's, with a step behind each sample;
-// `before` is what was made of the last sample of the frame before, and that of this frame is answered.
+// Filters the residual `d` of a frame, with coefficients from the previous frame's ratios and this frame's, and with a
+// further step for each sample. `before` is the step's last result in the previous frame. Returns its last result in
+// this frame.
 //
-// Both in one loop, since each waits for the sample before, and so one has its time while the other waits.
+// Both are in one loop: each waits for its result for the sample before, so one is computed while the other waits.
 fn filter_by<S: Step>(
     old: &[i16; 8],
     new: &[i16; 8],
@@ -148,7 +149,7 @@ fn filter_by<S: Step>(
     last
 }
 
-/// Filters the residual `d` of a frame between the previous frame's ratios and this frame's.
+/// Filters the residual `d` of a frame, with coefficients from the previous frame's ratios and this frame's.
 pub(crate) fn filter(
     old: &[i16; 8],
     new: &[i16; 8],
@@ -162,8 +163,8 @@ pub(crate) fn filter(
     filter_by::<Plain>(old, new, sections, d, 0, s);
 }
 
-/// The same with de-emphasis of each sample, into `msr` after the last one `before` of the frame before; answers the
-/// last.
+/// The same with de-emphasis, into `msr`. `before` is the last de-emphasised sample of the previous frame. Returns the
+/// last one of this frame.
 pub(crate) fn filter_deemphasised(
     old: &[i16; 8],
     new: &[i16; 8],

@@ -1,4 +1,4 @@
--- What a listing says and moves.
+-- What a listing prints, reads and writes.
 pub mod Lists
 pub mod Step
 pub mod Texts

@@ -1,4 +1,4 @@
--- A whole listing: from the octets of an uplink to lines of text.
+-- A whole listing, from the octets of an uplink to lines of text.
 use Rattle.std.specs.Prelude.{◌≡◌, ◌⊎◌, ℕ, ◌*◌, ◌-◌, ◌^◌, ◌<◌, ◌≤◌, List, [], ◌∷◌, ◌++◌, length, take}
 use Rattle.std.specs.List.{concat}
 use Rattle.std.specs.Io.KnownBytes.{Consumes, Appends, IsAtEnd}
@@ -19,7 +19,7 @@ pub record Moves (up up' : LineState) (desk desk' : DeskState) (given text : Lis
   pub read_faults : desk'.read_faults ≡ desk.read_faults
   pub desk_later : desk.write_faults ≤ desk'.write_faults
 
--- the line ended after these periods, with so many octets left, or so many were taken that no more are; all yields are listed
+-- the line ended after these periods and `left` more octets, or 4,294,967,295 periods were read; all yields are listed
 pub record EndsLine (up up' : LineState) (desk desk' : DeskState) (periods : List (List ℕ)) (last told : List ℕ) (yields left : ℕ) : Type 0 where
   pub at_end : IsAtEnd up'.to_come ⊎ ((length periods ≡ 2 ^ 32 - 1) × (last ≡ []))
   pub yields_are : yields ≡ length (all_yields periods)
@@ -29,16 +29,16 @@ pub record EndsLine (up up' : LineState) (desk desk' : DeskState) (periods : Lis
   pub up_same : up'.faults ≡ up.faults
   pub desk_same : desk'.write_faults ≡ desk.write_faults
 
--- the line failed inside a period, and the yields of all periods before it, fewer than are taken, are listed
-pub record FailsToRead (up up' : LineState) (desk desk' : DeskState) (periods : List (List ℕ)) (last told : List ℕ) : Type 0 where
+-- the line failed in a period; the yields of all periods before it, fewer than 4,294,967,295 periods, are listed
+pub record ListingFailsToRead (up up' : LineState) (desk desk' : DeskState) (periods : List (List ℕ)) (last told : List ℕ) : Type 0 where
   pub room : length periods < 2 ^ 32 - 1
   pub part : length last < 40
   pub all_told : told ≡ listed periods
   pub rose : Rose up.faults up'.faults
   pub desk_same : desk'.write_faults ≡ desk.write_faults
 
--- the desk failed inside the line of text of the last period's yield: nothing was read behind that period, and the desk holds
--- all earlier lines and a proper front of its line
+-- the desk failed in the line of text of the last period's yield: nothing was read after that period, and the desk gained all
+-- earlier lines and a proper prefix of this one
 pub record FailsToTell (up up' : LineState) (desk desk' : DeskState) (periods : List (List ℕ)) (last told : List ℕ) : Type 0 where
   pub nothing_more : last ≡ []
   pub earlier : List (List ℕ)
@@ -50,14 +50,13 @@ pub record FailsToTell (up up' : LineState) (desk desk' : DeskState) (periods : 
   pub up_same : up'.faults ≡ up.faults
   pub rose : Rose desk.write_faults desk'.write_faults
 
--- the end of a listing after these periods: what was read behind them, and what was told
+-- the end of a listing: the whole periods that were read, the octets after them, and the text that the desk gained
 abbrev pub EndsAs : LineState → LineState → DeskState → DeskState → List (List ℕ) → List ℕ → List ℕ → ListEnd → Type 0
 EndsAs up up' desk desk' periods last told (Done yields left) = EndsLine up up' desk desk' periods last told yields left
-EndsAs up up' desk desk' periods last told ReadFailed = FailsToRead up up' desk desk' periods last told
+EndsAs up up' desk desk' periods last told ReadFailed = ListingFailsToRead up up' desk desk' periods last told
 EndsAs up up' desk desk' periods last told DeskFailed = FailsToTell up up' desk desk' periods last told
 
--- A whole listing. What the reads gave is whole periods, and then what was read behind them: 4,294,967,295 periods at most, and
--- nothing behind so many.
+-- A whole listing. At most 4,294,967,295 periods were read: whole periods, and then maybe a part of one.
 pub record Lists (up up' : LineState) (desk desk' : DeskState) (end : ListEnd) : Type 0 where
   pub periods : List (List ℕ)
   pub last : List ℕ

@@ -1,4 +1,4 @@
--- One period of a listing, after any periods for which the search stands. A past has the newest period first.
+-- One period of a listing, after any past that leads to the search's memory (`Stands`). A past has the newest period first.
 use Rattle.std.specs.Prelude.{◌≡◌, ℕ, ◌+◌, ◌<◌, List, [], ◌∷◌, length, take, Option, Some, None}
 use Rattle.std.specs.Io.KnownBytes.{IsAtEnd}
 use Rattle.trau_io.specs.Lines.{LineState, Rose}
@@ -12,7 +12,7 @@ use Rattle.frame_listing.specs.declared.list.PeriodEnd.TheVariants.{Without, Lis
 use Rattle.frame_listing.specs.Lists.{Moves}
 use Rattle.frame_listing.specs.Texts.{line_of}
 
--- the period was taken, and this is its yield or none
+-- the whole period was read, and this is its yield, if it has one
 pub record Takes (sync sync' : SyncMemory) (given : List ℕ) (found : Option Yield) : Type 0 where
   pub whole : length given ≡ 40
   pub counted : sync'.periods ≡ sync.periods + 1
@@ -30,7 +30,7 @@ pub record IsListed (sync sync' : SyncMemory) (up up' : LineState) (desk desk' :
   pub line : told ≡ line_of found
   pub calm : NoFault up up' desk desk'
 
--- the desk failed inside its line of text
+-- the desk failed in the line of text of the period's yield
 pub record IsToldInPart (sync sync' : SyncMemory) (up up' : LineState) (desk desk' : DeskState) (given told : List ℕ) : Type 0 where
   pub found : Yield
   pub takes : Takes sync sync' given (Some found)
@@ -39,7 +39,7 @@ pub record IsToldInPart (sync sync' : SyncMemory) (up up' : LineState) (desk des
   pub up_same : up'.faults ≡ up.faults
   pub rose : Rose desk.write_faults desk'.write_faults
 
--- how a period ended, by what was read of it and told for it
+-- how a period ended, with what was read of it and what the desk gained for it
 abbrev pub PeriodEndsAs : SyncMemory → SyncMemory → LineState → LineState → DeskState → DeskState → List ℕ → List ℕ → PeriodEnd → Type 0
 PeriodEndsAs sync sync' up up' desk desk' given told Without = Takes sync sync' given None × (told ≡ []) × NoFault up up' desk desk'
 PeriodEndsAs sync sync' up up' desk desk' given told Listed = IsListed sync sync' up up' desk desk' given told

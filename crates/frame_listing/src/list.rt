@@ -13,12 +13,12 @@ use trau_io::{Desk, Filled, Line, Side, Trunk, read_block, tell};
 /// How a listing ended.
 #[derive(Clone, Copy, Debug, PartialEq, Eq)]
 pub enum ListEnd {
-    /// At the end of the line, or after 4,294,967,295 periods: so many yields were listed, and so many octets of the
-    /// line, fewer than 40, stand behind its last whole period.
+    /// At the end of the line, or after 4,294,967,295 periods. The numbers of yields that were listed, and of octets after
+    /// the last whole period, fewer than 40.
     Done(u32, u32),
-    /// By the fault of the line.
+    /// The line failed.
     ReadFailed,
-    /// By the fault of the desk.
+    /// The desk failed.
     DeskFailed,
 }
 
@@ -29,13 +29,13 @@ pub(crate) enum PeriodEnd {
     Without,
     /// Its yield is listed.
     Listed,
-    /// The line ended after so many octets of it.
+    /// The line ended after this many octets of the period.
     LineEnded(u32),
     ReadFailed,
     DeskFailed,
 }
 
-// Takes one period of the uplink, and lists its yield.
+// Reads one period of the uplink, and lists its yield if it has one.
 fn list_period<T: Trunk, D: Desk>(
     sync: &mut FrameSync,
     call: u32,
@@ -66,8 +66,8 @@ fn list_period<T: Trunk, D: Desk>(
     }
 }
 
-/// Lists the yields of the search on a call's uplink, a line of text each, up to the end of the line, which
-/// 4,294,967,295 periods count as too.
+/// Lists the yields of the search on a call's uplink, a line of text each, up to the end of the line, but for at most
+/// 4,294,967,295 periods.
 pub fn list_frames<T: Trunk, D: Desk>(call: u32, trunk: &mut T, desk: &mut D) -> ListEnd
     requires { IsCallNumber call }
     ensures lists { Lists (T.lines trunk.old call Up) (T.lines trunk.new call Up) (D.desk desk.old) (D.desk desk.new) result }

@@ -3,7 +3,7 @@ use Rattle.std.specs.Prelude.{ℕ, ◌+◌, ◌≤◌, ◌<◌, List, replicate}
 use Rattle.frame_sync.specs.declared.yields.Mode.{Mode}
 use Rattle.frame_sync.specs.declared.yields.Mode.TheVariants.{Hunting, Locked}
 
--- what the search keeps: the number of periods so far, the bits of the last one, and the mode
+-- the number of periods so far, the bits of the last one, and the mode
 pub record SyncMemory : Type 0 where
   pub periods : ℕ
   pub last : List ℕ
@@ -13,12 +13,12 @@ pub record SyncMemory : Type 0 where
 abbrev pub home_memory : SyncMemory
 home_memory = record { periods = 0; last = replicate 320 0; mode = Hunting 0 }
 
--- the place from which on it hunts, or at which a frame is due
+-- the place from which the search hunts, or at which a frame is due
 abbrev pub low_of : Mode → ℕ
 low_of (Hunting low) = low
 low_of (Locked next misses) = next
 
--- what the first bit of the next period lies before: the end of the frame that is due, and hunting any place behind it
+-- the first bit of the next period is before this place: the end of the frame that is due; `base` + 1, which sets no limit, if the search hunts
 abbrev pub high_of : ℕ → Mode → ℕ
 high_of base (Hunting low) = base + 1
 high_of base (Locked next misses) = next + 320
@@ -28,7 +28,7 @@ abbrev pub misses_of : Mode → ℕ
 misses_of (Hunting low) = 0
 misses_of (Locked next misses) = misses
 
--- the mode fits a line of `base` bits so far: it hunts from none behind the next bit on, or the frame that is due began
--- at the next bit or before it and ends in the next period; there are at most two misses
+-- the mode fits a line of `base` bits so far: the search hunts from `base` or an earlier place on, or the frame that is due begins at `base` or
+-- before and ends in the next period; there are at most two misses
 abbrev pub IsNear : ℕ → Mode → Type 0
 IsNear base mode = (low_of mode ≤ base) × (base < high_of base mode) × (misses_of mode ≤ 2)

@@ -1,5 +1,4 @@
--- The yield of each period, by what the search looks for next. A period has 40 octets; a history has the newest period
--- first.
+-- The yield of each period, by the mode of the search. A period has 40 octets; a history has the newest period first.
 use Rattle.std.specs.Prelude.{ℕ, zero, suc, ◌+◌, ◌-◌, ◌*◌, ◌≡◌, ◌≤◌, ◌<◌, Bool, true, false, ◌&&◌, if◌then◌else◌, ◌==◌, nat_le, nat_lt, max, List, [], ◌∷◌}
 use Rattle.std.specs.Prelude.{◌++◌, length, All, reverse, slice_index_or, Option, Some, None, option_to_list}
 use Rattle.std.specs.List.{flat_map}
@@ -12,30 +11,30 @@ use Rattle.frame_sync.specs.declared.yields.Yield.TheVariants.{Frame, Miss}
 use Rattle.trau_frame.specs.Match.{bit_in, is_match, frame_at}
 use Rattle.frame_sync.specs.Yields.{place_of}
 
--- what comes after a miss at p and so many misses in a row before it: the third gives the lock up
+-- the mode after a miss at p with `misses` misses in a row before it: after the third miss the search hunts
 abbrev pub after_miss : ℕ → ℕ → Mode
 after_miss p misses = if misses == 2 then Hunting (p + 320) else Locked (p + 320) (misses + 1)
 
--- the least of `count` places from `first` on that matches
+-- the first of `count` places from `first` on that matches
 unfoldable pub first_match : (ℕ → ℕ) → ℕ → ℕ → Option ℕ
 first_match line first zero = None
 first_match line first (suc count) = if is_match line first then Some first else first_match line (first + 1) count
 
--- hunting from `low` on: the least match whose last bit is one of the 320 bits of the period that begins at `base`
+-- when hunting from `low` on: the first match whose last bit is one of the 320 bits of the period that begins at `base`
 abbrev pub found_in : (ℕ → ℕ) → ℕ → ℕ → Option ℕ
 found_in line base low = let first = max low (base - 319) in first_match line first (base + 1 - first)
 
--- what the search gives where it hunted from `low` on and found this
+-- the yield and the next mode if the search hunted from `low` on and found this
 abbrev pub hunted : (ℕ → ℕ) → ℕ → Option ℕ → Option Yield × Mode
 hunted line low None = (None, Hunting low)
 hunted line low (Some p) = (Some (Frame p (frame_at line p)), Locked (p + 320) 0)
 
--- what it gives where a frame was due at `next`, by whether that matches
+-- the yield and the next mode if a frame was due at `next`, by whether that place matches
 abbrev pub yield_due : (ℕ → ℕ) → ℕ → ℕ → Bool → Option Yield × Mode
 yield_due line next misses true = (Some (Frame next (frame_at line next)), Locked (next + 320) 0)
 yield_due line next misses false = (Some (Miss next), after_miss next misses)
 
--- what the period that begins at `base` gives, and the mode after it; locked, the frame that is due always ends in it
+-- the yield of the period that begins at `base`, and the mode after it; while locked, the frame that is due always ends in it
 unfoldable pub searched : (ℕ → ℕ) → ℕ → Mode → Option Yield × Mode
 searched line base (Hunting low) = hunted line low (found_in line base low)
 searched line base (Locked next misses) = yield_due line next misses (is_match line next)
@@ -63,7 +62,7 @@ each_yield (octets ∷ past) = each_yield past ++ yield_of octets past ∷ []
 abbrev pub ArePeriods : List (List ℕ) → Type 0
 ArePeriods periods = All (λ octets. length octets ≡ 40) periods
 
--- of periods with the oldest first: the yield of period k, or none
+-- the yield of period k, or none, of periods with the oldest first
 abbrev pub yield_in : List (List ℕ) → ℕ → Option Yield
 yield_in periods k = slice_index_or (each_yield (reverse periods)) k None
 
@@ -83,7 +82,7 @@ EndsIn k y = (320 * k ≤ place_of y + 319) × (place_of y + 319 < 320 * k + 320
 abbrev pub ends_in : ℕ → Yield → Bool
 ends_in k y = nat_le (320 * k) (place_of y + 319) && nat_lt (place_of y + 319) (320 * k + 320)
 
--- what a frame carries are 320 bits with the sync pattern
+-- a frame has 320 bits with the sync pattern
 abbrev pub CarriesFrame : Yield → Type 0
 CarriesFrame (Frame p f) = (length f ≡ 320) × AreBits f × Synced f
 CarriesFrame (Miss p) = Unit {0}

@@ -10,21 +10,21 @@ use Rattle.frame_sync.specs.declared.yields.Yield.TheVariants.{Frame, Miss}
 use Rattle.frame_sync.specs.Periods.{searched}
 use Rattle.frame_sync.specs.Memory.{SyncMemory}
 
--- the bits of two neighbouring periods as a line, the second of which begins at place `base`
+-- the bits of two neighbouring periods as a line; the second period begins at place `base`
 abbrev pub bit_of_two : ℕ → List ℕ → ℕ → ℕ
 bit_of_two base bits p = slice_index bits (p + 320 - base)
 
--- the yield of what ends in a period of the line
+-- the yield for what ends in a period of the line
 abbrev pub yield_of_ending : (ℕ → ℕ) → Ending → Option Yield
 yield_of_ending line Nothing = None
 yield_of_ending line (Framed p) = Some (Frame p (frame_at line p))
 yield_of_ending line (Missed p) = Some (Miss p)
 
--- the same of two neighbouring periods, with the mode behind it
+-- the same for two neighbouring periods, with the mode after it
 abbrev pub ends_in_two : ℕ → List ℕ → Ending × Mode → Option Yield × Mode
 ends_in_two base bits found = (yield_of_ending (bit_of_two base bits) found.0, found.1)
 
--- a frame lies within two periods, the second of which begins at place `base`
+-- a frame lies within two periods; the second period begins at place `base`
 abbrev pub LiesWithin : ℕ → Ending → Type 0
 LiesWithin base Nothing = Unit {0}
 LiesWithin base (Framed p) = (base ≤ p + 320) × (p ≤ base)

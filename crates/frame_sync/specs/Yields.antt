@@ -1,5 +1,5 @@
--- All yields of the search over a whole list of bits, by what lies before each. When the search locks, and when it gives
--- the lock up, is this project's profile.
+-- All yields of the search over a whole list of bits, each by the yields before it. When the search locks and when it loses the lock is this
+-- project's profile.
 use Rattle.std.specs.Prelude.{◌≡◌, ℕ, ◌+◌, ◌<◌, ◌≤◌, Bool, true, false, if◌then◌else◌, List, [], ◌∷◌, ◌++◌, length, reverse}
 use Rattle.trau_frame.specs.Match.{bit_in, is_match, frame_at}
 use Rattle.frame_sync.specs.declared.yields.Yield.{Yield}
@@ -9,11 +9,11 @@ use Rattle.frame_sync.specs.declared.yields.Yield.TheVariants.{Frame, Miss}
 abbrev pub NoMatch : (ℕ → ℕ) → ℕ → ℕ → Type 0
 NoMatch line low high = (q : ℕ) → low ≤ q → q < high → is_match line q ≡ false
 
--- p is the least place from `low` on that matches
+-- p is the first place from `low` on that matches
 abbrev pub IsFirstMatch : (ℕ → ℕ) → ℕ → ℕ → Type 0
 IsFirstMatch line low p = (low ≤ p) × NoMatch line low p × (is_match line p ≡ true)
 
--- what is yielded at place p: a frame where the sync bits match, else a miss
+-- the yield at place p: a frame if the sync bits match, else a miss
 abbrev pub frame_or_miss : (ℕ → ℕ) → ℕ → Yield
 frame_or_miss line p = if is_match line p then Frame p (frame_at line p) else Miss p
 
@@ -22,13 +22,13 @@ abbrev pub place_of : Yield → ℕ
 place_of (Frame p f) = p
 place_of (Miss p) = p
 
--- the place behind the 320 bits of the newest of the yields so far, which have the newest first
+-- the place after the 320 bits of the newest yield so far; the newest is first
 abbrev pub end_of_yields : List Yield → ℕ
 end_of_yields [] = 0
 end_of_yields (y ∷ older) = place_of y + 320
 
--- whether the search hunts after these yields, the newest first: before any yield, and behind three misses in a row,
--- which give the lock up. (What a hunt finds is a frame, so that there are never four.)
+-- whether the search hunts after these yields, the newest first: before any yield, and after three misses in a row. (A hunt yields a frame, so there
+-- are never four misses in a row.)
 abbrev pub hunts : List Yield → Bool
 hunts [] = true
 hunts (Miss p ∷ Miss q ∷ Miss r ∷ older) = true
@@ -36,15 +36,15 @@ hunts (y ∷ older) = false
 
 -- the next yield of the bits after these, the newest first
 pub record IsNextYield (bits : List ℕ) (past : List Yield) (y : Yield) : Type 0 where
-  -- hunting, it is at the least place that matches, from the end of the newest on
+  -- when hunting, it is at the first matching place from the end of the newest yield on
   pub hunting : hunts past ≡ true → IsFirstMatch (bit_in bits) (end_of_yields past) (place_of y)
-  -- else at that end
+  -- when locked, it is at that end
   pub locked : hunts past ≡ false → place_of y ≡ end_of_yields past
   pub kind : y ≡ frame_or_miss (bit_in bits) (place_of y)
   -- its last bit is one of the bits
   pub within : place_of y + 320 ≤ length bits
 
--- these are all yields of the bits, in order: each follows those before it, and none follows them all
+-- these are all yields of the bits, in order: each is the next one after those before it, and there is no next one after all
 abbrev pub Yields : List ℕ → List Yield → Type 0
 Yields bits ys =
     ((before after : List Yield) (y : Yield) → ys ≡ before ++ y ∷ after → IsNextYield bits (reverse before) y) ×

@@ -23,7 +23,7 @@ fn frame_from(window: &[u8; 640], o: usize) -> &[u8; 320]
     window[o..].first_chunk().unwrap()
 }
 
-// A frame at a place, and what follows it: the lock, without a miss.
+// A frame at a place, and the mode after it: locked, without a miss.
 fn framed(place: u64) -> (Ending, Mode)
     requires { place < 2 ^ 60 }
     ensures { result ≡ (Framed place, Locked (place + 320) 0) }
@@ -35,7 +35,7 @@ fn framed(place: u64) -> (Ending, Mode)
     (Ending::Framed(place), mode)
 }
 
-// What follows a miss at a place, after so many misses in a row before it.
+// The mode after a miss at a place, with `misses` misses in a row before it.
 fn after_miss(place: u64, misses: u8) -> Mode
     requires count { misses ≤ 2 }
     requires small { place < 2 ^ 60 }
@@ -66,7 +66,7 @@ fn hunt(low: u64, base: u64, window: &[u8; 640]) -> (Ending, Mode)
     }
 }
 
-// Takes the frame that is due at place `next`, or the miss.
+// The frame that is due at place `next`, or the miss, and the mode after it.
 fn take_due(next: u64, misses: u8, base: u64, window: &[u8; 640]) -> (Ending, Mode)
     requires began { next ≤ base }
     requires ends { base < next + 320 }
@@ -98,7 +98,7 @@ pub(crate) fn advance(mode: Mode, base: u64, window: &[u8; 640]) -> (Ending, Mod
     }
 }
 
-/// The yield of what ends in the period that begins at place `base`.
+/// The yield for what ends in the period that begins at place `base`.
 pub(crate) fn yield_of_ending(ending: Ending, base: u64, window: &[u8; 640]) -> Option<Yield>
     requires within { LiesWithin base ending }
     requires small { base < 2 ^ 60 }

@@ -10,23 +10,23 @@ pub fn periods_give_all_yields()
     ensures { (periods : List (List ℕ)) → ArePeriods periods → Yields (all_bits periods) (all_yields periods) }
 {}
 
-/// A list of bits has a list of yields. (`one_list`: it has no other.)
+/// Each list of bits has a list of yields. By `one_list` it is the only one.
 pub fn some_list()
     ensures { (bits : List ℕ) → (ys : List Yield) × Yields bits ys }
 {}
 
-/// A list of bits has one list of yields at most. (`some_list`: it has one.)
+/// Each list of bits has at most one list of yields. By `some_list` it has one.
 pub fn one_list()
     ensures { (bits : List ℕ) (ys zs : List Yield) → Yields bits ys → Yields bits zs → ys ≡ zs }
 {}
 
-/// The yield of a period, or none, is what ends in the period of all yields of the line.
+/// The yield of a period is the one of all yields of the line that ends in the period, or none if none does.
 pub fn each_in_its_period()
     ensures { (periods : List (List ℕ)) (k : ℕ) → k < length periods →
         filter (ends_in k) (all_yields periods) ≡ option_to_list (yield_in periods k) }
 {}
 
-/// The yield of one period more is the one of the newest period after the others as its past.
+/// The yield of an appended period is that of the newest period, with the other periods as its past.
 pub fn one_period_more()
     ensures { (periods : List (List ℕ)) (octets : List ℕ) →
         yield_in (periods ++ octets ∷ []) (length periods) ≡ yield_of octets (reverse periods) }

@@ -1,18 +1,19 @@
 //! The search for frames on a line (sync pattern of GSM 08.60; lock and loss are this project's profile).
 //!
-//! Between the octets of an uplink, 40 a period of 20 ms, and what a receiver makes of frames: finds where frames
-//! begin, at any bit, and gives each frame or miss in the period that holds its last bit. A search that hunts locks on
-//! the first place whose 35 sync bits match. Locked, it expects a frame every 320 bits; one whose sync bits don't match
-//! is a miss, and the third miss in a row gives the lock up.
+//! The search takes the octets of an uplink, 40 a period of 20 ms. It finds where frames begin, at any bit, and gives
+//! each frame or miss in the period that has its last bit. While it hunts, it locks on the first place whose 35 sync
+//! bits match. While locked, it expects a frame every 320 bits. A frame whose sync bits don't match is a miss, and
+//! after the third miss in a row the search hunts again.
 //!
 //! `window` has the bits of two periods, `hunt` looks for the first match in them, `advance` takes the search over one
-//! period, and `search` has what is kept from period to period. Hunting counts zeros bit by bit. Only behind sixteen of
-//! them are ones looked at, and where the first of those is there, no sixteen zeros end in the sixteen bits from it on:
-//! so a bit costs a few operations, whatever the line holds.
+//! period, and `search` has the state between periods.
 //!
-//! Definitions: `specs/Yields.antt` (all yields of a whole line, over `specs/Match.antt` of `trau_frame`),
-//! `specs/Periods.antt` (the yield of each period), `specs/Memory.antt`, `specs/Step.antt` and `specs/Stands.antt` (what is
-//! kept, one period, and what the memory stands for).
+//! Hunting counts zeros bit by bit, and checks the ones only after sixteen zeros. If the first of these ones is there,
+//! no sixteen zeros end in the sixteen bits from it on. So each bit costs a few operations, whatever the line carries.
+//!
+//! Definitions: `specs/Yields.antt` (all yields of a whole line, using `specs/Match.antt` of `trau_frame`),
+//! `specs/Periods.antt` (the yield of each period), `specs/Memory.antt`, `specs/Step.antt` and `specs/Stands.antt` (the
+//! state, one period, and the past that a state stands for).
 #![tactic(auto)]
 
 mod advance;

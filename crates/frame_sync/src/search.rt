@@ -57,11 +57,11 @@ impl FrameSync {
         ensures step { next_period self.old octets.now ≡ (result, self.new) }
         ensures counted { self.new.periods ≡ self.old.periods + 1 }
 
-        // After any past, the answer is the yield of this period ..
+        // After any past, the result is the yield of this period.
         ensures history { (past : List (List ℕ)) → Stands past self.old →
             Stands (octets.now ∷ past) self.new × (result ≡ yield_of octets.now past) }
 
-        // .. which is, of all yields of all bits so far, the one that ends in this period, or none where none does.
+        // It is the one of all yields of all bits so far that ends in this period, or none if none does.
         ensures whole { (past : List (List ℕ)) (ys : List Yield) → Stands past self.old →
             Yields (all_bits (reverse (octets.now ∷ past))) ys →
             filter (ends_in (length past)) ys ≡ option_to_list result }

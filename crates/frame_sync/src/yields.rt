@@ -1,6 +1,6 @@
-//! What the search gives, and what it looks for next.
+//! The yields of the search, and its mode.
 
-/// What the search gives.
+/// A yield of the search.
 #[derive(Clone, Copy)]
 pub enum Yield {
     /// A frame, with its 320 bits, 0 or 1 each.

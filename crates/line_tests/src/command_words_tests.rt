@@ -4,13 +4,12 @@ use crate::rows::assert_rows;
 use command_words::{Asked, LiveSettings, Settings, WordsFault, read_words};
 use std::alloc::{AllocError, Global};
 
-// Puts a word at the end of others.
 fn push(alloc: Global, words: &mut Vec<String>, word: &str) -> Result<(), AllocError> {
     words.push(String::from_str(alloc, word)?)?;
     Ok(())
 }
 
-// A line's words, with one space between them.
+// The words of a line, which are separated by single spaces.
 fn split(alloc: Global, line: &str) -> Result<Vec<String>, AllocError> {
     let mut words = Vec::new(alloc);
     for word in line.split(' ') {
@@ -19,7 +18,7 @@ fn split(alloc: Global, line: &str) -> Result<Vec<String>, AllocError> {
     Ok(words)
 }
 
-// Whether this is answered to a line's words.
+// Whether the words of a line have this answer.
 fn is_answered(alloc: Global, line: &str, answer: Result<Asked, WordsFault>) -> bool {
     match split(alloc, line) {
         Ok(words) => read_words(alloc, &words) == answer,
@@ -27,8 +26,8 @@ fn is_answered(alloc: Global, line: &str, answer: Result<Asked, WordsFault>) -> 
     }
 }
 
-// The words of runs, also to a mark and from one on, and of drills, with the workers, batch, slice and periods that they
-// ask for, and a drill's seed and calls.
+// The words of runs (also up to a mark and from one on) and of drills; the workers, batch, slice and periods that they ask
+// for; and a drill's seed and calls.
 static RUNS: [(&str, [u32; 4], [u32; 2]); 17] = [
     ("run", [4, 50, 5, 4_294_967_295], [0, 0]),
     (
@@ -81,7 +80,7 @@ static RUNS: [(&str, [u32; 4], [u32; 2]); 17] = [
     ("drill --batch 7 --", [4, 7, 5, 200], [1, 64]),
 ];
 
-// What is asked by the command's word.
+// What a command's word asks for, with these settings.
 fn asked_by(word: &str, settings: Settings, made_of: [u32; 2]) -> Asked {
     let [seed, calls] = made_of;
     match word {
@@ -96,7 +95,7 @@ fn asked_by(word: &str, settings: Settings, made_of: [u32; 2]) -> Asked {
     }
 }
 
-// Whether a line asks for a run or a drill of these.
+// Whether a line asks for a run or a drill with these settings.
 fn is_run(alloc: Global, line: &str, settings: [u32; 4], made_of: [u32; 2]) -> bool {
     let [workers, batch, slice, periods] = settings;
     let settings = Settings {
@@ -109,7 +108,7 @@ fn is_run(alloc: Global, line: &str, settings: [u32; 4], made_of: [u32; 2]) -> b
     is_answered(alloc, line, Ok(asked_by(word, settings, made_of)))
 }
 
-// How many of them are asked for so, from the first on.
+// How many rows of `RUNS` hold before the first that doesn't.
 fn runs_asked(alloc: Global) -> usize {
     let mut asked = 0usize;
     for (line, settings, made_of) in &RUNS {
@@ -141,7 +140,7 @@ static LIVES: [(&str, [u32; 5]); 5] = [
     ("live --calls 2 --callers=3 --", [1, 2, 200, 3, 8]),
 ];
 
-// Whether a line asks for a live drill of these.
+// Whether a line asks for a live drill with these settings.
 fn is_live(alloc: Global, line: &str, made_of: [u32; 5]) -> bool {
     let [seed, calls, periods, callers, inbox] = made_of;
     let settings = LiveSettings {
@@ -178,7 +177,7 @@ static TOOLS: [(&str, Asked); 8] = [
     ("merge 1", Asked::Merge(1)),
 ];
 
-// How many calls of tools are asked for so, from the first on.
+// How many rows of `TOOLS` hold before the first that doesn't.
 fn tools_asked(alloc: Global) -> usize {
     let mut asked = 0usize;
     for (line, tool) in &TOOLS {
@@ -289,7 +288,7 @@ lives
 7
 ";
 
-// How many lines' words ask for nothing, from the first on.
+// How many lines ask for nothing before the first that asks for something.
 fn usages(alloc: Global) -> usize {
     let mut usages = 0usize;
     for line in OTHER_WORDS.split('\n') {

@@ -1,9 +1,9 @@
-//! Spellings of numbers, and texts that are none.
+//! Spellings of numbers, and texts that aren't numbers.
 
 use crate::rows::assert_rows;
 use decimal_number::{number_of_octets, number_of_text};
 
-// A text, the ends of a range, and the number of that range which the text spells.
+// A text, the ends of a range, and the number in that range that the text spells.
 type Spelling = (&'static str, u32, u32, Option<u32>);
 
 const LAST: u32 = 4_294_967_295;
@@ -26,13 +26,13 @@ static SPELLINGS: [Spelling; 15] = [
     ("5", 6, 4, None),
 ];
 
-// Whether a text and its octets spell this number of a range.
+// Whether a text and its octets spell this number in a range.
 fn spells(text: &str, low: u32, high: u32, number: Option<u32>) -> bool {
     number_of_text(text, low, high) == number
         && number_of_octets(text.as_bytes(), low, high) == number
 }
 
-// How many texts from the first on spell their numbers.
+// How many rows hold before the first that doesn't.
 fn spelled(spellings: &[Spelling]) -> usize {
     let mut spelled = 0usize;
     for (text, low, high, number) in spellings {

@@ -1,4 +1,4 @@
-//! Marks that are read, written and compared, and texts that are none.
+//! Marks that are read, written and compared, and texts that aren't marks.
 
 ghost use Rattle.std.specs.Prelude.{IfOk};
 ghost use Rattle.farm_checkpoint.specs.Marks.{IsMark};
@@ -56,10 +56,10 @@ const CALLS_AT_101: &[MarkCall] = &[
     },
 ];
 
-// One call of three periods of silence, whose octets are 213 on its speech line.
+// One call of three periods of silence: octets 213 on its speech line.
 const SILENCE: &str = "save 3\ncall 1 from 0 out 102240 down 28958\norders\n";
 
-// The greatest numbers of all.
+// The highest number everywhere.
 const GREATEST: &str =
     "save 4294967295\ncall 4096 from 4294967294 out 4294967295 down 4294967295\norders\n";
 
@@ -100,7 +100,7 @@ fn read(alloc: Global, text: &[u8]) -> Result<(Mark, u32), MarkFault>
     read_mark(alloc, text)
 }
 
-// Whether a text is read as this mark, and this mark written as the text.
+// Whether the text is read as this mark, and the mark is written as that text.
 fn is_written_again(alloc: Global, period: u32, calls: &[MarkCall], text: &str) -> bool {
     let Ok((mark, _)) = read(alloc, text.as_bytes()) else {
         return false;
@@ -111,7 +111,7 @@ fn is_written_again(alloc: Global, period: u32, calls: &[MarkCall], text: &str) 
     mark.period == period && mark.calls.as_slice() == calls && again.as_str() == text
 }
 
-// How many of them are, from the first on.
+// How many rows of `MARKS` hold before the first that doesn't.
 fn written_again(alloc: Global) -> usize {
     let mut written = 0usize;
     for (period, calls, text) in &MARKS {
@@ -128,7 +128,7 @@ fn marks_are_read_and_written(rt: HostRuntime) {
     assert_rows(&rt, written_again(rt.alloc()), 5);
 }
 
-// Texts, and what is answered to them: where the orders begin, or the first line that isn't in the grammar.
+// Texts, and the answers to them: where the orders begin, or the first line that isn't in the grammar.
 static TEXTS: [(&[u8], Result<u32, MarkFault>); 27] = [
     (b"save 3\norders\n", Ok(14)),
     (b"save 3\norders\n0 open 1\n", Ok(14)),
@@ -192,13 +192,13 @@ static TEXTS: [(&[u8], Result<u32, MarkFault>); 27] = [
     ),
 ];
 
-// What is answered to a text.
+// The answer to a text.
 fn answer(alloc: Global, text: &[u8]) -> Result<u32, MarkFault> {
     let (_, octets) = read(alloc, text)?;
     Ok(octets)
 }
 
-// How many of them are answered so, from the first on.
+// How many rows of `TEXTS` hold before the first that doesn't.
 fn answered(alloc: Global) -> usize {
     let mut answered = 0usize;
     for (text, wanted) in &TEXTS {
@@ -215,7 +215,7 @@ fn texts_are_read_or_refused(rt: HostRuntime) {
     assert_rows(&rt, answered(rt.alloc()), 27);
 }
 
-// Two marks' texts, and by which call they differ.
+// The texts of two marks, and the call in which they differ.
 static PAIRS: [(&str, &str, Option<u32>); 8] = [
     (AT_101, AT_101, None),
     ("save 7\norders\n", "save 9\norders\n", None),
@@ -239,14 +239,14 @@ static PAIRS: [(&str, &str, Option<u32>); 8] = [
     ),
 ];
 
-// By which call the marks of two texts differ.
+// The call in which the marks of two texts differ.
 fn difference(alloc: Global, text: &str, other: &str) -> Result<Option<u32>, MarkFault> {
     let (mark, _) = read(alloc, text.as_bytes())?;
     let (other, _) = read(alloc, other.as_bytes())?;
     Ok(mark.differs(&other.calls))
 }
 
-// How many of them differ so, from the first on.
+// How many rows hold before the first that doesn't.
 fn differing(alloc: Global) -> usize {
     let mut differing = 0usize;
     for (text, other, wanted) in &PAIRS {

@@ -1,9 +1,9 @@
-//! Sums of lines that other programs made, which were written from the same rules.
+//! Sums of drilled lines, as other programs made them from the same rules.
 use farm_drill::{Generator, drill, hostile, pcm};
 use std::alloc::{AllocError, Global};
 use trau_io::{Filled, Line, MemTrunk, Side, Trunk, read_block};
 
-// The FNV-1a sum of 32 bits of some octets.
+// The FNV-1a sum of some octets, 32 bits.
 fn sum(octets: &[u8]) -> u32 {
     let mut sum = 2_166_136_261u32;
     for octet in octets {
@@ -12,7 +12,7 @@ fn sum(octets: &[u8]) -> u32 {
     sum
 }
 
-// The lines and orders of a drill. What is proved of them isn't told.
+// The lines and orders of a drill, without what is proved of them.
 fn drilled(
     alloc: Global,
     seed: u32,
@@ -22,7 +22,7 @@ fn drilled(
     drill(alloc, seed, calls.min(256), periods.min(1000))
 }
 
-// The sum of what an incoming line gives, where that is so many octets and no more.
+// The sum of what an incoming line gives; None if that isn't exactly `count` octets.
 fn sum_of_line(
     alloc: Global,
     trunk: &mut MemTrunk,
@@ -105,7 +105,7 @@ fn is_hostile_as_another_program(rt: HostRuntime) {
     }
 }
 
-// The first draw of a call of the drill with seed 1, as a loud line has it.
+// The first draw for a call of the drill with seed 1, as an octet of a loud Pcm line.
 fn first_draw(call: u32) -> u8 {
     pcm(&mut Generator::new(1, call.min(4095)), 32)[0]
 }

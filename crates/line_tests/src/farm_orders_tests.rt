@@ -1,15 +1,15 @@
-//! Orders, and a mark before them, read from a desk: texts, also at the limits, and reads that fail.
+//! Orders, also after a mark, read from a desk: texts, some at the limits, and reads that fail.
 
 use crate::rows::assert_rows;
 use farm_orders::{MarkedFault, OrdersFault, read_marked_orders, read_orders};
 use std::alloc::{AllocError, Global};
 use trau_io::MemDesk;
 
-// A read that doesn't come.
+// The number of a read that never happens.
 const NONE: u32 = 9;
 
-// The front of a text and how many zeros or ends of lines stand behind it, and the read that fails: the first one gives all,
-// and the second one would tell the end.
+// The beginning of a text; an octet and how often it follows; and the read that fails: read 0 gives the whole text, and read 1
+// finds its end.
 type Text = (&'static [u8], u8, usize, u32);
 
 // The octets of a text.
@@ -26,7 +26,7 @@ fn desk(alloc: Global, text: &Text) -> Result<MemDesk, AllocError> {
     MemDesk::new(alloc, octets(alloc, text)?, fails, Vec::new(alloc), 0)
 }
 
-// Texts of orders, and what is answered to them: how many orders they have, or why they aren't taken.
+// Texts of orders, and the answers to them: how many orders they have, or why they aren't taken.
 static TEXTS: [(Text, Result<usize, OrdersFault>); 11] = [
     ((b"", b'0', 0, NONE), Ok(0)),
     ((b"0 open 1\n0 open 2\n7 bridge 1 2", b'0', 0, NONE), Ok(3)),
@@ -49,7 +49,7 @@ fn count(alloc: Global, desk: &mut MemDesk) -> Result<usize, OrdersFault> {
     Ok(read_orders(alloc, desk)?.list().len())
 }
 
-// Whether this is answered to a text of orders.
+// Whether a text of orders has this answer.
 fn is_answered(alloc: Global, text: &Text, answer: Result<usize, OrdersFault>) -> bool {
     match desk(alloc, text) {
         Ok(mut desk) => count(alloc, &mut desk) == answer,
@@ -57,7 +57,7 @@ fn is_answered(alloc: Global, text: &Text, answer: Result<usize, OrdersFault>) -
     }
 }
 
-// How many of them are answered so, from the first on.
+// How many rows hold before the first that doesn't.
 fn answered(alloc: Global) -> usize {
     let mut answered = 0usize;
     for (text, answer) in &TEXTS {
@@ -74,10 +74,10 @@ fn orders_of_a_desk(rt: HostRuntime) {
     assert_rows(&rt, answered(rt.alloc()), 11);
 }
 
-// What is seen of a mark and its orders: its period, its calls and the orders, by their numbers.
+// What is compared of a mark and its orders: its period, and the numbers of its calls and of the orders.
 type Marked = (u32, usize, usize);
 
-// Texts of a mark and orders, and what is answered to them.
+// Texts of a mark and orders, and the answers to them.
 static MARKED_TEXTS: [(Text, Result<Marked, MarkedFault>); 12] = [
     ((b"save 3\norders\n", b'0', 0, NONE), Ok((3, 0, 0))),
     (
@@ -143,7 +143,7 @@ fn marked(alloc: Global, desk: &mut MemDesk) -> Result<Marked, MarkedFault> {
     ))
 }
 
-// Whether this is answered to a text of a mark and orders.
+// Whether a text of a mark and orders has this answer.
 fn is_marked_so(alloc: Global, text: &Text, answer: Result<Marked, MarkedFault>) -> bool {
     match desk(alloc, text) {
         Ok(mut desk) => marked(alloc, &mut desk) == answer,
@@ -151,7 +151,7 @@ fn is_marked_so(alloc: Global, text: &Text, answer: Result<Marked, MarkedFault>)
     }
 }
 
-// How many of them are answered so, from the first on.
+// How many rows hold before the first that doesn't.
 fn marked_so(alloc: Global) -> usize {
     let mut answered = 0usize;
     for (text, answer) in &MARKED_TEXTS {

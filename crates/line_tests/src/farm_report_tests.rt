@@ -1,4 +1,4 @@
-//! Reports: each reply and each cause, and the greatest numbers.
+//! Reports: each reply, each cause, and the highest numbers.
 
 use farm_report::{CallLine, Report, SpanLine, write_report};
 use std::alloc::{AllocError, Global};
@@ -237,7 +237,7 @@ line 4096 out failed
 end period 4294967295 calls 1 left 4294967295
 ";
 
-// Whether this is the text of such a report.
+// Whether this is the text of a report with these parts.
 fn is_text(
     alloc: Global,
     replies: &[Reply],

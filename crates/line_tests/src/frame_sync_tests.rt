@@ -6,8 +6,8 @@ use crate::rows::assert_rows;
 use frame_sync::{FrameSync, Yield};
 use std::process::Abort;
 
-// An uplink frame of good speech, whose sync ones begin octets 2, 4, 6 and so on; the same without the second of them;
-// and a period in which nothing matches.
+// An uplink frame of good speech, whose octets 2, 4, 6 and so on begin with a sync bit 1; and the same frame without the second
+// of these bits, in which nothing matches.
 static GOOD: [u8; 40] = [
     0x00, 0x00, 0x88, 0x00, 0x82, 0x09, 0xBA, 0x1A, 0xE4, 0x28, 0x80, 0x12, 0xA4, 0x92, 0xA4, 0x92,
     0xA2, 0x80, 0x81, 0x24, 0xC9, 0x24, 0xC9, 0x24, 0xA8, 0x00, 0x92, 0x49, 0x92, 0x49, 0x92, 0x45,
@@ -20,7 +20,7 @@ static BROKEN: [u8; 40] = [
     0x80, 0x02, 0xA4, 0x92, 0xA4, 0x92, 0xA6, 0xFF,
 ];
 
-// The good frame from the sixth bit on, after the five lowest bits of the octet before.
+// The five lowest bits of the octet before, and then the good frame.
 fn late(before: u8) -> [u8; 40] {
     let mut octets = [0; 40];
     let mut last = before;
@@ -32,25 +32,33 @@ fn late(before: u8) -> [u8; 40] {
     octets
 }
 
-// Whether a yield is a frame, and its place.
-fn told(found: Option<Yield>) -> Option<(bool, u64)> {
-    match found {
-        None => None,
-        Some(Yield::Frame { place, .. }) => Some((true, place)),
-        Some(Yield::Miss { place }) => Some((false, place)),
+// A yield by its place alone.
+#[derive(Clone, Copy, Debug, PartialEq)]
+enum Found {
+    Frame(u64),
+    Miss(u64),
+}
+
+fn by_place(told: Yield) -> Found {
+    match told {
+        Yield::Frame { place, .. } => Found::Frame(place),
+        Yield::Miss { place } => Found::Miss(place),
     }
 }
 
-// What is told of these octets.
-fn fed(sync: &mut FrameSync, octets: &[u8; 40]) -> Option<(bool, u64)>
+// What is found in these octets.
+fn fed(sync: &mut FrameSync, octets: &[u8; 40]) -> Option<Found>
     requires { sync.old.periods < 100 }
     ensures { sync.new.periods ≡ sync.old.periods + 1 }
 {
-    told(sync.feed(octets))
+    match sync.feed(octets) {
+        None => None,
+        Some(told) => Some(by_place(told)),
+    }
 }
 
-// Asserts what is told of three periods, from the first on.
-fn assert_fed(rt: &impl Abort, periods: &[[u8; 40]; 3], wanted: [Option<(bool, u64)>; 3]) {
+// Asserts what is found in the first three periods.
+fn assert_fed(rt: &impl Abort, periods: &[[u8; 40]; 3], wanted: [Option<Found>; 3]) {
     let mut sync = FrameSync::new();
     let first = fed(&mut sync, &periods[0]);
     let second = fed(&mut sync, &periods[1]);
@@ -58,47 +66,55 @@ fn assert_fed(rt: &impl Abort, periods: &[[u8; 40]; 3], wanted: [Option<(bool, u
     assert_eq!(rt; [first, second, third], wanted);
 }
 
-// Five bits 0, then frames without a gap: the first ends in period 1.
+// Five bits 0, then frames without gaps: the first ends in period 1.
 #[test]
 fn frames_at_five(rt: HostRuntime) {
     let periods = [late(0), late(0xFF), late(0xFF)];
-    assert_fed(&rt, &periods, [None, Some((true, 5)), Some((true, 325))]);
+    assert_fed(
+        &rt,
+        &periods,
+        [None, Some(Found::Frame(5)), Some(Found::Frame(325))],
+    );
 }
 
-// Whether a yield is a frame, and its place, period by period. Two misses keep the lock, and a frame between lets two more
-// pass. The third miss gives it up, and what is hunted from the end of the missed frame on is found at once.
-type Turn = [(bool, u64); 8];
-
-static TURNS: [Turn; 2] = [
+// What is found period by period. Two misses in a row keep the lock, and the next frame allows two more. The third miss in a
+// row loses it; the hunt from the end of the missed frame on finds the next frame at once.
+static TURNS: [[Found; 8]; 2] = [
     [
-        (true, 0),
-        (false, 320),
-        (false, 640),
-        (true, 960),
-        (false, 1280),
-        (false, 1600),
-        (false, 1920),
-        (true, 2240),
+        Found::Frame(0),
+        Found::Miss(320),
+        Found::Miss(640),
+        Found::Frame(960),
+        Found::Miss(1280),
+        Found::Miss(1600),
+        Found::Miss(1920),
+        Found::Frame(2240),
     ],
     [
-        (true, 0),
-        (false, 320),
-        (false, 640),
-        (false, 960),
-        (true, 1280),
-        (false, 1600),
-        (false, 1920),
-        (true, 2240),
+        Found::Frame(0),
+        Found::Miss(320),
+        Found::Miss(640),
+        Found::Miss(960),
+        Found::Frame(1280),
+        Found::Miss(1600),
+        Found::Miss(1920),
+        Found::Frame(2240),
     ],
 ];
 
-// How many periods are told in turn as frames and misses, from the first on, where the sync bits of the missed ones are
-// broken.
-fn told_in_turn(turn: &Turn) -> usize {
+// The octets in which this is found: a missed frame has a broken sync bit.
+fn octets_of(wanted: Found) -> &'static [u8; 40] {
+    match wanted {
+        Found::Frame(_) => &GOOD,
+        Found::Miss(_) => &BROKEN,
+    }
+}
+
+// In how many periods this is found, before the first in which it isn't.
+fn found_in_turn(turn: &[Found; 8]) -> usize {
     let mut sync = FrameSync::new();
     for k in 0..8 {
-        let octets = if turn[k].0 { &GOOD } else { &BROKEN };
-        if fed(&mut sync, octets) != Some(turn[k]) {
+        if fed(&mut sync, octets_of(turn[k])) != Some(turn[k]) {
             return k;
         }
     }
@@ -108,12 +124,12 @@ fn told_in_turn(turn: &Turn) -> usize {
 #[test]
 fn misses_in_a_row(rt: HostRuntime) {
     for turn in &TURNS {
-        assert_rows(&rt, told_in_turn(turn), 8);
+        assert_rows(&rt, found_in_turn(turn), 8);
     }
 }
 
 // Nothing matches while it hunts.
 #[test]
-fn nothing_is_told_while_it_hunts(rt: HostRuntime) {
+fn nothing_is_found_while_it_hunts(rt: HostRuntime) {
     assert_fed(&rt, &[[0xFF; 40], [0; 40], BROKEN], [None; 3]);
 }

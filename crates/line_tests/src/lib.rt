@@ -1,8 +1,7 @@
-//! Tests of the crates that read and write, and of those that keep an account: numbers, bits, frames, lines, files,
-//! orders, marks, drills and words; the board, the pool machine and the report.
+//! Tests of the crates that read and write (numbers, bits, frames, lines, files, orders, marks, drills and words), and of the
+//! board, the pool machine and the report.
 //!
-//! They stand apart from what they test: a crate with tests is proved a second time with them; these go through public
-//! functions only.
+//! They are a crate of their own, since a crate with tests is proved a second time with them. They call public functions only.
 #![tactic(auto)]
 
 #[cfg(test)]

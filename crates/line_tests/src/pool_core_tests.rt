@@ -1,4 +1,4 @@
-//! The pool machine of two workers, one of which steals a job.
+//! The pool machine with two workers, one of which steals a job.
 
 ghost use Rattle.std.specs.Prelude.{◌≡◌, ◌<◌, length};
 
@@ -7,7 +7,7 @@ use pool_core::{NotLegal, Pool, PoolStep};
 use std::alloc::AllocError;
 use std::process::Abort;
 
-// What is done until the first job has two of its periods ..
+// The steps until the first job has two of its periods, and whether each is legal ..
 static FIRST_STEPS: [(PoolStep, bool); 2] = [
     (PoolStep::Pop { worker: 0 }, true),
     (
@@ -19,7 +19,7 @@ static FIRST_STEPS: [(PoolStep, bool); 2] = [
     ),
 ];
 
-// .. and then, and whether it is legal.
+// .. and the steps after that.
 static STEPS: [(PoolStep, bool); 8] = [
     (PoolStep::Push { worker: 0 }, true),
     (PoolStep::Pop { worker: 1 }, true),
@@ -49,7 +49,7 @@ static STEPS: [(PoolStep, bool); 8] = [
     (PoolStep::Finish { worker: 1 }, true),
 ];
 
-// Whether a step comes before all jobs are done, and is legal.
+// Whether a step comes before all jobs are done, and is legal or not as expected.
 fn is_step(pool: &mut Pool, step: PoolStep, legal: bool) -> bool
     ensures { pool.new.lens ≡ pool.old.lens }
 {
@@ -62,7 +62,7 @@ fn is_step(pool: &mut Pool, step: PoolStep, legal: bool) -> bool
     pool.step(step) == answer && early
 }
 
-// How many steps from the first on are so.
+// How many steps hold before the first that doesn't.
 fn stepped(pool: &mut Pool, steps: &[(PoolStep, bool)]) -> usize
     ensures { pool.new.lens ≡ pool.old.lens }
 {
@@ -76,7 +76,7 @@ fn stepped(pool: &mut Pool, steps: &[(PoolStep, bool)]) -> usize
     stepped
 }
 
-// Asserts that all steps are so, the place of the first job between them, and that all jobs are done.
+// Asserts that all steps hold, the place of the first job between them, and that all jobs are done in the end.
 fn assert_stolen(rt: &impl Abort, pool: &mut Pool)
     requires { 0 < length pool.old.lens }
 {

@@ -1,4 +1,4 @@
-//! Orders to the board, which are accepted or refused, and ends of calls.
+//! Orders to the board that are accepted or refused, and ends of calls.
 
 ghost use Rattle.std.specs.Prelude.{◌≡◌, ◌<◌, ◌≤◌, ℕ, IfOk, IsTrue};
 ghost use Rattle.switchboard.specs.State.{EndBefore, last_stamp};
@@ -33,7 +33,7 @@ fn result_of(reply: Option<Reply>) -> Option<Result<Act, Refusal>> {
     Some(reply?.result)
 }
 
-// How many orders are answered so, from the first on.
+// How many orders have these replies, before the first that doesn't.
 fn replied(board: &mut Board, results: &[Result<Act, Refusal>]) -> usize
     requires { (t : ℕ) → EndBefore t board.old }
 {
@@ -47,7 +47,7 @@ fn replied(board: &mut Board, results: &[Result<Act, Refusal>]) -> usize
     replied
 }
 
-// Asserts that all these orders are answered so, and that no other is left.
+// Asserts that all these orders have these replies, and that no order is left.
 fn assert_replied(
     rt: &impl Abort,
     alloc: Global,
@@ -98,7 +98,7 @@ static TWO_RESULTS: [Result<Act, Refusal>; 13] = [
     Err(Refusal::NotOpen { call: 9 }),
 ];
 
-// Two periods, with each refusal once.
+// Orders of two periods, with each refusal once.
 #[test]
 fn orders_are_accepted_or_refused(rt: HostRuntime) -> Result<(), Fail> {
     assert_replied(&rt, rt.alloc(), TWO_PERIODS, &TWO_RESULTS)
@@ -179,7 +179,7 @@ static THREE_RESULTS: [Result<Act, Refusal>; 27] = [
     }),
 ];
 
-// Of several refusals that hold the first comes.
+// If several refusals apply, the first of them is the reply.
 #[test]
 fn tests_of_an_order_go_in_their_order(rt: HostRuntime) -> Result<(), Fail> {
     assert_replied(&rt, rt.alloc(), THREE_PERIODS, &THREE_RESULTS)
@@ -194,7 +194,7 @@ fn turns_at_0(board: &mut Board) -> bool
     board.turn(0).is_some()
 }
 
-// The same of the three orders of period 0.
+// Whether the three orders of period 0 are executed.
 fn begins(board: &mut Board) -> bool
     requires { (t : ℕ) → EndBefore t board.old }
     ensures told { (t : ℕ) → EndBefore t board.new }
@@ -203,7 +203,7 @@ fn begins(board: &mut Board) -> bool
     turns_at_0(board) && turns_at_0(board) && turns_at_0(board)
 }
 
-// The lines of a call end: whether it was open, and then the calls 7 and 9 were bridged from period 0 to this one.
+// The lines of a call end. Whether it was open, and the calls 7 and 9 were then bridged from period 0 to this one.
 fn ends_span(board: &mut Board, call: u32, at: u32) -> bool
     requires { last_stamp board.old.done ≤ at }
     ensures told { (t : ℕ) → at < t → EndBefore t board.old → EndBefore t board.new }
@@ -223,7 +223,7 @@ fn ends_span(board: &mut Board, call: u32, at: u32) -> bool
     board.spans() == [span].as_slice()
 }
 
-// Whether the two calls end so, the second one in a period before.
+// Whether the two calls end so, the second one in an earlier period.
 fn ends_lower(board: &mut Board) -> bool
     requires told { (t : ℕ) → EndBefore t board.old }
     requires last { last_stamp board.old.done ≡ 0 }
@@ -244,7 +244,7 @@ fn reply_at_40(board: &mut Board) -> Option<Reply>
     }
 }
 
-// The same once both calls have ended so.
+// The same after both calls have ended so.
 fn reply_after_both(board: &mut Board) -> Option<Reply>
     requires { (t : ℕ) → EndBefore t board.old }
 {
@@ -260,7 +260,7 @@ static REFUSED: Reply = Reply {
     result: Err(Refusal::NotOpen { call: 9 }),
 };
 
-// The ends of a round are told by call numbers, so the end that is told later may lie before.
+// The ends of a round are reported in call-number order, so an end that is reported later may be earlier.
 #[test]
 fn ends_lower_a_span(rt: HostRuntime) -> Result<(), Fail> {
     let orders = b"0 open 7\n0 open 9\n0 bridge 7 9\n40 unbridge 9\n";

@@ -1,8 +1,8 @@
-//! Bits of octets, by values that were worked by hand.
+//! Bits of octets, by values that were computed by hand.
 
 use trau_bits::{get_bit, pack, put_bit, unpack};
 
-// Worked by hand: 0x88 is 1000 1000 and 0x06 is 0000 0110, the most significant bit first.
+// 0x88 is 1000 1000 and 0x06 is 0000 0110, the most significant bit first.
 static BITS: [u8; 16] = [1, 0, 0, 0, 1, 0, 0, 0, 0, 0, 0, 0, 0, 1, 1, 0];
 
 #[test]

@@ -14,21 +14,21 @@ fn line(side: Side) -> Line {
     }
 }
 
-// What is done to files and lines, and what comes of it.
+// An operation on files and lines, and its result.
 #[derive(Drop)]
 enum Step {
-    // A file of these octets is made.
+    // Makes a file with these octets.
     Make(&'static str, &'static [u8]),
     Remove(&'static str),
     // A file holds these octets.
     Holds(&'static str, &'static [u8]),
-    // A read of at most so many octets, one to four, gives so many or fails, and leaves these of four octets 0.
+    // A read of at most this many octets, one to four: how many octets it gives (None if it fails), and the buffer afterwards.
     Reads(Side, usize, Option<usize>, [u8; 4]),
-    // A line takes so many of these octets, or fails.
+    // A write of these octets: how many the line takes (None if it fails).
     Writes(Side, &'static [u8], Option<usize>),
 }
 
-// Whether a read of at most so many octets gives this, and leaves these.
+// Whether a read of at most `most` octets, one to four, has this result and leaves these octets in the buffer.
 fn reads(
     trunk: &mut FileTrunk<'_, HostRuntime>,
     line: Line,
@@ -41,7 +41,7 @@ fn reads(
     trunk.read(line, &mut read[..most]).ok() == given && read == *octets
 }
 
-// Whether a line takes so many of these octets.
+// Whether a write of these octets has this result.
 fn writes(
     trunk: &mut FileTrunk<'_, HostRuntime>,
     line: Line,
@@ -59,7 +59,7 @@ fn holds(rt: &HostRuntime, name: &str, octets: &[u8]) -> bool {
     }
 }
 
-// Whether a step is done, and comes to what it tells.
+// Whether a step can be done, and has its result.
 fn is_done(rt: &HostRuntime, trunk: &mut FileTrunk<'_, HostRuntime>, step: &Step) -> bool {
     match step {
         Step::Make(name, octets) => fs::write(rt, *name, *octets).is_ok(),
@@ -70,7 +70,7 @@ fn is_done(rt: &HostRuntime, trunk: &mut FileTrunk<'_, HostRuntime>, step: &Step
     }
 }
 
-// How many steps from the first on are done with a trunk.
+// How many steps hold with a trunk, before the first that doesn't.
 fn done_with(rt: &HostRuntime, trunk: &mut FileTrunk<'_, HostRuntime>, steps: &[Step]) -> usize {
     let mut done = 0usize;
     for step in steps {
@@ -103,7 +103,7 @@ static FILES: [Step; 10] = [
     Step::Reads(Side::Pcm, 1, None, [0; 4]),
 ];
 
-// Each line goes on at its own octet: also where another was read or written in between.
+// Each line goes on at its own octet, also if another was read or written in between.
 static READS_IN_TURN: [Step; 7] = [
     Step::Make("4096.up", &[1, 2, 3]),
     Step::Make("9.out", &[4, 5, 6]),
@@ -122,7 +122,7 @@ static WRITES_IN_TURN: [Step; 5] = [
     Step::Reads(Side::Up, 1, Some(1), [8, 0, 0, 0]),
 ];
 
-// A file that is open outlives its name; a file that isn't is looked for by its name.
+// An open file outlives its name; a file that isn't open is looked for by its name.
 static REMOVED_FILES: [Step; 11] = [
     Step::Make("4096.up", &[1, 2, 3]),
     Step::Reads(Side::Up, 1, Some(1), [1, 0, 0, 0]),
@@ -137,7 +137,7 @@ static REMOVED_FILES: [Step; 11] = [
     Step::Writes(Side::Out, &[8], None),
 ];
 
-// Each with a new trunk.
+// Each table has a new trunk.
 #[test]
 fn lines_are_files(rt: HostRuntime) {
     assert_rows(&rt, done(&rt, &FILES), 10);
@@ -146,7 +146,7 @@ fn lines_are_files(rt: HostRuntime) {
     assert_rows(&rt, done(&rt, &REMOVED_FILES), 11);
 }
 
-// Whether 300 calls' Out lines take this octet each, in turn.
+// Whether the Out lines of 300 calls each take this octet, one after the other.
 fn are_written(trunk: &mut FileTrunk<'_, HostRuntime>, octet: u8) -> bool {
     let side = Side::Out;
     for call in 1..=300u32 {
@@ -157,7 +157,7 @@ fn are_written(trunk: &mut FileTrunk<'_, HostRuntime>, octet: u8) -> bool {
     true
 }
 
-// How many of the 300 files hold these octets, from the first on.
+// How many of the 300 files hold these octets, before the first that doesn't.
 fn held(rt: &HostRuntime, octets: &[u8]) -> usize {
     let mut count = 0usize;
     for call in 1..=300u32 {
@@ -169,7 +169,7 @@ fn held(rt: &HostRuntime, octets: &[u8]) -> usize {
     count
 }
 
-// There are more lines than files that stay open.
+// More lines than files that stay open.
 #[test]
 fn many_lines_are_written_in_turn(rt: HostRuntime) {
     let mut trunk = FileTrunk::new(rt.alloc(), &rt).expect(&rt, "memory");
@@ -179,7 +179,7 @@ fn many_lines_are_written_in_turn(rt: HostRuntime) {
     assert_rows(&rt, held(&rt, &[1, 2, 3]), 300);
 }
 
-// Is interrupted before each call that moves anything.
+// A stream that is interrupted before each operation that moves octets.
 #[derive(Drop)]
 struct Interrupted<T> {
     inner: T,
@@ -222,7 +222,7 @@ impl<T: Write> Write for Interrupted<T> {
     }
 }
 
-// Whether a read of at most two octets gives so many.
+// Whether a read of at most two octets gives `count`.
 fn hears(
     desk: &mut StdDesk<Interrupted<&[u8]>, Interrupted<&mut Vec<u8>>>,
     octets: &mut [u8; 2],
@@ -231,7 +231,7 @@ fn hears(
     desk.read(octets).ok() == Some(count)
 }
 
-// Whether three octets are read, the last one over the first.
+// Whether three octets are read, the last one to the place of the first.
 fn is_heard(desk: &mut StdDesk<Interrupted<&[u8]>, Interrupted<&mut Vec<u8>>>) -> bool {
     let mut octets = [0; 2];
     let all = hears(desk, &mut octets, 2) && hears(desk, &mut octets, 1);

@@ -1,10 +1,10 @@
-//! Frames that were worked by hand from the tables: what is read in them, and what is written.
+//! Frames made by hand from the tables: what is read from them, and what is written.
 
 use crate::rows::assert_rows;
 use trau_bits::{pack, unpack};
 use trau_frame::{Class, DownFrame, Kind, UpFrame, read_up, sync_matches, write_down, write_up};
 
-// Frames worked by hand from the tables of GSM 08.60 and of this project's profile: an uplink frame of good
+// Frames made by hand from the tables of GSM 08.60 and of this project's profile: an uplink frame of good
 // speech whose parameters are those of silence (the codes 32, 32, 20, 11, 8, 5, 3, 2 and in each block the lag 40
 // and thirteen pulses 4), the downlink frame with the same data bits, and the idle downlink frame.
 static UP: [u8; 40] = [
@@ -110,7 +110,7 @@ static CLASSES: [(u8, Class); 8] = [
     (0x0E, Class::InvalidSid),
 ];
 
-// How many of them are read so, from the first on.
+// How many rows hold before the first that doesn't.
 fn classes_read() -> usize {
     let mut read = 0usize;
     for (octet, class) in &CLASSES {

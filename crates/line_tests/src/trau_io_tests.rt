@@ -1,4 +1,4 @@
-//! The trunk and the desk in memory: what they give and take, in which cuts, and where they fail.
+//! The trunk and the desk in memory: what they give and take, with which chunk sizes, and where they fail.
 
 use std::alloc::{AllocError, Global};
 use trau_io::{
@@ -41,8 +41,8 @@ fn set(
     trunk.set(alloc, line, octets, cuts, fails, room)
 }
 
-// Up has nine octets, in cuts of 0 (which counts as 1), 2 and 100, and the fourth operation fails. Pcm has ten, and Down room
-// for seven, both in cuts.
+// Up has nine octets, in chunks of 0 (which counts as 1), 2 and 100, and its fourth operation fails. Pcm has ten octets, and
+// Down room for seven, both with chunk sizes.
 fn three_lines(alloc: Global) -> Result<MemTrunk, AllocError> {
     let mut trunk = MemTrunk::new(alloc)?;
     let octets = [1, 2, 3, 4, 5, 6, 7, 8, 9];
@@ -52,10 +52,10 @@ fn three_lines(alloc: Global) -> Result<MemTrunk, AllocError> {
     Ok(trunk)
 }
 
-// What is answered to reads of at most four octets.
+// The answers to reads of at most four octets.
 static ANSWERS: [Result<usize, Failed>; 6] = [Ok(1), Ok(2), Ok(4), Err(Failed), Ok(2), Ok(0)];
 
-// How many reads from the first on are answered so.
+// How many reads have these answers, before the first that doesn't.
 fn reads_answered(trunk: &mut MemTrunk, octets: &mut [u8; 4]) -> usize {
     let mut answered = 0usize;
     for answer in &ANSWERS {
@@ -67,7 +67,7 @@ fn reads_answered(trunk: &mut MemTrunk, octets: &mut [u8; 4]) -> usize {
     answered
 }
 
-// Whether all are answered so, and leave what they read last; one has failed.
+// Whether all have these answers, and leave what was read last; one has failed.
 fn is_read_in_cuts(trunk: &mut MemTrunk) -> bool {
     let mut octets = [0; 4];
     let all = reads_answered(trunk, &mut octets) == 6;
@@ -79,7 +79,7 @@ fn is_closed(trunk: &mut MemTrunk) -> bool {
     trunk.read(OUT, &mut [0; 4]) == Ok(0) && trunk.write(OUT, &[8, 9, 6, 7]) == Err(Failed)
 }
 
-// Past the cuts there are none. All other lines are empty and without room.
+// After the last chunk size, chunks have no limit. All other lines are empty and without room.
 #[test]
 fn a_line_is_read_in_its_cuts(rt: HostRuntime) {
     let mut trunk = three_lines(rt.alloc()).expect(&rt, "memory");
@@ -87,7 +87,7 @@ fn a_line_is_read_in_its_cuts(rt: HostRuntime) {
     assert!(rt; is_closed(&mut trunk));
 }
 
-// Whether a block of six octets is filled so from Pcm.
+// Whether filling a block of six octets from Pcm has this result.
 fn fills(trunk: &mut MemTrunk, block: &mut [u8; 6], filled: Filled) -> bool {
     read_block(trunk, PCM, block) == filled
 }
@@ -97,14 +97,14 @@ fn takes(trunk: &mut MemTrunk, block: &[u8; 6]) -> bool {
     write_all(trunk, DOWN, block).is_ok()
 }
 
-// Whether a block goes through whole, of the next one four octets come, and Down hasn't room for it.
+// Whether one whole block is read and written, four octets of the next one are read, and Down has no room for that block.
 fn transfers(trunk: &mut MemTrunk) -> bool {
     let mut block = [0; 6];
     let whole = fills(trunk, &mut block, Filled::Whole) && takes(trunk, &block);
     whole && fills(trunk, &mut block, Filled::Ended(4)) && !takes(trunk, &block)
 }
 
-// Whether it does, and Down then has its seven octets and one call that failed.
+// Whether these transfers have these results, and Down then has its seven octets and one fault.
 fn fills_down(trunk: &mut MemTrunk) -> bool {
     transfers(trunk) && trunk.written(DOWN) == [7; 7].as_slice() && trunk.faults(DOWN) == 1
 }
@@ -121,28 +121,28 @@ fn desk(alloc: Global) -> Result<MemDesk, AllocError> {
     MemDesk::new(alloc, orders, [0].to_vec(alloc)?, [1].to_vec(alloc)?, 9)
 }
 
-// Whether a read of at most six octets is answered so.
+// Whether a read of at most six octets has this answer.
 fn hears(desk: &mut MemDesk, answer: Result<usize, Failed>) -> bool {
     desk.read(&mut [0; 6]) == answer
 }
 
-// Whether so many reads and writes have failed.
+// Whether these numbers of reads and writes have failed.
 fn has_failed(desk: &MemDesk, reads: u64, writes: u64) -> bool {
     desk.read_faults() == reads && desk.write_faults() == writes
 }
 
-// Whether the first read fails, that alone, and the next ones give all eight octets.
+// Whether only the first read fails, and the next ones give all eight octets.
 fn is_heard(desk: &mut MemDesk) -> bool {
     let first = hears(desk, Err(Failed)) && hears(desk, Ok(6));
     first && hears(desk, Ok(2)) && hears(desk, Ok(0)) && has_failed(desk, 1, 0)
 }
 
-// Whether the desk takes all of the usage.
+// Whether the desk takes the whole text `usage`.
 fn is_told(desk: &mut MemDesk) -> bool {
     tell(desk, b"usage\n").is_ok()
 }
 
-// Whether it takes the first usage, not the second one, and three octets of the third: two writes fail.
+// Whether it takes the first such text, nothing of the second, and three octets of the third: two writes fail.
 fn is_told_once(desk: &mut MemDesk) -> bool {
     let once = is_told(desk) && !is_told(desk) && !is_told(desk);
     once && desk.text() == b"usage\nusa".as_slice() && has_failed(desk, 1, 2)

@@ -1,4 +1,4 @@
-//! Lines of orders, which are counted or refused, and texts at the limits.
+//! Texts of orders that are counted or refused, some at the limits.
 
 use crate::rows::assert_rows;
 use std::alloc::{AllocError, Global};
@@ -10,7 +10,7 @@ fn count(alloc: Global, text: &[u8]) -> Result<usize, OrderFault> {
     Ok(Orders::parse(alloc, text)?.list().len())
 }
 
-// Texts, and what is answered to them: how many orders they have, or the first line that isn't in the grammar.
+// Texts, and the answers to them: how many orders they have, or the first line that isn't in the grammar.
 static TEXTS: [(&[u8], Result<usize, OrderFault>); 27] = [
     (b"", Ok(0)),
     (b"4000000000 open 1", Ok(1)),
@@ -41,7 +41,7 @@ static TEXTS: [(&[u8], Result<usize, OrderFault>); 27] = [
     (b"0 open 1\n0 bridge 1\n", Err(OrderFault::Line(2))),
 ];
 
-// How many of them are answered so, from the first on.
+// How many rows hold before the first that doesn't.
 fn answered(alloc: Global) -> usize {
     let mut answered = 0usize;
     for (text, answer) in &TEXTS {
@@ -58,7 +58,7 @@ fn orders_are_counted_or_refused(rt: HostRuntime) {
     assert_rows(&rt, answered(rt.alloc()), 27);
 }
 
-// Whether this is answered to a text of so many of one octet.
+// Whether a text that repeats one octet has this answer.
 fn is_limit(
     alloc: Global,
     octet: u8,
@@ -69,7 +69,7 @@ fn is_limit(
     Ok(count(alloc, &text) == Err(fault))
 }
 
-// An octet, the length of a text of it, and what is answered.
+// An octet, the length of the text that repeats it, and the answer.
 static LIMITS: [(u8, usize, OrderFault); 4] = [
     (b'0', 1_048_576, OrderFault::Line(1)),
     (b'0', 1_048_577, OrderFault::TooLong),

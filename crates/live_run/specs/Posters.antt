@@ -1,4 +1,4 @@
--- The callers of a live drill before, behind and after their threads.
+-- The callers of a live drill before and after their threads.
 use Rattle.std.specs.Prelude.{◌≡◌, ℕ, ◌<◌, false, IsTrue, Option, List, length, slice_index_or}
 use Rattle.crossbeam_queue.specs.declared.array_queue.Doing.{Doing}
 use Rattle.crossbeam_queue.specs.declared.array_queue.Slotted.{Slotted}
@@ -25,7 +25,7 @@ module _ {Q A : Type 0} where
     pub seated : IsSeated inbox slots p.caller
     pub posted : IsTrue p.done → HasPosted d.seed d.calls d.callers d.periods i p.caller
 
-  -- what a thread makes of a poster: a ready one has ended
+  -- a poster that was ready before its thread has ended after it
   pub record Ends (d : LiveDrill) (inbox : ℕ) (slots : List (Slotted (Option Token) (Doing Token View) Q A)) (old new : Poster) : Type 0 where
     pub each : (i : ℕ) → IsReady d inbox slots i old → HasEnded d inbox slots i new
 

@@ -22,48 +22,47 @@ drawn_post seed caller call n = record { caller = caller; number = n; up = up_oc
 unfoldable pub drawn_posts : ℕ → ℕ → ℕ → ℕ → List Post
 drawn_posts seed caller call n = map (drawn_post seed caller call) (range_with_len 0 n)
 
--- how many of the first n periods of a call a caller posts: all, where the call is one of its own, or none
+-- how many of the first n periods of a call a caller posts: all, if the call is one of its own, else none
 abbrev pub own_of : ℕ → ℕ → ℕ → ℕ → ℕ
 own_of callers caller k n = if k % callers == caller then n else 0
 
--- what a caller knows of a call behind n periods of it: those are the posts that it made
+-- what a caller knows of a call after n of its periods: the posts that it made, and whose view it is
 pub record Knows (seed callers caller k n : ℕ) (v : View) : Type 0 where
   pub made : v.made ≡ drawn_posts seed caller (k + 1) (own_of callers caller k n)
   pub numbers : v.callers ≡ numbers_of callers caller
 
--- the generator of a call's draws stands behind the periods of it that a caller has posted, of the first n
+-- of the first n periods of a call, the generator has made the draws of those that the caller posts
 abbrev pub IsDrawn : ℕ → ℕ → ℕ → ℕ → ℕ → Generator → Type 0
 IsDrawn seed callers caller k n g = g.x ≡ draw_state seed (k + 1) (first_draw (own_of callers caller k n))
 
--- what was posted stays
+-- no post was made
 pub record KeepsPosts (v w : View) : Type 0 where
   pub made : w.made ≡ v.made
   pub callers : w.callers ≡ v.callers
 
--- one post more was made
+-- one more post was made
 pub record GainsPost (x : Post) (v w : View) : Type 0 where
   pub made : w.made ≡ v.made ++ x ∷ []
   pub callers : w.callers ≡ v.callers
 
--- the post with this number stands in the history that was seen last
+-- the history that was seen last has the post with this number
 abbrev pub Saw : ℕ → ℕ → View → Type 0
 Saw of number v = (b : BookState) × (e : Entry) × (v.seen ≡ b ∷ []) × (find (is_of_post of number) b.history ≡ Some e)
 
--- P holds of what a caller knew of the call with this index and of what it knows now; of each other call it knows what it
--- knew
+-- P holds of what a caller knew of the call with this index and of what it knows now; of each other call it knows the same as before
 pub record MovesSeat (P : View → View → Type 0) (k : ℕ) (old new : Caller) : Type 0 where
   pub number : new.number ≡ old.number
   pub this : (s : Seat) → P (view_of (slice_index_or old.seats.items k s)) (view_of (slice_index_or new.seats.items k s))
   pub others : (j : ℕ) (s : Seat) → j ≢ k → slice_index_or new.seats.items j s ≡ slice_index_or old.seats.items j s
 
--- a caller and its generators, behind so many periods of each of the calls, as `behind` says by the call's index
+-- a caller and its generators, after `behind k` periods of each call with index k
 pub record IsBehind (seed calls callers caller : ℕ) (behind : ℕ → ℕ) (c : Caller) (gs : List Generator) : Type 0 where
   pub number : c.number ≡ caller
   pub one_each : length gs ≡ calls
   pub knows : (k : ℕ) (s : Seat) → k < calls → Knows seed callers caller k (behind k) (view_of (slice_index_or c.seats.items k s))
   pub draws : (k : ℕ) (g : Generator) → k < calls → IsDrawn seed callers caller k (behind k) (slice_index_or gs k g)
 
--- n periods of each call, and one more of the first ones, so many
+-- n periods of each call, and one more of the first `first` ones
 abbrev pub and_more : ℕ → ℕ → ℕ → ℕ
 and_more n first k = if nat_lt k first then n + 1 else n
 

@@ -1,4 +1,4 @@
--- What a live drill is made of (this project's profile).
+-- The numbers of a live drill (this project's profile).
 use Rattle.std.specs.Prelude.{◌≤◌}
 use Rattle.live_run.specs.declared.size.LiveDrill.{LiveDrill}
 

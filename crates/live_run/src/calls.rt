@@ -1,4 +1,4 @@
-//! What a caller does with one call: it posts a period, works the call, and looks for a post.
+//! What a caller does with one call: it posts a period, processes posts, and looks for a post.
 
 ghost use Rattle.std.specs.Prelude.{◌≡◌, ◌+◌, ◌-◌, ◌<◌, ℕ, length, slice_index_or, OnOk, IsErr, ◌↔◌};
 ghost use Rattle.farm_live.specs.declared.live.PostFault.{PostFault as OneFault};
@@ -12,7 +12,7 @@ use std::alloc::AllocError;
 use std::sync::Wait;
 use std::thread;
 
-// Yields the thread where the call was busy.
+// Yields the thread if the call was busy.
 fn let_others(turn: Result<Turn, AllocError>) -> Result<(), AllocError>
     ensures { IsErr result ↔ IsErr turn }
 {
@@ -22,7 +22,7 @@ fn let_others(turn: Result<Turn, AllocError>) -> Result<(), AllocError>
     Ok(())
 }
 
-// Works the call with this index once.
+// Processes the next post of the call with this index.
 fn work<R: Wait, G>(shared: &Shared<R, G>, caller: &mut Caller, k: u32) -> Result<(), AllocError>
     requires call { k < length shared.now.live.now.slots.items }
     requires few { k < 256 }
@@ -34,7 +34,7 @@ fn work<R: Wait, G>(shared: &Shared<R, G>, caller: &mut Caller, k: u32) -> Resul
     let_others(turn)
 }
 
-// Makes way for a post that wasn't accepted: works the call, or yields the thread where it was busy.
+// Makes way for a post that wasn't accepted: processes a post of the call, or yields the thread if the call was busy.
 fn make_way<R: Wait, G>(
     shared: &Shared<R, G>,
     caller: &mut Caller,
@@ -56,8 +56,8 @@ fn make_way<R: Wait, G>(
     }
 }
 
-/// Posts a period to the call with this index, between the calls of the gate. Where its inbox is full the caller works the
-/// call and tries again. An error says that there was no memory for that.
+/// Posts a period to the call with this index, between the two calls of the gate. While the inbox is full, the
+/// caller processes a post of the call and tries again. An error means out of memory.
 pub(crate) fn post_period<R: Wait, G: Gate>(
     shared: &Shared<R, G>,
     caller: &mut Caller,
@@ -85,8 +85,8 @@ pub(crate) fn post_period<R: Wait, G: Gate>(
     unreachable!()
 }
 
-/// Works the call with this index until a caller's post with this number stands in its history. An error says that there
-/// was no memory for that.
+/// Processes posts of the call with this index until its history has a caller's post with this number. An error
+/// means out of memory.
 pub(crate) fn work_to<R: Wait, G>(
     shared: &Shared<R, G>,
     caller: &mut Caller,

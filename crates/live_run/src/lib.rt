@@ -1,16 +1,17 @@
-//! A live drill: callers on threads of their own post the periods of drawn calls to a live farm, and work them.
+//! A live drill: callers on threads of their own post the periods of drawn calls to a live farm, and process them.
 //!
-//! Right below the top call, which tells the text: takes the seed and the numbers of calls, periods, callers and waiting
-//! posts, has the periods drawn (`farm_drill`) and posted, read and worked (`farm_live`), ends the farm, and writes the sums
-//! of the octets of each call.
+//! Right below the top function, which prints the text. It takes the seed and the numbers of calls, periods,
+//! callers and waiting posts. It draws the periods (`farm_drill`), posts, processes and reads them (`farm_live`),
+//! ends the farm, and writes the sums of the octets of each call.
 //!
-//! `size` has what a live drill is made of, `shared` what its callers share, `calls` what a caller does with one call, `posters`
-//! the callers on their threads, `rest` what is left for the calling thread, `sums` the text, `whole` the live drill.
+//! `size` has the numbers of a live drill, `shared` what its callers share, `calls` what a caller does with one
+//! call, `posters` the callers on their threads, `rest` what remains for the calling thread, `sums` the text,
+//! `whole` the live drill.
 //!
 //! All of it is this project's profile.
-//! Definitions: `specs/Size.antt` (what a live drill is made of), `specs/Posts.antt` (what callers post, and what they know
-//! of it), `specs/Posters.antt` (the callers before, behind and after their threads), `specs/Whole.antt` (a drawn call as a
-//! whole), `specs/Text.antt` (the text).
+//! Definitions: `specs/Size.antt` (the numbers of a live drill), `specs/Posts.antt` (what callers post, and what
+//! they know of it), `specs/Posters.antt` (the callers before and after their threads), `specs/Whole.antt` (a whole
+//! drawn call), `specs/Text.antt` (the text).
 #![tactic(auto)]
 
 mod calls;

@@ -22,7 +22,7 @@ use std::thread::Threads;
 #[derive(Drop)]
 struct Poster {
     caller: Caller,
-    // Whether all was posted: there was memory for all that was to be worked before.
+    // Whether all periods were posted. If not, memory ran out.
     done: bool,
 }
 
@@ -92,7 +92,7 @@ fn first_draws(alloc: Global, seed: u32, calls: u32) -> Result<Vec<Generator>, A
     Ok(draws)
 }
 
-// Posts all periods of the caller's calls, a period of each call at a time.
+// Posts all periods of the caller's calls, one period of each call at a time.
 fn post_periods<R: Wait, G: Gate>(
     shared: &Shared<R, G>,
     caller: &mut Caller,
@@ -113,7 +113,7 @@ fn post_periods<R: Wait, G: Gate>(
     Ok(())
 }
 
-// Posts all periods of a poster's calls, and says whether it could.
+// Posts all periods of a poster's calls, and notes whether that succeeded.
 fn post_all<R: Wait, G: Gate>(shared: &Shared<R, G>, poster: &mut Poster)
     requires size { IsLiveDrill shared.now.drill }
     requires calls { length shared.now.live.now.slots.items ≡ shared.now.drill.calls }
@@ -135,7 +135,7 @@ fn run_poster<R: Wait, G: Gate>(shared: &Shared<R, G>, poster: &mut Poster)
     post_all(shared, poster);
 }
 
-// Each on a thread of its own, until all have ended.
+// Runs each poster on a thread of its own, until all have ended.
 fn run_posters<R: Threads + Wait + Sync, G: Gate + Sync>(
     shared: &Shared<R, G>,
     posters: &mut [Poster],
@@ -184,8 +184,8 @@ fn callers_of(alloc: Global, posters: Vec<Poster>) -> Result<Vec<Caller>, AllocE
         .collect(alloc)
 }
 
-/// Has the callers of a new farm post all periods of their calls, each on a thread of its own, and answers them. An error
-/// says that there was no memory.
+/// Lets the callers of a new farm post all periods of their calls, each on a thread of its own, and returns the
+/// callers. An error means out of memory.
 pub(crate) fn post_by_all<R: Threads + Wait + Sync, G: Gate + Sync>(
     shared: &Shared<R, G>,
     callers: Vec<Caller>,

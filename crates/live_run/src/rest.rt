@@ -1,4 +1,4 @@
-//! What is left when all callers have posted: the calling thread works each call to its end.
+//! What remains when all callers have posted: the calling thread processes each call to its end.
 
 ghost use Rattle.std.specs.Prelude.{◌≡◌, ◌-◌, ◌<◌, ℕ, length, OnOk};
 ghost use Rattle.farm_live.specs.Live.{IsSeated};
@@ -11,8 +11,8 @@ use farm_live::Caller;
 use std::alloc::AllocError;
 use std::sync::Wait;
 
-/// Works each call, as this caller, until the last post of the call's own caller stands in its history. An error says that
-/// there was no memory for that.
+/// Processes each call, as this caller, until its history has the last post of the call's own caller. An error
+/// means out of memory.
 pub(crate) fn work_rest<R: Wait, G>(
     shared: &Shared<R, G>,
     caller: &mut Caller,

@@ -1,4 +1,4 @@
-//! What a live drill is made of.
+//! The numbers of a live drill.
 
 /// A live drill, by its numbers.
 #[derive(Clone, Copy, Debug)]

@@ -25,7 +25,7 @@ fn sum_down(down: &[u8; 40]) -> u32
     sum(down)
 }
 
-// What a history has on the outgoing lines, summed.
+// The sums of a history's octets on the outgoing lines.
 fn sums_of(entries: &[Entry]) -> Sums
     ensures out { result.out ≡ sum_of (outs_of entries.now) }
     ensures down { result.down ≡ sum_of (octets_of (bits_of (downs_of entries.now))) }
@@ -38,7 +38,7 @@ fn sums_of(entries: &[Entry]) -> Sums
     sums
 }
 
-// The sums of a closed call, at the end of a text.
+// Appends the sums of a closed call to a text.
 fn put_call(text: &mut String, closed: &Closed) -> Result<(), AllocError>
     ensures { OnOk result (string_bytes text.new ≡ string_bytes text.old ++ closed_line closed.now) }
 {
@@ -46,7 +46,7 @@ fn put_call(text: &mut String, closed: &Closed) -> Result<(), AllocError>
     put_sums(text, closed.call, sums.out, sums.down)
 }
 
-// The sums of closed calls, in their order, at the end of a text.
+// Appends the sums of closed calls, in their order, to a text.
 fn put_calls(text: &mut String, closed: &[Closed]) -> Result<(), AllocError>
     ensures { OnOk result (string_bytes text.new ≡ string_bytes text.old ++ flat_map closed_line closed.now) }
 {

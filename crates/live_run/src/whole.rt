@@ -15,16 +15,16 @@ use std::alloc::{AllocError, Global};
 use std::sync::Wait;
 use std::thread::Threads;
 
-/// A live drill. Caller (C - 1) modulo `callers` posts the periods of call C, which are drawn, each on a thread of its own; a
-/// caller that finds an inbox full works that call, and one that finds a call busy yields its thread, and both try again.
-/// When all have ended the calling thread works each call to its last post, and ends the farm. The answer is the text: for
-/// each call the sums of the octets of its outgoing lines, and a last line. It hangs on the seed and the numbers of calls and
-/// periods alone. An error says that there was no memory.
+/// Runs a live drill. Each caller has a thread of its own. Caller (C - 1) modulo `callers` posts the periods of
+/// call C, which are drawn. A caller that finds an inbox full processes a post of that call; one that finds a call
+/// busy yields its thread; both try again. When all have ended, the calling thread processes each call to its last
+/// post, and ends the farm. The result is the text: the sums of the octets of each call's outgoing lines, and a
+/// last line. It depends only on the seed and the numbers of calls and periods. An error means out of memory.
 ///
-/// For each period of a call its caller calls `gate.before` before it first tries the post, and `gate.after` once that was
-/// accepted; no clause names the gate.
+/// For each period of a call its caller calls `gate.before` before it first tries the post, and `gate.after` once
+/// the post was accepted. No clause names the gate.
 ///
-/// The callers wait for queues, and for one another at the end: that this returns isn't proved.
+/// The callers wait for queues, and for one another at the end. It isn't proved that this function returns.
 pub fn run_live<R: Threads + Wait + Sync, G: Gate + Sync>(
     rt: &R,
     alloc: Global,
@@ -34,7 +34,7 @@ pub fn run_live<R: Threads + Wait + Sync, G: Gate + Sync>(
     requires { IsLiveDrill drill.now }
     ensures { IfOk result (λ text. string_bytes text ≡ live_text drill.now.seed drill.now.calls drill.now.periods) }
 {
-    // A law: the octets of a legal history are those of the call as a whole.
+    // A law: the octets of a legal history are those of the whole call.
     legal_histories_are_whole_calls();
     let (live, callers) = Live::new(rt, alloc, drill.calls, drill.inbox, drill.callers)?;
     let shared = Shared {

@@ -30,7 +30,7 @@ hand s worker = get_or s.hands worker None
 
 -- ---- the start
 
--- the jobs below n that a worker gets: each job goes to the worker with its number modulo that of the workers
+-- the jobs below n that a worker gets: those whose number, modulo the number of workers, is the worker's
 abbrev pub dealt : ℕ → ℕ → ℕ → List ℕ
 dealt workers n worker = filter (λ job. job % workers == worker) (range_with_len 0 n)
 
@@ -109,7 +109,7 @@ stepped s x = if is_legal s x then moved s x else s
 abbrev pub answer_of : PoolState → PoolStep → Result (Unit {0}) NotLegal
 answer_of s x = if is_legal s x then Ok tt else Err (record { step = x })
 
--- what a legal pop or steal shows
+-- what follows from a legal pop or steal
 pub record TakesJob (s : PoolState) (w v : ℕ) : Type 0 where
   pub worker : w < length s.hands
   pub victim : v < length s.hands
@@ -125,16 +125,16 @@ holds_job job (Some other) = other == job
 abbrev pub is_job : ℕ → ℕ → ℕ
 is_job job other = if other == job then 1 else 0
 
--- how often a job stands in a list of jobs
+-- how often a job is in a list of jobs
 abbrev pub times_in : ℕ → List ℕ → ℕ
 times_in job jobs = sum_by (is_job job) jobs
 
--- whether it is in a hand, as a number
+-- 1 if the hand holds this job, else 0
 abbrev pub in_hand : ℕ → Option ℕ → ℕ
 in_hand job None = 0
 in_hand job (Some other) = is_job job other
 
--- how often a job stands in all deques, in all hands, and among those that are done
+-- how often a job is in all deques, in all hands, and among the jobs that are done
 abbrev pub times_in_all : ℕ → PoolState → ℕ
 times_in_all job s = sum_by (times_in job) s.deques + sum_by (in_hand job) s.hands + times_in job s.finished
 
@@ -143,7 +143,7 @@ abbrev pub fills : Option ℕ → ℕ
 fills None = 0
 fills (Some job) = 1
 
--- what the machine keeps from the start on
+-- what always holds of the machine
 pub record IsState (s : PoolState) : Type 0 where
   pub placed : length s.places ≡ length s.lens
   pub staffed : length s.deques ≡ length s.hands

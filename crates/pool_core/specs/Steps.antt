@@ -9,7 +9,7 @@ abbrev pub after : PoolState → List PoolStep → PoolState
 after s [] = s
 after s (x ∷ xs) = after (stepped s x) xs
 
--- the periods by which a step runs a job: those of a legal run by the worker that holds it
+-- the periods by which a step runs a job: those of a legal run by the worker whose hand holds it
 abbrev pub step_periods : PoolState → ℕ → PoolStep → ℕ
 step_periods s job (Run w p) = if is_legal s (Run w p) && holds_job job (hand s w) then p else 0
 step_periods s job _ = 0

@@ -1,4 +1,4 @@
--- The deques of all workers as one list of jobs and their workers, in which the jobs of a deque stand in its order.
+-- The deques of all workers as one list of jobs with their workers; the jobs of each deque are in its order.
 use Rattle.std.specs.Prelude.{◌≡◌, ◌≢◌, ℕ, ◌<◌, ◌≤◌, if◌then◌else◌, ◌==◌, Option, List, [], ◌∷◌, length, map}
 use Rattle.std.specs.List.{range_with_len}
 use Rattle.std.proofs.Common.{get_or}
@@ -10,7 +10,7 @@ abbrev pub jobs_of : List Waiting → ℕ → List ℕ
 jobs_of [] worker = []
 jobs_of (w ∷ ws) worker = if w.worker == worker then w.job ∷ jobs_of ws worker else jobs_of ws worker
 
--- the front of a worker's deque: the entry at place i is the worker's, and none before it is
+-- the front of a worker's deque: entry i is the worker's, and no entry before it is
 pub record IsFront (ws : List Waiting) (worker i : ℕ) : Type 0 where
   pub inside : i < length ws
   pub before : (j : ℕ) (d : Waiting) → j < i → (get_or ws j d).worker ≢ worker
@@ -28,7 +28,7 @@ pool_state lens places ws hands finished = record {
   finished = finished;
 }
 
--- what the code keeps of a state
+-- what always holds of the code's state
 pub record IsPool (lens places : List ℕ) (ws : List Waiting) (hands : List (Option ℕ)) (finished : List ℕ) : Type 0 where
   pub workers : length hands ≤ 64
   pub owned : (k : ℕ) (d : Waiting) → k < length ws → (get_or ws k d).worker < length hands

@@ -1,8 +1,8 @@
 //! The pool machine: jobs in the deques and hands of workers that steal from one another.
 //!
-//! Pure, with no thread in it: it says which steps workers may take that share out a round's jobs, one step at a time,
-//! and what becomes of the jobs whatever the order of the steps. A job is so many periods long and has a place, the
-//! number of its periods that are done. It stands in the deque of one worker, in one worker's hand, or is done.
+//! Pure, without threads: it defines which steps workers may take to share a round's jobs, one step at a time, and
+//! where the jobs are after them, whatever their order. A job has a length in periods, and a place, the number of
+//! its periods that are done. It is in the deque of one worker, in the hand of one worker, or done.
 //!
 //! The machine is this project's own. Definitions: `specs/Machine.antt` (the state, the legal steps and what they do),
 //! `specs/Steps.antt` (whole lists of steps), `specs/Waiting.antt` (the deques as the code keeps them).

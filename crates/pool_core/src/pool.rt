@@ -27,7 +27,7 @@ pub struct Waiting {
 pub struct Pool {
     lens: Vec<u32>,
     places: Vec<u32>,
-    // The jobs of all deques, those of one deque in its order: so no deque grows, and a step takes no memory.
+    // The jobs of all deques, those of each deque in its order. So no deque grows, and a step takes no memory.
     waiting: Vec<Waiting>,
     hands: Vec<Option<u32>>,
     finished: Vec<u32>,
@@ -47,8 +47,9 @@ impl Model for Pool {
 }
 
 impl Pool {
-    /// The pool at the start, for 1 to 64 workers and at most 4,096 jobs, whose lengths in periods are given: job i is
-    /// at place 0 in the deque of worker i modulo the number of workers, in rising order. A step takes no memory.
+    /// The pool at the start, for 1 to 64 workers and at most 4,096 jobs with these lengths in periods. Job i is at
+    /// place 0, in the deque of worker i modulo the number of workers; the jobs of a deque are in rising order. A
+    /// step takes no memory.
     pub fn new(alloc: Global, workers: u32, lens: &[u32]) -> Result<Pool, AllocError>
         requires some { 0 < workers }
         requires few { workers ≤ 64 }
@@ -65,7 +66,7 @@ impl Pool {
         })
     }
 
-    /// Takes a step. One that isn't legal changes nothing.
+    /// Takes a step. A step that isn't legal changes nothing.
     pub fn step(&mut self, step: PoolStep) -> Result<(), NotLegal>
         ensures answer { result ≡ answer_of self.old step }
         ensures state { self.new ≡ stepped self.old step }
@@ -220,7 +221,7 @@ fn empty_hands(alloc: Global, workers: u32) -> Result<Vec<Option<u32>>, AllocErr
     vec![in alloc; None; workers as usize]
 }
 
-// The jobs below `jobs`, each with its worker.
+// Jobs 0 to `jobs` - 1, each with its worker.
 fn deal(alloc: Global, workers: u32, jobs: u32) -> Result<Vec<Waiting>, AllocError>
     requires some { 0 < workers }
     requires jobs { jobs ≤ 4096 }
@@ -238,7 +239,7 @@ fn deal(alloc: Global, workers: u32, jobs: u32) -> Result<Vec<Waiting>, AllocErr
     Ok(waiting)
 }
 
-// The place of the front job of a worker's deque.
+// The index of the front job of a worker's deque.
 fn front(waiting: &[Waiting], worker: u32) -> Option<usize>
     ensures found { IfSome result (λ i. IsFront waiting.now worker i) }
     ensures none { IsNone result → jobs_of waiting.now worker ≡ [] }

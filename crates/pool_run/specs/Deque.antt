@@ -6,7 +6,7 @@ use Rattle.trau_num.specs.Weights.{weigh}
 use Rattle.pool_run.specs.declared.deque.View.{View}
 use Rattle.pool_run.specs.declared.deque.Task.{Task}
 
--- each stands in the one list as often as in the other, however they are counted
+-- each item is in both lists equally often, however they are counted
 abbrev pub SameEntries : {X : Type 0} → List X → List X → Type 0
 SameEntries {X} xs ys = (h : X → ℕ) → weigh h xs ≡ weigh h ys
 
@@ -26,7 +26,7 @@ module _ {W : Type 0} where
   abbrev pub after_take : (W → W) → View W → List (Task W) → View W
   after_take finish v xs = knows v.parts v.pushed (v.obtained ++ map (entry_of finish) xs)
 
-  -- of no entry more was obtained than was pushed
+  -- no entry was obtained more often than it was pushed
   abbrev pub IsCovered : View W → Type 0
   IsCovered v = (h : ℕ × W → ℕ) → weigh h v.obtained ≤ weigh h v.pushed
 
@@ -34,7 +34,7 @@ module _ {W : Type 0} where
   abbrev pub SpentAreEmpty : List (View W) → Type 0
   SpentAreEmpty views = (port : ℕ) (v : View W) → get_elem? views port ≡ some v → v.parts ≡ 0 → (v.pushed ≡ []) × (v.obtained ≡ [])
 
-  -- the parts of all views are 1024, and what was pushed is what was obtained and what the deque holds, in some order
+  -- the views have 1024 parts together; what was pushed is what was obtained and what the deque holds, in some order
   abbrev pub IsKept : (W → W) → List (Task W) → List (View W) → Type 0
   IsKept finish items views =
       (weigh (λ v. v.parts) views ≡ 1024)

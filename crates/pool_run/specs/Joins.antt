@@ -6,7 +6,7 @@ use Rattle.trau_num.specs.Weights.{weigh}
 use Rattle.pool_run.specs.Member.{Thief, Knower, IsPassFor, IsEnded}
 use Rattle.pool_run.specs.Pool.{all_given, all_obtained, passes_of}
 
--- 1 where i is below n, else 0
+-- 1 if i is below n, else 0
 abbrev pub below : ℕ → ℕ → ℕ
 below i zero = 0
 below zero (suc n) = 1
@@ -25,8 +25,8 @@ module _ {W : Type 0} where
     pub each : (k : ℕ) (t : Thief W) (p : Knower W) → k < length m.passes.items → IsPassFor (slice_index_or thieves k t) (slice_index_or m.passes.items k p)
     pub ended : All (IsEnded finish) m.done.items
 
-  -- each deque's parts are its owner's and those of the passes that the workers have, one each. At suc k and k one more
-  -- pass of deque k is in hand, at k and 0 one of each of the first k deques, at 0 and 0 none
+  -- Each deque's parts are its owner's and those of the passes of the workers, one each, and of passes in hand. In hand is, at suc k and k,
+  -- one pass of deque k; at k and 0, one pass of each of the first k deques; at 0 and 0, none.
   pub record IsShared (finish : W → W) (thieves : List (Thief W)) (members : List (Member W)) (more less : ℕ) : Type 0 where
     pub pair : length members ≡ length thieves
     pub own : (k : ℕ) (t : Thief W) (m : Member W) → k < length members →
@@ -35,7 +35,7 @@ module _ {W : Type 0} where
     pub parts : (k : ℕ) (m : Member W) → k < length members →
         (worker_view (slice_index_or members k m).own).parts + rows_at k members + below k more ≡ 1024 + below k less
 
-  -- the last pass of worker j, p, is in hand
+  -- p, the last pass of worker j, is in hand
   pub record IsLastTaken (finish : W → W) (thieves : List (Thief W)) (old new : List (Member W)) (j : ℕ) (p : Knower W) : Type 0 where
     pub shared : IsShared finish thieves new (length (passes_of new j) + 1) (length (passes_of new j))
     pub there : length (passes_of new j) < length new

@@ -32,7 +32,7 @@ module _ {W : Type 0} where
   abbrev pub IsEnded : (W → W) → Task W → Type 0
   IsEnded finish t = finish t.job.value ≡ t.job.value
 
-  -- the worker can run: its deque is first in first out, it has a pass of each deque, and what it put away is finished
+  -- the worker can run: its deque is first in first out, it has a pass of each deque, and its list has finished jobs only
   pub record IsReady (finish : W → W) (thieves : List (Thief W)) (m : Member W) : Type 0 where
     pub fifo : worker_flavor m.own ≡ 0
     pub parts : 0 < (worker_view m.own).parts
@@ -53,7 +53,7 @@ module _ {W : Type 0} where
   abbrev pub obtained : (ℕ × W → ℕ) → Member W → ℕ
   obtained h m = weigh h (worker_view m.own).obtained + weigh (λ (p : Knower W). weigh h (view p).obtained) m.passes.items
 
-  -- what a worker pushes, finishes and holds grows by what it obtains: no job is lost, none made up
+  -- What a worker pushes, finishes and holds grows by what it obtains: no job is lost or added.
   pub record Moves (finish : W → W) (thieves : List (Thief W)) (old : Member W) (hand : Option (Task W)) (new : Member W)
       (next : Option (Task W)) : Type 0 where
     pub ready : IsReady finish thieves new
@@ -62,7 +62,7 @@ module _ {W : Type 0} where
     pub balance : (h : ℕ × W → ℕ) →
         (given finish h new + weigh h (held finish next)) + obtained h old ≡ (given finish h old + weigh h (held finish hand)) + obtained h new
 
-  -- the job that a theft got
+  -- the job that a steal got
   abbrev pub stolen_job : Steal (Task W) → Option (Task W)
   stolen_job (Success t) = Some t
   stolen_job Empty = None

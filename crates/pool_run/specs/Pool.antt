@@ -18,7 +18,7 @@ module _ {W : Type 0} where
   IsNumbered n [] = Unit {0}
   IsNumbered n (e ∷ es) = (e.0 ≡ n) × IsNumbered (n + 1) es
 
-  -- one deque each, whose owner has all parts but one for each worker
+  -- each worker has a deque, whose owner has all parts but one for each worker
   pub record IsPool (finish : W → W) (thieves : List (Thief W)) (members : List (Member W)) : Type 0 where
     pub pair : length members ≡ length thieves
     pub own : (k : ℕ) (t : Thief W) (m : Member W) → k < length members →
@@ -45,7 +45,7 @@ module _ {W : Type 0} where
     pub parts : (worker_view m.own).parts ≡ 1024
     pub joined : m.passes.items ≡ []
 
-  -- such a worker that put away finished jobs only, and obtained no more of any entry than was pushed
+  -- such a worker, whose list has finished jobs only, and which obtained no entry more often than it was pushed
   pub record IsSettled (finish : W → W) (m : Member W) : Type 0 where
     pub owner : IsOwner m
     pub ended : All (IsEnded finish) m.done.items

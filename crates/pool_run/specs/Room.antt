@@ -37,7 +37,7 @@ module _ {W : Type 0} where
     pub each : (k : ℕ) (t : Thief W) (p : Knower W) → k < length row → IsPassFor (slice_index_or thieves k t) (slice_index_or row k p)
     pub obtained : (h : ℕ × W → ℕ) → weigh (λ (p : Knower W). weigh h (view p).obtained) row ≡ 0
 
-  -- the first deques each have one more pass in hand, and nothing was pushed, finished or obtained
+  -- Of each of the first deques one more pass is in hand; nothing was pushed, finished or obtained.
   pub record IsUnused (finish : W → W) (thieves : List (Thief W)) (members : List (Member W)) (hands : ℕ) : Type 0 where
     pub shared : IsShared finish thieves members hands 0
     pub fifo : (k : ℕ) (t : Thief W) → k < length thieves → stealer_flavor (slice_index_or thieves k t) ≡ 0

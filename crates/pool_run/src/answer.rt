@@ -1,4 +1,5 @@
-//! The answer of a pool: the jobs that are left are run to their ends, and all are put in the order of the given ones.
+//! The answer of a pool: the remaining jobs are run to their ends, and all jobs are put in the order in which they
+//! were given.
 
 ghost use Rattle.std.specs.Prelude.{◌≡◌, ◌+◌, ◌≤◌, [], ◌++◌, map, vec_len, vec_capacity, All, IsPermutation};
 ghost use Rattle.std.specs.List.Sorted.{IsNonDecreasingBy};
@@ -13,7 +14,7 @@ use crate::deque::{Owner, Task, pop_left};
 use crate::member::Member;
 use crate::work::{Gate, run_to_end};
 
-/// Runs to its end each job that is left in a deque, and puts all finished jobs on one list.
+/// Runs each job that remains in a deque to its end, and puts all finished jobs on one list.
 pub(crate) fn finish_all<W: Work, G: Gate>(
     members: Vec<Member<W>>,
     finished: &mut Vec<Task<W>>,
@@ -40,7 +41,7 @@ pub(crate) fn finish_all<W: Work, G: Gate>(
     }
 }
 
-// Puts items at the end of a list that has room for them.
+// Appends items to a list that has room for them.
 fn append_reserved<T: Drop>(list: &mut Vec<T>, more: Vec<T>)
     requires { vec_len list.old + vec_len more ≤ vec_capacity list.old }
     ensures items { list.new.items ≡ list.old.items ++ more.items }
@@ -52,7 +53,7 @@ fn append_reserved<T: Drop>(list: &mut Vec<T>, more: Vec<T>)
     }
 }
 
-// Runs to its end each job that is left in a deque.
+// Runs each job that remains in a deque to its end.
 fn drain<W: Work, G: Gate>(own: &mut Owner<W>, finished: &mut Vec<Task<W>>, slice: u32, gate: &G)
     requires slice { 1 ≤ slice }
     requires fifo { worker_flavor own.old ≡ 0 }
@@ -71,7 +72,7 @@ fn drain<W: Work, G: Gate>(own: &mut Owner<W>, finished: &mut Vec<Task<W>>, slic
     }
 }
 
-// The job run to its end.
+// Runs a job to its end.
 fn run_out<W: Work, G: Gate>(task: Task<W>, slice: u32, gate: &G) -> Task<W>
     requires { 1 ≤ slice }
     ensures entry { entry_of W.finish result ≡ entry_of W.finish task }

@@ -1,12 +1,13 @@
-//! The rule of one deque, and the calls that keep it.
+//! The rule of one deque, and the functions that keep it.
 //!
-//! Each worker has a deque of its own, a handle of each deque to steal by, and for each deque a pass. A pass, and the
-//! owner's end of the deque, knows what it pushed and what it obtained there. The rule, `IsKept`, stays true whoever
-//! takes: the entries that all of them pushed are those that they obtained and those in the deque, in some order. An entry
-//! is a job's number with its finished job, so it doesn't change while the job changes hands half done.
+//! Each worker has its own deque, and for each deque a handle to steal by and a pass. A pass has a view, and so has
+//! the owner's end of a deque: the entries that were pushed and obtained through it. The rule, `IsKept`, stays true
+//! whoever takes a job: the entries pushed in all views are those obtained in all views and those in the deque, in
+//! some order. An entry is a job's number with its finished job, so it doesn't change when a half-done job changes
+//! hands.
 //!
-//! What each knows is cut into 1,024 parts of the right to know the whole. So the owner that has all of them again and
-//! finds the deque empty knows that all that was pushed was obtained.
+//! The views of a deque share 1,024 parts of the right to know the whole. So an owner that has all parts again
+//! and finds the deque empty knows that everything that was pushed was obtained.
 //! Definitions: `specs/Deque.antt`.
 
 ghost use Rattle.std.specs.Prelude.{◌≡◌, ◌+◌, ◌-◌, ◌<◌, ◌≤◌, [], ◌∷◌, ◌++◌, IfOk, MatchResult, MatchOption};
@@ -28,7 +29,8 @@ pub struct Task<W> {
     pub job: Box<W>,
 }
 
-/// What one that uses a deque knows: its parts, and the entries that it pushed and obtained. No value of it is made.
+/// The view of the owner's end or of a pass: its parts, and the entries pushed and obtained through it. No value of
+/// it is made.
 pub struct View<W> {
     pub parts: u64,
     pub pushed: LinkedList<(u32, W)>,
@@ -49,7 +51,7 @@ impl<W: Work> Protocol<Task<W>, View<W>> for OneDeque {
     ghost guest = { knows 0 [] [] };
 }
 
-// Cuts one part off, and joins what two know.
+// Cuts one part off, and joins two views.
 struct Cut;
 
 impl<W: Work> Split<View<W>> for Cut {
@@ -80,7 +82,7 @@ impl<W: Work> Outcome<Task<W>, View<W>> for Pushed {
     ghost then = { λ v xs w. w ≡ after_push W.finish v xs };
 }
 
-// A pop or a theft, of a worker at work.
+// A pop or a steal, by a worker at work.
 struct Taken;
 
 impl<W: Work> Outcome<Task<W>, View<W>> for Taken {
@@ -90,7 +92,7 @@ impl<W: Work> Outcome<Task<W>, View<W>> for Taken {
     ghost then = { λ v xs w. w ≡ after_take W.finish v xs };
 }
 
-// A pop of an owner with all parts.
+// A pop by an owner with all parts.
 struct Left;
 
 impl<W: Work> Outcome<Task<W>, View<W>> for Left {
@@ -115,20 +117,20 @@ impl<W: Work> Lesson<Task<W>, View<W>> for Covered {
 /// The owner's end of a deque.
 pub type Owner<W> = Worker<Task<W>, Global, View<W>, OneDeque>;
 
-/// A handle of a deque to steal by.
+/// A handle to steal from a deque.
 pub type Thief<W> = Stealer<Task<W>, Global, View<W>, OneDeque>;
 
-/// A pass of a deque: what one that steals from it knows.
+/// A pass of a deque: the view of one that steals from it.
 pub type Knower<W> = Pass<Task<W>, View<W>>;
 
-/// A deque with nothing in it and room for `most` jobs, whose owner has all parts.
+/// An empty deque with room for `most` jobs, whose owner has all parts.
 pub fn new_owner<W: Work>(alloc: Global, most: usize) -> Result<Owner<W>, AllocError>
     ensures { IfOk result (λ o. (worker_flavor o ≡ 0) × (worker_view o ≡ knows 1024 [] []) × (worker_index o ≡ 0) × (most ≤ worker_capacity o)) }
 {
     Owner::fifo_as(alloc, most)
 }
 
-/// A new pass, with one part of the owner's.
+/// A new pass, with one of the owner's parts.
 pub fn cut_pass<W: Work>(owner: &mut Owner<W>) -> Knower<W>
     requires { 1 < (worker_view owner.old).parts }
     ensures same { SameWorker owner.old owner.new × (worker_index owner.new ≡ worker_index owner.old) }
@@ -139,7 +141,7 @@ pub fn cut_pass<W: Work>(owner: &mut Owner<W>) -> Knower<W>
     owner.another::<Cut>()
 }
 
-/// Joins a pass into the owner's end: the owner then knows what the pass knew, and has its parts.
+/// Joins a pass into the owner's end, which takes over the pass's view and parts.
 pub fn join_pass<W: Work>(owner: &mut Owner<W>, pass: Knower<W>)
     requires pass { IsPassOf (worker_deque owner.old) pass }
     requires parts { 0 < (worker_view owner.old).parts }
@@ -150,7 +152,7 @@ pub fn join_pass<W: Work>(owner: &mut Owner<W>, pass: Knower<W>)
     owner.absorb::<Cut>(pass);
 }
 
-/// Puts a job at the back. Where that is refused, the job comes back and nothing changed.
+/// Puts a job at the back. If that is refused, the job comes back and nothing has changed.
 pub fn push<W: Work>(owner: &mut Owner<W>, task: Task<W>) -> Result<(), Task<W>>
     requires { 0 < (worker_view owner.old).parts }
     ensures same { SameWorker owner.old owner.new }
@@ -160,7 +162,7 @@ pub fn push<W: Work>(owner: &mut Owner<W>, task: Task<W>) -> Result<(), Task<W>>
     owner.push_as::<Pushed>(task)
 }
 
-/// Puts a job at the back of a deque that has taken in fewer jobs than it has room for, so that it can't be refused.
+/// Puts a job at the back of a deque that has taken in fewer jobs than it has room for. So it can't be refused.
 pub fn push_reserved<W: Work>(owner: &mut Owner<W>, task: Task<W>)
     requires parts { 0 < (worker_view owner.old).parts }
     requires room { worker_index owner.old < worker_capacity owner.old }
@@ -197,7 +199,7 @@ pub fn steal<W: Work>(thief: &Thief<W>, pass: &mut Knower<W>) -> Steal<Task<W>>
     thief.steal_as::<Taken>(pass)
 }
 
-/// Takes the job at the front, for an owner with all parts. Where there is none, all that was pushed was obtained.
+/// Takes the job at the front, for an owner with all parts. If there is none, everything that was pushed was obtained.
 pub fn pop_left<W: Work>(owner: &mut Owner<W>) -> Option<Task<W>>
     requires fifo { worker_flavor owner.old ≡ 0 }
     requires all { (worker_view owner.old).parts ≡ 1024 }
@@ -208,7 +210,7 @@ pub fn pop_left<W: Work>(owner: &mut Owner<W>) -> Option<Task<W>>
     owner.pop_as::<Left>()
 }
 
-/// Shows what an owner with all parts knows: of no entry more was obtained than was pushed.
+/// Shows for an owner with all parts that no entry was obtained more often than it was pushed.
 pub fn audit<W: Work>(owner: &mut Owner<W>)
     requires { (worker_view owner.old).parts ≡ 1024 }
     ensures same { SameWorker owner.old owner.new × (worker_view owner.new ≡ worker_view owner.old) }

@@ -1,5 +1,5 @@
-//! What the workers know of the deques, put together when they have ended: each pass is joined into its deque's owner's
-//! end, so that each owner has all parts again.
+//! Joins the passes when the workers have ended: each into the owner's end of its deque, so that each owner has all
+//! parts again.
 
 ghost use Rattle.std.specs.Prelude.{◌≡◌, ◌≢◌, ℕ, ◌+◌, ◌<◌, length, All, MatchBool, IfSome, IfNone, slice_index_or};
 ghost use Rattle.crossbeam_deque.specs.Handles.{view, worker_view};
@@ -13,7 +13,7 @@ use crate::Work;
 use crate::deque::{Knower, Thief, audit, join_pass};
 use crate::member::Member;
 
-/// Joins each pass into its deque's owner's end.
+/// Joins each pass into the owner's end of its deque.
 pub(crate) fn join_all<W: Work>(thieves: &[Thief<W>], members: &mut [Member<W>])
     requires { IsShared W.finish thieves.now members.old 0 0 }
     ensures shared { IsShared W.finish thieves.now members.new 0 0 }
@@ -39,7 +39,7 @@ fn join_row<W: Work>(thieves: &[Thief<W>], members: &mut [Member<W>], j: usize)
     while join_last(thieves, members, j) {}
 }
 
-// Joins the last pass of a worker, which is of the deque of its place. `false` where there is none.
+// Joins a worker's last pass. Its index in the worker's passes is that of its deque. `false` if there is none.
 fn join_last<W: Work>(thieves: &[Thief<W>], members: &mut [Member<W>], j: usize) -> bool
     requires shared { IsShared W.finish thieves.now members.old 0 0 }
     requires there { j < length members.old }
@@ -81,7 +81,7 @@ fn row_len<W: Work>(members: &[Member<W>], j: usize) -> usize
     members[j].passes.len()
 }
 
-// Joins a pass into its deque's owner's end.
+// Joins a pass into the owner's end of its deque.
 fn join_at<W: Work>(thieves: &[Thief<W>], members: &mut [Member<W>], k: usize, pass: Knower<W>)
     requires shared { IsShared W.finish thieves.now members.old (k + 1) k }
     requires there { k < length members.old }
@@ -94,7 +94,7 @@ fn join_at<W: Work>(thieves: &[Thief<W>], members: &mut [Member<W>], k: usize, p
     join_pass(&mut members[k].own, pass);
 }
 
-/// Shows of each owner, which has all parts, that it obtained no more than was pushed.
+/// Shows for each owner, which has all parts, that no entry was obtained more often than it was pushed.
 pub(crate) fn audit_all<W: Work>(members: &mut [Member<W>])
     requires { All (λ m. IsOwner m × All (IsEnded W.finish) m.done.items) members.old }
     ensures settled { All (IsSettled W.finish) members.new }

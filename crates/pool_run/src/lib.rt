@@ -1,26 +1,27 @@
-//! A pool of jobs: runs each job of a round to its end, in slices, by workers that steal from one another.
+//! A pool of jobs: workers that steal from one another run each job of a round to its end, in slices.
 //!
-//! A round's jobs come in as a list, are run without touching the outside, and go out finished, in the order in which
-//! they came. What a job does the pool doesn't know: `work` has the trait that each job meets, with the meanings that
-//! make "finished" exact. The crates above make a job of each call of a round, with its octets, and have it run in two
-//! phases, by a pool each.
+//! A round's jobs come in as a list, run without touching anything outside, and go out finished, in the same order.
+//! The pool doesn't know what a job does: `work` has the trait of a job, with the ghost functions that make
+//! "finished" exact. The crates above make a job for each call of a round, with its octets, and run it in two
+//! phases, with a pool for each.
 //!
-//! A worker has a deque. No more of them work than there are jobs: a single one works in the thread of the caller, and of
-//! more each has a thread of its own. At the start job i stands in the deque of worker i mod the number of workers. A
-//! worker takes the front job of its own deque, or else of another's, beginning with its neighbour's, runs one slice of
-//! it, and puts it at the back of its own deque until it is finished. It ends where it has no job in hand and found every
-//! deque empty. When all have ended, the caller looks through the deques once more and runs what it finds there.
+//! Each worker has a deque. At most as many workers run as there are jobs. A single one runs in the caller's
+//! thread; otherwise each has its own thread. At the start, job i is in the deque of worker i modulo the number of
+//! workers. A worker takes the front job of its own deque, or else of another's, beginning with its neighbour's. It
+//! runs one slice of the job and, unless that finishes it, puts it at the back of its own deque. A worker ends when
+//! it has no job in hand and has found every deque empty. When all have ended, the caller looks through the deques
+//! once more and runs what it finds.
 //!
 //! - `deque`: the rule of one deque, which holds whoever takes from it, and the operations that keep it.
 //! - `member`: one worker.
 //! - `room`: the memory of a pool, reserved before its jobs are known.
-//! - `joins`: what the workers know of the deques, put together when they have ended.
-//! - `answer`: the jobs that are left, and the order of the answer.
+//! - `joins`: joining what the workers know of the deques, when they have ended.
+//! - `answer`: the remaining jobs, and the order of the answer.
 //! - `pool`: the run.
 //!
-//! The contract says what becomes of each job, and nothing of who runs its slices, or when. So a pool with one thread, or
-//! one that never steals, would meet it too. That the workers run at once and that jobs are stolen half done, only a test
-//! shows (`jobs_are_stolen_half_done`): its gate holds slices back until others were run. Nor is it proved that a worker
+//! The contract says what each job becomes, not who runs its slices or when. So a pool with one thread, or one that
+//! never steals, would meet it too. Only a test (`jobs_are_stolen_half_done`) shows that workers run at the same
+//! time and steal half-done jobs: its gate holds slices back until others were run. It isn't proved that a worker
 //! ends: it goes on for as long as it finds jobs (`Wait`). Jobs, places and slices are this project's own.
 #![tactic(auto)]
 

@@ -20,7 +20,7 @@ pub(crate) struct Member<W: Work> {
     pub(crate) done: Vec<Task<W>>,
 }
 
-// What a look through the deques found: a job, none where another was faster, or none at all.
+// The result of a look through the deques: a job, none because another worker was faster, or none at all.
 #[derive(Drop)]
 enum Found<W> {
     Job(Task<W>),
@@ -43,7 +43,7 @@ fn steal_at<W: Work>(thieves: &[Thief<W>], member: &mut Member<W>, k: usize) -> 
     steal(&thieves[k], &mut member.passes[k])
 }
 
-// The worker after this one: the first after the last.
+// The worker after this one; after the last comes the first.
 fn neighbour(me: usize, workers: usize) -> usize
     requires { 0 < workers }
     ensures next { me + 1 < workers → result ≡ me + 1 }
@@ -52,7 +52,8 @@ fn neighbour(me: usize, workers: usize) -> usize
     if me < workers - 1 { me + 1 } else { 0 }
 }
 
-// A job of its own deque, or else of another's: first of its neighbour's, so that not all thieves go to one.
+// A job of the worker's own deque, or else of another's. The neighbour's comes first, so that the thieves don't all
+// go to one.
 fn find<W: Work>(thieves: &[Thief<W>], member: &mut Member<W>) -> Found<W>
     requires { IsReady W.finish thieves.now member.old }
     ensures { Moves W.finish thieves.now member.old None member.new (found_job result) }
@@ -73,7 +74,7 @@ fn find<W: Work>(thieves: &[Thief<W>], member: &mut Member<W>) -> Found<W>
     if again { Found::Again } else { Found::Nothing }
 }
 
-// Runs one slice, where the job is not finished.
+// Runs one slice, unless the job is finished.
 fn advance<W: Work, G: Gate>(task: Task<W>, slice: u32, gate: &G) -> Task<W>
     requires { 1 ≤ slice }
     ensures { entry_of W.finish result ≡ entry_of W.finish task }
@@ -85,7 +86,7 @@ fn advance<W: Work, G: Gate>(task: Task<W>, slice: u32, gate: &G) -> Task<W>
     task
 }
 
-// Puts a finished job away. Where that is refused it comes back.
+// Puts a finished job on the list. If that is refused, the job comes back.
 fn keep<W>(done: &mut Vec<Task<W>>, task: Task<W>) -> Option<Task<W>>
     ensures { MatchOption result (done.new.items ≡ done.old.items ++ task ∷ []) (λ t. (t ≡ task) × (done.new.items ≡ done.old.items)) }
 {
@@ -95,7 +96,7 @@ fn keep<W>(done: &mut Vec<Task<W>>, task: Task<W>) -> Option<Task<W>>
     }
 }
 
-// A finished job is put away, and another is pushed. Where that is refused the job stays in hand.
+// Puts a finished job on the list, and pushes any other. If that is refused, the job stays in hand.
 fn put<W: Work>(thieves: &[Thief<W>], member: &mut Member<W>, task: Task<W>) -> Option<Task<W>>
     requires { IsReady W.finish thieves.now member.old }
     ensures { Moves W.finish thieves.now member.old (Some task) member.new result }
@@ -107,8 +108,7 @@ fn put<W: Work>(thieves: &[Thief<W>], member: &mut Member<W>, task: Task<W>) -> 
     }
 }
 
-// One step, from the job in hand to the next one in hand. `None` where there is none in hand and each deque was found
-// empty.
+// One step, from the job in hand to the next one in hand. `None` if there is none in hand and each deque was found empty.
 fn step<W: Work, G: Gate>(
     thieves: &[Thief<W>],
     member: &mut Member<W>,
@@ -136,7 +136,7 @@ fn step<W: Work, G: Gate>(
     Some(put(thieves, member, task))
 }
 
-/// Works until no job is in hand and each deque was found empty.
+/// Runs jobs until none is in hand and each deque was found empty.
 pub(crate) fn work<R: Wait, W: Work, G: Gate>(
     rt: &R,
     thieves: &[Thief<W>],

@@ -16,10 +16,10 @@ use std::sync::Wait;
 use std::thread;
 use std::thread::Threads;
 
-/// Runs each job to its end, in slices of `slice` places: as many jobs as were given, in their order, each the finished
-/// job of the given one. The slices are run by the room's workers, as many as there are jobs at most, and each between the
-/// calls of the gate. A single worker works in the caller's thread; of more, each has a thread of its own. Takes no memory
-/// for the jobs, and is never refused.
+/// Runs each job to its end, in slices of `slice` places, and returns the finished jobs in the order of the given
+/// ones. The room's workers run the slices, at most as many as there are jobs, and each slice is between the two
+/// calls of the gate. A single worker runs in the caller's thread; otherwise each has its own thread. It takes no
+/// memory for the jobs, and can't fail.
 pub fn run_pool<R: Threads + Wait + Sync, W: Work + Send, G: Gate + Sync>(
     rt: &R,
     room: PoolRoom<W>,
@@ -50,7 +50,7 @@ pub fn run_pool<R: Threads + Wait + Sync, W: Work + Send, G: Gate + Sync>(
     in_order(finished, answer)
 }
 
-// Runs the jobs in the workers' threads. What was placed is then finished, or left in a deque.
+// Runs the jobs in the workers' threads. Then each of them is finished, or is in a deque.
 fn run_workers<R: Threads + Wait + Sync, W: Work + Send, G: Gate + Sync>(
     rt: &R,
     thieves: &[Thief<W>],
@@ -103,7 +103,7 @@ fn place_at<W: Work>(thieves: &[Thief<W>], members: &mut [Member<W>], at: usize,
     push_reserved(&mut members[at].own, task);
 }
 
-// The first workers, so many, work until all have ended. The others have nothing to do.
+// The first `workers` workers run until all have ended. The others have nothing to do.
 fn work_first<R: Threads + Wait + Sync, W: Work + Send, G: Gate + Sync>(
     rt: &R,
     thieves: &[Thief<W>],
@@ -123,7 +123,7 @@ fn work_first<R: Threads + Wait + Sync, W: Work + Send, G: Gate + Sync>(
     work_all(rt, thieves, first, slice, gate);
 }
 
-// Each worker in a thread of its own, until all have ended; a single one in the caller's thread.
+// Runs each worker in its own thread until all have ended; a single one in the caller's thread.
 fn work_all<R: Threads + Wait + Sync, W: Work + Send, G: Gate + Sync>(
     rt: &R,
     thieves: &[Thief<W>],

@@ -37,9 +37,9 @@ impl<W: Work> Model for PoolRoom<W> {
 }
 
 impl<W: Work> PoolRoom<W> {
-    /// Room for `most` jobs, at most 4,096, in a pool of 1 to 64 workers, or of fewer where there are fewer jobs: the
-    /// workers' deques and passes, and the lists of the jobs that they finish and of the answer. As any worker may come to
-    /// have every job, each list and each deque has room for all.
+    /// Room for `most` jobs, at most 4,096, in a pool of 1 to 64 workers, but of no more workers than jobs: the
+    /// workers' deques and passes, and the lists of finished jobs and of the answer. Any worker may get every job,
+    /// so each list and each deque has room for all.
     pub fn reserve(alloc: Global, workers: u32, most: u32) -> Result<PoolRoom<W>, AllocError>
         requires some { 0 < workers }
         requires few { workers ≤ 64 }
@@ -119,7 +119,7 @@ fn cut_at<W: Work>(thieves: &[Thief<W>], members: &mut [Member<W>], k: usize) ->
     cut_pass(&mut members[k].own)
 }
 
-// A row of passes, one of each deque.
+// A row of passes, one for each deque.
 fn row_of<W: Work>(
     alloc: Global,
     thieves: &[Thief<W>],

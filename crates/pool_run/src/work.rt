@@ -2,10 +2,10 @@
 
 ghost use Rattle.std.specs.Prelude.{◌≡◌, ℕ, ◌-◌, ◌≤◌, ◌↔◌, IsTrue};
 
-/// A job that is run in slices of one place or more, place by place, until no place is left. The places of a call are
-/// the periods of 20 ms that it has in a round.
+/// A job that runs in slices of one place or more, place by place, until none remains. The places of a call are its
+/// periods of 20 ms in a round.
 pub trait Work: Drop {
-    /// The places that are left.
+    /// The remaining places.
     ghost left: { Self → ℕ };
 
     /// The finished job that this job becomes.
@@ -18,7 +18,7 @@ pub trait Work: Drop {
     fn call(&self) -> u32
         ensures { result ≡ number self.now };
 
-    /// Runs the next `q` places, or those that are left where they are fewer.
+    /// Runs the next `q` places, or all remaining ones if they are fewer.
     fn slice(&mut self, q: u32)
         requires { 1 ≤ q }
         // (`-` stops at 0.)
@@ -26,21 +26,21 @@ pub trait Work: Drop {
         ensures finish { finish self.new ≡ finish self.old }
         ensures call { number self.new ≡ number self.old };
 
-    /// Whether no place is left.
+    /// Whether no place remains.
     fn finished(&self) -> bool
         ensures { IsTrue result ↔ (left self.now ≡ 0) };
 
-    /// A job with no place left is its own finished job.
+    /// A job without remaining places is its own finished job.
     ghost stays: { (x : Self) → left x ≡ 0 → finish x ≡ x };
 }
 
-/// Is called before and after each slice. The pool learns nothing from it, and no clause names it: it may hold a slice
+/// Called before and after each slice. The pool learns nothing from it, and no clause names it. It may hold a slice
 /// back, as a test does.
 pub trait Gate {
     /// Before a slice of the job of this call.
     fn before(&self, call: u32);
 
-    /// After it.
+    /// After a slice of the job of this call.
     fn after(&self, call: u32);
 }
 

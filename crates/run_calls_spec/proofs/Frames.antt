@@ -37,7 +37,7 @@ use Rattle.call_spec.specs.History.{IsCallHistory, call_of_history}
 use Rattle.call_spec.proofs.Ranges.{IsPeriod}
 use Rattle.call_spec.proofs.Reading.{LooksBack, yield-period, effective-period}
 use Rattle.call_spec.proofs.Whole.{history-whole, call-whole}
-use Rattle.run_spec.specs.Run.{who_in, Run, done_in, start_in, end_in, partner_in, up_in, ups_to, item_of, heard_by, period_of, periods_to, periods_in}
+use Rattle.run_spec.specs.Run.{who_in, Run, done_in, start_in, end_in, other_in, up_in, ups_to, item_of, heard_by, period_of, periods_to, periods_in}
 use Rattle.run_spec.proofs.Going.{ups_periods, item_ups}
 use Rattle.run_spec.proofs.LongerLines.{length-periods_to}
 use Rattle.run_calls_spec.specs.Whole.{count_in, whole_call, IsBridged, item_for, yield_on, frame_on}
@@ -84,17 +84,17 @@ yield_known r c k h =
     ∙ ap (yield_of (up_in r c k)) (ups_periods r c k)
 
 -- the partner has each period of a bridge
-partner_has : (r : Run) (c t : ℕ) (x : board.Span) → AreOrders r.orders → IsBridged r c t x → HasPeriod r (partner_in c x) (t - start_in r (partner_in c x))
+partner_has : (r : Run) (c t : ℕ) (x : board.Span) → AreOrders r.orders → IsBridged r c t x → HasPeriod r (other_in c x) (t - start_in r (other_in c x))
 partner_has r c t x a b =
-    let d = partner_in c x in
+    let d = other_in c x in
     let h = both_have r c t x a b in
     record { orders = a; known = (bridged_lies r d t x a (partner_bridged r c t x b)).known; within = (counted (start_in r d) t (end_in r d) h.2 h.3).0 }
 
 -- **The item is the bits of the partner's effective frame.**
 pub item_frame : LooksBack → (r : Run) (c t : ℕ) (x : board.Span) → AreOrders r.orders → IsBridged r c t x →
-    item_for r c t ≡ Some (bits260 (handed_fields (frame_on r (partner_in c x) t)))
+    item_for r c t ≡ Some (bits260 (handed_fields (frame_on r (other_in c x) t)))
 item_frame look r c t x a b =
-    let d = partner_in c x in
+    let d = other_in c x in
     let k = t - start_in r d in
     item_found r c t x a b ∙ ap (λ ups. Some (item_of d ups)) (sym (ups_periods r d (suc k))) ∙ ap Some (item_ups d (periods_to r d (suc k)))
     ∙ ap (λ frame. Some (bits260 (handed_fields frame))) (sym (frame_known look r d k (partner_has r c t x a b)))
@@ -145,10 +145,10 @@ good_item c octets past p bits e g =
 
 -- **A good speech frame's data bits are handed over as they came.**
 pub item_good : (r : Run) (c t : ℕ) (x : board.Span) (p : ℕ) (bits : List ℕ) → AreOrders r.orders → IsBridged r c t x →
-    yield_on r (partner_in c x) t ≡ Some (Frame p bits) → IsGoodSpeech bits →
+    yield_on r (other_in c x) t ≡ Some (Frame p bits) → IsGoodSpeech bits →
     item_for r c t ≡ Some (data_of bits)
 item_good r c t x p bits a b y g =
-    let d = partner_in c x in
+    let d = other_in c x in
     let k = t - start_in r d in
     item_found r c t x a b
     ∙ ap Some (good_item d (up_in r d k) (ups_to r d k) p bits (sym (yield_known r d k (partner_has r c t x a b)) ∙ y) g)

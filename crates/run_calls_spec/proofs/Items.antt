@@ -8,7 +8,7 @@ use Rattle.trau_orders.specs.Lists.{AreOrders}
 use Rattle.switchboard.specs.declared.act.Span as board
 use Rattle.switchboard.specs.declared.table.Bridge.{Bridge}
 use Rattle.switchboard.specs.Bridges.{bridges, joins}
-use Rattle.run_spec.specs.Run.{Run, whole_in, given_in, done_in, spans_in, start_in, end_in, is_of, partner_in, span_at, handed_to, ups_to, item_of}
+use Rattle.run_spec.specs.Run.{Run, whole_in, given_in, done_in, spans_in, start_in, end_in, is_of, other_in, span_at, handed_to, ups_to, item_of}
 use Rattle.run_spec.proofs.Lists.{each_all, each_weaker, find_none, found, none_each, AtMostOne, one_weaker, one_found}
 use Rattle.run_spec.proofs.Standing.{Standing, NeverOverlap, IsSoundBridge, over_by}
 use Rattle.run_spec.proofs.Settling.{covers, to_of}
@@ -68,7 +68,7 @@ span_found r c t x a b =
     b.span (bridged_covers r c t x b)
 
 -- **Its partner is in the bridge too.**
-pub partner_bridged : (r : Run) (c t : ℕ) (x : board.Span) → IsBridged r c t x → IsBridged r (partner_in c x) t x
+pub partner_bridged : (r : Run) (c t : ℕ) (x : board.Span) → IsBridged r c t x → IsBridged r (other_in c x) t x
 partner_bridged r c t x b = record { span = b.span; call = by (c == x.a); begun = b.begun; lasts = b.lasts }
   where
     by : (t : Bool) → is_of (if t then x.b else x.a) x ≡ true
@@ -96,10 +96,10 @@ has_period r c t x a b =
 
 -- and so has its partner
 pub both_have : (r : Run) (c t : ℕ) (x : board.Span) → AreOrders r.orders → IsBridged r c t x →
-    (start_in r c ≤ t) × (t < end_in r c) × (start_in r (partner_in c x) ≤ t) × (t < end_in r (partner_in c x))
+    (start_in r c ≤ t) × (t < end_in r c) × (start_in r (other_in c x) ≤ t) × (t < end_in r (other_in c x))
 both_have r c t x a b =
     let h = has_period r c t x a b in
-    let k = has_period r (partner_in c x) t x a (partner_bridged r c t x b) in
+    let k = has_period r (other_in c x) t x a (partner_bridged r c t x b) in
     (h.0, h.1, k.0, k.1)
 
 -- ---- what is handed
@@ -116,17 +116,17 @@ handed_on r c t a l m =
 
 -- **What is handed over is the item of the partner.**
 pub item_found : (r : Run) (c t : ℕ) (x : board.Span) → AreOrders r.orders → IsBridged r c t x →
-    item_for r c t ≡ Some (item_of (partner_in c x) (ups_to r (partner_in c x) (suc (t - start_in r (partner_in c x)))))
+    item_for r c t ≡ Some (item_of (other_in c x) (ups_to r (other_in c x) (suc (t - start_in r (other_in c x)))))
 item_found r c t x a b =
     let h = both_have r c t x a b in
-    let d = partner_in c x in
-    handed_on r c t a h.0 h.1 ∙ ap (option_map (λ x. item_in r (partner_in c x) t)) (span_found r c t x a b)
+    let d = other_in c x in
+    handed_on r c t a h.0 h.1 ∙ ap (option_map (λ x. item_in r (other_in c x) t)) (span_found r c t x a b)
     ∙ ap (λ n. Some (item_of d (ups_to r d n))) (counted (start_in r d) t (end_in r d) h.2 h.3).2
 
 -- **Outside of its spans a call is handed nothing.**
 pub handed_none : (r : Run) (c t : ℕ) → AreOrders r.orders → start_in r c ≤ t → t < end_in r c → ((x : board.Span) → IsBridged r c t x → ⊥) →
     item_for r c t ≡ None
-handed_none r c t a l m h = handed_on r c t a l m ∙ ap (option_map (λ x. item_in r (partner_in c x) t)) (by (span_at r c t) refl)
+handed_none r c t a l m h = handed_on r c t a l m ∙ ap (option_map (λ x. item_in r (other_in c x) t)) (by (span_at r c t) refl)
   where
     by : (o : Option board.Span) → span_at r c t ≡ o → o ≡ None
     by None e = refl

@@ -10,3 +10,4 @@ pub mod OnLine
 pub mod Going
 mod Carrying
 pub mod Apart
+pub mod Told

@@ -14,7 +14,7 @@ use Rattle.switchboard.specs.Bridges.{bridges, joins}
 use Rattle.switchboard.specs.Ends.{span_of}
 use Rattle.call_spec.specs.Call.{Span, item_at, starts_at}
 use Rattle.call_spec.specs.Whole.{AreSpans}
-use Rattle.run_spec.specs.Run.{Run, whole_in, given_in, done_in, spans_in, start_in, end_in, is_of, partner_in, handed_to}
+use Rattle.run_spec.specs.Run.{Run, whole_in, given_in, done_in, spans_in, start_in, end_in, is_of, other_in, handed_to}
 use Rattle.run_spec.proofs.Lists.{each_both, each_map, each_weaker}
 use Rattle.run_spec.proofs.Standing.{Standing, IsSoundBridge, NeverOverlap, over_by}
 use Rattle.run_spec.proofs.Settling.{start_is, to_of, covers}
@@ -217,15 +217,15 @@ covers_test true s from to e k h l =
 
 -- the item of a span's period
 item_of_period : (r : Run) (c k : ℕ) (x : board.Span) → LiesIn r c x → x.from ≤ start_in r c + k → start_in r c + k < x.to →
-    get_or (span_for r c x).items (k - (span_for r c x).from) [] ≡ item_in r (partner_in c x) (start_in r c + k)
+    get_or (span_for r c x).items (k - (span_for r c x).from) [] ≡ item_in r (other_in c x) (start_in r c + k)
 item_of_period r c k x h l m =
     let o = h.opened in
-    get_or-map-range_with_len (item_in r (partner_in c x)) x.from (x.to - x.from) (k - (x.from - start_in r c)) (start_in r c + k) [] (omega arith)
+    get_or-map-range_with_len (item_in r (other_in c x)) x.from (x.to - x.from) (k - (x.from - start_in r c)) (start_in r c + k) [] (omega arith)
     (omega arith)
 
 -- **The call is handed in a period what it is handed in the run.**
 pub handed_in : (r : Run) (c k : ℕ) → AreOrders r.orders → k < count_in r c → item_at (spans_for r c) k ≡ handed_to r c (start_in r c + k)
-handed_in r c k a l = item_kept (begins_in r c) (span_for r c) (covers c (start_in r c + k)) (λ x. item_in r (partner_in c x) (start_in r c + k)) k (spans_in r)
+handed_in r c k a l = item_kept (begins_in r c) (span_for r c) (covers c (start_in r c + k)) (λ x. item_in r (other_in c x) (start_in r c + k)) k (spans_in r)
     (each_weaker (λ x. is_of c x ≡ true → LiesIn r c x) _ (spans_in r) (λ x h. (
       covers_test (is_of c x) (start_in r c) x.from x.to (end_in r c) k (λ j. (h j).opened) l,
       λ e. let p = and_parts (is_of c x && nat_le x.from (start_in r c + k)) (nat_lt (start_in r c + k) x.to) e in

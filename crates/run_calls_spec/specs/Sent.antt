@@ -1,5 +1,5 @@
--- The frames of a call's downlink, and which of them carries what its partner hands over in a period; and what of the
--- call's lines doesn't depend on that. Frames are numbered from 0.
+-- The frames of a call's downlink, which frame carries what its partner hands over in a period, and what of the call's lines
+-- doesn't depend on that. Frames are numbered from 0.
 use Rattle.std.specs.Prelude.{◌≡◌, ◌≤◌, ◌<◌, ℕ, ◌+◌, ◌-◌, ◌*◌, true, Some, None, List, length, map, filter, slice_index, slice_index_or}
 use Rattle.trau_frame.specs.declared.frames.DownFrame.{DownFrame}
 use Rattle.trau_frame.specs.declared.frames.DownFrame.TheVariants.{Speech, Idle}
@@ -17,11 +17,11 @@ use Rattle.run_calls_spec.specs.Whole.{span_for, whole_call, IsBridged}
 abbrev pub sent_as : Call → ℕ → DownFrame
 sent_as call j = slice_index_or (down_frames call (frames_of_call call)) j Idle
 
--- the bit of the Down line at which it begins: behind 320 ones and two bits for each octet of the Pcm line before its start
+-- the bit of the Down line at which frame j begins: after 320 ones, and two bits for each octet of the Pcm line before its start
 abbrev pub frame_begin : Call → ℕ → ℕ
 frame_begin call j = 320 + 2 * (frame_by_number call j).start
 
--- how many frames a call of a run makes, and these frames as they are sent; of frame j what is sent, and where it begins
+-- of a call of a run: how many frames it makes, these frames as they are sent, frame j as it is sent, and where it begins
 abbrev pub frame_count : Run → ℕ → ℕ
 frame_count r c = length (frames_of_call (whole_call r c))
 
@@ -38,18 +38,18 @@ frame_place r c j = frame_begin (whole_call r c) j
 abbrev pub made_in : Run → ℕ → ℕ → ℕ
 made_in r c j = start_in r c + when (frame_by_number (whole_call r c) j).start
 
--- frame j of call c carries what the call is handed in period t of the run, one of span x
+-- frame j of call c carries what the call is handed in period t of the run, in span x
 abbrev pub CarriesHanded : Run → ℕ → ℕ → board.Span → ℕ → Type 0
 CarriesHanded r c t x j = HasItem (whole_call r c) (span_for r c x) j (t - x.from)
 
--- the call makes this frame, and so what it is handed in that period of the bridge goes out in it
+-- call c makes frame j, and what it is handed in period t of the bridge goes out in this frame
 pub record Sends (r : Run) (c t : ℕ) (x : board.Span) (j : ℕ) : Type 0 where
   pub bridged : IsBridged r c t x
   pub made : j < frame_count r c
   pub carries : CarriesHanded r c t x j
 
--- Between periods, as period u of the run begins, what call c is handed in an earlier period t of span x waits: no frame
--- that was made before carries it.
+-- When period u of the run begins, what call c is handed in an earlier period t of span x still waits: no frame made before
+-- carries it.
 pub record WaitsUnsent (r : Run) (c u t : ℕ) (x : board.Span) : Type 0 where
   pub bridged : IsBridged r c t x
   pub handed : t < u
@@ -66,12 +66,12 @@ frames_with r c x = length (filter (λ f. carries_in (x.from - start_in r c) (x.
 
 -- ---- what doesn't depend on what is handed over
 
--- the same call, but for the items that are handed over in its spans
+-- the same call, except for the items that are handed over in its spans
 pub record HasOtherItems (call other : Call) : Type 0 where
   pub spans : map without_items other.spans ≡ map without_items call.spans
   pub rest : other ≡ record call { spans = other.spans }
 
--- what is sent in frame j is the speech frame, with SP 1, of the item that the call is handed in its period h
+-- frame j is sent as the speech frame, with SP 1, of the item that the call is handed in its period h
 pub record SendsItem (call : Call) (j h : ℕ) : Type 0 where
   pub item : List ℕ
   pub handed : item_at call.spans h ≡ Some item
@@ -82,9 +82,9 @@ abbrev pub IsNoItemBit : Call → ℕ → Type 0
 IsNoItemBit call k = (j h i n : ℕ) → (frame_by_number call j).carries ≡ Some h → k ≡ frame_begin call j + i → i < 320 →
     role_of i ≡ Data n → ⊥
 
--- Its lines are the same but for the data bits of frames that carry an item. So are the frames that are made, each with its
--- start, its shift and the period of which it carries the item, and what is sent in each that carries none. One that carries
--- an item is the speech frame of the call's own item of that period.
+-- The lines are the same except for the data bits of frames that carry an item. The same frames are made, each with its start,
+-- its shift and the period whose item it carries. A frame that carries no item is sent the same. A frame that carries one is the
+-- speech frame of each call's own item of that period.
 pub record DiffersInItems (call other : Call) : Type 0 where
   pub out_line : out other ≡ out call
   pub down_length : length (down other) ≡ length (down call)

@@ -1,5 +1,5 @@
--- The calls of a run as wholes: each by what its own lines give, its orders, and the spans of its bridges with what its
--- partners hand over in them.
+-- The calls of a run as wholes: what a call's own lines give, its orders, and the spans of its bridges with what its partners
+-- hand over in them.
 use Rattle.std.specs.Prelude.{◌≡◌, ◌≤◌, ◌<◌, ℕ, ◌+◌, ◌-◌, ◌*◌, pos, Bool, true, ◌&&◌, nat_lt, Option, List, Contains, map, filter, take}
 use Rattle.std.specs.List.{range_with_len}
 use Rattle.trau_orders.specs.declared.order.DtxMode.TheVariants.{Uplink}
@@ -7,7 +7,7 @@ use Rattle.switchboard.specs.declared.act.Span as board
 use Rattle.frame_sync.specs.declared.yields.Yield.{Yield}
 use Rattle.rx_handler.specs.Origin.{EffectiveFields}
 use Rattle.call_spec.specs.Call.{Call, Setting, Span, yield_at, effective_frame, item_at}
-use Rattle.run_spec.specs.Run.{Run, who_in, done_in, spans_in, start_in, end_in, level_after, dtx_mode_after, done_to, ups_to, item_of, is_of, partner_in}
+use Rattle.run_spec.specs.Run.{Run, who_in, done_in, spans_in, start_in, end_in, level_after, dtx_mode_after, done_to, ups_to, item_of, is_of, other_in}
 
 -- how many periods a call has
 abbrev pub count_in : Run → ℕ → ℕ
@@ -24,8 +24,8 @@ setting_in r c t = record {
 abbrev pub item_in : Run → ℕ → ℕ → List ℕ
 item_in r d t = item_of d (ups_to r d (t + 1 - start_in r d))
 
--- a span of the run is one of this call that begins before its end: where a bridge is made at the period at which the
--- call ends, the call has no part in it
+-- a span is of this call and begins before the call's end: if a bridge is made at the period at which the call ends, the call
+-- has no part in it
 abbrev pub begins_in : Run → ℕ → board.Span → Bool
 begins_in r c x = is_of c x && nat_lt x.from (end_in r c)
 
@@ -34,7 +34,7 @@ abbrev pub span_for : Run → ℕ → board.Span → Span
 span_for r c x = record {
   from = x.from - start_in r c;
   to = x.to - start_in r c;
-  items = map (item_in r (partner_in c x)) (range_with_len x.from (x.to - x.from));
+  items = map (item_in r (other_in c x)) (range_with_len x.from (x.to - x.from));
 }
 
 abbrev pub spans_for : Run → ℕ → List Span
@@ -53,7 +53,7 @@ whole_call r c = record {
 
 -- ---- a period of a bridge
 
--- period t of the run lies in this span of a call
+-- period t of the run is in this span of a call
 pub record IsBridged (r : Run) (c t : ℕ) (x : board.Span) : Type 0 where
   pub span : Contains (spans_in r) x
   pub call : is_of c x ≡ true

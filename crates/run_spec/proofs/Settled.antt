@@ -15,7 +15,7 @@ use Rattle.switchboard.specs.Bridges.{bridges, other}
 use Rattle.switchboard.specs.Ends.{start_of, span_of, spans_of}
 use Rattle.call_leg.specs.Periods.{CallPeriod}
 use Rattle.run_spec.specs.Run.{Run, whole_in, given_in, done_in, spans_in, level_after, dtx_mode_after, done_to, up_in, pcm_in, ups_to, item_of, is_of}
-use Rattle.run_spec.specs.Run.{partner_in, handed_to, period_of}
+use Rattle.run_spec.specs.Run.{other_in, handed_to, period_of}
 use Rattle.run_spec.specs.Now.{IsSoFar, NoOrderTo, bridge_now, handed_now, period_now}
 use Rattle.run_spec.proofs.Lists.{each_weaker, found}
 use Rattle.run_spec.proofs.Executing.{after_all}
@@ -44,7 +44,7 @@ done_to-settled u ds later h k =
 -- ---- what is handed over
 
 abbrev item_from : Run → List Done → ℕ → ℕ → Span → List ℕ
-item_from r ds u c x = let d = partner_in c x in item_of d (ups_to r d (u + 1 - start_of ds d))
+item_from r ds u c x = let d = other_in c x in item_of d (ups_to r d (u + 1 - start_of ds d))
 
 abbrev handed_by : Run → List Done → ℕ → ℕ → Option (List ℕ)
 handed_by r ds u c = option_map (item_from r ds u c) (find (covers c u) (spans_of (given_in r) r.periods ds))

@@ -15,7 +15,7 @@ use Rattle.call_leg.specs.Counted.{call_counts}
 use Rattle.call_leg.specs.Down.{frames_of}
 use Rattle.run_spec.specs.Run.{Run, given_in, done_in, spans_in, start_in, periods_in}
 
--- the calls that these orders opened, in rising number
+-- the calls that these orders opened, in call-number order
 abbrev pub opened_calls : List Done → List ℕ
 opened_calls ds = filter (λ c. is_some (opened_at c ds)) call_numbers
 
@@ -29,7 +29,7 @@ call_line r c = let from = start_in r c in record {
   counts = call_counts (periods_in r c);
 }
 
--- a frame carries what was handed over in a period from s up to, and without, e, counted from the call's opening
+-- a frame carries what was handed over in a period from s on and before e, counted from the call's opening
 abbrev pub carries_in : ℕ → ℕ → Option ℕ → Bool
 carries_in s e None = false
 carries_in s e (Some h) = nat_le s h && nat_lt h e

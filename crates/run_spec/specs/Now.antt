@@ -1,5 +1,5 @@
--- The same by what is known while the run goes on. `ds` are the orders that were executed so far, the oldest first, and
--- `left` the others; at the clock t no executed order has a stamp above t, and none that is left has one below.
+-- The same from what is known while the run goes on. `ds` are the orders that were executed so far, the oldest first, and
+-- `left` the remaining ones. At the clock t, no executed order has a stamp above t, and no remaining one a stamp below t.
 use Rattle.std.specs.Prelude.{◌≡◌, ℕ, zero, suc, ◌+◌, ◌-◌, ◌<◌, ◌≤◌, Bool, ◌&&◌, ◌||◌, if◌then◌else◌, ◌==◌, nat_lt, Option, is_some, is_none, IfSome}
 use Rattle.std.specs.Prelude.{option_map, find, Result, Ok, Err, List, ◌++◌, map, pos}
 use Rattle.std.specs.List.{All, list_any}
@@ -19,8 +19,8 @@ use Rattle.call_leg.specs.Periods.{CallPeriod}
 use Rattle.call_leg.specs.Settings.{Settings, new_settings, settings_later, with_level, with_mode, with_bridge, without_bridge}
 use Rattle.run_spec.specs.Run.{Run, whole_in, level_after, dtx_mode_after, up_in, pcm_in, ups_to, item_of}
 
--- A run so far: its orders are those that were executed, with the replies of their whole list, and those that are
--- left. An order is executed where its stamp is below the run's number of periods.
+-- A run so far: its orders are the executed ones, with the replies that the definition gives, and then the remaining ones.
+-- The stamps of executed orders are below the run's number of periods.
 pub record IsSoFar (r : Run) (t : ℕ) (ds : List Done) (left : List Order) : Type 0 where
   pub orders : AreOrders r.orders
   pub listed : map (λ d. d.order) ds ++ left ≡ r.orders
@@ -45,7 +45,7 @@ bridge_now r ds t c = find (λ x. joins c x && is_none x.ended && has_period r d
 abbrev pub handed_now : Run → List Done → ℕ → ℕ → Option (List ℕ)
 handed_now r ds t c = option_map (λ x. let d = other c x in item_of d (ups_to r d (t + 1 - start_of ds d))) (bridge_now r ds t c)
 
--- period t of an open call, where no order comes between the clock and it
+-- period t of an open call, if no order comes between the clock and it
 abbrev pub period_now : Run → List Done → ℕ → ℕ → CallPeriod
 period_now r ds t c = let k = t - start_of ds c in record {
   up = up_in r c k;
@@ -56,7 +56,7 @@ period_now r ds t c = let k = t - start_of ds c in record {
   handed = handed_now r ds t c;
 }
 
--- what is set for period t, as the board knows it at that clock: a bridge lasts up to its calls' natural ends
+-- the settings for period t, as the board knows them at that clock: a bridge lasts until the lines of one of its calls end it
 abbrev pub settings_now : Run → List Done → ℕ → ℕ → Settings
 settings_now r ds t c = record {
   level = level_after c (pos 256) ds;
@@ -65,11 +65,11 @@ settings_now r ds t c = record {
   bridged = is_some (bridge_of (gone_at (whole_in r) t ds) ds c);
 }
 
--- What period t is worked with: a bridge is taken off before the first period that the partner lacks.
+-- The settings of period t: a bridge is over before the first period that one of its calls lacks.
 abbrev pub settings_in : Run → List Done → ℕ → ℕ → Settings
 settings_in r ds t c = let now = settings_now r ds t c in if is_some (bridge_now r ds t c) then now else without_bridge now
 
--- what an order with this result makes of what is set for a call; a call that is closed keeps no bridge
+-- the settings of a call after an order with this result; a call that is closed has no bridge, nor has its partner
 abbrev pub changed_by : ℕ → Result Act Refusal → Settings → Settings
 changed_by c (Ok (act.Opened d law)) now = if c == d then new_settings else now
 changed_by c (Ok (act.Closed d partner)) now = if c == d || is_this c partner then without_bridge now else now
@@ -79,7 +79,7 @@ changed_by c (Ok (act.LevelSet d level)) now = if c == d then with_level level n
 changed_by c (Ok (act.DtxSet d mode)) now = if c == d then with_mode mode now else now
 changed_by c (Err refusal) now = now
 
--- what is set after k further periods, where the bridge goes on
+-- the settings after k further periods, if the bridge goes on
 abbrev pub after_periods : ℕ → Settings → Settings
 after_periods zero now = now
 after_periods (suc k) now = settings_later (after_periods k now)

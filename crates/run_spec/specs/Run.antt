@@ -67,7 +67,7 @@ IsOpened r c = is_some (opened_at c (done_in r)) ≡ true
 abbrev pub cause_in : Run → ℕ → Cause
 cause_in r c = (end_of (given_in r) r.periods (done_in r) c (start_of (done_in r) c)).cause
 
--- how many periods of a call lie before period t of the run
+-- how many periods of a call are before period t of the run
 abbrev pub worked_to : Run → ℕ → ℕ → ℕ
 worked_to r t c = min t (end_in r c) - start_in r c
 
@@ -88,7 +88,7 @@ abbrev pub mode_by : ℕ → Result Act Refusal → DtxMode → DtxMode
 mode_by c (Ok (act.DtxSet d mode)) before = if c == d then mode else before
 mode_by c _ before = before
 
--- the level and the DTX mode of a call after these orders: those that were set last, and before any 256 and Uplink
+-- the level and the DTX mode of a call after these orders: those that were set last; without any, the values before
 abbrev pub level_after : ℕ → ℤ → List Done → ℤ
 level_after c before [] = before
 level_after c before (d ∷ ds) = level_after c (level_by c d.result before) ds
@@ -120,27 +120,27 @@ abbrev pub heard_by : List (List ℕ) → List Heard
 heard_by [] = []
 heard_by (up ∷ past) = heard_as (sighting_in (yield_of up past)) ∷ heard_by past
 
--- What a call hands to the partner of its bridge in the newest of these periods: the 260 bits of its effective frame,
--- those of silence where it is quiet. They depend on nothing but its number and its uplink.
+-- What a call hands to its partner in the newest of these periods: the 260 bits of its effective frame, or of silence if it
+-- is quiet. They depend only on its number and its uplink.
 unfoldable pub item_of : ℕ → List (List ℕ) → List ℕ
 item_of c ups = bits260 (handed_fields (effective_of c (heard_by ups)))
 
 -- ---- the periods of a call
 
--- a span is one of this call, and the other call of it
+-- a span is of this call; the other call of the span
 abbrev pub is_of : ℕ → Span → Bool
 is_of c x = c == x.a || c == x.b
 
-abbrev pub partner_in : ℕ → Span → ℕ
-partner_in c x = if c == x.a then x.b else x.a
+abbrev pub other_in : ℕ → Span → ℕ
+other_in c x = if c == x.a then x.b else x.a
 
--- the span of a call that period t lies in
+-- the span of a call in which period t is
 abbrev pub span_at : Run → ℕ → ℕ → Option Span
 span_at r c t = find (λ x. is_of c x && nat_le x.from t && nat_lt t x.to) (spans_in r)
 
 -- what is handed to a call in period t: its partner's frame of that period, within a span
 abbrev pub handed_to : Run → ℕ → ℕ → Option (List ℕ)
-handed_to r c t = option_map (λ x. let d = partner_in c x in item_of d (ups_to r d (t + 1 - start_in r d))) (span_at r c t)
+handed_to r c t = option_map (λ x. let d = other_in c x in item_of d (ups_to r d (t + 1 - start_in r d))) (span_at r c t)
 
 -- period k of a call, counted from its opening
 unfoldable pub period_of : Run → ℕ → ℕ → CallPeriod
@@ -153,11 +153,11 @@ period_of r c k = let t = start_in r c + k in record {
   handed = handed_to r c t;
 }
 
--- the first n of them
+-- the first n periods of a call
 abbrev pub periods_to : Run → ℕ → ℕ → List CallPeriod
 periods_to r c zero = []
 periods_to r c (suc k) = period_of r c k ∷ periods_to r c k
 
--- all of them, from its opening to its end
+-- all periods of a call, from its opening to its end
 abbrev pub periods_in : Run → ℕ → List CallPeriod
 periods_in r c = periods_to r c (end_in r c - start_in r c)

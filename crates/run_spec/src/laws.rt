@@ -36,15 +36,15 @@ ghost use Rattle.run_spec.specs.Mark.{Joins, mark_of};
 ghost use Rattle.run_spec.specs.Facts.{opened_calls, call_line, span_line, sent_by, report_of};
 ghost use Rattle.run_spec.specs.Now.{IsSoFar, NoOrderTo, has_period, bridge_now, handed_now, period_now, settings_now, settings_in, changed_by, after_periods};
 
-/// Orders are executed in one go or in several alike. Those that are executed later leave the earlier ones as they
-/// were, and add one reply each.
+/// Orders executed in parts give the same as all at once. Later orders leave the earlier replies unchanged, and add one reply
+/// each.
 pub fn executing_adds()
     ensures front { (whole : ℕ → ℕ) (ds : List Done) (xs ys : List Order) → executed whole ds (xs ++ ys) ≡ executed whole (executed whole ds xs) ys }
     ensures kept { (whole : ℕ → ℕ) (ds : List Done) (os : List Order) →
         (more : List Done) × (executed whole ds os ≡ ds ++ more) × (map (λ d. d.order) more ≡ os) }
 {}
 
-/// How a run goes on: from its start, to a later clock where no order that is left comes before, and by the next order.
+/// How a run goes on: from its start; to a later clock, if no remaining order comes before it; by the next order.
 pub fn runs_go_on()
     ensures start { (r : Run) → AreOrders r.orders → IsSoFar r 0 [] r.orders }
     ensures clock { (r : Run) (t u : ℕ) (ds : List Done) (left : List Order) → IsSoFar r t ds left →
@@ -53,9 +53,9 @@ pub fn runs_go_on()
         d.order.stamp ≡ t → t < r.periods → IsRun (whole_in r) (ds ++ d ∷ []) → IsSoFar r t (ds ++ d ∷ []) left }
 {}
 
-/// What the whole run executes begins with the orders so far. The rest are those that are left, below the run's end;
-/// where none is, all is executed, and what is left stays. A call that was opened so far begins at the same period and has the
-/// same law in the whole run.
+/// The whole run executes the orders so far, and then the remaining orders before the run's end. If there is none of these,
+/// all is executed, and the remaining orders are those that the run leaves. A call that was opened so far begins at the same
+/// period and has the same law in the whole run.
 pub fn runs_are_whole()
     ensures rest { (r : Run) (t : ℕ) (ds : List Done) (left : List Order) → IsSoFar r t ds left →
         (rest : List Done) × (done_in r ≡ ds ++ rest) × (map (λ d. d.order) rest ≡ filter (λ o. nat_lt o.stamp r.periods) left) }
@@ -69,7 +69,7 @@ pub fn runs_are_whole()
         opened_at c ds ≡ Some s → law_in r c ≡ law_at c ds }
 {}
 
-/// Period u of an open call is settled once the orders up to it were executed: no later order and no end changes it.
+/// Period u of an open call is final after the orders up to it were executed: no later order and no end changes it.
 pub fn periods_are_settled()
     ensures period { (r : Run) (t u : ℕ) (ds : List Done) (left : List Order) (c s : ℕ) → IsSoFar r t ds left →
         t ≤ u → u < r.periods → NoOrderTo u left → opened_at c ds ≡ Some s → period_of r c (u - s) ≡ period_now r ds u c }
@@ -77,7 +77,7 @@ pub fn periods_are_settled()
         t ≤ u → u < r.periods → NoOrderTo u left → opened_at c ds ≡ Some s →
         periods_to r c (u + 1 - s) ≡ period_now r ds u c ∷ periods_to r c (u - s) }
 
-    // It goes on with its settings, and lies in a bridge exactly where something is handed over.
+    // The period has these settings, and something is handed over in it exactly if they say that the call is bridged.
     ensures settings { (r : Run) (ds : List Done) (u c : ℕ) →
         period_now r ds u c ≡ period_with (settings_in r ds u c) (up_in r c (u - start_of ds c)) (pcm_in r c (u - start_of ds c)) (handed_now r ds u c) }
     ensures handed { (r : Run) (t u : ℕ) (ds : List Done) (left : List Order) (c : ℕ) → IsSoFar r t ds left → t ≤ u →
@@ -86,7 +86,7 @@ pub fn periods_are_settled()
 
 /// The bridge of a call from period to period, while no order is executed.
 pub fn bridges_go_on()
-    // In period k it is the one that lasts at t, where both of its calls have period k.
+    // In period k it is the bridge that lasts at t, if both of its calls have period k.
     ensures none { (r : Run) (t k : ℕ) (ds : List Done) (left : List Order) (c : ℕ) → IsSoFar r t ds left → t ≤ k →
         bridge_of (gone_at (whole_in r) t ds) ds c ≡ None → bridge_now r ds k c ≡ None }
     ensures same { (r : Run) (t k : ℕ) (ds : List Done) (left : List Order) (c : ℕ) (x : Bridge) → IsSoFar r t ds left → t ≤ k →
@@ -98,23 +98,23 @@ pub fn bridges_go_on()
           | Some x ↦ if has_period r ds k x.a && has_period r ds k x.b then Some x else None
         ] }
 
-    // After period u that one lasts which the call had in it, and no other.
+    // After period u it is the bridge that the call had in this period.
     ensures after { (r : Run) (t u : ℕ) (ds : List Done) (left : List Order) (c : ℕ) → IsSoFar r t ds left → u < r.periods →
         bridge_of (gone_at (whole_in r) (u + 1) ds) ds c ≡ bridge_now r ds u c }
 
-    // The partner has the same one.
+    // The partner has the same bridge.
     ensures each { (r : Run) (t : ℕ) (ds : List Done) (left : List Order) (c : ℕ) (x : Bridge) → IsSoFar r t ds left →
         bridge_of (gone_at (whole_in r) t ds) ds c ≡ Some x → bridge_of (gone_at (whole_in r) t ds) ds (other c x) ≡ Some x }
     ensures partner { (r : Run) (t u : ℕ) (ds : List Done) (left : List Order) (c : ℕ) (x : Bridge) → IsSoFar r t ds left →
         t ≤ u → u < r.periods → bridge_now r ds u c ≡ Some x → bridge_now r ds u (other c x) ≡ Some x }
 
-    // A call that no order closed is gone after a period exactly where it doesn't have it.
+    // A call that no order closed is gone after a period exactly if it doesn't have this period.
     ensures gone { (r : Run) (u : ℕ) (ds : List Done) (c s : ℕ) → u < r.periods → opened_at c ds ≡ Some s → closed_at c ds ≡ None →
         gone_at (whole_in r) (u + 1) ds c ≡ not (has_period r ds u c) }
 {}
 
-/// What is set for a call: each order makes of it what its act says, and after a period that stays which the period was
-/// worked with, but that no bridge starts.
+/// The settings of a call: each order changes them as its act says. After a period they are the settings of this period,
+/// except that no bridge starts.
 pub fn settings_follow()
     ensures order { (r : Run) (t : ℕ) (ds : List Done) (d : Done) (left : List Order) (c : ℕ) → IsSoFar r t ds (d.order ∷ left) →
         d.order.stamp ≡ t → IsRun (whole_in r) (ds ++ d ∷ []) → settings_now r (ds ++ d ∷ []) t c ≡ changed_by c d.result (settings_now r ds t c) }
@@ -122,20 +122,20 @@ pub fn settings_follow()
         t ≤ u → u < r.periods → settings_now r ds (u + 1) c ≡ settings_later (settings_in r ds u c) }
 {}
 
-/// A round of k periods of a call, in which no order comes.
+/// A round of k periods of a call, in which no order is executed.
 pub fn rounds_go_on()
-    // Its periods go on with what is set at its start, but for the bridge: what is handed over tells where they lie in
-    // one.
+    // Its periods have the settings of its start, except for the bridge: a period is in a bridge if something is handed
+    // over in it.
     ensures period { (r : Run) (t k : ℕ) (ds : List Done) (left : List Order) (c : ℕ) → IsSoFar r t ds left → t + k < r.periods →
         period_now r ds (t + k) c ≡
         period_with (after_periods k (settings_now r ds t c)) (up_in r c (t + k - start_of ds c)) (pcm_in r c (t + k - start_of ds c))
         (handed_now r ds (t + k) c) }
 
-    // Without a bridge it goes on alone.
+    // Without a bridge, the settings go on as `after_periods` says.
     ensures alone { (r : Run) (t k : ℕ) (ds : List Done) (left : List Order) (c : ℕ) → IsSoFar r t ds left → t + k ≤ r.periods →
         bridge_of (gone_at (whole_in r) t ds) ds c ≡ None → settings_now r ds (t + k) c ≡ after_periods k (settings_now r ds t c) }
 
-    // Where its partner has the first m of them, the bridge is off after these.
+    // If its partner has only the first m of these periods, the bridge is over after the round; if it has all, it goes on.
     ensures bridged { (r : Run) (t k m : ℕ) (ds : List Done) (left : List Order) (c : ℕ) (x : Bridge) → IsSoFar r t ds left → t + k ≤ r.periods →
         bridge_of (gone_at (whole_in r) t ds) ds c ≡ Some x → ((j : ℕ) → j < k → has_period r ds (t + j) c ≡ true) →
         ((j : ℕ) → j < k → has_period r ds (t + j) (other c x) ≡ nat_lt j m) →
@@ -143,8 +143,8 @@ pub fn rounds_go_on()
         (if nat_lt m k then without_bridge (after_periods k (settings_now r ds t c)) else after_periods k (settings_now r ds t c)) }
 {}
 
-/// The end of a call is known once the orders up to it were executed: where it was closed, where its lines lack a
-/// period, or at the run's end. The period of an end by its lines is known before the orders of that period.
+/// The end of a call is known after the orders up to it were executed: an order closed it, its lines lack a period, or the run
+/// ends. The period of an end by its lines is known before the orders of that period are executed.
 pub fn ends_are_known()
     ensures closed { (r : Run) (t : ℕ) (ds : List Done) (left : List Order) (c s e : ℕ) → IsSoFar r t ds left → closed_at c ds ≡ Some e →
         end_of (given_in r) r.periods (done_in r) c s ≡ record { call = c; at = e; cause = Closed } }
@@ -159,8 +159,8 @@ pub fn ends_are_known()
         end_of (given_in r) r.periods (done_in r) c s ≡ record { call = c; at = r.periods; cause = Limit } }
 {}
 
-/// The periods of a call are a history of its downlink: its bridges leave a period between, and go on without a gap.
-/// So no handed frame waits where an order makes a bridge.
+/// The periods of a call are a history of its downlink: there is a period between two bridges, and a bridge has no gap. So no
+/// handed frame waits when an order makes a bridge.
 pub fn periods_are_a_history()
     ensures history { (r : Run) (c n : ℕ) → AreOrders r.orders → IsHistory (down_periods (periods_to r c n)) }
     ensures bridge { (r : Run) (t : ℕ) (ds : List Done) (d : Done) (left : List Order) (a b c s : ℕ) → IsSoFar r t ds (d.order ∷ left) →
@@ -168,8 +168,8 @@ pub fn periods_are_a_history()
         opened_at c ds ≡ Some s → handed_due (down_periods (periods_to r c (t - s))) (frames_of (periods_to r c (t - s))) ≡ None }
 {}
 
-/// What a call hands over in its newest period are the bits of its effective frame in it: so in a period of a bridge
-/// its partner's are handed to a call, and both of them have the period.
+/// A call hands over the bits of its effective frame of its newest period. So in a period of a bridge a call is handed those
+/// of its partner, and both calls have the period.
 pub fn items_are_effective_frames()
     ensures both { (r : Run) (t u : ℕ) (ds : List Done) (left : List Order) (c : ℕ) (x : Bridge) → IsSoFar r t ds left →
         bridge_now r ds u c ≡ Some x →
@@ -183,7 +183,7 @@ pub fn items_are_effective_frames()
     ensures ups { (r : Run) (c n : ℕ) → ups_of (periods_to r c n) ≡ ups_to r c n }
 {}
 
-/// What is reported of a call that has ended, and what it wrote, are those of its periods up to its end.
+/// The report's line of a call that has ended, and the octets of its outgoing lines, follow from its periods up to its end.
 pub fn ended_calls_are_reported()
     ensures line { (r : Run) (t : ℕ) (ds : List Done) (left : List Order) (c s : ℕ) (end : CallEnd) → IsSoFar r t ds left →
         opened_at c ds ≡ Some s → end_of (given_in r) r.periods (done_in r) c s ≡ end →
@@ -196,7 +196,7 @@ pub fn ended_calls_are_reported()
         down_of_call r c ≡ down_octets (who_in r c) (periods_to r c (end.at - s)) }
 {}
 
-/// The report, once no order below the run's end is left: from what was executed, and what is left.
+/// The report, if no order before the run's end remains: from the executed and the remaining orders.
 pub fn whole_runs_are_reported()
     ensures { (r : Run) (t : ℕ) (ds : List Done) (left : List Order) (failed : List Line) → IsSoFar r t ds left →
         IfSome (first_stamp left) (λ s. r.periods ≤ s) → report_of r failed ≡ record {
@@ -208,14 +208,14 @@ pub fn whole_runs_are_reported()
         } }
 {}
 
-/// What is handed over in a span, a frame in each of its periods, is sent or lost.
+/// In each direction of a span, a frame is handed over in each period, and is sent or lost.
 pub fn handed_frames_are_sent_or_lost()
     ensures { (r : Run) (x : Span) →
         ((span_line r x).sent_a + (span_line r x).lost_a ≡ x.to - x.from) × ((span_line r x).sent_b + (span_line r x).lost_b ≡ x.to - x.from) }
 {}
 
-/// How many frames of a bridge a call sends is what its leg tells where the call's next bridge is made, or at its end:
-/// no frame that is made later carries what was handed over in the bridge. k is the place of the call's latest bridge.
+/// How many frames of a bridge a call sends is final when the call's next bridge is made, or at the call's end: no later frame
+/// carries what was handed over in the bridge. k is the index of the call's latest bridge.
 pub fn sent_frames_are_told()
     ensures bridge { (r : Run) (t : ℕ) (ds : List Done) (d : Done) (left : List Order) (a b c s k : ℕ) (x : Span) → IsSoFar r t ds (d.order ∷ left) →
         d.order.stamp ≡ t → t < r.periods → IsRun (whole_in r) (ds ++ d ∷ []) → d.result ≡ Ok (act.Bridged a b) → (c == a || c == b) ≡ true →
@@ -226,13 +226,13 @@ pub fn sent_frames_are_told()
         sent_by r (get_or (spans_in r) k x) c ≡ sent_now (periods_to r c (t - s)) (settings_now r ds t c) }
 {}
 
-/// A run to its end writes what it writes to an earlier period, and behind that the octets of the later periods.
+/// A run writes what it writes up to an earlier period, followed by the octets of the later periods.
 pub fn a_run_is_joined_of_two()
     ensures { (r : Run) (p : ℕ) → AreOrders r.orders → p ≤ r.periods → Joins r p }
 {}
 
-/// The mark of a run to one period or more is a mark: of calls that began before its period, in rising order of their numbers,
-/// with sums of 32 bits.
+/// The mark of a run of at least one period is a mark: its calls began before its period, their numbers rise, and its sums have
+/// 32 bits.
 pub fn marks_of_runs_are_marks()
     ensures { (r : Run) → 1 ≤ r.periods → r.periods ≤ 4294967295 → IsMark (mark_of r) }
 {}

@@ -1,4 +1,4 @@
--- Which calls are bridged. Lists of executed orders have the oldest first.
+-- Which calls are bridged. Lists of executed orders begin with the oldest.
 use Rattle.std.specs.Prelude.{◌≡◌, ℕ, ◌<◌, Bool, true, false, ◌&&◌, ◌||◌, if◌then◌else◌, ◌==◌, Option, Some, None, is_none, option_map, find, Result, Ok, List}
 use Rattle.std.specs.Prelude.{[], ◌∷◌, ◌++◌, length}
 use Rattle.std.proofs.Common.{get_or}
@@ -14,7 +14,7 @@ ends_bridge a b (Ok (act.Unbridged c d)) = c == a && d == b
 ends_bridge a b (Ok (act.Closed c (Some d))) = c == a && d == b || c == b && d == a
 ends_bridge a b _ = false
 
--- the bridge that an order with this stamp made, if any, with the stamp of the first later order that ended it
+-- The bridge that an order with this stamp made, if any, with the stamp of the first later order that ended it.
 abbrev pub bridge_by : ℕ → Result Act Refusal → List Done → List Bridge
 bridge_by stamp (Ok (act.Bridged a b)) later = record {
   a = a;
@@ -24,12 +24,12 @@ bridge_by stamp (Ok (act.Bridged a b)) later = record {
 } ∷ []
 bridge_by stamp _ later = []
 
--- all bridges, in the order of their acceptance
+-- all bridges, in the order in which they were accepted
 abbrev pub bridges : List Done → List Bridge
 bridges [] = []
 bridges (d ∷ later) = bridge_by d.order.stamp d.result later ++ bridges later
 
--- a bridge is one of this call
+-- this call is one of the bridge's two
 abbrev pub joins : ℕ → Bridge → Bool
 joins c x = c == x.a || c == x.b
 
@@ -41,7 +41,7 @@ other c x = if c == x.a then x.b else x.a
 abbrev pub lasts : (ℕ → Bool) → List Done → Bridge → Bool
 lasts gone ds x = is_none x.ended && is_open gone ds x.a && is_open gone ds x.b
 
--- A call is bridged where a bridge of it lasts: the bridge.
+-- A call is bridged if a bridge of it lasts; this is the bridge.
 abbrev pub bridge_of : (ℕ → Bool) → List Done → ℕ → Option Bridge
 bridge_of gone ds c = find (λ x. joins c x && lasts gone ds x) (bridges ds)
 
@@ -52,7 +52,7 @@ bridge_ended t ds c = find (λ x. joins c x && is_this t x.ended) (bridges ds)
 abbrev pub no_bridge : Bridge
 no_bridge = record { a = 0; b = 0; from = 0; ended = None }
 
--- Of the bridges of a call at most one lasts.
+-- At most one bridge of a call lasts.
 abbrev pub OneLasts : (ℕ → Bool) → List Done → List Bridge → Type 0
 OneLasts gone ds xs = (c j k : ℕ) → j < length xs → k < length xs → joins c (get_or xs j no_bridge) ≡ true → joins c (get_or xs k no_bridge) ≡ true →
     lasts gone ds (get_or xs j no_bridge) ≡ true → lasts gone ds (get_or xs k no_bridge) ≡ true → j ≡ k

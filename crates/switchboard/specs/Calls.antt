@@ -1,4 +1,4 @@
--- Which calls are open, and by which law. Lists of executed orders have the oldest first.
+-- Which calls are open, and their laws. Lists of executed orders begin with the oldest.
 use Rattle.std.specs.Prelude.{ℕ, ◌+◌, Bool, false, not, ◌&&◌, ◌==◌, nat_lt, Option, Some, None, is_some, option_map, find, Result, Ok, List}
 use Rattle.trau_alaw.specs.declared.Law.{Law}
 use Rattle.trau_alaw.specs.declared.Law.TheVariants.{A}
@@ -17,7 +17,7 @@ abbrev pub opened_by : Result Act Refusal → Option ℕ
 opened_by (Ok (act.Opened c law)) = Some c
 opened_by _ = None
 
--- the law that it opened that call with, and A-law where it opened none
+-- the law that an order opened its call with; A-law if it opened none
 abbrev pub law_by : Result Act Refusal → Law
 law_by (Ok (act.Opened c law)) = law
 law_by _ = A
@@ -27,7 +27,7 @@ abbrev pub closed_by : Result Act Refusal → Option ℕ
 closed_by (Ok (act.Closed c partner)) = Some c
 closed_by _ = None
 
--- there is a number, and it is this one
+-- the option holds this number
 abbrev pub is_this : ℕ → Option ℕ → Bool
 is_this c None = false
 is_this c (Some d) = c == d
@@ -36,7 +36,7 @@ is_this c (Some d) = c == d
 abbrev pub opened_at : ℕ → List Done → Option ℕ
 opened_at c ds = option_map (λ d. d.order.stamp) (find (λ d. is_this c (opened_by d.result)) ds)
 
--- A call's law is that of the order that opened it, and A-law where none did.
+-- A call's law is that of the order that opened it; A-law if none did.
 abbrev pub law_at : ℕ → List Done → Law
 law_at c ds = elim (find (λ d. is_this c (opened_by d.result)) ds) [ None ↦ A | Some d ↦ law_by d.result ]
 
@@ -44,15 +44,15 @@ law_at c ds = elim (find (λ d. is_this c (opened_by d.result)) ds) [ None ↦ A
 abbrev pub closed_at : ℕ → List Done → Option ℕ
 closed_at c ds = option_map (λ d. d.order.stamp) (find (λ d. is_this c (closed_by d.result)) ds)
 
--- A call is open where an order opened it, none closed it, and it isn't gone: `gone` are the calls that their lines ended.
+-- A call is open if an order opened it, none closed it, and it isn't gone: `gone` are the calls that ended without an order.
 abbrev pub is_open : (ℕ → Bool) → List Done → ℕ → Bool
 is_open gone ds c = is_some (opened_at c ds) && not (is_some (closed_at c ds)) && not (gone c)
 
--- A call has ended where an order opened it and it isn't open.
+-- A call has ended if an order opened it and it isn't open.
 abbrev pub has_ended : (ℕ → Bool) → List Done → ℕ → Bool
 has_ended gone ds c = is_some (opened_at c ds) && not (is_open gone ds c)
 
--- A call is gone at period t where its natural end is before t: the period that it was opened at, and the `whole` periods
--- that its lines give. At its natural end itself it is still open.
+-- A call's natural end is the period at which it was opened plus the `whole` periods that its lines give. The call is gone at period t if
+-- its natural end is before t. At its natural end itself it is still open.
 abbrev pub gone_at : (ℕ → ℕ) → ℕ → List Done → ℕ → Bool
 gone_at whole t ds c = elim (opened_at c ds) [ None ↦ false | Some s ↦ nat_lt (s + whole c) t ]

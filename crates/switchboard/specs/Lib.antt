@@ -1,4 +1,4 @@
--- The rules of the board, over the whole list of executed orders; what is seen of a board; its table.
+-- The board's rules, over the whole list of executed orders; the board as contracts see it; its table.
 pub mod Calls
 pub mod Bridges
 pub mod Replies

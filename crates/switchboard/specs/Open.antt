@@ -1,4 +1,4 @@
--- What a step of the board changes of who is open, by which law, and who is bridged with whom, with no history at hand.
+-- How a step of the board changes which calls are open, their laws and their partners, without the history of orders.
 use Rattle.std.specs.Prelude.{◌≡◌, ℕ, ◌<◌, ◌≢◌, Bool, true, false, ◌||◌, if◌then◌else◌, ◌==◌, Option, Some, None, is_some, option_map, IfSome, IfOk, List}
 use Rattle.std.specs.List.{All}
 use Rattle.call_number.specs.CallNumber.{IsCallNumber}
@@ -12,7 +12,7 @@ use Rattle.switchboard.specs.Bridges.{joins, other, bridge_of}
 use Rattle.switchboard.specs.Ends.{end_now}
 use Rattle.switchboard.specs.State.{State, gone_in}
 
--- the calls that were ever opened
+-- the numbers that were ever opened
 abbrev pub opened_now : State → ℕ → Bool
 opened_now s c = is_some (opened_at c s.done)
 
@@ -28,7 +28,7 @@ law_now s c = law_at c s.done
 abbrev pub partner_now : State → ℕ → Option ℕ
 partner_now s c = option_map (other c) (bridge_of (gone_in s) s.done c)
 
--- Only open calls have partners, a call isn't its own partner, and each is the partner of its partner.
+-- Only open calls have partners, a call isn't its own partner, and each is its partner's partner.
 pub record ArePairs (is_open : ℕ → Bool) (partner : ℕ → Option ℕ) : Type 0 where
   pub both_ways : (c p : ℕ) → partner c ≡ Some p → partner p ≡ Some c
   pub apart : (c p : ℕ) → partner c ≡ Some p → c ≢ p
@@ -39,7 +39,7 @@ pub record ArePairs (is_open : ℕ → Bool) (partner : ℕ → Option ℕ) : Ty
 abbrev pub open_without : ℕ → (ℕ → Bool) → ℕ → Bool
 open_without n is_open c = if c == n then false else is_open c
 
--- neither the call nor its partner has one
+-- The call and its partner, if it has one, have no partner now.
 abbrev pub partner_without_both : ℕ → Option ℕ → (ℕ → Option ℕ) → ℕ → Option ℕ
 partner_without_both n p partner c = if c == n || is_this c p then None else partner c
 
@@ -48,7 +48,7 @@ partner_without n partner = partner_without_both n (partner n) partner
 
 -- ---- an accepted order
 
--- there is a reply, it accepts its order, and P holds of the act
+-- a reply exists, it accepts its order, and P holds of the act
 abbrev pub IfAccepted : Option Reply → (Act → Type 0) → Type 0
 IfAccepted answer P = IfSome answer (λ reply. IfOk reply.result P)
 
@@ -68,15 +68,14 @@ abbrev pub law_after : Act → (ℕ → Law) → ℕ → Law
 law_after (act.Opened n law) laws c = if c == n then law else laws c
 law_after _ laws c = laws c
 
--- `bridge` makes two calls partners; `unbridge`, and `close` of a bridged call, part them.
+-- `bridge` makes two calls partners. `unbridge` parts them, and so does `close` of a bridged call.
 abbrev pub partner_after : Act → (ℕ → Option ℕ) → ℕ → Option ℕ
 partner_after (act.Closed n p) partner c = partner_without_both n p partner c
 partner_after (act.Bridged a b) partner c = if c == a then Some b else if c == b then Some a else partner c
 partner_after (act.Unbridged a b) partner c = partner_without_both a (Some b) partner c
 partner_after _ partner c = partner c
 
--- What an accepted order finds: a new number, or open calls; of calls to be bridged neither has a partner, and of those to be
--- parted each is the other's.
+-- What an accepted order finds: a new number, or open calls. Calls to be bridged have no partners; calls to be parted are each other's partners.
 abbrev pub Finds : Act → (ℕ → Bool) → (ℕ → Bool) → (ℕ → Option ℕ) → Type 0
 Finds (act.Opened n law) opened is_open partner = IsCallNumber n × (opened n ≡ false)
 Finds (act.Closed n p) opened is_open partner = (is_open n ≡ true) × (partner n ≡ p)
@@ -85,14 +84,14 @@ Finds (act.Unbridged a b) opened is_open partner = ((is_open a ≡ true) × (is_
 Finds (act.LevelSet n v) opened is_open partner = is_open n ≡ true
 Finds (act.DtxSet n m) opened is_open partner = is_open n ≡ true
 
--- A bridge ended before period t, by an order or a told end, and no order of stamp t ended it.
+-- A bridge ended before period t, by an order or a reported end, and no order of stamp t ended it.
 pub record HasEnded (told : ℕ → Option ℕ) (t : ℕ) (x : Bridge) : Type 0 where
   pub at : ℕ
   pub ended : end_now told x ≡ Some at
   pub before : at < t
   pub no_order : x.ended ≢ Some t
 
--- all earlier bridges of a call have
+-- all earlier bridges of a call have ended
 abbrev pub HasRested : (ℕ → Option ℕ) → List Bridge → ℕ → ℕ → Type 0
 HasRested told xs t c = All (λ x. joins c x ≡ true → HasEnded told t x) xs
 
@@ -103,7 +102,7 @@ Rests _ told xs t = Unit {0}
 
 -- ---- no change
 
--- no call more was opened, the same are open, and each has the law and the partner that it had
+-- the same numbers were opened, the same calls are open, and each has the same law and partner
 pub record IsAsBefore (old new : State) : Type 0 where
   pub opened : (c : ℕ) → opened_now new c ≡ opened_now old c
   pub is_open : (c : ℕ) → open_now new c ≡ open_now old c

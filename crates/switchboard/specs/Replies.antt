@@ -12,15 +12,15 @@ use Rattle.switchboard.specs.declared.table.Bridge.{Bridge}
 use Rattle.switchboard.specs.Calls.{Done, is_open, has_ended}
 use Rattle.switchboard.specs.Bridges.{bridge_of, bridge_ended, other}
 
--- What is known where an order comes: which calls are open, which have ended, a call's bridge, and the bridge of a call that
--- an earlier order of the same stamp ended.
+-- What is known when an order comes: the open calls, the ended calls, a call's bridge, and a call's bridge that an earlier order of the
+-- same stamp ended.
 pub record Known : Type 0 where
   pub is_open : ℕ → Bool
   pub has_ended : ℕ → Bool
   pub bridge_of : ℕ → Option Bridge
   pub bridge_ended : ℕ → Option Bridge
 
--- what the executed orders and the calls that are gone tell at period t
+-- what follows at period t from the executed orders and the calls that are gone
 abbrev pub known_of : (ℕ → Bool) → ℕ → List Done → Known
 known_of gone t ds = record {
   is_open = is_open gone ds;
@@ -54,7 +54,7 @@ not_bridged k c = refuse_if (is_none (k.bridge_of c)) (NotBridged c)
 abbrev pub same_call : ℕ → ℕ → Option Refusal
 same_call a b = refuse_if (a == b) (SameCall a)
 
--- 6: `bridge` that names a call whose bridge ended at this stamp
+-- 6: `bridge` that names a call whose bridge was ended by an order of this stamp
 abbrev pub draining : Known → ℕ → Option Refusal
 draining k c = option_map (λ x. Draining c (other c x)) (k.bridge_ended c)
 
@@ -91,12 +91,12 @@ first_of_tests (Some r ∷ rs) = Some r
 abbrev pub reply_from : Known → What → Result Act Refusal
 reply_from k w = elim (first_of_tests (tests k w)) [ None ↦ Ok (act_of k w) | Some r ↦ Err r ]
 
--- A call that is opened has a number of a call, and a level that is set is no number below 0.
+-- A call that is opened has a call's number, and a level that is set isn't negative.
 abbrev pub IsInRange : Act → Type 0
 IsInRange (act.Opened c law) = IsCallNumber c
 IsInRange (act.LevelSet c v) = pos 0 ≤ℤ v
 IsInRange _ = Unit {0}
 
--- the reply to an order after these, where `gone` are the calls that their lines ended
+-- the reply to an order after these; `gone` are the calls that ended without an order
 abbrev pub reply_to : (ℕ → Bool) → List Done → Order → Result Act Refusal
 reply_to gone ds o = reply_from (known_of gone o.stamp ds) o.what

@@ -24,13 +24,13 @@ pub record Rows : Type 0 where
 abbrev pub never : Call
 never = record { opened = None; closed = None; gone = None; bridge = None }
 
--- there is a place for each call number, and the places and numbers that are kept are there
+-- Each call number has an entry, and the indices and numbers that are kept are within the lists.
 pub record IsSized (calls : List Call) (bridges : List Bridge) : Type 0 where
   pub all : length calls ≡ NUMBERS
   pub places : (c : ℕ) → IfSome (get_or calls c never).bridge (λ k. k < length bridges)
   pub named : (k : ℕ) → k < length bridges → ((get_or bridges k no_bridge).a < NUMBERS) × ((get_or bridges k no_bridge).b < NUMBERS)
 
--- ---- what is read
+-- ---- reading
 
 abbrev pub call_in : Rows → ℕ → Call
 call_in r c = get_or r.calls c never
@@ -50,11 +50,11 @@ is_live_in r x = is_none x.ended && is_open_in r x.a && is_open_in r x.b
 abbrev pub some_if : {X : Type 0} → Bool → X → Option X
 some_if b x = if b then Some x else None
 
--- the latest bridge of a call, where both of its calls are open
+-- the latest bridge of a call, if no order has ended it and both of its calls are open
 abbrev pub bridge_in : Rows → ℕ → Option Bridge
 bridge_in r c = elim (call_in r c).bridge [ None ↦ None | Some k ↦ some_if (is_live_in r (bridge_at_place r k)) (bridge_at_place r k) ]
 
--- the latest bridge of a call, where an order with stamp t ended it
+-- the latest bridge of a call, if an order with stamp t ended it
 abbrev pub bridge_ended_in : Rows → ℕ → ℕ → Option Bridge
 bridge_ended_in r t c = elim (call_in r c).bridge [ None ↦ None | Some k ↦ some_if (is_this t (bridge_at_place r k).ended) (bridge_at_place r k) ]
 
@@ -72,11 +72,11 @@ bridge_end_in r x = least x.ended (least (call_in r x.a).gone (call_in r x.b).go
 abbrev pub span_in : Rows → Bridge → Option Span
 span_in r x = option_map (span_to x) (bridge_end_in r x)
 
--- how many of the bridges before place k are over
+-- the number of bridges before index k that have ended
 abbrev pub position_in : Rows → ℕ → ℕ
 position_in r k = length (filter_map (span_in r) (take k r.bridges))
 
--- ---- what is written
+-- ---- writing
 
 abbrev pub opened_in : Rows → ℕ → ℕ → Rows
 opened_in r t c = record r { calls = set r.calls c (record (call_in r c) { opened = Some t }) }
@@ -103,7 +103,7 @@ parted_at r t k = record (ended_at_place r t k) { spans = insert r.spans (positi
 abbrev pub parted_in : Rows → ℕ → ℕ → Rows
 parted_in r t c = elim (call_in r c).bridge [ None ↦ r | Some k ↦ parted_at r t k ]
 
--- the spans after the end of a call whose latest bridge is at place k
+-- the spans after the end of a call whose latest bridge is at index k
 abbrev pub spans_after : Rows → ℕ → ℕ → List Span
 spans_after r at k = elim (bridge_end_in r (bridge_at_place r k)) [
   | None ↦ insert r.spans (position_in r k) (span_to (bridge_at_place r k) at)
@@ -116,7 +116,7 @@ spans_ended_in r at c = record r { spans = elim (call_in r c).bridge [ None ↦ 
 abbrev pub gone_in_rows : Rows → ℕ → ℕ → Rows
 gone_in_rows r at c = record r { calls = set r.calls c (record (call_in r c) { gone = Some at }) }
 
--- a call's lines end it at a period
+-- a call ends at this period without an order
 abbrev pub call_ended_in : Rows → ℕ → ℕ → Rows
 call_ended_in r at c = gone_in_rows (spans_ended_in r at c) at c
 
@@ -140,6 +140,6 @@ passes (Some r) = Err r
 abbrev pub rows : List Call → List Bridge → List Span → ℕ → Rows
 rows cs bs ss most = record { calls = cs; bridges = bs; spans = ss; most = most }
 
--- the calls that were told to have ended
+-- the calls whose end was reported
 abbrev pub gone_of : Rows → ℕ → Bool
 gone_of r c = is_some (call_in r c).gone

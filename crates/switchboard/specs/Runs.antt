@@ -1,4 +1,4 @@
--- The replies to a whole list of orders, and what ties a board to it.
+-- The replies to a whole list of orders, and how a board relates to it.
 use Rattle.std.specs.Prelude.{◌≡◌, ℕ, true, not, nat_lt, None, Some, is_some, List, [], ◌∷◌, ◌++◌, map, filter}
 use Rattle.trau_orders.specs.declared.order.Order.{Order}
 use Rattle.switchboard.specs.Calls.{Done, opened_at, closed_at, law_at, gone_at}
@@ -6,17 +6,17 @@ use Rattle.switchboard.specs.Replies.{known_of, reply_to}
 use Rattle.switchboard.specs.State.{State, gone_in, told_in}
 use Rattle.switchboard.specs.Ends.{Given, ends_at, spans_now}
 
--- Orders are executed one after another; `whole` are the whole periods that a call's lines give.
+-- Orders are executed one after another; `whole` is the number of whole periods that each call's lines give.
 abbrev pub executed : (ℕ → ℕ) → List Done → List Order → List Done
 executed whole ds [] = ds
 executed whole ds (o ∷ os) =
     executed whole (ds ++ record { order = o; result = reply_to (gone_at whole o.stamp ds) ds o } ∷ []) os
 
--- In a run of P periods an order is executed exactly where its stamp is below P.
+-- In a run of P periods an order is executed if and only if its stamp is below P.
 abbrev pub done_of : (ℕ → ℕ) → ℕ → List Order → List Done
 done_of whole P orders = executed whole [] (filter (λ o. nat_lt o.stamp P) orders)
 
--- the orders that are left then
+-- the other orders
 abbrev pub left_of : ℕ → List Order → List Order
 left_of P orders = filter (λ o. not (nat_lt o.stamp P)) orders
 
@@ -24,16 +24,15 @@ left_of P orders = filter (λ o. not (nat_lt o.stamp P)) orders
 abbrev pub IsRun : (ℕ → ℕ) → List Done → Type 0
 IsRun whole ds = ds ≡ executed whole [] (map (λ d. d.order) ds)
 
--- Of the calls that weren't closed, those were told that are gone at period t, and no others.
+-- Of the calls that were opened and not closed, the reported ones are those that are gone at period t.
 abbrev pub TellsEnds : (ℕ → ℕ) → ℕ → State → Type 0
 TellsEnds whole t s = (c : ℕ) → is_some (opened_at c s.done) ≡ true → closed_at c s.done ≡ None → gone_in s c ≡ gone_at whole t s.done c
 
--- Each call that was opened was closed, or was told to have ended where its lines and the run's P periods end it.
+-- Each call that was opened was closed, or was reported as ended where its lines and the run's P periods end it.
 abbrev pub AllEnded : (ℕ → Given) → ℕ → State → Type 0
 AllEnded given P s = (c : ℕ) → is_some (opened_at c s.done) ≡ true → closed_at c s.done ≡ None → told_in s c ≡ Some (ends_at given P s.done c)
 
--- Nothing is changed: each later order finds the same, no end more is told, each call has the same law, and the spans are the
--- same.
+-- Nothing changes: later orders find the same, no end is added, each call has the same law, and the spans are the same.
 pub record IsUnchanged (old new : State) : Type 0 where
   pub known : (t : ℕ) → known_of (gone_in new) t new.done ≡ known_of (gone_in old) t old.done
   pub told : new.told ≡ old.told

@@ -1,4 +1,4 @@
--- What the table keeps of the orders that were executed.
+-- How the table reflects the executed orders.
 use Rattle.std.specs.Prelude.{◌≡◌, ◌≢◌, ◌+◌, ◌<◌, ◌≤◌, ℕ, true, false, Option, Some, None, is_some, Result, Ok, List, [], ◌∷◌, length, map, drop}
 use Rattle.std.proofs.Common.{get_or}
 use Rattle.std.specs.List.{filter_map}
@@ -15,19 +15,19 @@ use Rattle.switchboard.specs.Bridges.{bridges, joins, no_bridge}
 use Rattle.switchboard.specs.Rows.{Rows, call_in, bridge_at_place, is_open_in, bridge_end_in, span_in}
 use Rattle.switchboard.specs.State.{State, last_stamp, numbered}
 
--- a bridge was over before period t
+-- a bridge had ended before period t
 pub record IsOver (r : Rows) (t : ℕ) (x : Bridge) : Type 0 where
   pub at : ℕ
   pub ended : bridge_end_in r x ≡ Some at
   pub before : at < t
 
--- the place of the latest bridge of a call
+-- the index of the latest bridge of a call
 abbrev pub IsLatest : List Bridge → ℕ → Option ℕ → Type 0
 IsLatest bs c None = (j : ℕ) → j < length bs → joins c (get_or bs j no_bridge) ≡ false
 IsLatest bs c (Some k) =
     (k < length bs) × (joins c (get_or bs k no_bridge) ≡ true) × ((j : ℕ) → k < j → j < length bs → joins c (get_or bs j no_bridge) ≡ false)
 
--- a bridge at a time
+-- what holds of a bridge in a table at a time
 pub record IsSound (r : Rows) (now : ℕ) (x : Bridge) : Type 0 where
   pub from : x.from ≤ now
   pub apart : x.a ≢ x.b
@@ -35,8 +35,8 @@ pub record IsSound (r : Rows) (now : ℕ) (x : Bridge) : Type 0 where
   pub ended : (s : ℕ) → x.ended ≡ Some s → (bridge_end_in r x ≡ Some s) × (s ≤ now)
   pub lasts : bridge_end_in r x ≡ None → (is_open_in r x.a ≡ true) × (is_open_in r x.b ≡ true)
 
--- the calls and bridges of a table at a time: a call's earlier bridges were over before its later ones began, and a call
--- that wasn't opened wasn't closed and has no end
+-- What holds of a table at a time: a call's earlier bridges had ended before its later ones began; a call that wasn't opened wasn't closed
+-- and has no end.
 pub record IsTable (r : Rows) (now : ℕ) : Type 0 where
   pub latest : (c : ℕ) → c < NUMBERS → IsLatest r.bridges c (call_in r c).bridge
   pub sound : (k : ℕ) → k < length r.bridges → IsSound r now (bridge_at_place r k)
@@ -47,7 +47,7 @@ pub record IsTable (r : Rows) (now : ℕ) : Type 0 where
   pub unused : (c : ℕ) → (call_in r c).opened ≡ None → ((call_in r c).closed ≡ None) × ((call_in r c).gone ≡ None)
   pub spans : r.spans ≡ filter_map (span_in r) r.bridges
 
--- the table of a list of executed orders
+-- the table is that of a list of executed orders
 pub record Stands (r : Rows) (ds : List Done) : Type 0 where
   pub opened : (c : ℕ) → c < NUMBERS → (call_in r c).opened ≡ opened_at c ds
   pub closed : (c : ℕ) → c < NUMBERS → (call_in r c).closed ≡ closed_at c ds
@@ -63,8 +63,8 @@ dones _ _ = []
 abbrev pub board_state : List Order → List Reply → Rows → State
 board_state os xs r = record { left = drop (length xs) os; done = dones os xs; told = map (λ e. e.gone) r.calls }
 
--- orders, the replies to the first of them and a table stand for a board: the table is that of these replies, with a place
--- for each call number
+-- Orders, replies and a table make a board: the replies are those to the first orders, the table is that of these replies, and each call
+-- number has an entry.
 pub record IsBoard (os : List Order) (xs : List Reply) (r : Rows) : Type 0 where
   pub orders : AreOrders os
   pub few : length xs ≤ length os
@@ -73,7 +73,7 @@ pub record IsBoard (os : List Order) (xs : List Reply) (r : Rows) : Type 0 where
   pub places : length r.calls ≡ NUMBERS
   pub stands : Stands r (dones os xs)
 
--- no stamp of a list is below the first
+-- no stamp in the list is below the first one
 pub record AreRising (os : List Order) : Type 0 where
   pub rising : (k : ℕ) (d : Order) → k < length os → (get_or os 0 d).stamp ≤ (get_or os k d).stamp
 

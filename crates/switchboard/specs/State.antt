@@ -1,4 +1,4 @@
--- What is seen of a board, and its steps.
+-- The board as contracts see it, and its steps.
 use Rattle.std.specs.Prelude.{◌+◌, ◌<◌, ℕ, Bool, if◌then◌else◌, ◌==◌, Option, Some, None, is_some, IfSome, List, [], ◌∷◌, ◌++◌, length, map, drop, replicate}
 use Rattle.std.proofs.Common.{get_or, set}
 use Rattle.trau_orders.specs.declared.order.Order.{Order}
@@ -7,22 +7,22 @@ use Rattle.switchboard.specs.declared.act.Reply.{Reply}
 use Rattle.switchboard.specs.Calls.{Done}
 use Rattle.switchboard.specs.Replies.{reply_to}
 
--- the orders that are left; those that were executed, with their replies, the oldest first; the ends that were told, by
--- call number: the period at which a call's lines ended it
+-- The remaining orders; the executed orders with their replies, the oldest first; and by call number the reported end: the first period
+-- after the call.
 pub record State : Type 0 where
   pub left : List Order
   pub done : List Done
   pub told : List (Option ℕ)
 
--- the end that was told of a call
+-- the reported end of a call
 abbrev pub told_in : State → ℕ → Option ℕ
 told_in s c = get_or s.told c None
 
--- the calls of which an end was told
+-- the calls with a reported end
 abbrev pub gone_in : State → ℕ → Bool
 gone_in s c = is_some (told_in s c)
 
--- each end that was told lies before period t
+-- each reported end lies before period t
 abbrev pub EndBefore : ℕ → State → Type 0
 EndBefore t s = (c : ℕ) → IfSome (told_in s c) (λ at. at < t)
 
@@ -30,7 +30,7 @@ EndBefore t s = (c : ℕ) → IfSome (told_in s c) (λ at. at < t)
 abbrev pub new_board : List Order → State
 new_board os = record { left = os; done = []; told = replicate NUMBERS None }
 
--- all orders, whether executed or left
+-- all orders, executed and remaining
 abbrev pub orders_of : State → List Order
 orders_of s = map (λ d. d.order) s.done ++ s.left
 
@@ -43,7 +43,7 @@ abbrev pub first_stamp : List Order → Option ℕ
 first_stamp [] = None
 first_stamp (o ∷ os) = Some o.stamp
 
--- the stamp of the last order that was executed, 0 where there is none
+-- the stamp of the last executed order, 0 if there is none
 abbrev pub last_stamp : List Done → ℕ
 last_stamp [] = 0
 last_stamp (d ∷ []) = d.order.stamp
@@ -51,21 +51,21 @@ last_stamp (d ∷ e ∷ ds) = last_stamp (e ∷ ds)
 
 -- ---- an order
 
--- the next order, where it has this stamp
+-- the next order, if it has this stamp
 abbrev pub due : List Order → ℕ → Option Order
 due [] period = None
 due (o ∷ os) period = if o.stamp == period then Some o else None
 
--- an order and its reply, after all that were executed and the ends that were told
+-- an order and its reply, after the executed orders and the reported ends
 abbrev pub done_by : State → Order → Done
 done_by s o = record { order = o; result = reply_to (gone_in s) s.done o }
 
--- the state after the next order, where one is due
+-- the state after the next order, if one is due
 abbrev pub after_turn : State → Option Order → State
 after_turn s None = s
 after_turn s (Some o) = record s { left = drop 1 s.left; done = s.done ++ done_by s o ∷ [] }
 
--- the reply to it, with its number
+-- its reply, with its number
 abbrev pub reply_of : State → Option Order → Option Reply
 reply_of s None = None
 reply_of s (Some o) = let d = done_by s o in Some (record { order = length s.done + 1; result = d.result })
@@ -77,6 +77,6 @@ numbered n (d ∷ ds) = record { order = n + 1; result = d.result } ∷ numbered
 
 -- ---- an end
 
--- the state after the lines of a call ended it at a period
+-- the state after a call's end at this period was reported
 abbrev pub told_more : State → ℕ → ℕ → State
 told_more s call at = record s { told = set s.told call (Some at) }

@@ -4,7 +4,7 @@
 use trau_alaw::Law;
 use trau_orders::DtxMode;
 
-/// Why an order is refused. `partner` is the other call of the bridge that is meant.
+/// Why an order is refused. `partner` is the other call of the bridge in question.
 #[derive(Clone, Copy, Debug, PartialEq, Eq)]
 pub enum Refusal {
     /// `open` of a call that is open.
@@ -26,12 +26,12 @@ pub enum Refusal {
 /// What an accepted order does, at the start of the period that its stamp names.
 #[derive(Clone, Copy, Debug, PartialEq, Eq)]
 pub enum Act {
-    /// The law is that of the call's lines from and to the exchange.
+    /// `law` is that of the call's lines from and to the exchange.
     Opened { call: u32, law: Law },
-    /// `partner` is the other call of the bridge that ends with the call; None where the call wasn't bridged.
+    /// `partner` is the other call of the bridge that ends with the call; None if the call wasn't bridged.
     Closed { call: u32, partner: Option<u32> },
     Bridged { a: u32, b: u32 },
-    /// The two calls stand as the order that made the bridge named them.
+    /// The two calls in the order in which the bridge's order named them.
     Unbridged { a: u32, b: u32 },
     /// The peak from which a frame of the call counts as speech, 0 to 32,767.
     LevelSet { call: u32, level: i16 },
@@ -45,7 +45,7 @@ pub struct Reply {
     pub result: Result<Act, Refusal>,
 }
 
-/// A bridge that has ended: from its first period to the first one after it.
+/// A bridge that has ended: its first period, and the first one after it.
 #[derive(Clone, Copy, Debug, PartialEq, Eq)]
 pub struct Span {
     pub a: u32,

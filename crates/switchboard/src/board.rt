@@ -1,4 +1,4 @@
-//! The board: it executes the orders one after another and is told of the ends of calls.
+//! The board: it executes the orders one after another, and callers report to it which calls have ended.
 
 ghost use Rattle.std.specs.Prelude.{◌≡◌, ◌<◌, ◌≤◌, ◌≢◌, ◌↔◌, ℕ, [], true, false, None, IsNone, IsSome, IfOk, IfSome, OnErr};
 ghost use Rattle.std.specs.List.{All};
@@ -23,13 +23,13 @@ use std::marker::Model;
 use trau_io::CallEnd;
 use trau_orders::{Order, Orders};
 
-/// The orders of a run and what has become of them. Contracts see the orders that are left, those that were executed
-/// with their replies, and the ends of calls that were told.
+/// The state of a run's orders. Contracts see the remaining orders, the executed ones with their replies, and the
+/// reported ends of calls.
 #[derive(Drop)]
 pub struct Board {
     orders: Orders,
     table: Table,
-    // The next order is that at the place of the next reply.
+    // The index of the next order is the number of replies.
     replies: Vec<Reply>,
 }
 
@@ -47,7 +47,7 @@ impl Model for Board {
 }
 
 impl Board {
-    /// The board before the first order. It takes all the memory that it will need.
+    /// The board before the first order. It allocates all the memory that it will need.
     pub fn new(alloc: Global, orders: Orders) -> Result<Board, AllocError>
         ensures start { IfOk result (λ b. b ≡ new_board orders) }
         ensures untold { IfOk result (λ b. (t : ℕ) → EndBefore t b) }
@@ -68,7 +68,6 @@ impl Board {
         })
     }
 
-    // The next order.
     fn next(&self) -> Option<Order>
         ensures value { result ≡ first_order self.now.left }
         ensures calls { IfSome result (λ o. NamesCalls o.what) }
@@ -86,14 +85,14 @@ impl Board {
         self.next().map(|order| order.stamp)
     }
 
-    /// Executes the next order, where its stamp is this period, and gives the reply.
+    /// Executes the next order and returns the reply, if the order's stamp is this period.
     ///
-    /// No order that is left has a smaller stamp, and each end that was told lies before this period.
+    /// No remaining order may have a smaller stamp, and each reported end must lie before this period.
     pub fn turn(&mut self, period: u32) -> Option<Reply>
         requires orders { IfSome (first_stamp self.old.left) (λ s. period ≤ s) }
         requires ends { EndBefore period self.old }
 
-        // One step: an order that is due is executed, and its reply is that of the rules.
+        // An order that is due is executed; its reply is that of the rules.
         ensures state { self.new ≡ after_turn self.old (due self.old.left period) }
         ensures answer { result ≡ reply_of self.old (due self.old.left period) }
         ensures none { IsNone result ↔ All (λ o. o.stamp ≢ period) self.old.left }
@@ -101,8 +100,8 @@ impl Board {
         // A refused order changes nothing.
         ensures refused { IfSome result (λ reply. OnErr reply.result (IsUnchanged self.old self.new)) }
 
-        // What an accepted order finds, and what it changes of who was opened, who is open, by which law, and who is bridged
-        // with whom.
+        // What an accepted order finds, and how it changes which numbers were opened, which calls are open, their
+        // laws and their partners.
         ensures finds { IfAccepted result (λ act. Finds act (opened_now self.old) (open_now self.old) (partner_now self.old)) }
         ensures rests { IfAccepted result (λ act. Rests act (told_in self.old) (bridges self.old.done) period) }
         ensures opened { IfAccepted result (λ act. (c : ℕ) → opened_now self.new c ≡ opened_after act (opened_now self.old) c) }
@@ -110,15 +109,15 @@ impl Board {
         ensures law { IfAccepted result (λ act. (c : ℕ) → law_now self.new c ≡ law_after act (law_now self.old) c) }
         ensures partner { IfAccepted result (λ act. (c : ℕ) → partner_now self.new c ≡ partner_after act (partner_now self.old) c) }
 
-        // Where no order is due, or it is refused, these stay.
+        // If no order is due, or it is refused, these stay.
         ensures nothing { IsNone result → self.new ≡ self.old }
         ensures stays { IfSome result (λ reply. OnErr reply.result (IsAsBefore self.old self.new)) }
 
-        // Where the ends of the calls are told in time, all replies are those to the whole list of orders.
+        // If the ends of the calls are reported in time, all replies are those to the whole list of orders.
         ensures run { (whole : ℕ → ℕ) → IsRun whole self.old.done → TellsEnds whole period self.old → IsRun whole self.new.done }
 
-        // What callers go on with: no order is lost, no end is told, the last order that was executed is of this period,
-        // and what an act names is in its range.
+        // For callers: no order is lost, no end is added, the last executed order is of this period, and what an
+        // act names is in its range.
         ensures kept { orders_of self.new ≡ orders_of self.old }
         ensures told { (t : ℕ) → EndBefore t self.old → EndBefore t self.new }
         ensures last { IsSome result → last_stamp self.new.done ≡ period }
@@ -156,22 +155,22 @@ impl Board {
         reply
     }
 
-    /// Whether a call is open after the orders and ends so far.
+    /// Whether a call is open after the executed orders and the reported ends.
     pub fn is_open(&self, call: u32) -> bool
         ensures { result ≡ is_open (gone_in self.now) self.now.done call }
     {
         (call as usize) < NUMBERS && self.table.is_open(call)
     }
 
-    /// Is told that the lines of an open call ended it, or that the run has no further periods for it. The end is not
-    /// below the stamp of any order executed so far. Ends may be told in any order.
+    /// Reports to the board that an open call's lines ended it, or that the run has no further periods. The end
+    /// isn't below the stamp of an executed order. Ends may be reported in any order.
     pub fn ended(&mut self, end: CallEnd)
         requires open { is_open (gone_in self.old) self.old.done end.call ≡ true }
         requires late { last_stamp self.old.done ≤ end.at }
         ensures state { self.new ≡ told_more self.old end.call end.at }
         ensures told { (t : ℕ) → end.at < t → EndBefore t self.old → EndBefore t self.new }
 
-        // The call is open no more, and neither it nor its partner has one. Laws stay.
+        // The call is no longer open, and it and its partner have none now. Laws stay.
         ensures opened { (c : ℕ) → opened_now self.new c ≡ opened_now self.old c }
         ensures open { (c : ℕ) → open_now self.new c ≡ open_without end.call (open_now self.old) c }
         ensures law { (c : ℕ) → law_now self.new c ≡ law_now self.old c }
@@ -180,14 +179,14 @@ impl Board {
         self.table.end_call(end.call, end.at);
     }
 
-    /// The replies so far, in the order of the orders.
+    /// The replies so far, in the order of the orders' numbers.
     pub fn replies(&self) -> &[Reply]
         ensures { result.now ≡ numbered 0 self.now.done }
     {
         self.replies.as_slice()
     }
 
-    /// The bridges that have ended, in the order of their acceptance.
+    /// The spans of the bridges that have ended, in the order in which the bridges were accepted.
     pub fn spans(&self) -> &[Span]
         ensures now { result.now ≡ spans_now (told_in self.now) self.now.done }
 

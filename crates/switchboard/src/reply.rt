@@ -1,5 +1,4 @@
-//! The reply to an order, from the table: the tests of the order one after another, of which the first that fails
-//! refuses it.
+//! The reply to an order, from the table: the order's tests run one after another, and the first that fails refuses it.
 
 ghost use Rattle.std.specs.Prelude.{◌≡◌, ◌<◌, ℕ, not, option_map, length};
 ghost use Rattle.std.specs.List.{filter_map};
@@ -156,7 +155,6 @@ impl Table {
 }
 
 impl Bridge {
-    // The other call of the bridge.
     fn other(&self, call: u32) -> u32
         ensures { result ≡ other call self.now }
     {

@@ -1,4 +1,4 @@
-//! The table of calls and bridges that the board keeps of the executed orders and the ends that were told.
+//! The table of calls and bridges: what the board keeps of the executed orders and the reported ends.
 
 ghost use Rattle.std.specs.Prelude.{◌≡◌, ◌<◌, ◌≤◌, [], length, IfOk, IfSome, replicate, slice_set};
 ghost use Rattle.std.specs.List.{filter_map, insert};
@@ -17,9 +17,9 @@ pub struct Call {
     /// The stamps of the orders that opened and closed it.
     pub opened: Option<u32>,
     pub closed: Option<u32>,
-    /// The period at which its lines ended it.
+    /// The first period after its end, if its lines or the run's end ended it.
     pub gone: Option<u32>,
-    /// The place of its latest bridge in the table.
+    /// The index of its latest bridge in the table.
     pub bridge: Option<usize>,
 }
 
@@ -30,7 +30,8 @@ const NEVER_OPENED: Call = Call {
     bridge: None,
 };
 
-/// An accepted bridge: its calls as the order named them, the order's stamp, and the stamp of the order that ended it.
+/// An accepted bridge: its calls in the order of the order that made it, that order's stamp, and the stamp of the
+/// order that ended it.
 #[derive(Clone, Copy)]
 pub struct Bridge {
     pub a: u32,
@@ -39,13 +40,13 @@ pub struct Bridge {
     pub ended: Option<u32>,
 }
 
-/// The calls by their numbers, the bridges in the order of their acceptance, and the spans of those that have ended.
+/// The calls by number, the bridges in the order in which they were accepted, and the spans of those that have ended.
 #[derive(Drop)]
 pub struct Table {
     calls: Vec<Call>,
     bridges: Vec<Bridge>,
     spans: Vec<Span>,
-    // Room is kept for so many bridges and spans.
+    // The room that is kept for bridges, and for spans.
     most: usize,
 }
 
@@ -80,9 +81,9 @@ impl Table {
         self.spans.as_slice()
     }
 
-    // ---- what is read
+    // ---- reading
 
-    /// Whether a call was opened, and was neither closed nor ended by its lines.
+    /// Whether a call was opened, and neither closed nor ended by its lines or the run's end.
     pub fn is_open(&self, call: u32) -> bool
         requires { call < NUMBERS }
         ensures { result ≡ is_open_in self.now call }
@@ -91,7 +92,7 @@ impl Table {
         call.opened.is_some() && call.closed.is_none() && call.gone.is_none()
     }
 
-    /// Whether a call was opened and isn't open.
+    /// Whether a call was opened and isn't open now.
     pub fn has_ended(&self, call: u32) -> bool
         requires { call < NUMBERS }
         ensures { result ≡ has_ended_in self.now call }
@@ -99,7 +100,7 @@ impl Table {
         self.calls[call as usize].opened.is_some() && !self.is_open(call)
     }
 
-    /// The bridge of a call that lasts.
+    /// The bridge of a call that hasn't ended, if there is one.
     pub fn bridge_of(&self, call: u32) -> Option<Bridge>
         requires { call < NUMBERS }
         ensures value { result ≡ bridge_in self.now call }
@@ -113,7 +114,7 @@ impl Table {
         }
     }
 
-    /// The bridge of a call that an order with this stamp ended.
+    /// The latest bridge of a call, if an order with this stamp ended it.
     pub fn bridge_ended(&self, call: u32, stamp: u32) -> Option<Bridge>
         requires { call < NUMBERS }
         ensures { result ≡ bridge_ended_in self.now stamp call }
@@ -126,7 +127,7 @@ impl Table {
         }
     }
 
-    // Where a bridge has ended.
+    // The first period after a bridge, if it has ended.
     fn end_of(&self, bridge: &Bridge) -> Option<u32>
         requires a { bridge.now.a < NUMBERS }
         requires b { bridge.now.b < NUMBERS }
@@ -139,7 +140,7 @@ impl Table {
         least(bridge.ended, calls)
     }
 
-    // How many of the bridges before a place have ended: the place of its span.
+    // The number of bridges before index `place` that have ended, which is the index of its span.
     fn position(&self, place: usize) -> usize
         requires { place ≤ length self.now.bridges }
         ensures { result ≡ position_in self.now place }
@@ -153,7 +154,7 @@ impl Table {
         over
     }
 
-    // The place of a call's latest bridge.
+    // The index of a call's latest bridge.
     fn place_of(&self, call: u32) -> Option<usize>
         requires { call < NUMBERS }
         ensures value { result ≡ (call_in self.now call).bridge }
@@ -171,9 +172,9 @@ impl Table {
         self.bridges[place]
     }
 
-    // ---- what is written
+    // ---- writing
 
-    /// An order opens a call.
+    /// Marks a call as opened by an order.
     pub fn open(&mut self, call: u32, stamp: u32)
         requires { call < NUMBERS }
         ensures { self.new ≡ opened_in self.old stamp call }
@@ -181,7 +182,7 @@ impl Table {
         self.calls[call as usize].opened = Some(stamp);
     }
 
-    /// An order closes a call.
+    /// Marks a call as closed by an order.
     pub fn close(&mut self, call: u32, stamp: u32)
         requires { call < NUMBERS }
         ensures { self.new ≡ closed_in self.old stamp call }
@@ -189,7 +190,7 @@ impl Table {
         self.calls[call as usize].closed = Some(stamp);
     }
 
-    /// An order bridges two calls.
+    /// Adds a bridge of two calls, made by an order.
     pub fn join(&mut self, a: u32, b: u32, stamp: u32)
         requires a { a < NUMBERS }
         requires b { b < NUMBERS }
@@ -207,7 +208,7 @@ impl Table {
         });
     }
 
-    /// An order ends the latest bridge of a call, which lasted until now.
+    /// Ends the latest bridge of a call by an order. The bridge lasted until now.
     pub fn part(&mut self, call: u32, stamp: u32)
         requires call { call < NUMBERS }
         requires spans { self.old.spans ≡ filter_map (span_in self.old) self.old.bridges }
@@ -223,8 +224,8 @@ impl Table {
         self.add_span(position, span_to(&bridge, stamp));
     }
 
-    /// The lines of a call end it at a period, and with it its latest bridge: the end of that one is lowered where it
-    /// was later.
+    /// Marks a call as ended by its lines. Its latest bridge ends with it; if that bridge has a later end, `at`
+    /// replaces it.
     pub fn end_call(&mut self, call: u32, at: u32)
         requires call { call < NUMBERS }
         requires spans { self.old.spans ≡ filter_map (span_in self.old) self.old.bridges }
@@ -285,7 +286,7 @@ impl Table {
     }
 }
 
-// The lesser, where there are two.
+// The lesser of those that exist.
 fn least(one: Option<u32>, other: Option<u32>) -> Option<u32>
     ensures { result ≡ least one other }
 {

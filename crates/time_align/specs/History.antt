@@ -1,16 +1,15 @@
--- Time alignment by all that happened (this project's profile, in the manner of GSM 08.60).
--- A history has the newest event first.
+-- Time alignment by all past events (this project's profile, modelled on GSM 08.60). A history has the newest event first.
 use Rattle.std.specs.Prelude.{ℕ, ℤ, pos, Bool, true, false, if◌then◌else◌, Option, Some, List, [], ◌∷◌}
 use Rattle.time_align.specs.Shift.{latest_shift}
 
--- what can happen: a field is asked, shifts are frozen or thawed, a frame adopts its shift
+-- the events: a field is asked, shifts are frozen or thawed, a frame adopts its shift
 pub data Event : Type 0 where
   Asks : ℕ → Event
   Freezes : Event
   Thaws : Event
   Adopts : Event
 
--- whether shifts are frozen: as the latest freeze or thaw says, and not before any
+-- whether shifts are frozen: the latest freeze or thaw decides, and at first they aren't
 abbrev pub is_frozen : List Event → Bool
 is_frozen [] = false
 is_frozen (Asks field ∷ past) = is_frozen past
@@ -18,7 +17,7 @@ is_frozen (Freezes ∷ past) = true
 is_frozen (Thaws ∷ past) = false
 is_frozen (Adopts ∷ past) = is_frozen past
 
--- the fields asked since a frame last adopted a shift while none were frozen, the newest first
+-- the fields asked since a frame was last made while shifts weren't frozen, the newest first
 abbrev pub fields_since : List Event → List (Option ℕ)
 fields_since [] = []
 fields_since (Asks field ∷ past) = Some field ∷ fields_since past

@@ -1,7 +1,7 @@
--- What time alignment keeps (this project's profile, in the manner of GSM 08.60).
+-- What time alignment keeps (this project's profile, modelled on GSM 08.60).
 use Rattle.std.specs.Prelude.{ℤ, Bool, false, Option, None}
 
--- the shift asked for that no frame has adopted yet, and whether shifts are frozen
+-- the shift that was asked for and that no frame has adopted yet, and whether shifts are frozen
 pub record AlignMemory : Type 0 where
   pub kept : Option ℤ
   pub frozen : Bool

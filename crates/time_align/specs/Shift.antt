@@ -1,8 +1,8 @@
--- The shifts that alignment fields ask for (this project's profile, in the manner of GSM 08.60).
+-- The shifts that alignment fields ask for (this project's profile, modelled on GSM 08.60).
 use Rattle.std.specs.Prelude.{◌≡◌, ◌≤◌, ℕ, ◌*◌, ℤ, pos, negsuc, if◌then◌else◌, ◌==◌, nat_le, Option, Some, None, unwrap_or, List, [], ◌∷◌}
 
--- The shift of a field, in octets of the Pcm line: four for each step, two more, or two octets back. Fields 0 and 40 to
--- 61 ask for none, and no more does a number beyond the 6 bits of a field.
+-- The shift of a field, in octets of the Pcm line: four times the field for 1 to 39, 2 for 62 and -2 for 63. Fields 0 and 40 to 61 ask for none, and
+-- neither does a number above 63.
 unfoldable pub shift_of : ℕ → Option ℤ
 shift_of field =
     if field == 0 then None
@@ -15,14 +15,13 @@ shift_of field =
 abbrev pub asked_then : ℕ → Option ℤ → Option ℤ
 asked_then field before = elim (shift_of field) [ None ↦ before | Some shift ↦ Some shift ]
 
--- the shift of the latest field that has one, of the fields of some periods with the newest first; a period without a
--- frame has no field
+-- the shift of the latest field that asks for one; the fields have the newest period first, and a period without a frame has no field
 abbrev pub latest_ask : List (Option ℕ) → Option ℤ
 latest_ask [] = None
 latest_ask (None ∷ before) = latest_ask before
 latest_ask (Some field ∷ before) = asked_then field (latest_ask before)
 
--- the same, and 0 where none asked
+-- the same, or 0 if no field asks for one
 abbrev pub latest_shift : List (Option ℕ) → ℤ
 latest_shift fields = unwrap_or (latest_ask fields) (pos 0)
 

@@ -1,9 +1,9 @@
--- Time alignment, one operation after another (this project's profile, in the manner of GSM 08.60).
+-- Time alignment, one operation after another (this project's profile, modelled on GSM 08.60).
 use Rattle.std.specs.Prelude.{ℕ, ℤ, pos, true, false, if◌then◌else◌, None, unwrap_or}
 use Rattle.time_align.specs.Shift.{asked_then}
 use Rattle.time_align.specs.Memory.{AlignMemory}
 
--- a field is asked: its shift is kept in place of the one before, if it has one
+-- a field is asked: if it has a shift, that replaces the kept one
 abbrev pub after_ask : AlignMemory → ℕ → AlignMemory
 after_ask memory field = record { kept = asked_then field memory.kept; frozen = memory.frozen }
 

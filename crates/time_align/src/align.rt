@@ -10,7 +10,8 @@ ghost use Rattle.time_align.specs.Stands.{Stands};
 use crate::shift::shift_of;
 use std::marker::Model;
 
-/// The time alignment of one call: the shift asked for that no frame has adopted yet, and whether shifts are frozen.
+/// The time alignment of one call: the shift that was asked for and that no frame has adopted yet, and whether shifts
+/// are frozen.
 #[derive(Drop)]
 pub struct Align {
     kept: Option<i16>,
@@ -30,7 +31,7 @@ impl Model for Align {
 }
 
 impl Align {
-    /// Nothing was asked, and shifts aren't frozen.
+    /// The initial state: no shift was asked for, and shifts aren't frozen.
     pub fn new() -> Align
         ensures value { result ≡ home_memory }
         ensures history { Stands [] result }
@@ -41,8 +42,8 @@ impl Align {
         }
     }
 
-    /// Takes the alignment field of an uplink frame of speech or idle. A field that asks for no shift leaves what was
-    /// asked before; so does a number that isn't of 6 bits.
+    /// Takes the alignment field of an uplink frame of speech or idle. If the field asks for no shift, or isn't a
+    /// number of 6 bits, the shift asked for before stays.
     pub fn ask(&mut self, field: u8)
         ensures step { self.new ≡ after_ask self.old field }
         ensures history { (past : List Event) → Stands past self.old → Stands (Asks field ∷ past) self.new }
@@ -55,7 +56,7 @@ impl Align {
         }
     }
 
-    /// Freezes shifts, at the start of a bridge. What was asked is kept.
+    /// Freezes shifts, at the start of a bridge. The shift asked for is kept.
     pub fn freeze(&mut self)
         ensures step { self.new ≡ after_freeze self.old }
         ensures history { (past : List Event) → Stands past self.old → Stands (Freezes ∷ past) self.new }
@@ -63,7 +64,7 @@ impl Align {
         self.frozen = true;
     }
 
-    /// Thaws shifts, once a bridge has ended and none of its frames waits.
+    /// Thaws shifts, after a bridge has ended and none of its frames waits.
     pub fn thaw(&mut self)
         ensures step { self.new ≡ after_thaw self.old }
         ensures history { (past : List Event) → Stands past self.old → Stands (Thaws ∷ past) self.new }
@@ -71,8 +72,8 @@ impl Align {
         self.frozen = false;
     }
 
-    /// The shift of the downlink frame that is made now, in octets of the Pcm line. A frame that adopts a shift leaves
-    /// none; while frozen the shift is 0, and what was asked is kept.
+    /// The shift of the downlink frame that is made now, in octets of the Pcm line. A shift is adopted by one frame
+    /// only. While shifts are frozen it is 0, and the shift asked for is kept.
     pub fn adopt(&mut self) -> i16
         ensures step { adopted self.old ≡ (result, self.new) }
         ensures within { IsShift result }

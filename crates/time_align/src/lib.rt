@@ -1,14 +1,16 @@
-//! Time alignment: the shifts that a base station asks of the downlink (this project's profile, in the manner of
-//! GSM 08.60).
+//! Time alignment: the shifts of the downlink that a base station asks for (this project's profile, modelled on GSM
+//! 08.60).
 //!
-//! An uplink frame carries an alignment field of six bits. Some fields ask that the downlink comes later or sooner, by
-//! octets of the exchange's line, 125 microseconds each. `Align` keeps what was asked last until a downlink frame adopts
-//! it. Within a bridge shifts are frozen: frames have none, and what is asked waits for the thaw.
+//! An uplink frame carries an alignment field of six bits. Some fields ask for a later or an earlier downlink, by a
+//! number of octets of the exchange's line, 125 microseconds each. `Align` keeps the shift that was asked for last
+//! until a downlink frame adopts it. Within a bridge shifts are frozen: frames have none, and the shift asked for waits
+//! for the thaw.
 //!
-//! `shift` has the table, `align` what is kept from one operation to the next. Definitions: `specs/Shift.antt` (the
-//! table), `specs/History.antt` (all that happened), `specs/Memory.antt`, `specs/Step.antt` and `specs/Stands.antt` (what
-//! is kept, each operation, and what the memory stands for). Used by the downlink framer, a call's leg
-//! and the base station's end.
+//! `shift` has the table, `align` the state.
+//!
+//! Definitions: `specs/Shift.antt` (the table), `specs/History.antt` (the shift by all past events),
+//! `specs/Memory.antt`, `specs/Step.antt` and `specs/Stands.antt` (the state, each operation, and the past that a state
+//! stands for).
 #![tactic(auto)]
 
 mod align;

@@ -3,8 +3,8 @@
 ghost use Rattle.std.specs.Prelude.{◌≡◌, ◌≤◌, IfSome};
 ghost use Rattle.time_align.specs.Shift.{shift_of, IsShift};
 
-/// The shift that an alignment field asks for, in octets of the Pcm line: positive where octets are lost and the
-/// downlink comes later, negative where octets are taken a second time. Fields 0 and 40 to 61 ask for none.
+/// The shift that an alignment field asks for, in octets of the Pcm line. If it is positive, octets are lost and the
+/// downlink comes later; if it is negative, octets are taken a second time. Fields 0 and 40 to 61 ask for none.
 #[tactic(auto, unfolding(crate::specs::Shift::shift_of))]
 pub fn shift_of(field: u8) -> Option<i16>
     requires { field ≤ 63 }

@@ -6,7 +6,7 @@ use Rattle.trau_alaw.specs.Companding.{Companding}
 abbrev pub alaw_least : ℕ → ℕ → ℕ
 alaw_least segment step = if nat_eq segment 0 then 16 * step else (16 + step) * 2 ^ (segment + 3)
 
--- how many magnitudes a step of a segment has
+-- the number of magnitudes of a step of a segment
 abbrev pub alaw_width : ℕ → ℕ
 alaw_width segment = if nat_eq segment 0 then 16 else 2 ^ (segment + 3)
 

@@ -11,7 +11,7 @@ abbrev pub companding : Law → Companding
 companding A = alaw
 companding Mu = mulaw
 
--- the octet of a line on which nothing is said (this project's profile): 0xD5 and 0xFF
+-- the idle octet of a line, which stands for silence (this project's profile): 0xD5 and 0xFF
 abbrev pub idle_of : Law → ℕ
 idle_of A = 213
 idle_of Mu = 255

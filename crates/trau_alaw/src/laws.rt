@@ -1,4 +1,4 @@
-//! What a reader expects of the intervals.
+//! Laws of the intervals of A-law and mu-law.
 
 ghost use Rattle.std.specs.Prelude.{◌≡◌, ◌≢◌};
 ghost use Rattle.trau_alaw.specs.declared.Law.{Law};
@@ -8,20 +8,21 @@ ghost use Rattle.trau_alaw.specs.Laws.{companding};
 
 use crate::{Law, compress, compress_law, expand, expand_law};
 
-/// The intervals of each sign part the magnitudes 0 to 32767: each word of 16 bits has one octet.
+/// Each sample of 16 bits lies in the interval of exactly one octet, in each law.
 pub fn intervals_part_the_words()
     ensures alaw { PartsWords alaw }
     ensures each { (law : Law) → PartsWords (companding law) }
 {}
 
-/// The octet that an expanded octet is compressed to: itself.
+/// Expands and compresses an A-law octet: the result is the same octet.
 pub fn recompress(octet: u8) -> u8
     ensures { result ≡ octet }
 {
     compress(expand(octet))
 }
 
-/// The octet that an expanded octet of a law is compressed to: itself, but for the negative zero of mu-law, 0x7F.
+/// Expands and compresses an octet of a line with this law: the result is the same octet, except for 0x7F, the negative
+/// zero of mu-law.
 pub fn recompress_law(law: Law, octet: u8) -> u8
     ensures { (law ≡ Law.Mu → octet ≢ 127) → result ≡ octet }
 {

@@ -1,12 +1,11 @@
 //! A-law and mu-law of a PCM line (G.711, tables 1a and 2a).
 //!
-//! Between the Pcm and Out lines of a call and the codec: an octet of the line stands for a sample of
-//! 16 bits, and a sample is sent as the octet whose interval holds it. Both ways are computed without a
-//! table.
+//! Converts between the Pcm and Out lines of a call and the codec: an octet of a line stands for a sample of 16 bits,
+//! and a sample is sent as the octet whose interval contains it. Both directions are computed without a table.
 //!
-//! Definitions: `specs/Companding.antt` says what any companding law is, from the interval of each octet;
-//! `specs/Alaw.antt` has the intervals of A-law, `specs/Mulaw.antt` those of mu-law, and `specs/Laws.antt` names the two;
-//! `specs/Period.antt` has the samples and the octets of a whole period.
+//! Definitions: `specs/Companding.antt` (a companding law, given by the interval of each octet), `specs/Alaw.antt` and
+//! `specs/Mulaw.antt` (the intervals of A-law and of mu-law), `specs/Laws.antt` (the two laws by name),
+//! `specs/Period.antt` (the samples and the octets of a period).
 #![tactic(auto)]
 
 mod laws;
@@ -49,7 +48,7 @@ pub fn compress_law(law: Law, x: i16) -> u8
     }
 }
 
-/// The octet of a line with this law on which nothing is said.
+/// The idle octet of a line with this law, which stands for silence.
 pub fn idle_octet(law: Law) -> u8
     ensures { result ≡ idle_of law }
 {
@@ -92,7 +91,7 @@ fn middle_of(segment: u8, step: u8) -> u16
     }
 }
 
-// The magnitude that the intervals speak of.
+// The magnitude by which intervals are defined.
 fn magnitude_of(x: i16) -> u16
     ensures value { result ≡ magnitude x }
     ensures below { result < 32768 }
@@ -104,11 +103,11 @@ fn magnitude_of(x: i16) -> u16
     }
 }
 
-// The segment (three bits) and the step (four bits) whose interval has the magnitude.
+// Segment (three bits) and step (four bits) of the interval that contains the magnitude.
 //
-// A segment from 1 on has the magnitudes with one highest bit, and its step is the four bits below;
-// segment 0 goes on below segment 1 in the same steps. So the seven bits grow along seven lines, each half as
-// steep as the one before, and are the least of them: no branch, and a loop over samples does several at once.
+// The magnitudes of a segment from 1 on share their highest bit, and the step is the next four bits. Segment 0
+// continues segment 1 downwards in the same steps. So the seven bits are the least of seven linear functions, each half
+// as steep as the one before. There is no branch, so the compiler can process several samples at once.
 fn segment_and_step(magnitude: u16) -> u8
     requires { magnitude < 32768 }
     ensures below { result < 128 }

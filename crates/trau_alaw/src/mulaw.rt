@@ -34,9 +34,9 @@ fn centre_of(segment: u8, step: u8) -> u16
     ((2 * u16::from(step) + 33) << (segment + 2)) - 132
 }
 
-// The segment (three bits) and the step (four bits) whose interval has the magnitude.
+// Segment (three bits) and step (four bits) of the interval that contains the magnitude.
 //
-// Raised by 132, a segment's magnitudes have one highest bit, and its step is the four bits below.
+// After 132 is added, the magnitudes of a segment share their highest bit, and the step is the next four bits.
 fn segment_and_step(magnitude: u16) -> u8
     requires { magnitude < 32768 }
     ensures below { result < 128 }

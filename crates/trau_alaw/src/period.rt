@@ -1,5 +1,5 @@
-//! The octets and the samples of a period of 20 ms. The law is looked at once a period, so that a loop has one law's
-//! arithmetic and does several samples at once.
+//! The octets and the samples of a period of 20 ms. Each loop has the arithmetic of one law, so the compiler can
+//! process several samples at once.
 
 ghost use Rattle.std.specs.Prelude.{◌≡◌};
 ghost use Rattle.trau_alaw.specs.declared.Law.{Law};
@@ -17,7 +17,7 @@ pub fn expand_all(law: Law, octets: &[u8; 160]) -> [i16; 160]
     }
 }
 
-/// The 160 octets that the samples of a period are sent as on a line with this law.
+/// Compresses the 160 samples of a period to the octets of a line with this law.
 pub fn compress_all(law: Law, x: &[i16; 160], octets: &mut [u8; 160])
     ensures { octets.new ≡ compressed law x.now }
 {

@@ -16,7 +16,7 @@ bits_of bytes = map (bit_of bytes) (range_with_len 0 (8 * length bytes))
 abbrev pub AreBits : List ℕ → Type 0
 AreBits bits = All (λ bit. bit < 2) bits
 
--- the octet of the eight bits from `first` on: their sum, the first of them the most significant
+-- the octet of the eight bits from `first` on, most significant first
 unfoldable pub octet_at : List ℕ → ℕ → ℕ
 octet_at bits first = sum (map (λ j. slice_index bits (first + j) * 2 ^ (7 - j)) (range_with_len 0 8))
 

@@ -1,8 +1,9 @@
-//! Bits of the lines' octets, in the order in which GSM 08.60 counts them.
+//! Bits of octets, in the order in which GSM 08.60 counts them: bit 0 is the most significant bit of the first octet.
 //!
-//! Lowest crate of the transcoder's data path: a line carries octets, a frame is a list of bits. Bit 0 is the
-//! most significant bit of the first octet. A bit is a `u8` that is 0 or 1, one to an element.
-//! Definitions: `specs/Bits.antt`. Used by every crate that reads or writes frames on a line.
+//! A line carries octets, and a frame is a list of bits. A bit is a `u8` that is 0 or 1. Every crate that reads or
+//! writes frames on a line uses this crate.
+//!
+//! Definitions: `specs/Bits.antt`.
 #![tactic(auto)]
 
 ghost use Rattle.std.specs.Prelude.{◌≡◌, ◌+◌, ◌-◌, ◌*◌, ◌^◌, ◌<◌, ◌≤◌, ℕ, length, slice_index, slice_set};
@@ -20,7 +21,7 @@ pub fn get_bit(bytes: &[u8], i: usize) -> u8
     bytes[i / 8] >> (7 - i % 8) & 1
 }
 
-/// Sets bit `i` of the octets, and leaves the others.
+/// Sets bit `i` of the octets. The other bits stay.
 pub fn put_bit(bytes: &mut [u8], i: usize, bit: u8)
     requires within { i < 8 * length bytes.old }
     requires bit { bit < 2 }
@@ -35,8 +36,8 @@ pub fn put_bit(bytes: &mut [u8], i: usize, bit: u8)
     }
 }
 
-// A word with eight bits, nine places apart. Its product with another word of eight octets turns bits that stand eight
-// places apart into bits that stand side by side, and back. No two bits meet in one place, so nothing carries.
+// Eight bits that are 1, nine places apart. Multiplying by it moves bits that are eight places apart next to each
+// other, and back. No two bits meet in one place, so nothing carries.
 const NINE_APART: u64 = 0x8040_2010_0804_0201;
 
 // The octet of the eight bits from `first` on.
@@ -57,7 +58,7 @@ fn eight_bits(octet: u8) -> [u8; 8]
     (u64::from(octet).wrapping_mul(NINE_APART) >> 7 & 0x0101_0101_0101_0101).to_le_bytes()
 }
 
-/// Packs the bits, eight to an octet, over all of the octets.
+/// Packs all of the bits into the octets, eight to an octet.
 pub fn pack(bits: &[u8], bytes: &mut [u8])
     requires bits { AreBits bits.now }
     requires count { length bits.now ≡ 8 * length bytes.old }
@@ -69,7 +70,7 @@ pub fn pack(bits: &[u8], bytes: &mut [u8])
     }
 }
 
-/// Unpacks the octets, a bit to an element, over all of the bits.
+/// Unpacks all of the octets into the bits, one bit to an element.
 pub fn unpack(bytes: &[u8], bits: &mut [u8])
     requires { length bits.old ≡ 8 * length bytes.now }
     ensures bits { bits.new ≡ bits_of bytes.now }

@@ -3,7 +3,7 @@ use Rattle.std.proofs.Common.{◌≡◌, ◌⊎◌, Result, IfSome, subst, ◌<�
 use Rattle.std.proofs.Common.{length-set, refl, sym, ◌∙◌, ap, arith, inl, inr}
 use Rattle.std.proofs.lemmas.List.{get_or_read_under}
 use Rattle.trau_io.specs.declared.line.Side.{Side}
-use Rattle.trau_io.specs.Places.{place_of}
+use Rattle.trau_io.specs.Indices.{index_of_line}
 use Rattle.trau_io.proofs.Tables.{same_line}
 use Rattle.trau_files.specs.Files.{OpenLine, IsFileOf, OpenAfter, AreSeated, in_seat, file_after}
 
@@ -30,30 +30,30 @@ pub seated_in_none : (seats : List (Option OpenLine)) (seat_of : List ℕ) → A
 seated_in_none seats seat_of none k o there = let e = empty seats none k in cc
 
 -- a line without an open file is given a seat
-pub seated_elsewhere : (seats : List (Option OpenLine)) (seat_of : List ℕ) (call : ℕ) (side : Side) (p seat : ℕ) → p ≡ place_of call side →
+pub seated_elsewhere : (seats : List (Option OpenLine)) (seat_of : List ℕ) (call : ℕ) (side : Side) (p seat : ℕ) → p ≡ index_of_line call side →
     IsFileOf seats call side None → AreSeated seats seat_of → AreSeated seats (slice_set seat_of p seat)
 seated_elsewhere seats seat_of call side p seat at closed seated k o there =
-    elim (set_place seat_of p seat 0 (place_of o.call o.side)) [
+    elim (set_place seat_of p seat 0 (index_of_line o.call o.side)) [
       | inl s ↦ let same = same_line o.call call o.side side (s.0 ∙ at) in let e = closed.only k o there same.0 same.1 in cc
       | inr s ↦ s ∙ seated k o there
     ]
 
-same_seat : (seat_of : List ℕ) (file o : OpenLine) (seat k : ℕ) → seat ≡ slice_index_or seat_of (place_of file.call file.side) 0 →
-    slice_index_or seat_of (place_of o.call o.side) 0 ≡ k → o.call ≡ file.call → o.side ≡ file.side → k ≡ seat
+same_seat : (seat_of : List ℕ) (file o : OpenLine) (seat k : ℕ) → seat ≡ slice_index_or seat_of (index_of_line file.call file.side) 0 →
+    slice_index_or seat_of (index_of_line o.call o.side) 0 ≡ k → o.call ≡ file.call → o.side ≡ file.side → k ≡ seat
 same_seat seat_of file o seat k is named call side = cc
 
 -- a file is put into its line's seat
 pub seated_after : (seats : List (Option OpenLine)) (seat_of : List ℕ) (file : OpenLine) (seat : ℕ) →
-    seat ≡ slice_index_or seat_of (place_of file.call file.side) 0 → AreSeated seats seat_of → AreSeated (slice_set seats seat (Some file)) seat_of
+    seat ≡ slice_index_or seat_of (index_of_line file.call file.side) 0 → AreSeated seats seat_of → AreSeated (slice_set seats seat (Some file)) seat_of
 seated_after seats seat_of file seat is seated k o there =
     elim (set_place seats seat (Some file) None k) [
       | inl s ↦ let e : Some o ≡ Some file = sym there ∙ s.1 in let same : o ≡ file = cc in
-          ap (λ (f : OpenLine). slice_index_or seat_of (place_of f.call f.side) 0) same ∙ sym is ∙ sym s.0
+          ap (λ (f : OpenLine). slice_index_or seat_of (index_of_line f.call f.side) 0) same ∙ sym is ∙ sym s.0
       | inr s ↦ seated k o (sym s ∙ there)
     ]
 
 pub open_after_put : (seats : List (Option OpenLine)) (seat_of : List ℕ) (file : OpenLine) (seat : ℕ) →
-    seat ≡ slice_index_or seat_of (place_of file.call file.side) 0 → seat < length seats → AreSeated seats seat_of →
+    seat ≡ slice_index_or seat_of (index_of_line file.call file.side) 0 → seat < length seats → AreSeated seats seat_of →
     OpenAfter seats (slice_set seats seat (Some file)) file.call file.side (Some file)
 open_after_put seats seat_of file seat is within seated =
     let put = set_there seats seat (Some file) None within in
@@ -107,13 +107,13 @@ moved_after seats seat_of seat old file result was within seated after =
     moved (Some o) was after = subst (OpenAfter seats (slice_set seats seat file) o.call o.side) after (moved_to seats seat_of o seat file was within seated)
 
 -- a line without an open file is given a seat, and its file is put there
-pub given_and_put : (seats : List (Option OpenLine)) (seat_of : List ℕ) (file : OpenLine) (p seat : ℕ) → p ≡ place_of file.call file.side → p < length seat_of →
+pub given_and_put : (seats : List (Option OpenLine)) (seat_of : List ℕ) (file : OpenLine) (p seat : ℕ) → p ≡ index_of_line file.call file.side → p < length seat_of →
     seat < length seats → IsFileOf seats file.call file.side None → AreSeated seats seat_of →
     AreSeated (slice_set seats seat (Some file)) (slice_set seat_of p seat) × OpenAfter seats (slice_set seats seat (Some file)) file.call file.side (Some file)
     × (in_seat (slice_set seats seat (Some file)) seat ≡ Some file)
 given_and_put seats seat_of file p seat at room within closed seated =
     let given = seated_elsewhere seats seat_of file.call file.side p seat at closed seated in
-    let named : seat ≡ slice_index_or (slice_set seat_of p seat) (place_of file.call file.side) 0 = sym (set_there seat_of p seat 0 room)
+    let named : seat ≡ slice_index_or (slice_set seat_of p seat) (index_of_line file.call file.side) 0 = sym (set_there seat_of p seat 0 room)
     ∙ ap (λ i. slice_index_or (slice_set seat_of p seat) i 0) at in (
       seated_after seats (slice_set seat_of p seat) file seat named given,
       open_after_put seats (slice_set seat_of p seat) file seat named within given,
@@ -134,7 +134,7 @@ module _ (seats : List (Option OpenLine)) (seat_of : List ℕ) (seat : ℕ) (fil
   pub seated_still : (file ≡ in_seat seats seat) ⊎ (file ≡ None) → AreSeated (slice_set seats seat file) seat_of
   seated_still others k o there = elim (kept_or_none others k) [ inl e ↦ seated k o (sym e ∙ there) | inr e ↦ let none = e in cc ]
 
-  pub none_open : (call : ℕ) (side : Side) → seat ≡ slice_index_or seat_of (place_of call side) 0 → (file ≡ in_seat seats seat) ⊎ (file ≡ None) →
+  pub none_open : (call : ℕ) (side : Side) → seat ≡ slice_index_or seat_of (index_of_line call side) 0 → (file ≡ in_seat seats seat) ⊎ (file ≡ None) →
       IfSome file (λ o. o.call ≡ call → o.side ≡ side → ⊥) →
       IsFileOf (slice_set seats seat file) call side None
   none_open call side named others other = record {
@@ -155,10 +155,10 @@ module _ (seats : List (Option OpenLine)) (seat_of : List ℕ) (seat : ℕ) (fil
 pub record IsSeatOf (seats : List (Option OpenLine)) (seat_of : List ℕ) (call : ℕ) (side : Side) (seat : ℕ) (was : Option OpenLine) : Type 0 where
   pub within : seat < length seats
   pub here : in_seat seats seat ≡ was
-  pub named : seat ≡ slice_index_or seat_of (place_of call side) 0
+  pub named : seat ≡ slice_index_or seat_of (index_of_line call side) 0
 
 pub seat_read : (seats : List (Option OpenLine)) (seat_of : List ℕ) (call : ℕ) (side : Side) (p seat : ℕ) (was : Option OpenLine) → length seats ≡ 256 →
-    length seat_of ≡ 16388 → seat < 256 → p < 16388 → p ≡ place_of call side →
+    length seat_of ≡ 16388 → seat < 256 → p < 16388 → p ≡ index_of_line call side →
     seat ≡ slice_index_or seat_of p seat → was ≡ slice_index_or seats seat was → IsSeatOf seats seat_of call side seat was
 seat_read seats seat_of call side p seat was count places low room at read there = record {
   within = omega (arith, count);

@@ -1,13 +1,13 @@
--- Which line has which file of a disk, so that no line is written to another one's file (this project's profile).
+-- Which line has which file on a disk, so that no line is written to the file of another (this project's profile).
 use Rattle.std.specs.Prelude.{◌≡◌, ◌≢◌, ◌⊎◌, ℕ, List, Option, None, Some, slice_index_or}
 use Rattle.trau_files.specs.declared.trunk.claims.Claim.{Claim}
 use Rattle.trau_files.specs.declared.trunk.seats.Access.TheVariants.{Reading, Writing}
 
--- the file that the line at this place was last opened with, where that is a file of a disk
+-- the file that the line at this place was last opened with, if that is a file on a disk
 abbrev pub claim_at : List (Option Claim) → ℕ → Option Claim
 claim_at claims k = slice_index_or claims k None
 
--- two lines have one file only where both are read
+-- two lines may have the same file only if both are read
 abbrev pub MayShare : Claim → Claim → Type 0
 MayShare a b = a.file ≡ b.file → (a.access ≡ Reading) × (b.access ≡ Reading)
 
@@ -19,12 +19,12 @@ AreApart claims = (i j : ℕ) (a b : Claim) → claim_at claims i ≡ Some a →
 abbrev pub MayHave : List (Option Claim) → ℕ → Claim → Type 0
 MayHave claims p c = (k : ℕ) (b : Claim) → claim_at claims k ≡ Some b → k ≢ p → MayShare c b
 
--- the line has this file, and is known to be written where it is claimed for that
+-- the line has this file, and has it for writing if it is claimed for that
 abbrev pub Has : Option Claim → Claim → Type 0
 Has None c = ⊥
 Has (Some held) c = (held.file ≡ c.file) × (c.access ≡ Writing → held.access ≡ Writing)
 
--- another line has this file, and one of both is written
+-- another line has this file, and one of the two is written
 pub record IsTaken (claims : List (Option Claim)) (p : ℕ) (c : Claim) (other : ℕ) : Type 0 where
   pub elsewhere : other ≢ p
   pub by : Claim

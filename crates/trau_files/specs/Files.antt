@@ -6,7 +6,7 @@ use Rattle.std.specs.declared.fs.options.OpenOptions.{OpenOptions}
 use Rattle.trau_io.specs.declared.line.Failed.{Failed}
 use Rattle.trau_io.specs.declared.line.Side.{Side}
 use Rattle.trau_io.specs.Lines.{LineState}
-use Rattle.trau_io.specs.Places.{place_of}
+use Rattle.trau_io.specs.Indices.{index_of_line}
 use Rattle.trau_io.specs.Texts.{side_word}
 use Rattle.trau_files.specs.declared.trunk.claims.Claim.{Claim}
 use Rattle.trau_files.specs.declared.trunk.seats.Access.{Access}
@@ -22,16 +22,16 @@ pub record FileLine : Type 0 where
   pub written : ℕ
   pub faults : ℕ
 
--- a number that is raised by n, or stops at its last value
+-- a number raised by n, or its highest value
 abbrev pub raised : ℕ → ℕ → ℕ
 raised number n = min (number + n) (2 ^ 64 - 1)
 
--- the line after a read with this answer
+-- the line after a read with this result
 abbrev pub after_read : FileLine → Result ℕ Failed → FileLine
 after_read l (Ok n) = record l { read = raised l.read n }
 after_read l (Err e) = record l { faults = raised l.faults 1 }
 
--- the line after a write with this answer
+-- the line after a write with this result
 abbrev pub after_write : FileLine → Result ℕ Failed → FileLine
 after_write l (Ok n) = record l { written = raised l.written n }
 after_write l (Err e) = record l { faults = raised l.faults 1 }
@@ -40,46 +40,46 @@ after_write l (Err e) = record l { faults = raised l.faults 1 }
 abbrev pub state_of : FileLine → LineState
 state_of l = record { to_come = None; written = None; faults = l.faults }
 
--- what is known of each line of the list; a line past it has never been there
+-- what is known of each line of the list; a line past its end never failed
 abbrev pub known_line : Option FileLine → LineState
 known_line None = record { to_come = None; written = None; faults = 0 }
 known_line (Some l) = state_of l
 
 abbrev pub states_of : List FileLine → ℕ → Side → LineState
-states_of lines call side = known_line (slice_get lines (place_of call side))
+states_of lines call side = known_line (slice_get lines (index_of_line call side))
 
--- a line's file that is open: for what, and at which octet it is taken to stand
+-- an open file of a line: what it is open for, and its position in octets by the trunk's account
 pub record OpenLine : Type 0 where
   pub call : ℕ
   pub side : Side
   pub access : Access
   pub at : ℕ
 
--- an open file is this line's, is open for this, and stands at this octet
+-- an open file is this line's, open for this access and at this octet
 abbrev pub IsOpenAt : Option OpenLine → ℕ → Side → Access → ℕ → Type 0
 IsOpenAt file call side access at = file ≡ Some (record { call = call; side = side; access = access; at = at })
 
--- the line's file after an operation at this octet with this answer: it stands behind the octets that were moved, and a fault closes it
+-- the line's file after an operation at this octet with this result: it is at the octet after those that were moved; a fault closes it
 abbrev pub file_after : {E : Type 0} → ℕ → Side → Access → ℕ → Result ℕ E → Option OpenLine
 file_after call side access at (Ok n) = Some (record { call = call; side = side; access = access; at = raised at n })
 file_after call side access at (Err e) = None
 
--- the line's file after an opening with this answer: it stands at this octet, or isn't open
+-- the line's file after an opening with this result: it is open at this octet, or it isn't open
 abbrev pub opened : {A E : Type 0} → ℕ → Side → Access → ℕ → Result A E → Option OpenLine
 opened call side access at (Ok a) = Some (record { call = call; side = side; access = access; at = at })
 opened call side access at (Err e) = None
 
--- how a line's file is opened to go on at this octet: as it is, and for writing made where it is missing and nothing has been
--- written yet. No opening empties a file: it isn't known yet whose it is.
+-- How a line's file is opened to go on at this octet. For writing, a missing file is created if nothing has been written yet. No
+-- opening empties a file, since another line may have it.
 abbrev pub options_for : Access → ℕ → OpenOptions
 options_for Reading at = record new_options { read = true }
 options_for Writing at = record new_options { write = true; create = at == 0 }
 
--- the files that are open, each in a seat: the one in this seat
+-- the open file in this seat, if there is one
 abbrev pub in_seat : List (Option OpenLine) → ℕ → Option OpenLine
 in_seat seats k = slice_index_or seats k None
 
--- of this line just this file is open, or none
+-- the open file of this line, or None if it has none
 pub record IsFileOf (seats : List (Option OpenLine)) (call : ℕ) (side : Side) (file : Option OpenLine) : Type 0 where
   pub only : (k : ℕ) (o : OpenLine) → in_seat seats k ≡ Some o → o.call ≡ call → o.side ≡ side → file ≡ Some o
   pub there : IfSome file (λ o. (k : ℕ) × (in_seat seats k ≡ Some o))
@@ -88,7 +88,7 @@ pub record IsFileOf (seats : List (Option OpenLine)) (call : ℕ) (side : Side) 
 abbrev pub OnlyCloses : List (Option OpenLine) → List (Option OpenLine) → Type 0
 OnlyCloses old new = (k : ℕ) → (in_seat new k ≡ in_seat old k) ⊎ (in_seat new k ≡ None)
 
--- of this line just this file is open now, or none; of the others none that wasn't
+-- this line now has this open file, or none; no file of another line was opened
 pub record OpenAfter (old new : List (Option OpenLine)) (call : ℕ) (side : Side) (file : Option OpenLine) : Type 0 where
   pub this : IsFileOf new call side file
   pub others : (k : ℕ) → (in_seat new k ≡ in_seat old k) ⊎ (in_seat new k ≡ None) ⊎ (in_seat new k ≡ file)
@@ -96,25 +96,25 @@ pub record OpenAfter (old new : List (Option OpenLine)) (call : ℕ) (side : Sid
 
 -- a line's file is in the seat that the line's entry names
 abbrev pub AreSeated : List (Option OpenLine) → List ℕ → Type 0
-AreSeated seats seat_of = (k : ℕ) (o : OpenLine) → in_seat seats k ≡ Some o → slice_index_or seat_of (place_of o.call o.side) 0 ≡ k
+AreSeated seats seat_of = (k : ℕ) (o : OpenLine) → in_seat seats k ≡ Some o → slice_index_or seat_of (index_of_line o.call o.side) 0 ≡ k
 
--- the files that are open, each in a seat, and which line has which file
+-- the open files, each in a seat, and which line has which file
 pub record OpenFiles : Type 0 where
   pub seats : List (Option OpenLine)
   pub claims : List (Option Claim)
 
--- all lines, the files that are open, and which line has which file
+-- all lines, the open files, and which line has which file
 pub record TrunkFiles : Type 0 where
   pub lines : List FileLine
   pub files : List (Option OpenLine)
   pub claims : List (Option Claim)
 
--- a read of a line that stood so, with this answer: by the trunk's account it took the line's next octets, and nothing else
+-- a read with this result of a line that was `l` before: by the trunk's account it took the line's next octets, and nothing else
 pub record TrunkReads (old new : TrunkFiles) (call : ℕ) (side : Side) (l : FileLine) (result : Result ℕ Failed) : Type 0 where
-  pub lines : new.lines ≡ slice_set old.lines (place_of call side) (after_read l result)
+  pub lines : new.lines ≡ slice_set old.lines (index_of_line call side) (after_read l result)
   pub files : OpenAfter old.files new.files call side (file_after call side Reading l.read result)
 
--- a write of a line that stood so, with this answer: by the trunk's account it went behind the octets written before
+-- a write with this result of a line that was `l` before: by the trunk's account it followed the octets written before
 pub record TrunkWrites (old new : TrunkFiles) (call : ℕ) (side : Side) (l : FileLine) (result : Result ℕ Failed) : Type 0 where
-  pub lines : new.lines ≡ slice_set old.lines (place_of call side) (after_write l result)
+  pub lines : new.lines ≡ slice_set old.lines (index_of_line call side) (after_write l result)
   pub files : OpenAfter old.files new.files call side (file_after call side Writing l.written result)

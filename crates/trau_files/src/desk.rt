@@ -8,8 +8,8 @@ use std::io::{Read, Write};
 use std::marker::Model;
 use trau_io::{Desk, Failed};
 
-/// A desk that reads orders from `input` and writes texts to `output`, which keeps nothing back: what
-/// it took is written. It tells what these two tell, which of the standard streams is nothing.
+/// A desk that reads orders from `input` and writes texts to `output`, which mustn't buffer: what it took counts as written.
+/// What is known of the two streams is known of the desk; of the standard streams nothing is.
 #[derive(Drop)]
 pub struct StdDesk<R: Read + Drop, W: Write + Drop> {
     input: R,
@@ -41,12 +41,12 @@ impl<R: Read + Drop, W: Write + Drop> StdDesk<R, W> {
         }
     }
 
-    /// What the system said where reading failed last.
+    /// The system's error of the last read that failed.
     pub fn read_fault(&self) -> Option<&io::Error> {
         self.read_fault.as_ref()
     }
 
-    /// What the system said where writing failed last.
+    /// The system's error of the last write that failed.
     pub fn write_fault(&self) -> Option<&io::Error> {
         self.write_fault.as_ref()
     }

@@ -1,8 +1,8 @@
-//! Single reads and writes that a signal doesn't turn into faults.
+//! Single reads and writes that are made again if a signal interrupts them.
 //!
-//! Neither the standard library nor the system starts a read or a write again where a signal came
-//! before it moved an octet: it answers `Interrupted`. Nothing has moved then, so that the same
-//! operation is tried again and no octet is lost. One that moved some octets first answers their number.
+//! If a signal comes before a read or a write has moved an octet, the system and the standard library return `Interrupted`
+//! and don't try again. Nothing has moved then, so trying again here loses no octet. An operation that had moved some octets
+//! returns their number.
 ghost use Rattle.std.specs.Prelude.{◌<◌, IfOk};
 ghost use Rattle.std.specs.Io.{ReadsAtMost, WritesAtMost};
 ghost use Rattle.std.specs.Io.KnownBytes.{ReadConsumes, WriteAppends};
@@ -10,10 +10,10 @@ ghost use Rattle.std.specs.Io.KnownBytes.{ReadConsumes, WriteAppends};
 use std::io;
 use std::io::{ErrorKind, Read, Write};
 
-// No outside interrupts an operation so often, and each loop ends.
+// No system interrupts an operation this often; the limit makes each loop end.
 const TRIES: u32 = 1000;
 
-/// One read, made again where a signal interrupted it.
+/// One read, made again if a signal interrupted it.
 pub fn read_again<R: Read>(reader: &mut R, buf: &mut [u8]) -> io::Result<usize>
     ensures bound { ReadsAtMost result buf.new }
     ensures octets { ReadConsumes (R.remaining reader.old) (R.remaining reader.new) result buf.new }
@@ -28,7 +28,7 @@ pub fn read_again<R: Read>(reader: &mut R, buf: &mut [u8]) -> io::Result<usize>
     Err(io::Error::from(ErrorKind::Interrupted))
 }
 
-// One write, made again where a signal interrupted it.
+// One write, made again if a signal interrupted it.
 fn write_again<W: Write>(writer: &mut W, bytes: &[u8]) -> io::Result<usize>
     ensures bound { WritesAtMost result bytes.now }
     ensures octets { WriteAppends (W.contents writer.old) (W.contents writer.new) result bytes.now }
@@ -43,7 +43,7 @@ fn write_again<W: Write>(writer: &mut W, bytes: &[u8]) -> io::Result<usize>
     Err(io::Error::from(ErrorKind::Interrupted))
 }
 
-/// One write that moves an octet at least: what takes nothing would be asked for ever.
+/// One write of at least one octet. A writer that takes none fails, since callers would try for ever.
 pub fn write_some<W: Write>(writer: &mut W, bytes: &[u8]) -> io::Result<usize>
     ensures some { IfOk result (λ n. 0 < n) }
     ensures bound { WritesAtMost result bytes.now }

@@ -1,4 +1,4 @@
--- The bits of a downlink frame (this project's profile, in the manner of GSM 08.60).
+-- The bits of a downlink frame (this project's profile, modelled on GSM 08.60).
 use Rattle.std.specs.Prelude.{ℕ, ◌-◌, if◌then◌else◌, nat_le, ◌==◌, List, map, replicate}
 use Rattle.std.specs.List.{range_with_len}
 use Rattle.std.specs.Int.{bit_at}
@@ -7,7 +7,7 @@ use Rattle.trau_frame.specs.declared.frames.DownFrame.{DownFrame}
 use Rattle.trau_frame.specs.declared.frames.DownFrame.TheVariants.{Idle, Speech}
 use Rattle.trau_frame.specs.Frame.{frame_bits}
 
--- what a speech frame carries are bits
+-- the data of a speech frame are bits
 abbrev pub HasBits : DownFrame → Type 0
 HasBits Idle = Unit {0}
 HasBits (Speech d sp) = AreBits d

@@ -7,7 +7,7 @@ use Rattle.trau_frame.specs.Role.{Role, Sync, Control, Data, Time, role_of, bit_
 abbrev pub Synced : List ℕ → Type 0
 Synced bits = (i bit : ℕ) → i < 320 → role_of i ≡ Sync bit → slice_index bits i ≡ bit
 
--- the number in n control bits from C`first` on, the first of them the highest
+-- the number in n control bits from C`first` on, most significant first
 unfoldable pub number_in : List ℕ → ℕ → ℕ → ℕ
 number_in bits first zero = 0
 number_in bits first (suc n) = 2 * number_in bits first n + bit_with bits (Control (first + n))
@@ -16,7 +16,7 @@ number_in bits first (suc n) = 2 * number_in bits first n + bit_with bits (Contr
 unfoldable pub data_of : List ℕ → List ℕ
 data_of bits = map (λ n. bit_with bits (Data n)) (range_with_len 1 260)
 
--- what is written at a place with a role, where C1 to C21 are `control` and D1 to D260 are `d`; T bits are 1
+-- the bit that is written for a role; `control` has C1 to C21, `d` has D1 to D260, and T bits are 1
 abbrev pub bit_for : List ℕ → List ℕ → Role → ℕ
 bit_for control d (Sync bit) = bit
 bit_for control d (Control c) = slice_index control (c - 1)

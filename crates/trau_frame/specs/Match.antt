@@ -1,4 +1,4 @@
--- Where the sync pattern of a frame stands on a line (GSM 08.60). A line is told by the bit at each place, from 0 on.
+-- The places on a line that have the sync pattern of a frame (GSM 08.60). A line is a function that gives the bit at each place, from 0 on.
 use Rattle.std.specs.Prelude.{ℕ, ◌+◌, Bool, true, ◌==◌, List, map, slice_index}
 use Rattle.std.specs.List.{list_all, range_with_len}
 use Rattle.trau_frame.specs.Role.{Role, Sync, Control, Data, Time, role_of}
@@ -7,7 +7,7 @@ use Rattle.trau_frame.specs.Role.{Role, Sync, Control, Data, Time, role_of}
 abbrev pub bit_in : List ℕ → ℕ → ℕ
 bit_in bits p = slice_index bits p
 
--- a bit with this role is no wrong sync bit
+-- whether a bit fits a role: a sync bit has its value, and any other bit fits
 abbrev pub fits : Role → ℕ → Bool
 fits (Sync value) bit = bit == value
 fits (Control c) bit = true

@@ -1,4 +1,4 @@
--- What is relayed from an uplink to a downlink with no transcoding.
+-- The downlink frame that relays an uplink frame without transcoding.
 use Rattle.std.specs.Prelude.{◌≡◌, ℕ, true, List, length}
 use Rattle.trau_frame.specs.declared.frames.Kind.TheVariants as kinds
 use Rattle.trau_frame.specs.declared.frames.Class.TheVariants as classes

@@ -1,4 +1,4 @@
--- What stands at each of the 320 places of a frame (GSM 08.60).
+-- The role of each of the 320 places of a frame (GSM 08.60).
 use Rattle.std.specs.Prelude.{ℕ, ◌+◌, ◌-◌, ◌*◌, ◌/◌, ◌%◌, ◌<◌, ◌≤◌, if◌then◌else◌, nat_lt, nat_le, ◌==◌, ◌&&◌, List, slice_index}
 
 -- a sync bit of this value, control bit C1 to C21, data bit D1 to D260, or time bit T1 to T4
@@ -8,9 +8,8 @@ pub data Role : Type 0 where
   Data : ℕ → Role
   Time : ℕ → Role
 
--- the role of place i: sixteen sync zeros, then a sync one at every sixteenth place; behind the first of these
--- C1 to C15, behind the others the data bits, fifteen to a row; in the last row the last five data bits, C16 to C21
--- and T1 to T4
+-- the role of place i: sixteen sync zeros, then a sync one at every sixteenth place. The first of these ones is followed by C1 to C15, the others by
+-- data bits, fifteen to a row. The last row has the last five data bits, C16 to C21 and T1 to T4.
 unfoldable pub role_of : ℕ → Role
 role_of i =
     if nat_lt i 16 then Sync 0
@@ -28,7 +27,7 @@ IsRole (Control c) = (1 ≤ c) × (c ≤ 21)
 IsRole (Data n) = (1 ≤ n) × (n ≤ 260)
 IsRole (Time t) = (1 ≤ t) × (t ≤ 4)
 
--- the place of a role, the only one of a control, data or time bit, and the first one of a sync bit
+-- the place of a role: the only one of a control, data or time bit, the first one of a sync bit
 unfoldable pub place_of_role : Role → ℕ
 place_of_role (Sync bit) = 16 * bit
 place_of_role (Control c) = if nat_le c 15 then c + 16 else c + 294

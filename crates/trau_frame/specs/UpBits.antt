@@ -1,4 +1,4 @@
--- The bits of an uplink frame (this project's profile, in the manner of GSM 08.60 and GSM 06.31).
+-- The bits of an uplink frame (this project's profile, modelled on GSM 08.60 and GSM 06.31).
 use Rattle.std.specs.Prelude.{◌≡◌, ℕ, ◌-◌, if◌then◌else◌, nat_le, ◌==◌, List, map}
 use Rattle.std.specs.List.{range_with_len}
 use Rattle.std.specs.Int.{bit_at}
@@ -50,11 +50,11 @@ up_control w = map (up_control_bit w) (range_with_len 1 21)
 unfoldable pub bits_saying : UpWords → List ℕ
 bits_saying w = frame_bits (up_control w) w.d
 
--- the same of what the code writes
+-- the same, for the code's struct
 abbrev pub up_bits : UpFrame → List ℕ
 up_bits f = bits_saying (up_words_of f)
 
--- a class that a frame of this kind is read with: any for speech, and Unusable for the others
+-- a class that fits a frame of this kind: any for speech, and Unusable for the others
 abbrev pub FitsKind : Kind → Class → Type 0
 FitsKind Speech class = Unit {0}
 FitsKind Idle class = class ≡ Unusable

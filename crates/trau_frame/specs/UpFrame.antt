@@ -1,4 +1,4 @@
--- What the bits of an uplink frame say (this project's profile, in the manner of GSM 08.60 and GSM 06.31).
+-- What the bits of an uplink frame say (this project's profile, modelled on GSM 08.60 and GSM 06.31).
 use Rattle.std.specs.Prelude.{◌≡◌, ℕ, Bool, if◌then◌else◌, ◌==◌, List}
 use Rattle.trau_frame.specs.declared.frames.Kind.{Kind}
 use Rattle.trau_frame.specs.declared.frames.Kind.TheVariants.{Speech, Idle, Other}
@@ -22,7 +22,7 @@ class_by bfi sid =
     else if sid == 2 then (if bfi == 0 then Sid else InvalidSid)
     else InvalidSid
 
--- the class of a frame of any kind: one that isn't speech can't be used
+-- the class of a frame of any kind: Unusable if it isn't speech
 abbrev pub class_at : Kind → ℕ → ℕ → Class
 class_at Speech bfi sid = class_by bfi sid
 class_at Idle bfi sid = Unusable
@@ -56,7 +56,7 @@ words_in bits = record {
   d = data_of bits;
 }
 
--- the same of what the code reads
+-- the same, from the code's struct
 abbrev pub up_words_of : UpFrame → UpWords
 up_words_of f = record { kind = f.kind; class = f.class; taf = f.taf; dtxd = f.dtxd; align = f.align; d = f.d }
 

@@ -1,4 +1,4 @@
-//! What frames of both directions say.
+//! Frames of both directions.
 
 ghost use Rattle.std.specs.Prelude.{◌≤◌};
 ghost use Rattle.trau_bits.specs.Bits.{AreBits};
@@ -14,8 +14,7 @@ pub enum Kind {
     Other,
 }
 
-/// What an uplink speech frame is worth, by its bad frame indicator and its silence descriptor, in the manner
-/// of GSM 06.31.
+/// The class of an uplink speech frame, by its bad frame indicator and its silence descriptor, modelled on GSM 06.31.
 #[derive(Clone, Copy, Debug, PartialEq, Eq)]
 pub enum Class {
     /// Speech.
@@ -33,7 +32,7 @@ pub enum Class {
 pub struct UpFrame {
     /// What it carries, by C1 to C5.
     pub kind: Kind,
-    /// What it is worth, by C12 to C14; Unusable where it isn't speech.
+    /// Its class, by C12 to C14; Unusable if it isn't speech.
     pub class: Class,
     /// Time alignment flag: a silence descriptor is due in this period (GSM 06.31).
     pub taf: bool,

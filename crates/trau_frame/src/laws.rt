@@ -19,7 +19,8 @@ pub fn roles_and_places()
     ensures only { (i : ℕ) → i < 320 → ((bit : ℕ) → role_of i ≢ Sync bit) → place_of_role (role_of i) ≡ i }
 {}
 
-/// A frame of these control and data bits has 320 bits that carry the sync pattern, and they are read from it.
+/// A frame that is written with control and data bits has 320 bits and the sync pattern, and the same bits are read
+/// from it.
 pub fn written_bits_are_read()
     ensures count { (control d : List ℕ) → length (frame_bits control d) ≡ 320 }
     ensures synced { (control d : List ℕ) → Synced (frame_bits control d) }
@@ -28,7 +29,7 @@ pub fn written_bits_are_read()
     ensures data_bits { (control d : List ℕ) → length d ≡ 260 → data_of (frame_bits control d) ≡ d }
 {}
 
-/// A frame that was read is good speech exactly where its bits are, and then its data bits make what is relayed.
+/// A frame that was read is good speech exactly if its bits are, and its data bits give the relayed frame.
 pub fn good_speech_is_relayed()
     ensures good { (bits : List ℕ) (f : UpFrame) → length bits ≡ 320 → Synced bits → Says bits f →
         (IsGoodSpeech bits ↔ ((f.kind ≡ Kind.Speech) × (f.class ≡ Class.Good))) }
@@ -36,21 +37,21 @@ pub fn good_speech_is_relayed()
         down_bits (DownFrame.Speech f.d true) ≡ relayed_bits bits }
 {}
 
-/// An uplink frame that was written carries the sync pattern, and the same frame is read from it, if its class is one
-/// that frames of its kind are read with.
+/// An uplink frame that was written carries the sync pattern, and the same frame is read from it, if its class fits its
+/// kind.
 pub fn written_uplink_is_read()
     ensures synced { (f : UpFrame) → Synced (up_bits f) }
     ensures says { (f : UpFrame) → length f.d ≡ 260 → FitsKind f.kind f.class → Says (up_bits f) f }
     ensures same { (f g : UpFrame) → length f.d ≡ 260 → FitsKind f.kind f.class → Says (up_bits f) g → SameFrame f g }
 {}
 
-/// A place of a line matches exactly where the 320 bits from it on carry the sync pattern.
+/// A place of a line matches exactly if the 320 bits from it on carry the sync pattern.
 pub fn matches_are_sync_patterns()
     ensures { (line : ℕ → ℕ) (p : ℕ) → (is_match line p ≡ true) ↔ Synced (frame_at line p) }
 {}
 
-/// Two places of one line that match are 305 bits apart or more: nearer, a sync zero of the one would be a sync one of
-/// the other.
+/// Two matching places of one line are at least 305 bits apart. If they were nearer, a sync zero of one frame would be
+/// a sync one of the other.
 pub fn matching_places_stand_apart()
     ensures { (line : ℕ → ℕ) (p q : ℕ) → is_match line p ≡ true → is_match line q ≡ true → p < q → p + 305 ≤ q }
 {}

@@ -1,4 +1,4 @@
-//! What the bits of an uplink frame say.
+//! Reading of uplink frames.
 
 ghost use Rattle.std.specs.Prelude.{◌≡◌, ◌+◌, ◌<◌, ◌≤◌, ◌^◌, ◌==◌};
 ghost use Rattle.trau_bits.specs.Bits.{AreBits};
@@ -19,7 +19,7 @@ fn flag(bits: &[u8; 320], c: usize) -> bool
     control(bits, c) == 1
 }
 
-// The number in `n` control bits from C`first` on, the first of them the highest.
+// The number in `n` control bits from C`first` on, most significant first.
 #[tactic(auto, unfolding(crate::specs::Frame::number_in))]
 fn number(bits: &[u8; 320], first: usize, n: usize) -> u8
     requires bits { AreBits bits.now }
@@ -36,7 +36,7 @@ fn number(bits: &[u8; 320], first: usize, n: usize) -> u8
     value
 }
 
-/// The number in C1 to C5 of a frame of either direction: by it a frame tells what it carries.
+/// The number in C1 to C5 of a frame of either direction, which says what the frame carries.
 pub fn pattern(bits: &[u8; 320]) -> u8
     requires { AreBits bits.now }
     ensures { result ≡ number_in bits.now 1 5 }
@@ -66,16 +66,15 @@ fn class(kind: Kind, bfi: u8, sid: u8) -> Class
     }
 }
 
-/// Reads an uplink frame from 320 bits that carry the sync pattern. A frame of another kind than speech has the
-/// class Unusable; its alignment field, TAF, DTXd and data bits are read all the same. Spare and time bits are
-/// not looked at.
+/// Reads an uplink frame from 320 bits that carry the sync pattern. If it isn't a speech frame, its class is Unusable,
+/// and its alignment field, TAF, DTXd and data bits are read all the same. Spare and time bits are ignored.
 #[tactic(auto, unfolding(crate::specs::UpFrame::words_in))]
 pub fn read_up(bits: &[u8; 320]) -> UpFrame
     requires bits { AreBits bits.now }
     requires synced { Synced bits.now }
     ensures says { Says bits.now result }
 
-    // By the parts that most callers take.
+    // The same for the parts that most callers need.
     ensures kind { result.kind ≡ kind_of bits.now }
     ensures class { result.class ≡ class_of bits.now }
     ensures data_bits { result.d ≡ data_of bits.now }

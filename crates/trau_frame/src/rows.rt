@@ -1,4 +1,4 @@
-//! The rows of a frame: where its control and data bits stand, for reading and for writing.
+//! The rows of a frame: the places of its control and data bits, for reading and for writing.
 
 ghost use Rattle.std.specs.Prelude.{◌≡◌, ℕ, ◌+◌, ◌*◌, ◌<◌, ◌≤◌, List};
 ghost use Rattle.trau_bits.specs.Bits.{AreBits};

@@ -35,8 +35,8 @@ fn down_control(f: &DownFrame) -> [u8; 21]
     }
 }
 
-/// Writes a downlink frame over all 320 bits: a speech frame with its data bits and SP (C16), an idle frame with ones
-/// in their places. The alignment field is 0; spare and time bits are 1.
+/// Writes a downlink frame over all 320 bits: a speech frame with its data bits and SP (C16), or an idle frame with
+/// ones in their places. The alignment field is 0; spare and time bits are 1.
 #[tactic(auto, unfolding(crate::specs::DownFrame::down_bits))]
 pub fn write_down(f: &DownFrame, bits: &mut [u8; 320])
     requires { HasBits f.now }

@@ -1,7 +1,7 @@
--- What operations of the outside do: one operation, a whole transfer, and what lines in memory answer; and how texts name a line.
+-- Reads and writes: single operations, whole transfers, and lines in memory; how texts name a line.
 pub mod Desks
 pub mod Lines
 pub mod Memory
-pub mod Places
+pub mod Indices
 pub mod Texts
 pub mod Transfer

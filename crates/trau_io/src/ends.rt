@@ -1,5 +1,5 @@
-//! How and when a call ended, and what was counted of its periods: plain values that the orders' board,
-//! the rounds and the report share.
+//! How and when a call ended, and what was counted over its periods: plain values that the orders' board, the
+//! rounds and the report share.
 
 use crate::Side;
 
@@ -8,7 +8,7 @@ use crate::Side;
 pub enum Cause {
     /// An accepted order closed it.
     Closed,
-    /// An incoming line ended without a fault; `left` of its octets stand past the call's whole periods.
+    /// An incoming line ended without a fault; `left` is the number of its octets after the call's whole periods.
     End { side: Side, left: u32 },
     /// An incoming line failed before it gave the period.
     Fault { side: Side },
@@ -16,7 +16,7 @@ pub enum Cause {
     Limit,
 }
 
-/// The end of a call: `at` is the first period that it doesn't have.
+/// The end of a call: `at` is the first period after it.
 #[derive(Clone, Copy, Debug, PartialEq, Eq)]
 pub struct CallEnd {
     pub call: u32,
@@ -48,7 +48,7 @@ pub struct Counts {
     pub made: u64,
 }
 
-/// Nothing counted.
+/// All counts at 0.
 pub const NO_COUNTS: Counts = Counts {
     good: 0,
     sid: 0,

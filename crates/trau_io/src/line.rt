@@ -1,11 +1,11 @@
-//! The name of a line, and the one answer of an operation that the outside refused.
+//! The name of a line, and the error of an operation that failed.
 
 ghost use Rattle.call_number.specs.CallNumber.{IsCallNumber};
 
 /// Which of a call's four lines.
 #[derive(Clone, Copy, Debug, PartialEq, Eq)]
 pub enum Side {
-    /// From the base station: 40 octets, one frame of 320 bits, a period of 20 ms.
+    /// From the base station: 40 octets (one frame of 320 bits) a period of 20 ms.
     Up,
     /// From the telephone exchange: 160 octets of A-law or mu-law (G.711) a period.
     Pcm,
@@ -19,7 +19,7 @@ impl Side {
     ghost use Rattle.std.specs.Prelude.{◌≡◌, ◌≤◌, length};
     ghost use Rattle.trau_io.specs.Texts.{side_word};
 
-    /// The word for the side, in texts and in the names of files.
+    /// The side's word in texts and file names.
     pub fn word(self) -> &'static str
         ensures word { result.now ≡ side_word self }
         ensures short { length result.now ≤ 4 }
@@ -41,6 +41,6 @@ pub struct Line {
     pub ghost number: { IsCallNumber call },
 }
 
-/// The outside failed at this operation, and its count of faults says so.
+/// The operation failed and was counted as a fault.
 #[derive(Clone, Copy, Debug, PartialEq, Eq)]
 pub struct Failed;

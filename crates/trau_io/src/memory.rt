@@ -1,4 +1,4 @@
-//! Lines and a desk in memory, which tell everything.
+//! Lines and a desk in memory.
 
 mod desk;
 mod line;

@@ -1,4 +1,4 @@
-//! Whole transfers, in whatever pieces the outside takes and gives them.
+//! Whole transfers, whatever the sizes of the single reads and writes.
 
 ghost use Rattle.std.specs.Prelude.{◌≤◌, length};
 ghost use Rattle.trau_io.specs.Lines.{OthersStay};
@@ -6,7 +6,7 @@ ghost use Rattle.trau_io.specs.Transfer.{FillsBlock, ReadsBlock, WritesAll, Tell
 
 use crate::{Desk, Failed, Line, Trunk};
 
-/// How a block was filled: wholly, or with so many octets before the line ended or failed.
+/// How a block was filled: to its end, or with this number of octets before the line ended or failed.
 #[derive(Clone, Copy, Debug, PartialEq, Eq)]
 pub enum Filled {
     Whole,
@@ -30,7 +30,7 @@ pub fn read_block<T: Trunk>(trunk: &mut T, line: Line, block: &mut [u8]) -> Fill
     Filled::Whole
 }
 
-/// Writes all the octets to a line, or a proper front of them where it fails.
+/// Writes all the octets to a line. If the line fails, it has gained a proper prefix of them.
 pub fn write_all<T: Trunk>(trunk: &mut T, line: Line, bytes: &[u8]) -> Result<(), Failed>
     ensures this { WritesAll (T.lines trunk.old line.call line.side) (T.lines trunk.new line.call line.side) result bytes.now }
     ensures others { OthersStay (T.lines trunk.old) (T.lines trunk.new) line.call line.side }
@@ -42,7 +42,7 @@ pub fn write_all<T: Trunk>(trunk: &mut T, line: Line, bytes: &[u8]) -> Result<()
     Ok(())
 }
 
-/// Writes a whole text to the desk, or a proper front of it where the desk fails.
+/// Writes a whole text to the desk. If the desk fails, it has gained a proper prefix of it.
 pub fn tell<D: Desk>(desk: &mut D, text: &[u8]) -> Result<(), Failed>
     ensures { Tells (D.desk desk.old) (D.desk desk.new) result text.now }
 {
@@ -53,7 +53,7 @@ pub fn tell<D: Desk>(desk: &mut D, text: &[u8]) -> Result<(), Failed>
     Ok(())
 }
 
-/// Reads the desk until the block is full, its text ends or it fails.
+/// Reads the desk until the block is full, the orders end or the desk fails.
 pub fn read_desk<D: Desk>(desk: &mut D, block: &mut [u8]) -> Filled
     ensures { FillsBlock (D.desk desk.old) (D.desk desk.new) result block.new }
 {

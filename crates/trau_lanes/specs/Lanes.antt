@@ -13,7 +13,7 @@ pub record EightFactors (xs : List ℤ) : Type 0 where
   pub eight : length xs ≡ 8
   pub factors : Each1 (λ x. unsigned_abs x ≤ 32767) xs
 
--- the sums of the numbers of places 0 and 1, of places 2 and 3, and so on
+-- the sums of entries 0 and 1, of entries 2 and 3, and so on
 abbrev pub sums_of_pairs : List ℤ → List ℤ
 sums_of_pairs [] = []
 sums_of_pairs (x ∷ []) = []

@@ -1,6 +1,6 @@
 //! Words of 16 bits in the eight lanes of a vector, with the operations of `trau_num` on each lane.
 //!
-//! Definitions: `specs/Lanes.antt`. The lemmas of `proofs/` serve the crates above, which pass lanes on.
+//! Definitions: `specs/Lanes.antt`. `proofs/` has lemmas about lanes for the crates that compute with them.
 #![tactic(auto)]
 
 ghost use Rattle.std.specs.Prelude.{◌≡◌, ℤ, ℕ, ◌≤◌, ◌∷◌, ◌+ℤ◌, ◌*ℤ◌, unsigned_abs, length, take, FitsSigned};
@@ -11,7 +11,7 @@ ghost use Rattle.trau_lanes.specs.Lanes.{EightWords, EightFactors, sums_of_pairs
 
 use std::simd::prelude::*;
 
-/// The saturating sum of each two lanes.
+/// The saturating sums, lane by lane.
 pub fn plus_lanes(a: i16x8, b: i16x8) -> i16x8
     requires a { EightWords a }
     requires b { EightWords b }
@@ -22,7 +22,7 @@ pub fn plus_lanes(a: i16x8, b: i16x8) -> i16x8
         .cast::<i16>()
 }
 
-/// The saturating difference of each two lanes.
+/// The saturating differences, lane by lane.
 pub fn minus_lanes(a: i16x8, b: i16x8) -> i16x8
     requires a { EightWords a }
     requires b { EightWords b }
@@ -33,10 +33,11 @@ pub fn minus_lanes(a: i16x8, b: i16x8) -> i16x8
         .cast::<i16>()
 }
 
-/// The rounded product of each factor and word.
+/// The rounded products, lane by lane.
 ///
-/// It is the high half of the doubled factor's product, with one word up or down for what doubling wraps off, and with the
-/// highest bit of the low half. Where a factor stays in a loop the compiler doubles it once.
+/// Each is the high half of the doubled factor's product, plus the highest bit of its low half. If doubling wraps the
+/// factor, the word is added or subtracted once to correct that. In a loop with fixed factors, the compiler doubles
+/// them once.
 pub fn scaled_lanes(factors: i16x8, values: i16x8) -> i16x8
     requires factors { EightFactors factors }
     requires values { EightWords values }
@@ -49,7 +50,7 @@ pub fn scaled_lanes(factors: i16x8, values: i16x8) -> i16x8
     high + over * values + carry
 }
 
-/// The lanes moved up by one place, with a word in the first.
+/// The lanes moved up by one place, with `first` in lane 0; the last lane is dropped.
 pub fn shift_in(first: i16, lanes: i16x8) -> i16x8
     requires { EightWords lanes }
     ensures { result ≡ take 8 (first ∷ lanes) }
@@ -65,7 +66,7 @@ pub fn wide(samples: i16x8) -> i32x8
     samples.cast::<i32>()
 }
 
-/// The products of words, of which one is above -32768.
+/// The products of words, lane by lane; the words of `a` are above -32768.
 pub fn products(a: i32x8, b: i32x8) -> i32x8
     requires words_a { Each1 (λ x. unsigned_abs x ≤ 32767) a }
     requires words_b { Each1 (λ x. unsigned_abs x ≤ 32768) b }
@@ -74,7 +75,7 @@ pub fn products(a: i32x8, b: i32x8) -> i32x8
     a * b
 }
 
-/// The sums of the lanes of two vectors.
+/// The sums, lane by lane.
 pub fn sums(a: i32x4, b: i32x4) -> i32x4
     requires small_a { Each1 (λ x. unsigned_abs x ≤ 1073741823) a }
     requires small_b { Each1 (λ x. unsigned_abs x ≤ 1073741823) b }

@@ -1,4 +1,4 @@
--- The weight of a list: that of its items, added up.
+-- The weight of a list: the sum of the weights of its items.
 use Rattle.std.specs.Prelude.{ℕ, ◌+◌, List, [], ◌∷◌}
 
 abbrev pub weigh : {X : Type 0} → (X → ℕ) → List X → ℕ

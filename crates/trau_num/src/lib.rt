@@ -1,15 +1,15 @@
 //! Saturating arithmetic of the full rate codec (GSM 06.10, section 4), and this project's random source.
 //!
-//! The lowest crate: every stage of the codec computes with these functions, and the receive side draws
-//! from the source. Each operation is the exact whole number, clamped to its type; that of -32768 and
-//! -32768 is no case of its own, since the clamp gives it. `words` has the operations on 16 bits,
-//! `long_words` those on 32 bits, `products` the sum of a word and a rounded product that filters are
-//! made of, `random` the random source.
+//! Every stage of the codec computes with these functions, and the receive side draws from the random source. Each
+//! operation is the exact whole number, clamped to its type. So -32768 times -32768 needs no case of its own.
 //!
-//! Definitions: `specs/Num.antt` and `specs/Random.antt`, and `specs/Weights.antt` (the weight of a list). Lemmas that
-//! the crates above share: `proofs/Fill.antt` (lists of a fixed size that a loop fills entry by entry),
-//! `proofs/Greatest.antt` (a search for the least number at which a function is greatest), `proofs/Clamped.antt` (what
-//! saturates is a word) and `proofs/Fitting.antt` (what fits a word).
+//! `words` has the operations on 16 bits, `long_words` those on 32 bits, `products` the basic step of the filters (the
+//! sum of a word and a rounded product), `random` the random source.
+//!
+//! Definitions: `specs/Num.antt`, `specs/Random.antt`, and `specs/Weights.antt` (the weight of a list). Lemmas that
+//! other crates use too: `proofs/Fill.antt` (lists of a fixed size that a loop fills entry by entry),
+//! `proofs/Greatest.antt` (a search for the least number at which a function is greatest), `proofs/Clamped.antt` (a
+//! saturated number is a word) and `proofs/Fitting.antt` (numbers that fit a word).
 #![tactic(auto)]
 
 mod long_words;

@@ -5,7 +5,7 @@ ghost use Rattle.trau_num.specs.Num.{clamp32, l_add_of, l_sub_of, l_mult_of, nor
 
 use crate::products::full_product;
 
-// The long word that is nearest.
+// The nearest long word.
 fn clamp_long(x: i64) -> i32
     ensures { result ≡ clamp32 x }
 {
@@ -28,7 +28,7 @@ pub fn l_sub(a: i32, b: i32) -> i32
     clamp_long(i64::from(a) - i64::from(b))
 }
 
-/// Twice the product. The clamp for two words of -32768 is this project's profile.
+/// Twice the product, clamped to 32 bits. Only two words of -32768 are clamped, which is this project's profile.
 #[tactic(auto, unfolding(crate::specs::Num::l_mult_of))]
 pub fn l_mult(a: i16, b: i16) -> i32
     ensures { result ≡ l_mult_of a b }
@@ -36,7 +36,7 @@ pub fn l_mult(a: i16, b: i16) -> i32
     clamp_long(i64::from(full_product(a, b)) * 2)
 }
 
-/// The number of left shifts that bring a long word above 0 into 2^30 to 2^31 - 1.
+/// The number of left shifts that bring a positive long word into 2^30 to 2^31 - 1.
 pub fn norm(v: i32) -> u8
     requires { pos 0 <ℤ v }
     ensures value { result ≡ norm_of (unsigned_abs v) }

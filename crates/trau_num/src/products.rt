@@ -1,7 +1,7 @@
-//! Products in 32 bits, and the sum of a word and a rounded product that filters are made of.
+//! Products in 32 bits, and the basic step of the filters: the sum of a word and a rounded product.
 //!
-//! A factor above -32768, such as each reflection coefficient of the codec, keeps a rounded product
-//! within a word; so no clamp is needed between product and sum.
+//! The rounded product of a word and a factor above -32768 fits a word, so no clamp is needed between product and sum.
+//! Each reflection coefficient of the codec is such a factor.
 
 ghost use Rattle.std.specs.Prelude.{◌≡◌, ℕ, ◌^◌, ◌≤◌, pos, neg_ℤ, ◌*ℤ◌, ◌≤ℤ◌, unsigned_abs};
 ghost use Rattle.trau_num.specs.Num.{add_of, mult_r_of};
@@ -35,7 +35,7 @@ pub fn scaled(factor: i16, value: i16) -> i32
     (product(factor, value) + 16384) >> 15
 }
 
-/// The word `base` and a rounded product.
+/// The sum of `base` and a rounded product, clamped to 16 bits.
 #[tactic(auto, unfolding(crate::specs::Num::add_of))]
 pub fn plus(base: i16, factor: i16, value: i16) -> i16
     requires { neg_ℤ (pos 32767) ≤ℤ factor }

@@ -11,7 +11,7 @@ pub struct Draw {
 }
 
 impl Draw {
-    /// Draws a number below `m`, which is 1 to 6.
+    /// Draws a number from 0 to `m` - 1, where `m` is 1 to 6.
     #[tactic(auto, unfolding(crate::specs::Random::state_after_draw, crate::specs::Random::drawn_number))]
     pub fn next(&mut self, m: u16) -> u16
         requires some { 1 ≤ m }

@@ -5,7 +5,7 @@ ghost use Rattle.trau_num.specs.Num.{clamp16, add_of, sub_of, mult_of, mult_r_of
 
 use crate::products::full_product;
 
-/// The word that is nearest to a long word.
+/// The nearest word of 16 bits.
 pub fn clamp(x: i32) -> i16
     ensures { result ≡ clamp16 x }
 {
@@ -53,8 +53,8 @@ pub fn abs16(a: i16) -> i16
     a.saturating_abs()
 }
 
-/// The quotient of two fractions of 15 bits, of which the second isn't the lesser, rounded down: 32767 where
-/// they are equal, and 0 for 0 and 0.
+/// The quotient of two fractions of 15 bits, rounded down, for `num` from 0 to `den`. It is 32767 if they are equal,
+/// and 0 for 0 and 0.
 #[tactic(auto, unfolding(crate::specs::Num::div_of))]
 pub fn div_q15(num: i16, den: i16) -> i16
     requires not_negative { pos 0 ≤ℤ num }
@@ -69,7 +69,7 @@ pub fn div_q15(num: i16, den: i16) -> i16
     quotient.min(32767) as i16
 }
 
-/// The word times 2 to the power of `n`, which is at most 15; clamped to 16 bits.
+/// The word times 2^n, clamped to 16 bits, for `n` up to 15.
 #[tactic(auto, unfolding(crate::specs::Num::shl_of))]
 pub fn shl16(a: i16, n: u8) -> i16
     requires { n ≤ 15 }

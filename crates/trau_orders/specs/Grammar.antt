@@ -21,7 +21,7 @@ abbrev pub law_words : Law → List (List ℕ)
 law_words A = []
 law_words Mu = codes "mulaw" ∷ []
 
--- the words that order it, numbers in decimal digits
+-- the words for what is ordered; numbers in decimal digits
 abbrev pub words_for : What → List (List ℕ)
 words_for (OpenCall c law) = codes "open" ∷ decimal c ∷ law_words law
 words_for (CloseCall c) = codes "close" ∷ decimal c ∷ []
@@ -30,7 +30,7 @@ words_for (Unbridge c) = codes "unbridge" ∷ decimal c ∷ []
 words_for (Level c v) = codes "level" ∷ decimal c ∷ decimal (unsigned_abs v) ∷ []
 words_for (Dtx c m) = codes "dtx" ∷ decimal c ∷ mode_word m ∷ []
 
--- its numbers are in their ranges
+-- the numbers are in their ranges
 abbrev pub IsInRange : What → Type 0
 IsInRange (OpenCall c law) = IsCallNumber c
 IsInRange (CloseCall c) = IsCallNumber c
@@ -39,7 +39,7 @@ IsInRange (Unbridge c) = IsCallNumber c
 IsInRange (Level c v) = IsCallNumber c × (pos 0 ≤ℤ v) × (v ≤ℤ pos 32767)
 IsInRange (Dtx c m) = IsCallNumber c
 
--- the line of an order, without an LF: its stamp and the words that order it, with one space between words
+-- the line of an order, without an LF: its stamp and its words, with one space between words
 unfoldable pub order_line : Order → List ℕ
 order_line order = join_with_byte 32 (decimal order.stamp ∷ words_for order.what)
 
@@ -49,11 +49,11 @@ pub record IsLine (line : List ℕ) (order : Order) : Type 0 where
   pub in_range : IsInRange order.what
   pub spelled : line ≡ order_line order
 
--- the words of a line, of which some may be empty
+-- the words of a line, split at each space; a word may be empty
 abbrev pub words_of : List ℕ → List (List ℕ)
 words_of line = slice_split (λ b. eqb b 32) line
 
--- these words order it
+-- the words for what is ordered, whose numbers are in their ranges
 pub record AreWords (words : List (List ℕ)) (what : What) : Type 0 where
   pub in_range : IsInRange what
   pub spelled : words ≡ words_for what

@@ -1,4 +1,4 @@
--- Lists of orders, as a text of orders gives them (this project's profile).
+-- Lists of orders, as a text spells them (this project's profile).
 use Rattle.std.specs.Prelude.{ℕ, ◌<◌, ◌≤◌, List, length, pos, ◌≤ℤ◌}
 use Rattle.std.proofs.Common.{get_or}
 use Rattle.call_number.specs.CallNumber.{IsCallNumber}
@@ -6,7 +6,7 @@ use Rattle.trau_orders.specs.declared.order.Order.{Order}
 use Rattle.trau_orders.specs.declared.order.What.{What}
 use Rattle.trau_orders.specs.declared.order.What.TheVariants.{OpenCall, CloseCall, Bridge, Unbridge, Level, Dtx}
 
--- what is named are calls
+-- the numbers of calls that an order names are in their range
 abbrev pub NamesCalls : What → Type 0
 NamesCalls (OpenCall c law) = IsCallNumber c
 NamesCalls (CloseCall c) = IsCallNumber c
@@ -15,7 +15,7 @@ NamesCalls (Unbridge c) = IsCallNumber c
 NamesCalls (Level c v) = IsCallNumber c
 NamesCalls (Dtx c m) = IsCallNumber c
 
--- a level, if one is ordered, is no number below 0
+-- a level that is ordered is from 0 to 32,767
 abbrev pub HasLevel : What → Type 0
 HasLevel (OpenCall c law) = Unit {0}
 HasLevel (CloseCall c) = Unit {0}
@@ -24,7 +24,7 @@ HasLevel (Unbridge c) = Unit {0}
 HasLevel (Level c v) = (pos 0 ≤ℤ v) × (v ≤ℤ pos 32767)
 HasLevel (Dtx c m) = Unit {0}
 
--- few enough orders, of calls, with levels and stamps in their ranges, and no stamp below an earlier one
+-- at most 65,536 orders, with call numbers, levels and stamps in their ranges, and no stamp below an earlier one
 pub record AreOrders (os : List Order) : Type 0 where
   pub few : length os ≤ 65536
   pub calls : (k : ℕ) (d : Order) → k < length os → NamesCalls (get_or os k d).what

@@ -1,10 +1,10 @@
-//! Why a text of orders isn't taken.
+//! Why a text of orders isn't accepted.
 
 use crate::Order;
 use std::alloc::AllocFailed;
 use thiserror::Error;
 
-/// Why a text of orders isn't taken.
+/// Why a text of orders isn't accepted.
 #[derive(Clone, Copy, Debug, Drop, PartialEq, Eq, Error)]
 pub enum OrderFault {
     /// The first line that isn't in the grammar, counted from 1.

@@ -17,7 +17,7 @@ const LAST_STAMP: u32 = 4_294_967_294;
 
 const HIGHEST_LEVEL: u32 = 32_767;
 
-/// The order of a line without its LF.
+/// The order that a line, without its LF, spells.
 pub(crate) fn order_of(line: &[u8]) -> Option<Order>
     ensures some { IfSome result (λ order. IsLine line.now order) }
     ensures none { IsNone result → (order : OneOrder) → IsLine line.now order → ⊥ }
@@ -28,7 +28,7 @@ pub(crate) fn order_of(line: &[u8]) -> Option<Order>
     Some(Order { stamp, what })
 }
 
-// What the words after the stamp order.
+// Parses the words after the stamp.
 fn what_of(words: &[u8]) -> Option<What>
     ensures some { IfSome result (λ what. AreWords (words_of words.now) what) }
     ensures none { IsNone result → (what : OneWhat) → AreWords (words_of words.now) what → ⊥ }
@@ -77,7 +77,6 @@ fn of_three(verb: &[u8], call: &[u8], more: &[u8]) -> Option<What>
     }
 }
 
-// Whether a word is the one of this name.
 fn is_word(word: &[u8], name: &[u8]) -> bool
     ensures yes { result ≡ true → word.now ≡ name.now }
     ensures no { result ≡ false → word.now ≡ name.now → ⊥ }
@@ -92,7 +91,7 @@ fn call_of(word: &[u8]) -> Option<u32>
     number_of_octets(word, 1, LAST_CALL)
 }
 
-// The law that a word names; of A-law there is no word.
+// The law that a word names. A-law has no word.
 fn law_of(word: &[u8]) -> Option<Law>
     ensures some { IfSome result (λ law. (law ≡ Mu) × (word.now ≡ codes "mulaw")) }
     ensures none { IsNone result → word.now ≡ codes "mulaw" → ⊥ }

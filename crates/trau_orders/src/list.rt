@@ -33,8 +33,8 @@ impl Model for Orders {
 }
 
 impl Orders {
-    /// The orders that a text's lines spell. A text that is too long answers `TooLong`, else one of too many lines
-    /// `TooMany`, else one with a line that isn't in the grammar `Line`, with the number of the first.
+    /// Parses the lines of a text. A text that is too long gives `TooLong`; else too many lines give `TooMany`;
+    /// else a line that isn't in the grammar gives `Line` with the number of the first such line.
     pub fn parse(alloc: Global, text: &[u8]) -> Result<Orders, OrderFault>
         ensures ok { IfOk result (λ orders. AreLines (text_lines text.now) orders) }
         ensures within { IfOk result (λ orders. IsWithin text.now) }
@@ -52,7 +52,7 @@ impl Orders {
         Ok(Orders { items })
     }
 
-    /// The orders, one after another as their lines stood.
+    /// The orders, in the order of their lines.
     pub fn list(&self) -> &[Order]
         ensures value { result.now ≡ self.now }
         ensures orders { AreOrders self.now }

@@ -11,17 +11,17 @@ pub enum DtxMode {
     Uplink,
 }
 
-/// What is ordered, of calls by their numbers.
+/// What an order asks for. It names calls by their numbers.
 #[derive(Clone, Copy, Debug, PartialEq, Eq)]
 pub enum What {
-    /// The law is that of its lines from and to the exchange.
+    /// `law` is that of the call's lines from and to the exchange.
     OpenCall { call: u32, law: Law },
     CloseCall(u32),
-    /// Each call's effective frames go out on the other's downlink; of good speech the bits unchanged.
+    /// Each call's effective frames go out on the other's downlink; the bits of good speech are unchanged.
     Bridge(u32, u32),
     /// The call's bridge ends.
     Unbridge(u32),
-    /// The peak of a frame from which it counts as speech, 0 to 32,767.
+    /// The peak from which a frame counts as speech, 0 to 32,767.
     Level(u32, i16),
     Dtx(u32, DtxMode),
 }

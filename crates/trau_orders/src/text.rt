@@ -10,7 +10,7 @@ use crate::{Order, OrderFault};
 use decimal_number::split_at_octet;
 use std::alloc::Global;
 
-// The first line of a text, without its LF, and the text behind it.
+// The first line of a text, without its LF, and the rest of the text.
 fn split_line(text: &[u8]) -> Option<(&[u8], &[u8])>
     ensures some { IfSome result (λ parts. text_lines text.now ≡ parts.0.now ∷ text_lines parts.1.now) }
     ensures shorter { IfSome result (λ parts. length parts.1.now < length text.now) }
@@ -38,7 +38,7 @@ pub(crate) fn count_lines(text: &[u8]) -> usize
     count
 }
 
-// The order of a line behind these orders.
+// The order of the line after these orders. Its stamp must not be below that of the last order.
 fn next_order(line: &[u8], orders: &[Order]) -> Option<Order>
     ensures some { IfSome result (λ order. IsLine line.now order × IsNoEarlier orders.now order) }
     ensures none { IsNone result → (order : OneOrder) → IsLine line.now order → IsNoEarlier orders.now order → ⊥ }
@@ -50,7 +50,7 @@ fn next_order(line: &[u8], orders: &[Order]) -> Option<Order>
     }
 }
 
-/// The orders of a text with few enough lines.
+/// The orders of a text with at most 65,536 lines.
 pub(crate) fn orders_of(alloc: Global, text: &[u8]) -> Result<Vec<Order>, OrderFault>
     requires { length (text_lines text.now) ≤ 65536 }
     ensures ok { IfOk result (λ orders. AreLines (text_lines text.now) orders.items) }

@@ -5,7 +5,7 @@ use Rattle.trau_params.specs.declared.params.Params.{Params}
 use Rattle.trau_params.specs.Widths.{larc_widths, nc_width, bc_width, mc_width, xmaxc_width, xmc_width, block_size, nc_offset, bc_offset, mc_offset}
 use Rattle.trau_params.specs.Widths.{xmaxc_offset, xmc_offset}
 
--- the fields: LARc 1 to 8, and of each of the four blocks lag, gain, grid, block maximum and thirteen pulses
+-- the fields: LARc 1 to 8, and the lag, gain, grid, block maximum and thirteen pulses of each of the four blocks
 pub record Fields : Type 0 where
   pub larc : List ℕ
   pub nc : List ℕ
@@ -18,11 +18,11 @@ pub record Fields : Type 0 where
 abbrev pub fields_of : Params → Fields
 fields_of p = record { larc = p.larc; nc = p.nc; bc = p.bc; mc = p.mc; xmaxc = p.xmaxc; xmc = p.xmc }
 
--- the number in `width` bits from `offset` on, the first of them the least significant
+-- the number in `width` bits from `offset` on, least significant first
 unfoldable pub number_at : List ℕ → ℕ → ℕ → ℕ
 number_at bits offset width = sum (map (λ t. slice_index bits (offset + t) * 2 ^ t) (range_with_len 0 width))
 
--- the field of each of the four blocks, which stand one behind the other
+-- one field of each of the four blocks; `offset` is its offset in the first block, and the blocks follow each other
 abbrev pub block_numbers : List ℕ → ℕ → ℕ → List ℕ
 block_numbers bits offset width = map (λ j. number_at bits (offset + block_size * j) width) (range_with_len 0 4)
 

@@ -1,14 +1,14 @@
--- Where the fields stand among the 260 bits of a frame.
+-- The positions of the fields among the 260 bits of a frame.
 use Rattle.std.specs.Prelude.{◌≡◌, ℕ, ◌+◌, ◌*◌, ◌/◌, ◌%◌, ◌^◌, ◌<◌, List, [], sum, take, slice_index, slice_index_or}
 use Rattle.trau_params.specs.declared.params.Params.{Params}
 use Rattle.trau_params.specs.Widths.{larc_widths, nc_width, bc_width, mc_width, xmaxc_width, xmc_width, block_size, nc_offset, bc_offset, mc_offset}
 use Rattle.trau_params.specs.Widths.{xmaxc_offset, xmc_offset}
 
--- a field stands at an offset: bit t of it, floor(value / 2^t) mod 2, is at offset + t
+-- a field is at an offset: its bit t, floor(value / 2^t) mod 2, is at offset + t
 abbrev pub StandsAt : List ℕ → ℕ → ℕ → ℕ → Type 0
 StandsAt bits offset width value = (t : ℕ) → t < width → slice_index bits (offset + t) ≡ value / 2 ^ t % 2
 
--- each field stands where the widths of those before it put it
+-- the offset of each field is the sum of the widths of the fields before it
 pub record FieldsStand (p : Params) (bits : List ℕ) : Type 0 where
   pub larc : (i : ℕ) → i < 8 → StandsAt bits (sum (take i larc_widths)) (slice_index larc_widths i) (slice_index p.larc i)
   pub nc : (j : ℕ) → j < 4 → StandsAt bits (nc_offset + block_size * j) nc_width (slice_index p.nc j)

@@ -2,7 +2,7 @@
 use Rattle.std.specs.Prelude.{◌≡◌, ℕ, ◌<◌, [], length, slice_index_or}
 use Rattle.trau_params.specs.declared.params.Params.{Params}
 
--- the arrays of the frame have their lengths, and so have the rows of pulses
+-- the arrays of the frame and the rows of pulses have their lengths
 pub record HasShape (p : Params) : Type 0 where
   pub larc : length p.larc ≡ 8
   pub nc : length p.nc ≡ 4

@@ -1,11 +1,11 @@
--- The widths and offsets of the fields of a frame, in bits and in the order in which the fields stand (GSM 06.10, table 1.1).
+-- The widths and offsets of the fields of a frame, in bits, in the order of the fields (GSM 06.10, table 1.1).
 use Rattle.std.specs.Prelude.{ℕ, ◌+◌, ◌^◌, ◌<◌, List, [], ◌∷◌, replicate, sum, All, slice_index}
 
 -- LARc 1 to 8
 abbrev pub larc_widths : List ℕ
 larc_widths = 6 ∷ 6 ∷ 5 ∷ 5 ∷ 4 ∷ 4 ∷ 3 ∷ 3 ∷ []
 
--- then four times: Nc, bc, Mc, xmaxc, thirteen xMc
+-- then, for each of the four blocks: Nc, bc, Mc, xmaxc, thirteen xMc
 abbrev pub nc_width : ℕ
 nc_width = 7
 
@@ -27,14 +27,14 @@ pulse_widths = replicate 13 xmc_width
 abbrev pub block_widths : List ℕ
 block_widths = nc_width ∷ bc_width ∷ mc_width ∷ xmaxc_width ∷ pulse_widths
 
--- how many bits the eight LARc have, and each block
+-- the number of bits of the eight LARc, and of each block
 abbrev pub larc_size : ℕ
 larc_size = sum larc_widths
 
 abbrev pub block_size : ℕ
 block_size = sum block_widths
 
--- where the fields of the first block stand: each behind the one before it, the first behind the LARc
+-- the offsets of the fields of the first block: each field follows the one before it, and the first follows the LARc
 abbrev pub nc_offset : ℕ
 nc_offset = larc_size
 
@@ -54,7 +54,7 @@ xmc_offset = xmaxc_offset + xmaxc_width
 abbrev pub FitLarc : List ℕ → Type 0
 FitLarc larc = (i : ℕ) → i < 8 → slice_index larc i < 2 ^ slice_index larc_widths i
 
--- each value fits that width
+-- each value fits the width
 abbrev pub FitWidth : ℕ → List ℕ → Type 0
 FitWidth width values = All (λ v. v < 2 ^ width) values
 

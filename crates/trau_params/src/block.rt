@@ -31,7 +31,7 @@ impl Block {
     ghost use Rattle.trau_bits.specs.Bits.{AreBits};
     ghost use Rattle.trau_params.specs.Block.{bits_of_block};
 
-    /// Writes the 56 bits of the block at a place, and answers the place after them.
+    /// Writes the 56 bits of the block from `at` on. Returns the position after them.
     pub(crate) fn put(&self, bits: &mut [u8; 260], at: usize) -> usize
         requires { at + 56 ≤ 260 }
         ensures next { result ≡ at + 56 }
@@ -44,7 +44,7 @@ impl Block {
         put_pulses(bits, at, &self.xmc)
     }
 
-    /// Reads the block whose 56 bits stand at a place.
+    /// Reads a block from the 56 bits from `at` on.
     pub(crate) fn read(bits: &[u8; 260], at: usize) -> Block
         requires bits { AreBits bits.now }
         requires room { at + 56 ≤ 260 }

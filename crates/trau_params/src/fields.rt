@@ -7,7 +7,7 @@ ghost use Rattle.trau_params.specs.FieldBits.{low_bits, field_bits};
 
 use crate::widths::{LARC_WIDTHS, XMC_WIDTH};
 
-/// Writes a field at a place, and answers the place after it.
+/// Writes a field from `at` on. Returns the position after it.
 pub(crate) fn put(bits: &mut [u8; 260], at: usize, width: usize, value: u8) -> usize
     requires width { width ≤ 7 }
     requires room { at + width ≤ 260 }
@@ -20,7 +20,7 @@ pub(crate) fn put(bits: &mut [u8; 260], at: usize, width: usize, value: u8) -> u
     at + width
 }
 
-/// Reads the field that stands at a place.
+/// Reads a field from `at` on.
 pub(crate) fn read(bits: &[u8; 260], at: usize, width: usize) -> u8
     requires bits { AreBits bits.now }
     requires width { width ≤ 7 }
@@ -35,7 +35,7 @@ pub(crate) fn read(bits: &[u8; 260], at: usize, width: usize) -> u8
     value
 }
 
-/// Writes LARc 1 to 8, the first fields of a frame, and answers the place after them.
+/// Writes LARc 1 to 8, the first fields of a frame. Returns the position after them.
 pub(crate) fn put_larc(bits: &mut [u8; 260], larc: &[u8; 8]) -> usize
     ensures next { result ≡ 36 }
     ensures bits { take result bits.new ≡ field_bits larc_widths larc.now }
@@ -62,7 +62,7 @@ pub(crate) fn read_larc(bits: &[u8; 260]) -> [u8; 8]
     larc
 }
 
-/// Writes thirteen pulses at a place, and answers the place after them.
+/// Writes thirteen pulses from `at` on. Returns the position after them.
 pub(crate) fn put_pulses(bits: &mut [u8; 260], at: usize, xmc: &[u8; 13]) -> usize
     requires { at + 39 ≤ 260 }
     ensures next { result ≡ at + 39 }
@@ -75,7 +75,7 @@ pub(crate) fn put_pulses(bits: &mut [u8; 260], at: usize, xmc: &[u8; 13]) -> usi
     next
 }
 
-/// Reads the thirteen pulses that stand at a place.
+/// Reads thirteen pulses from `at` on.
 pub(crate) fn read_pulses(bits: &[u8; 260], at: usize) -> [u8; 13]
     requires bits { AreBits bits.now }
     requires room { at + 39 ≤ 260 }

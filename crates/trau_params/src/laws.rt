@@ -1,4 +1,4 @@
-//! One list of 260 bits for each frame of parameters, and one frame for each list.
+//! Laws of the parameters: frames of parameters and lists of 260 bits correspond one to one.
 
 ghost use Rattle.std.specs.Prelude.{◌≡◌};
 ghost use Rattle.trau_params.specs.Bits260.{bits260_of, SameFields};
@@ -17,7 +17,7 @@ pub fn one_frame(p: Params, q: Params)
     q.shape();
 }
 
-/// The frame that is read from the bits of a frame: the same.
+/// Writes the bits of a frame and reads them: the result is the same frame.
 pub fn rewritten(frame: &Params) -> Params
     ensures { SameFields frame.now result }
 {
@@ -28,7 +28,7 @@ pub fn rewritten(frame: &Params) -> Params
     again
 }
 
-/// Each field of a frame stands among the 260 bits where the widths of the fields before it put it.
+/// The offset of each field among the 260 bits is the sum of the widths of the fields before it.
 #[tactic(auto, using(crate::proofs::FieldPlaces::fields_stand))]
 pub fn fields_stand(p: Params)
     ensures { FieldsStand p (bits260_of p) }
@@ -36,7 +36,7 @@ pub fn fields_stand(p: Params)
     p.shape();
 }
 
-/// The fields that the 260 bits of a frame carry are its own.
+/// The fields that the 260 bits of a frame carry are the frame's own.
 pub fn fields_carried(p: &Params)
     ensures { fields_in (bits260_of p.now) ≡ fields_of p.now }
 {

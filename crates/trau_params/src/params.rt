@@ -40,7 +40,7 @@ impl Params {
     ghost use Rattle.trau_params.specs.Block.{values_of};
     ghost use Rattle.std.specs.Prelude.{◌<◌, [], ◌∷◌};
 
-    /// A frame of these fields, each within its width.
+    /// A frame with these fields, each within its width.
     pub fn new(
         larc: [u8; 8],
         nc: [u8; 4],
@@ -72,7 +72,7 @@ impl Params {
         }
     }
 
-    /// A frame of these codes of the eight ratios, each within its width, and of these four blocks.
+    /// A frame with these codes of the eight ratios, each within its width, and these four blocks.
     pub fn of_blocks(
         larc: [u8; 8],
         first: Block,
@@ -123,7 +123,7 @@ impl Params {
         Params::of_blocks(read_larc(bits), first, second, third, fourth)
     }
 
-    /// The lengths of the arrays, for proofs: that of a row of pulses shows only where the row is read.
+    /// The lengths of the arrays, for proofs. The length of a row of pulses is known only after the row is read.
     pub(crate) fn shape(self)
         ensures { HasShape self }
     {

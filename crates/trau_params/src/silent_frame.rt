@@ -6,7 +6,7 @@ ghost use Rattle.trau_params.specs.Silence.{silent_fields};
 
 use crate::params::Params;
 
-/// The frame that is decoded where nothing else is at hand.
+/// The frame to decode if there is no other.
 pub fn silence() -> Params
     ensures { fields_of result ≡ silent_fields }
 {

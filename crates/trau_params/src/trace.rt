@@ -1,4 +1,4 @@
-//! What the encoder tells of a frame beside its parameters.
+//! What the encoder gives besides the parameters of a frame.
 
 ghost use Rattle.std.specs.Prelude.{pos, ◌≤ℤ◌, All};
 

@@ -1,4 +1,4 @@
-//! The widths of the fields of a frame, in bits, in the order in which the fields stand.
+//! The widths of the fields of a frame, in bits, in the order of the fields.
 
 /// LARc 1 to 8, once a frame.
 pub(crate) const LARC_WIDTHS: [usize; 8] = [6, 6, 5, 5, 4, 4, 3, 3];
@@ -18,8 +18,8 @@ pub(crate) const XMAXC_WIDTH: usize = 6;
 /// Each of the thirteen pulses xMc.
 pub(crate) const XMC_WIDTH: usize = 3;
 
-/// The bits of the eight LARc together.
+/// The number of bits of the eight LARc.
 pub(crate) const LARC_BITS: usize = 36;
 
-/// The bits of one block.
+/// The number of bits of one block.
 pub(crate) const BLOCK_BITS: usize = 56;

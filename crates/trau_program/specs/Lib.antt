@@ -1,2 +1,2 @@
--- What the program's own part does: it can fail to start.
+-- The program's own part: what it does if it can't start.
 pub mod Refusals

@@ -1,10 +1,9 @@
-//! The program `trau`: the files of the current folder and the standard streams, round the top call.
+//! The program `trau`: the top function over the files of the current folder and the standard streams.
 //!
-//! At the top: makes the two outsides that the top call works on, the lines as files (`FileTrunk`) and
-//! the standard streams as the desk (`StdDesk`: the orders of a run come in, texts go out), hands it the
-//! words of the command line and ends with the status that it answers. Nothing is decided here but what
-//! comes before that call: words that aren't UTF-8, and want of memory. Why something failed goes to standard
-//! error, of which no clause speaks. The statuses are this project's profile. Definitions: `specs/Refusals.antt`.
+//! Makes the lines as files (`FileTrunk`) and the desk of the standard streams (`StdDesk`: the orders of a run come in, texts
+//! go out), calls the top function with the words of the command line, and exits with the status that it returns. Only what
+//! happens before that call is decided here: words that aren't UTF-8, and running out of memory. Why something failed goes to
+//! standard error; no clause speaks of it. The statuses are this project's profile. Definitions: `specs/Refusals.antt`.
 #![tactic(auto)]
 
 ghost use Rattle.std.specs.Prelude.{◌≡◌};
@@ -24,7 +23,7 @@ use std::{env, io};
 use trau_files::{FileTrunk, StdDesk};
 use trau_io::{Desk, tell};
 
-// Why the top call can't be made.
+// Why the top function can't be called.
 #[derive(Clone, Copy)]
 enum Refusal {
     NotText,
@@ -68,7 +67,7 @@ fn words_given<R: Env + AllocGlobal>(rt: &R) -> Result<Vec<String>, Refusal> {
     }
 }
 
-// The status of the top call. Why lines failed is told as they fail, and at the end of how many it wasn't.
+// The status of the top function. Why lines failed is printed as they fail, and at the end for how many it wasn't.
 fn run<
     R: Env + Eprint + Files + AllocGlobal + Threads + Wait + Sync,
     I: Read + Drop,
@@ -81,7 +80,7 @@ fn run<
     Ok(status)
 }
 
-// Tells on standard error why the standard streams failed, where they did. Where that fails too, there is nobody to tell.
+// Prints on standard error why the standard streams failed, if they did. If that fails too, it can't be reported.
 fn tell_why<R: Eprint, I: Read + Drop, O: Write + Drop>(rt: &R, desk: &StdDesk<I, O>) {
     if let Some(fault) = desk.read_fault() {
         let _ = eprintln!(rt; "trau: standard input: {fault}");
@@ -91,7 +90,7 @@ fn tell_why<R: Eprint, I: Read + Drop, O: Write + Drop>(rt: &R, desk: &StdDesk<I
     }
 }
 
-// Tells why the top call isn't made. A desk that fails here changes nothing of the status.
+// Prints why the top function isn't called. If the desk fails here, the status is the same.
 fn refuse<D: Desk>(desk: &mut D, refusal: Refusal) -> u8
     ensures status { result ≡ status_of refusal }
     ensures text { TextOut (D.desk desk.old) (D.desk desk.new) (text_of refusal) }

@@ -8,11 +8,11 @@ use Rattle.trau_bits.specs.Bits.{bits_of, octets_of}
 abbrev pub bits_for : ℕ → ℕ → List ℕ
 bits_for j octet = bit_at octet (7 - 2 * j) ∷ bit_at octet (6 - 2 * j) ∷ []
 
--- the bits of channel j, 0 to 3: of each octet of the slot its two, in order
+-- the bits of channel j, 0 to 3: two of each octet of the slot, in order
 unfoldable pub subchannel : ℕ → List ℕ → List ℕ
 subchannel j octets = flat_map (bits_for j) octets
 
--- the same as octets, one for each four of the slot
+-- the channel's octets, one for each four of the slot
 abbrev pub channel : ℕ → List ℕ → List ℕ
 channel j octets = octets_of (subchannel j octets)
 

@@ -1,4 +1,4 @@
--- A slot that is cut into its channels: from the octets of one line to those of four.
+-- A slot cut into its channels, from the octets of one line to those of four.
 use Rattle.std.specs.Prelude.{◌≡◌, ◌⊎◌, ℕ, ◌+◌, ◌*◌, ◌/◌, ◌%◌, ◌<◌, ◌≤◌, List, ◌++◌, length, take}
 use Rattle.std.specs.Io.KnownBytes.{IsAtEnd}
 use Rattle.trau_io.specs.declared.line.Line.{Line}
@@ -21,7 +21,7 @@ whole_groups octets = take (length octets / 4 * 4) octets
 abbrev pub GainChannels : (ℕ → LineState) → (ℕ → LineState) → List ℕ → Type 0
 GainChannels downs downs' octets = (j : ℕ) → j < 4 → Gains (downs j) (downs' j) (channel j octets)
 
--- one block: it was whole, the line ended after so many octets of it, or a line failed
+-- one block: it was whole, the slot's line ended after `count` octets of it, or a line failed
 abbrev pub BlockEndsAs : LineState → LineState → (ℕ → LineState) → (ℕ → LineState) → ℕ → List ℕ → BlockEnd → Type 0
 BlockEndsAs pcm pcm' downs downs' call given block.Whole = (length given ≡ 160) × (pcm'.faults ≡ pcm.faults) × GainChannels downs downs' given
 BlockEndsAs pcm pcm' downs downs' call given (block.Ended count) =
@@ -36,8 +36,8 @@ pub record SplitsBlock (pcm pcm' : LineState) (downs downs' : ℕ → LineState)
   pub gives : Gives pcm pcm' given
   pub ends : BlockEndsAs pcm pcm' downs downs' call given end
 
--- the slot's line came to its end, or so many octets were taken that no more are; each channel's line gained its channel of
--- the whole groups of four, and what is left is told
+-- the slot's line ended, or 4,294,967,295 blocks were read; each channel's line gained its channel of the whole groups of four, and
+-- `left` is the number of octets after them
 pub record EndsSlot (pcm pcm' : LineState) (downs downs' : ℕ → LineState) (given : List ℕ) (octets left : ℕ) : Type 0 where
   pub at_end : IsAtEnd pcm'.to_come ⊎ (length given ≡ most_octets)
   pub octets_are : octets ≡ length (whole_groups given)
@@ -45,8 +45,8 @@ pub record EndsSlot (pcm pcm' : LineState) (downs downs' : ℕ → LineState) (g
   pub gained : GainChannels downs downs' (whole_groups given)
   pub calm : pcm'.faults ≡ pcm.faults
 
--- the slot's line failed inside a block: each channel's line gained its channel of all blocks before it
-pub record FailsToRead (pcm pcm' : LineState) (downs downs' : ℕ → LineState) (call : ℕ) (blocks last : List ℕ) (line : Line) : Type 0 where
+-- the slot's line failed inside a block: each channel's line gained its channel of all earlier blocks
+pub record MergeFailsToRead (pcm pcm' : LineState) (downs downs' : ℕ → LineState) (call : ℕ) (blocks last : List ℕ) (line : Line) : Type 0 where
   pub number : line.call ≡ call
   pub side : line.side ≡ Pcm
   pub room : length blocks < most_octets
@@ -54,9 +54,9 @@ pub record FailsToRead (pcm pcm' : LineState) (downs downs' : ℕ → LineState)
   pub gained : GainChannels downs downs' blocks
   pub rose : Rose pcm.faults pcm'.faults
 
--- the line of a channel failed: the lines before it gained their channels of this block too, it gained a proper front of
--- that, and the lines behind it what they had gained of the blocks before
-pub record FailsToWrite (pcm pcm' : LineState) (downs downs' : ℕ → LineState) (call : ℕ) (blocks last : List ℕ) (line : Line) : Type 0 where
+-- the line of a channel failed inside a block: the lines before it gained their channels of this block and of all earlier ones;
+-- it gained a proper prefix of its own, with all earlier blocks; the lines after it gained theirs of the earlier blocks only
+pub record MergeFailsToWrite (pcm pcm' : LineState) (downs downs' : ℕ → LineState) (call : ℕ) (blocks last : List ℕ) (line : Line) : Type 0 where
   pub failed : ℕ
   pub number : line.call ≡ call + failed
   pub side : line.side ≡ Down
@@ -73,9 +73,10 @@ pub record FailsToWrite (pcm pcm' : LineState) (downs downs' : ℕ → LineState
 abbrev pub SplitEndsAs : LineState → LineState → (ℕ → LineState) → (ℕ → LineState) → ℕ → List ℕ → List ℕ → SplitEnd → Type 0
 SplitEndsAs pcm pcm' downs downs' call blocks last (Done octets left) = EndsSlot pcm pcm' downs downs' (blocks ++ last) octets left
 SplitEndsAs pcm pcm' downs downs' call blocks last (LineFailed line) =
-    FailsToRead pcm pcm' downs downs' call blocks last line ⊎ FailsToWrite pcm pcm' downs downs' call blocks last line
+    MergeFailsToRead pcm pcm' downs downs' call blocks last line ⊎ MergeFailsToWrite pcm pcm' downs downs' call blocks last line
 
--- A whole split: what the slot's line gave is whole blocks of 160 octets, all of whose channels are written, and what was read behind them.
+-- A whole split: whole blocks of 160 octets of the slot's line were read, and then maybe one more or a part of one. The end says
+-- which channels were written.
 pub record Splits (pcm pcm' : LineState) (downs downs' : ℕ → LineState) (call : ℕ) (end : SplitEnd) : Type 0 where
   pub blocks : List ℕ
   pub last : List ℕ

@@ -2,8 +2,8 @@
 use Rattle.std.specs.Prelude.{◌≡◌, ℕ, ◌+◌, ◌*◌, ◌<◌, List, slice_index_or}
 use Rattle.trau_submux.specs.Pairs.{gathered}
 
--- The columns of eight squares. Lanes 0 to 7 of x are their first rows and lanes 8 to 15 the second ones, those of y the third
--- and the fourth ones; u has the first and the third columns in the same way, and w the second and the fourth ones.
+-- The columns of eight squares. Lanes 0 to 7 of x are their first rows and lanes 8 to 15 the second ones; y has the third and the
+-- fourth rows in the same way, u the first and the third columns, and w the second and the fourth ones.
 pub record EightColumns (x y u w : List ℕ) : Type 0 where
   pub first : (k : ℕ) → k < 8 →
       slice_index_or u k 0 ≡ gathered 0 (slice_index_or x k 0) (slice_index_or x (8 + k) 0) (slice_index_or y k 0) (slice_index_or y (8 + k) 0)
@@ -14,7 +14,7 @@ pub record EightColumns (x y u w : List ℕ) : Type 0 where
   pub fourth : (k : ℕ) → k < 8 →
       slice_index_or w (8 + k) 0 ≡ gathered 3 (slice_index_or x k 0) (slice_index_or x (8 + k) 0) (slice_index_or y k 0) (slice_index_or y (8 + k) 0)
 
--- an octet of channel j, of the four octets of a slot from this place on
+-- the octet of channel j that the four octets of a slot from this place on carry
 abbrev pub gathered_at : ℕ → List ℕ → ℕ → ℕ
 gathered_at j slot at = gathered j (slice_index_or slot at 0) (slice_index_or slot (at + 1) 0) (slice_index_or slot (at + 2) 0) (slice_index_or slot (at + 3) 0)
 

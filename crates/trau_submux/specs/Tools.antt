@@ -1,4 +1,5 @@
--- The commands `split` and `merge`: their texts, their ends, why each comes, and what they leave without faults (this project's profile).
+-- The commands `split` and `merge`: their texts, their ends and the causes of these, and the result if nothing fails (this project's
+-- profile).
 use Rattle.std.specs.Prelude.{◌≡◌, ◌⊎◌, ℕ, ◌+◌, ◌*◌, ◌-◌, ◌%◌, ◌<◌, List, ◌++◌, length, take, drop, slice_index, codes, decimal, Some, Ok, Err}
 use Rattle.trau_io.specs.declared.line.Side.{Side}
 use Rattle.trau_io.specs.declared.line.Side.TheVariants.{Up, Pcm, Down, Out}
@@ -18,23 +19,23 @@ use Rattle.trau_submux.specs.Lines.{AllButFive, channel_lines, most_octets}
 use Rattle.trau_submux.specs.Merges.{AreRead, Merges}
 use Rattle.trau_submux.specs.Splits.{Splits, whole_groups}
 
--- the text of a split's end: the octets of the slot that were taken, and those left behind the last whole group of four
+-- the text of a split's end: how many octets of the slot were cut, and how many are left after the last whole group of four
 abbrev pub split_text : SplitEnd → List ℕ
 split_text (split.Done octets left) = codes "split octets " ++ (decimal octets ++ (codes " left " ++ (decimal left ++ codes "\n")))
 split_text (split.LineFailed line) = failed_text line.call line.side
 
--- two numbers, each behind a space
+-- two numbers, each after a space
 abbrev pub two_text : ℕ → ℕ → List ℕ
 two_text first second = codes " " ++ (decimal first ++ (codes " " ++ decimal second))
 
--- the text of a merge's end: the octets of the slot that were written, and what is left of each channel's line
+-- the text of a merge's end: how many octets of the slot were written, and how many of each channel's line are left
 abbrev pub merge_text : MergeEnd → List ℕ
 merge_text (merge.Done octets left) =
     codes "merge octets " ++ (decimal octets ++ (codes " left"
     ++ (two_text (slice_index left 0) (slice_index left 1) ++ (two_text (slice_index left 2) (slice_index left 3) ++ codes "\n"))))
 merge_text (merge.LineFailed line) = failed_text line.call line.side
 
--- the end of the tool is that of its work
+-- the end of the tool, by that of its split
 abbrev pub split_end : SplitEnd → ToolEnd
 split_end (split.Done octets left) = tool.Done
 split_end (split.LineFailed line) = tool.LineFault line
@@ -43,7 +44,7 @@ abbrev pub merge_end : MergeEnd → ToolEnd
 merge_end (merge.Done octets left) = tool.Done
 merge_end (merge.LineFailed line) = tool.LineFault line
 
--- the text went out, and the tool ended so; or a proper front of it did before the desk failed
+-- the text was written, and the tool ended so; or the desk failed after a proper prefix of the text
 abbrev pub TellsText : List ℕ → ToolEnd → DeskState → DeskState → ToolEnd → Type 0
 TellsText text end desk desk' result =
     ((result ≡ end) × Tells desk desk' (Ok tt) text) ⊎ ((result ≡ tool.DeskFault) × Tells desk desk' (Err (record {})) text)
@@ -62,8 +63,8 @@ pub record MergeRun (before now : ℕ → Side → LineState) (desk desk' : Desk
   pub others : AllButFive before now call Out Up
   pub tells : TellsText (merge_text end) (merge_end end) desk desk' result
 
--- 4 comes only where the desk's writing count rose, 6 only where the count of the slot's line or of a channel's rose; where
--- one became greater, its status comes, 4 before 6; else 0
+-- The status is 0, 4 or 6. With 4 a fault of writing to the desk was counted, with 6 a fault of the slot's line or of a channel's.
+-- If the desk's count grew, the status is 4. If the count of one of these lines grew, it is 6 or 4.
 pub record SlotCauses (slot slot' : LineState) (channels channels' : ℕ → LineState) (desk desk' : DeskState) (status : ℕ) : Type 0 where
   pub known : (status ≡ 0) ⊎ (status ≡ 4) ⊎ (status ≡ 6)
   pub desk_failed : status ≡ 4 → Rose desk.write_faults desk'.write_faults
@@ -80,13 +81,14 @@ abbrev pub MergeCauses : (ℕ → Side → LineState) → (ℕ → Side → Line
 MergeCauses before now desk desk' call status =
     SlotCauses (before call Out) (now call Out) (channel_lines before call Up) (channel_lines now call Up) desk desk' status
 
--- no count of these lines rose, nor that of the desk's writing
+-- no fault was counted, of these lines or of writing to the desk
 pub record AreCalm (slot slot' : LineState) (channels channels' : ℕ → LineState) (desk desk' : DeskState) : Type 0 where
   pub slot_calm : IsCalm slot.faults slot'.faults
   pub channels_calm : (j : ℕ) → j < 4 → IsCalm (channels j).faults (channels' j).faults
   pub desk_calm : IsCalm desk.write_faults desk'.write_faults
 
--- what `split` leaves of a slot that held `octets`: each channel's line has gained its channel of the whole groups of four, and the desk the text
+-- the result of `split` if the slot's line had `octets` to come: each channel's line gained its channel of the whole groups of four, and
+-- the desk the text
 pub record LeavesSplit (pcm' : LineState) (downs' : ℕ → LineState) (desk' : DeskState) (octets : List ℕ) (held : ℕ → List ℕ) (text : List ℕ)
     (status : ℕ) : Type 0 where
   pub slot_holds : pcm'.to_come ≡ Some (drop most_octets octets)
@@ -95,7 +97,7 @@ pub record LeavesSplit (pcm' : LineState) (downs' : ℕ → LineState) (desk' : 
       ≡ Some (text ++ split_text (split.Done (length (whole_groups (take most_octets octets))) (length (take most_octets octets) % 4)))
   pub done : status ≡ 0
 
--- the command where nothing failed, of lines and a desk that tell what they hold
+-- the command if nothing failed, and the content of its lines and of the desk is known
 abbrev pub CleanSplit : (ℕ → Side → LineState) → (ℕ → Side → LineState) → DeskState → DeskState → ℕ → ℕ → Type 0
 CleanSplit before now desk desk' call status =
     AreCalm (before call Pcm) (now call Pcm) (channel_lines before call Down) (channel_lines now call Down) desk desk' →
@@ -103,8 +105,8 @@ CleanSplit before now desk desk' call status =
     ((j : ℕ) → j < 4 → (before (call + j) Down).written ≡ Some (held j)) → desk.written ≡ Some text →
     LeavesSplit (now call Pcm) (channel_lines now call Down) desk' octets held text status
 
--- what `merge` leaves of four lines that held `lists`: the slot has gained the octets that as many of each line make as the
--- shortest of them has, and the desk the text
+-- the result of `merge` if the four lines had `lists` to come: the slot gained what the first `used` octets of each make, as many as
+-- the shortest has, and the desk the text
 pub record LeavesMerge (ups' : ℕ → LineState) (out' : LineState) (desk' : DeskState) (lists : ℕ → List ℕ) (held text : List ℕ) (status : ℕ) : Type 0 where
   pub given : ℕ → List ℕ
   pub rest : ℕ → List ℕ

@@ -1,11 +1,11 @@
--- Octets for the four lines of the channels of a slot, written one line behind the other.
+-- Octets for the four lines of the channels of a slot, written one line after the other.
 use Rattle.std.specs.Prelude.{◌≡◌, ℕ, ◌+◌, ◌<◌, List, Result, Ok, Err}
 use Rattle.trau_io.specs.declared.line.Line.{Line}
 use Rattle.trau_io.specs.declared.line.Side.TheVariants.{Down}
 use Rattle.trau_io.specs.Lines.{LineState}
 use Rattle.trau_submux.specs.Lines.{Gains, GainsFront}
 
--- one of the four lines failed: those before it gained their octets, it gained a proper front, and those behind it nothing
+-- one of the four lines failed: those before it gained their octets, this one a proper prefix, and those after it nothing
 pub record FailsAt (downs downs' : ℕ → LineState) (sent : ℕ → List ℕ) (failed : ℕ) : Type 0 where
   pub one : failed < 4
   pub before : (j : ℕ) → j < failed → Gains (downs j) (downs' j) (sent j)

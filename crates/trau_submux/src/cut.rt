@@ -1,4 +1,4 @@
-//! A slot into its channels, block by block.
+//! Cutting a slot into its channels, block by block.
 ghost use Rattle.std.specs.Prelude.{◌≡◌, ◌+◌, ◌*◌, ◌<◌, ◌≤◌, ℕ, [], length, take, slice_index_or};
 ghost use Rattle.trau_io.specs.declared.line.Side.TheVariants.{Pcm, Down};
 ghost use Rattle.trau_submux.specs.Channels.{channel};
@@ -12,9 +12,9 @@ use trau_io::{Filled, Line, Side, Trunk, read_block, write_all};
 /// How one block of a slot ended.
 #[derive(Clone, Copy)]
 pub(crate) enum BlockEnd {
-    /// It was taken, and its channels are written.
+    /// It was read, and its channels were written.
     Whole,
-    /// The slot's line ended after so many octets of it, whose channels are written for whole groups of four.
+    /// The slot's line ended after this many octets of the block. The channels of their whole groups of four were written.
     Ended(u32),
     /// This line failed.
     Failed(Line),
@@ -23,13 +23,13 @@ pub(crate) enum BlockEnd {
 /// How the cutting of a slot ended.
 #[derive(Clone, Copy)]
 pub(crate) enum SplitEnd {
-    /// So many octets were taken, and so many are left behind the last whole group of four.
+    /// The numbers of octets in whole groups of four, and of those left after the last group.
     Done(u64, u32),
     /// This line failed.
     LineFailed(Line),
 }
 
-// Writes the front of each channel to its line, one line behind the other, up to the first that fails.
+// Writes the first `count` octets of each channel to its line, one line after the other, up to the first that fails.
 fn write_channels<T: Trunk>(
     call: u32,
     subs: &[[u8; 40]; 4],
@@ -75,7 +75,7 @@ fn write_block<T: Trunk>(
     write_channels(call, &subs, count / 4, trunk)
 }
 
-// Takes one block of a slot, and writes its channels.
+// Reads one block of a slot, and writes its channels.
 fn split_block<T: Trunk>(call: u32, trunk: &mut T) -> BlockEnd
     requires low { 1 ≤ call }
     requires high { call ≤ 4093 }
@@ -101,8 +101,8 @@ fn split_block<T: Trunk>(call: u32, trunk: &mut T) -> BlockEnd
     }
 }
 
-/// Cuts the slot on a call's Pcm line into its channels, on the Down lines of this call and the three behind it, up to
-/// the end of the slot, which 4,294,967,295 blocks of 160 octets count as too.
+/// Cuts the slot on a call's Pcm line into its channels, for the Down lines of this call and the next three, up to the end
+/// of the slot, but at most 4,294,967,295 blocks of 160 octets.
 pub(crate) fn split_slot<T: Trunk>(call: u32, trunk: &mut T) -> SplitEnd
     requires low { 1 ≤ call }
     requires high { call ≤ 4093 }

@@ -1,4 +1,4 @@
-//! Four channels to a slot, block by block.
+//! Putting four channels together to a slot, block by block.
 ghost use Rattle.std.specs.Prelude.{◌≡◌, ◌+◌, ◌*◌, ◌<◌, ◌≤◌, ℕ, [], length, take, IfOk, OnErr, slice_index, slice_index_or};
 ghost use Rattle.call_number.specs.CallNumber.{IsCallNumber};
 ghost use Rattle.trau_io.specs.declared.line.Side.TheVariants.{Up, Out};
@@ -12,24 +12,24 @@ use trau_io::{Failed, Filled, Line, Side, Trunk, read_block, write_all};
 /// How one block of four channels ended.
 #[derive(Clone, Copy)]
 pub(crate) enum BlockEnd {
-    /// All four were whole, and the slot is written.
+    /// All four were whole, and the slot was written.
     Whole,
-    /// A line ended: so many octets of each were read, and the slot is written for the fewest of them.
+    /// A line ended. How many octets of each were read; the slot was written for the fewest of them.
     Ended([u32; 4]),
     /// This line failed.
     Failed(Line),
 }
 
-/// How the putting together of a slot ended.
+/// How the merge of a slot ended.
 #[derive(Clone, Copy)]
 pub(crate) enum MergeEnd {
-    /// So many octets of the slot were written, and so many that were read of each line aren't used.
+    /// The numbers of octets of the slot that were written, and of octets of each line that were read but not used.
     Done(u64, [u32; 4]),
     /// This line failed.
     LineFailed(Line),
 }
 
-// Reads a block of a channel, and answers how many octets of it came before the line ended.
+// Reads a block of a channel, and returns how many octets of it were read: fewer than 40 only at the line's end.
 fn read_channel<T: Trunk>(line: Line, sub: &mut [u8; 40], trunk: &mut T) -> Result<u32, Failed>
     ensures ok { IfOk result (λ count. GivesBlock (T.lines trunk.old line.call line.side) (T.lines trunk.new line.call line.side) sub.new count) }
     ensures err { OnErr result (FailsInside (T.lines trunk.old line.call line.side) (T.lines trunk.new line.call line.side)) }
@@ -42,7 +42,7 @@ fn read_channel<T: Trunk>(line: Line, sub: &mut [u8; 40], trunk: &mut T) -> Resu
     }
 }
 
-// Reads a block of each channel, one line behind the other, up to the first that fails.
+// Reads a block of each channel, one line after the other, up to the first that fails.
 fn read_channels<T: Trunk>(
     call: u32,
     subs: &mut [[u8; 40]; 4],
@@ -78,7 +78,7 @@ fn fewest(counts: &[u32; 4]) -> u32
     first.min(second).min(third.min(fourth))
 }
 
-// Takes one block of four channels, and writes the slot that they make.
+// Reads one block of four channels, and writes the slot that they make.
 fn merge_block<T: Trunk>(call: u32, trunk: &mut T) -> BlockEnd
     requires low { 1 ≤ call }
     requires high { call ≤ 4093 }
@@ -105,8 +105,8 @@ fn merge_block<T: Trunk>(call: u32, trunk: &mut T) -> BlockEnd
     }
 }
 
-/// Puts the channels on the Up lines of a call and the three behind it together to a slot, on the call's Out line, up to
-/// the end of the shortest of them, which 4,294,967,295 blocks of 40 octets count as too.
+/// Puts the channels on the Up lines of a call and the next three together to a slot, on the call's Out line, up to the end
+/// of the shortest line, but at most 4,294,967,295 blocks of 40 octets.
 pub(crate) fn merge_slot<T: Trunk>(call: u32, trunk: &mut T) -> MergeEnd
     requires low { 1 ≤ call }
     requires high { call ≤ 4093 }

@@ -1,9 +1,9 @@
 //! Eight groups of four octets at a time, in the lanes of vectors.
 //!
-//! Four octets are a square of pairs of bits, a row for each octet. Of a slot its columns are an octet of each channel, and
-//! of four channels an octet of each is the rows of a square whose columns are octets of the slot. So turning the square
-//! over serves both ways. It is done by blocks, as for a matrix: the halves of the octets are exchanged first, and then
-//! the pairs within each half.
+//! Four octets are a square of pairs of bits, a row for each octet. If the rows are octets of a slot, the columns are an octet
+//! of each channel; if the rows are an octet of each channel, the columns are octets of the slot. So one transposition serves
+//! both ways. It is done by blocks, as for a matrix: first the halves of the octets are exchanged, then the pairs within each
+//! half.
 ghost use Rattle.std.specs.Prelude.{◌≡◌, ◌+◌, ◌*◌, ◌/◌, ◌%◌, ◌<◌, ◌≤◌, ℕ, length, slice_index};
 ghost use Rattle.std.specs.Simd.Lanes.{chunk, put_chunk};
 ghost use Rattle.trau_submux.specs.Pairs.{gathered, pair_at, four_pairs};
@@ -11,7 +11,7 @@ ghost use Rattle.trau_submux.specs.Squares.{EightColumns, EightOfEach};
 
 use std::simd::prelude::*;
 
-// The first two pairs of both octets in each lane, and their last two.
+// In each lane: the first two pairs of both octets, and their last two.
 fn exchange_halves(x: u8x16, y: u8x16) -> (u8x16, u8x16)
     ensures first { (k : ℕ) → k < 16 → slice_index result.0 k
         ≡ four_pairs (pair_at 0 (slice_index x k)) (pair_at 1 (slice_index x k)) (pair_at 0 (slice_index y k)) (pair_at 1 (slice_index y k)) }
@@ -25,7 +25,7 @@ fn exchange_halves(x: u8x16, y: u8x16) -> (u8x16, u8x16)
     (first, last)
 }
 
-// The pairs 0 and 2 of both octets in each lane, and their pairs 1 and 3, in turn.
+// In each lane: pairs 0 and 2 of both octets, and their pairs 1 and 3, `x` and `y` alternating.
 fn exchange_pairs(x: u8x16, y: u8x16) -> (u8x16, u8x16)
     ensures even { (k : ℕ) → k < 16 → slice_index result.0 k
         ≡ four_pairs (pair_at 0 (slice_index x k)) (pair_at 0 (slice_index y k)) (pair_at 2 (slice_index x k)) (pair_at 2 (slice_index y k)) }
@@ -39,8 +39,8 @@ fn exchange_pairs(x: u8x16, y: u8x16) -> (u8x16, u8x16)
     (even, odd)
 }
 
-// The columns of eight squares, whose rows are `x`, the eight first ones and then the second ones, and `y`, the third and
-// fourth ones: the first and third columns, and the second and fourth ones.
+// The columns of eight squares. `x` has their eight first rows and then their second ones, `y` the third and fourth ones. The
+// result has the first and third columns, and the second and fourth ones.
 fn turned(x: u8x16, y: u8x16) -> (u8x16, u8x16)
     ensures { EightColumns x y result.0 result.1 }
 {
@@ -73,8 +73,8 @@ fn thirty_two_at(octets: &[u8], at: usize) -> u8x32
     u8x32::from_slice(&octets[at..])
 }
 
-/// Eight octets of each channel, from the octets of a slot from place `at` on: of the first and the third channel, and of the
-/// second and the fourth.
+/// Eight octets of each channel, from the 32 octets of a slot from place `at` on: those of the first and the third channel, and
+/// those of the second and the fourth.
 pub(crate) fn eight_of_each(slot: &[u8], at: usize) -> (u8x16, u8x16)
     requires { at + 32 ≤ length slot.now }
     ensures { EightOfEach slot.now at result.0 result.1 }

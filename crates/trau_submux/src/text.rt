@@ -27,7 +27,7 @@ pub(crate) fn text_of_split(end: SplitEnd) -> ArrayString<64>
     }
 }
 
-// Two numbers, each behind a space.
+// Two numbers, each after a space.
 fn two_numbers(first: u32, second: u32) -> ArrayString<32>
     ensures bytes { result.bytes ≡ two_text first second }
     ensures short { length result.bytes ≤ 22 }

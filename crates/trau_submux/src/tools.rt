@@ -9,7 +9,7 @@ use crate::text::{text_of_merge, text_of_split};
 use farm_tools::ToolEnd;
 use trau_io::{Desk, Trunk, tell};
 
-// Tells the text of an end.
+// Prints the text of an end.
 fn tell_end<D: Desk>(text: &[u8], end: ToolEnd, desk: &mut D) -> ToolEnd
     ensures { TellsText text.now end (D.desk desk.old) (D.desk desk.new) result }
 {
@@ -37,10 +37,12 @@ fn end_of_merge(end: MergeEnd) -> ToolEnd
     }
 }
 
-/// Cuts the time slot on a call's Pcm line into its four channels of 16 kbit/s: channel j goes to the Down line of the
-/// call whose number is greater by j. It takes whole groups of four octets, up to the end of the slot or to 4,294,967,295
-/// blocks of 160 octets, and tells `split octets N left R`, N octets being taken, or `line C SIDE failed`. Of the block
-/// in which a line failed, the lines before it may hold their part. It takes no memory, and never answers Refused.
+/// Cuts the time slot on a call's Pcm line into its four channels of 16 kbit/s. Channel j goes to the Down line of call
+/// `call + j`.
+///
+/// It cuts whole groups of four octets, up to the end of the slot, but at most 4,294,967,295 blocks of 160 octets. Then it prints
+/// `split octets N left R`, N octets being cut and R left, or `line C SIDE failed`. If a channel's line fails, the lines before
+/// it have also gained their part of the current block. It doesn't allocate, and never ends with `Refused` or `Memory`.
 pub fn split<T: Trunk, D: Desk>(call: u32, trunk: &mut T, desk: &mut D) -> ToolEnd
     requires low { 1 ≤ call }
     requires high { call ≤ 4093 }
@@ -52,11 +54,13 @@ pub fn split<T: Trunk, D: Desk>(call: u32, trunk: &mut T, desk: &mut D) -> ToolE
     tell_end(text_of_split(end).as_bytes(), end_of_split(end), desk)
 }
 
-/// Puts the four channels of 16 kbit/s on the Up lines of a call and the three behind it together to a time slot, on the
-/// call's Out line. It reads the lines in blocks of 40 octets and takes as many octets of each as the shortest block has,
-/// up to the first block that is short on any line or to 4,294,967,295 blocks. It tells `merge octets N left A B C D`: N
-/// octets written, and what was read of each line and not used; or `line C SIDE failed`. It takes no memory, and never
-/// answers Refused.
+/// Puts the four channels of 16 kbit/s on the Up lines of a call and the next three together to a time slot, on the call's
+/// Out line.
+///
+/// It reads the lines in blocks of 40 octets, up to the first block that is short on any line, but at most 4,294,967,295
+/// blocks. Of a short block it uses as many octets of each line as the shortest has. Then it prints
+/// `merge octets N left A B C D`: N octets were written, and A to D of each line were read but not used; or
+/// `line C SIDE failed`. It doesn't allocate, and never ends with `Refused` or `Memory`.
 pub fn merge<T: Trunk, D: Desk>(call: u32, trunk: &mut T, desk: &mut D) -> ToolEnd
     requires low { 1 ≤ call }
     requires high { call ≤ 4093 }

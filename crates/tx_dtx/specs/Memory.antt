@@ -1,10 +1,10 @@
--- What the transmit side keeps from frame to frame (this project's profile, in the manner of GSM 06.31 and GSM 06.12).
+-- What the transmit side keeps from frame to frame (this project's profile, modelled on GSM 06.31 and GSM 06.12).
 use Rattle.std.specs.Prelude.{ℕ, pos, Bool, false, List, replicate}
 use Rattle.trau_params.specs.Fields.{Fields}
 use Rattle.tx_dtx.specs.Stretch.{Measures}
 
--- What is kept: how many inactive frames came without a break, 5 at most; how many frames since the last SID was made,
--- 24 at most; whether the last pause sends its frames themselves; the last SID; the measures of the last three frames.
+-- the number of inactive frames in a row, 5 at most; the number of frames since the last SID was made, 24 at most; whether the last pause has a
+-- hangover; the last SID; the measures of the last three frames
 pub record TxMemory : Type 0 where
   pub run : ℕ
   pub elapsed : ℕ
@@ -26,6 +26,6 @@ no_fields = record {
   xmc = replicate 4 (replicate 13 0);
 }
 
--- the memory at home
+-- the memory in the home state
 abbrev pub home_memory : TxMemory
 home_memory = record { run = 0; elapsed = 24; hangs = false; sid = no_fields; recent = replicate 3 no_measures }

@@ -1,16 +1,16 @@
--- What is sent of a stretch of frames from home (this project's profile, in the manner of GSM 06.31 and GSM 06.12).
--- A stretch has the newest frame first.
+-- What is sent of a stretch of frames from the home state (this project's profile, modelled on GSM 06.31 and GSM 06.12). A stretch has the newest
+-- frame first.
 use Rattle.std.specs.Prelude.{ℕ, ◌+◌, suc, true, false, Bool, if◌then◌else◌, nat_le, Option, Some, None, option_map, List, [], ◌∷◌, ◌++◌, map, take, reverse}
 use Rattle.trau_params.specs.Fields.{Fields}
 use Rattle.tx_dtx.specs.Stretch.{Measures, Coded, is_active, Sent}
 use Rattle.tx_dtx.specs.SilenceDescriptor.{sid_of}
 
--- how many inactive frames end with the newest one, without a break
+-- the number of inactive frames in a row up to the newest one
 abbrev pub pause_of : List Coded → ℕ
 pause_of [] = 0
 pause_of (f ∷ fs) = if is_active f then 0 else suc (pause_of fs)
 
--- a SID is made at an inactive frame that has four inactive ones just before it; it is made of the newest four
+-- a SID is made at each inactive frame that follows four inactive ones, from the newest four frames
 abbrev pub is_sid_place : List Coded → Bool
 is_sid_place fs = nat_le 5 (pause_of fs)
 
@@ -18,7 +18,7 @@ is_sid_place fs = nat_le 5 (pause_of fs)
 abbrev pub newest_four : List Coded → List Measures
 newest_four fs = map (λ f. f.measures) (take 4 fs)
 
--- a frame of which a SID was made: how many frames came since, and the measures that it was made of
+-- a frame at which a SID was made: the number of frames since, and the measures that the SID was made from
 pub record SidPlace : Type 0 where
   pub since : ℕ
   pub four : List Measures
@@ -27,7 +27,7 @@ pub record SidPlace : Type 0 where
 abbrev pub one_later : SidPlace → SidPlace
 one_later place = record { since = place.since + 1; four = place.four }
 
--- the latest of them
+-- the latest frame at which a SID was made
 abbrev pub latest_place : List Coded → Option SidPlace
 latest_place [] = None
 latest_place (f ∷ fs) =
@@ -39,7 +39,7 @@ abbrev pub before_pause : List Coded → List Coded
 before_pause [] = []
 before_pause (f ∷ fs) = if is_active f then f ∷ fs else before_pause fs
 
--- A pause goes on with the last SID, unless there is none or the pause begins 24 frames or more after it.
+-- the SID that a pause begins with: the last one, unless the pause begins 24 frames or more after it
 abbrev pub still_used : Option SidPlace → Option SidPlace
 still_used None = None
 still_used (Some place) = if nat_le 24 (place.since + 1) then None else Some place
@@ -53,7 +53,7 @@ itself fields = record { fields = fields; sp = true }
 abbrev pub silence : List Measures → Sent
 silence four = record { fields = sid_of four; sp = false }
 
--- what is sent of an inactive frame too early in its pause for a SID of its own: the last SID, or the frame itself
+-- what is sent of an inactive frame that is too early in its pause for a new SID: the last SID, or the frame itself
 abbrev pub sent_early : Coded → Option SidPlace → Sent
 sent_early f None = itself f.fields
 sent_early f (Some place) = silence place.four

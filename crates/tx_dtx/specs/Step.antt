@@ -1,4 +1,4 @@
--- The transmit side from frame to frame (this project's profile, in the manner of GSM 06.31 and GSM 06.12).
+-- The transmit side from frame to frame (this project's profile, modelled on GSM 06.31 and GSM 06.12).
 use Rattle.std.specs.Prelude.{ℕ, ◌+◌, Bool, false, if◌then◌else◌, ◌==◌, nat_le, min, List, [], ◌∷◌, ◌++◌, take}
 use Rattle.trau_params.specs.Fields.{Fields}
 use Rattle.tx_dtx.specs.Stretch.{Measures, Coded, is_active, Sent}
@@ -6,23 +6,23 @@ use Rattle.tx_dtx.specs.SilenceDescriptor.{sid_of}
 use Rattle.tx_dtx.specs.Sent.{itself}
 use Rattle.tx_dtx.specs.Memory.{TxMemory, home_memory}
 
--- one frame more since the last SID
+-- one more frame since the last SID
 abbrev pub elapsed_later : ℕ → ℕ
 elapsed_later elapsed = min (elapsed + 1) 24
 
--- an active frame: it is sent itself
+-- the memory after an active frame
 abbrev pub after_active : TxMemory → TxMemory
 after_active m = record { run = 0; elapsed = elapsed_later m.elapsed; hangs = m.hangs; sid = m.sid; recent = m.recent }
 
--- an inactive frame of which a SID is made
+-- the memory after an inactive frame at which a SID is made
 abbrev pub after_sid : TxMemory → List Measures → TxMemory
 after_sid m four = record { run = 5; elapsed = 0; hangs = m.hangs; sid = sid_of four; recent = m.recent }
 
--- whether the pause hangs at its run-th frame: as its first frame finds, where 24 frames or more lie behind the last SID
+-- whether the pause has a hangover, at its run-th frame; its first frame decides, by whether 24 or more frames have passed since the last SID
 abbrev pub hangs_at : ℕ → ℕ → Bool → Bool
 hangs_at run elapsed hangs = if run == 1 then nat_le 24 elapsed else hangs
 
--- an inactive frame earlier in its pause, the run-th
+-- the memory after an inactive frame that is earlier in its pause, the run-th
 abbrev pub after_early : TxMemory → ℕ → TxMemory
 after_early m run = record {
   run = run;
@@ -32,15 +32,15 @@ after_early m run = record {
   recent = m.recent;
 }
 
--- the frame's measures are the latest of three
+-- the memory with the frame's measures as the latest of three
 abbrev pub remembered : TxMemory → Measures → TxMemory
 remembered m measures = record { run = m.run; elapsed = m.elapsed; hangs = m.hangs; sid = m.sid; recent = take 3 (measures ∷ m.recent) }
 
--- the last SID, or the frame itself where the pause hangs
+-- the frame itself if the pause has a hangover, else the last SID
 abbrev pub sent_in_pause : TxMemory → Fields → Sent
 sent_in_pause m fields = if m.hangs then itself fields else record { fields = m.sid; sp = false }
 
--- what is sent, and the memory after it: of a frame of which a SID is made, and of one earlier in its pause
+-- what is sent, and the memory after it: for a frame at which a SID is made, and for a frame earlier in its pause
 abbrev pub described : TxMemory → Measures → Sent × TxMemory
 described m measures = let now = after_sid m (measures ∷ m.recent) in (record { fields = now.sid; sp = false }, now)
 
@@ -59,7 +59,7 @@ sent_after m f = if is_active f then (itself f.fields, after_active m) else paus
 unfoldable pub next_sent : TxMemory → Coded → Sent × TxMemory
 next_sent m f = let step = sent_after m f in (step.0, remembered step.1 f.measures)
 
--- frames one after another from home, the newest first: all that is sent, and the memory after them
+-- frames one after another from the home state, the newest first: all that is sent, and the memory after them
 unfoldable pub sent_in_turn : List Coded → List Sent × TxMemory
 sent_in_turn [] = ([], home_memory)
 sent_in_turn (f ∷ past) =

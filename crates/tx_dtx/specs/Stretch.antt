@@ -1,4 +1,4 @@
--- What the transmit side is given of a frame, and what it sends (this project's profile, in the manner of GSM 06.31).
+-- What the transmit side takes of a frame, and what it sends (this project's profile, modelled on GSM 06.31).
 use Rattle.std.specs.Prelude.{ℤ, Bool, not, ◌||◌, int_le, List}
 use Rattle.trau_params.specs.Fields.{Fields, fields_of}
 use Rattle.trau_params.specs.declared.params.Params.{Params}
@@ -23,7 +23,7 @@ pub record Coded : Type 0 where
 abbrev pub coded_frame : Params → Trace → ℤ → ℤ → Bool → Coded
 coded_frame p t peak level dtx = record { fields = fields_of p; measures = measures_of t; peak = peak; level = level; dtx = dtx }
 
--- a frame is active where DTX is off or its peak isn't below the level
+-- a frame is active if DTX is off or its peak isn't below the level
 abbrev pub is_active_at : ℤ → ℤ → Bool → Bool
 is_active_at peak level dtx = not dtx || int_le level peak
 

@@ -1,15 +1,17 @@
-//! Discontinuous transmission on the downlink (this project's profile, in the manner of GSM 06.31 and GSM 06.12).
+//! Discontinuous transmission on the downlink (this project's profile, modelled on GSM 06.31 and GSM 06.12).
 //!
-//! Between the encoder and the downlink frame: takes each coded frame of 20 ms with its measures and the peak of its
-//! samples, and says what is sent and whether it is speech (SP 1) or silence (SP 0). In a pause the base station need not
-//! send: the fifth inactive frame and each one after it become a silence descriptor (SID), made of the last four frames.
-//! A pause's first four frames are sent themselves, as a hangover, or are the last SID where it is less than 24 frames
-//! old. Voice activity is a level: a frame is active where its peak reaches it.
+//! The transmit side works between the encoder and the downlink frame. It takes each coded frame of 20 ms with its
+//! measures and the peak of its samples, and gives the frame to send and SP: 1 for speech, 0 for silence. In a pause
+//! the base station need not send: the fifth inactive frame and each one after it become a silence descriptor (SID),
+//! made from the last four frames. The first four frames of a pause are sent as they are, as a hangover. But if the
+//! last SID is less than 24 frames old when the pause begins, it is sent in their place. A frame is active if its peak
+//! reaches a level.
 //!
-//! `tx` has what is kept from frame to frame, `sid` makes a SID, `laws` has a law. Definitions: `specs/Sent.antt` (what is
-//! sent of a whole stretch, by looking back), `specs/SilenceDescriptor.antt`, `specs/Stretch.antt` (what a frame is),
-//! `specs/Memory.antt`, `specs/Step.antt` and `specs/Stands.antt` (what is kept, one frame, and what the memory stands
-//! for). Used by a call's leg.
+//! `tx` has the state between frames, `sid` makes a SID, `laws` has a law.
+//!
+//! Definitions: `specs/Sent.antt` (what is sent of a whole stretch, by looking back), `specs/SilenceDescriptor.antt` (a
+//! SID), `specs/Stretch.antt` (the frames of a stretch), `specs/Memory.antt`, `specs/Step.antt` and `specs/Stands.antt`
+//! (the state, one frame, and the past that a state stands for).
 #![tactic(auto)]
 
 mod laws;

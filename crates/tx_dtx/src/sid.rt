@@ -75,7 +75,7 @@ fn mean_ratios(a: &Trace, b: &Trace, c: &Trace, d: &Trace) -> [i16; 8]
     mean
 }
 
-/// The SID of four frames, by their measures.
+/// The SID of four frames, from their measures.
 pub(crate) fn sid(a: &Trace, b: &Trace, c: &Trace, d: &Trace) -> Params
     ensures { fields_of result ≡ sid_of (measures_of a.now ∷ measures_of b.now ∷ measures_of c.now ∷ measures_of d.now ∷ []) }
 {

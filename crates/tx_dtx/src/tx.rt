@@ -12,14 +12,14 @@ use crate::sid::sid;
 use std::marker::Model;
 use trau_params::{Params, Trace};
 
-/// What the transmit side of a call keeps from frame to frame.
+/// The state of the transmit side of one call.
 #[derive(Drop)]
 pub struct Tx {
-    // Inactive frames without a break, 5 at most.
+    // The number of inactive frames in a row, 5 at most.
     run: u8,
-    // Frames since the last SID was made, 24 at most, and 24 before any.
+    // The number of frames since the last SID was made, 24 at most; 24 if none was made.
     elapsed: u8,
-    // Whether the last pause sends its frames themselves.
+    // Whether the last pause has a hangover.
     hangs: bool,
     // The last SID.
     sid: Params,
@@ -48,14 +48,14 @@ impl Model for Tx {
     ghost invariant = { λ t. (t.run ≤ 5) × (t.elapsed ≤ 24) };
 }
 
-// Whether a frame is speech: the voice activity of this project's profile.
+// Whether a frame is speech, which is the voice activity of this project's profile.
 fn is_active(peak: i16, level: i16, on: bool) -> bool
     ensures { result ≡ is_active_at peak level on }
 {
     !on || peak >= level
 }
 
-// Whether a pause hangs at its run-th frame.
+// Whether a pause has a hangover, at its run-th frame.
 fn hangs_at(run: u8, elapsed: u8, hangs: bool) -> bool
     ensures { result ≡ hangs_at run elapsed hangs }
 {
@@ -91,7 +91,7 @@ impl Tx {
         self.elapsed = (self.elapsed + 1).min(24);
     }
 
-    // Takes an inactive frame, makes a SID of it and the three before, and sends that.
+    // Takes an inactive frame, makes a SID from it and the three frames before it, and sends the SID.
     fn describe(&mut self, t: &Trace) -> (Params, bool)
         ensures { described self.old (measures_of t.now) ≡ (sent_frame result.0 result.1, self.new) }
     {
@@ -101,7 +101,7 @@ impl Tx {
         (self.sid, false)
     }
 
-    // Takes an inactive frame, the run-th of its pause: sends it itself, or the last SID.
+    // Takes an inactive frame, the run-th of its pause. Sends the frame itself, or the last SID.
     fn hold(&mut self, run: u8, p: &Params) -> (Params, bool)
         requires { run ≤ 5 }
         ensures { early self.old run (fields_of p.now) ≡ (sent_frame result.0 result.1, self.new) }
@@ -115,7 +115,7 @@ impl Tx {
         (self.sid, false)
     }
 
-    // Takes an inactive frame: what is sent of it, and SP.
+    // Takes an inactive frame. Returns the frame to send, and SP.
     #[tactic(auto, unfolding(crate::specs::Step::paused))]
     fn pause(&mut self, p: &Params, t: &Trace) -> (Params, bool)
         ensures { paused self.old (fields_of p.now) (measures_of t.now) ≡ (sent_frame result.0 result.1, self.new) }
@@ -127,7 +127,7 @@ impl Tx {
         self.hold(run, p)
     }
 
-    // Takes a frame: what is sent of it, and SP.
+    // Takes a frame. Returns the frame to send, and SP.
     #[tactic(auto, unfolding(crate::specs::Step::sent_after))]
     fn take(&mut self, p: &Params, t: &Trace, peak: i16, level: i16, on: bool) -> (Params, bool)
         ensures { sent_after self.old (coded_frame p.now t.now peak level on) ≡ (sent_frame result.0 result.1, self.new) }
@@ -148,12 +148,12 @@ impl Tx {
         self.last = *t;
     }
 
-    /// Takes the parameters of a coded frame, its measures and the peak of its samples, with the level and whether DTX
-    /// is on: what is sent of it, and SP, which is 1 where that is speech.
+    /// Takes the parameters of a coded frame, its measures, the peak of its samples, the level of voice activity, and
+    /// whether DTX is on. Returns the frame to send, and SP, which is true for speech.
     pub fn send(&mut self, p: &Params, t: &Trace, peak: i16, level: i16, on: bool) -> (Params, bool)
         ensures step { next_sent self.old (coded_frame p.now t.now peak level on) ≡ (sent_frame result.0 result.1, self.new) }
 
-        // After the frames of any past, this one is sent as its stretch says.
+        // After the frames of any past, this one is sent as in the whole stretch.
         ensures history { (past : List Coded) → Stands past self.old →
             Stands (coded_frame p.now t.now peak level on ∷ past) self.new ×
             (sent_frame result.0 result.1 ≡ sent_of (coded_frame p.now t.now peak level on) past) }

@@ -1,7 +1,7 @@
-//! Which line has which file of a disk, so that no line is written to another one's file.
+//! Which line has which file on a disk, so that no line is written to the file of another.
 
 ghost use Rattle.std.specs.Prelude.{◌≡◌, ◌≢◌, ◌⊎◌, ℕ, IfOk, IfErr, IfSome, IsSome, IsTrue, false, None, All};
-ghost use Rattle.trau_io.specs.Places.{place_of};
+ghost use Rattle.trau_io.specs.Indices.{index_of_line};
 ghost use Rattle.trau_files.specs.declared.trunk.seats.Access.TheVariants.{Writing};
 ghost use Rattle.trau_files.specs.Claims.{AreApart, Has, IsTaken, MayHave, MayShare, claim_at};
 
@@ -10,9 +10,9 @@ use std::alloc::{AllocError, Global};
 use std::fs::Metadata;
 use std::marker::Model;
 use std::os::unix::fs::MetadataExt;
-use trau_io::{Line, PLACES, place};
+use trau_io::{LINE_INDICES, Line, line_index};
 
-/// A file of a disk: its device and its inode (stat(2)), the same by whatever name or link it is opened.
+/// A file on a disk: its device and its inode (stat(2)), the same for any name or link by which it is opened.
 #[derive(Clone, Copy, PartialEq)]
 pub struct FileIdentity {
     device: u64,
@@ -20,7 +20,7 @@ pub struct FileIdentity {
 }
 
 impl FileIdentity {
-    /// Which file this is told of.
+    /// The file that has these metadata.
     pub fn of(metadata: &Metadata) -> FileIdentity {
         FileIdentity {
             device: metadata.dev(),
@@ -29,7 +29,7 @@ impl FileIdentity {
     }
 }
 
-/// The file that a line was opened with, and what for: for writing, where it was ever written.
+/// The file that a line was last opened with, and what for. Once it is for writing, it stays so while the line has this file.
 #[derive(Clone, Copy)]
 pub struct Claim {
     pub file: FileIdentity,
@@ -44,7 +44,7 @@ pub struct Claims {
 
 impl Model for Claims {
     ghost use Rattle.std.specs.Prelude.{◌≡◌, List, Option, vec_len};
-    ghost use Rattle.trau_io.specs.declared.places.TheConstants.{PLACES};
+    ghost use Rattle.trau_io.specs.declared.line_table.TheConstants.{LINE_INDICES};
     ghost use Rattle.trau_files.specs.Claims.{AreApart};
     ghost use Rattle.trau_files.specs.declared.trunk.claims.Claim.{Claim};
 
@@ -52,7 +52,7 @@ impl Model for Claims {
 
     ghost view = { λ c. c.of_lines.items };
 
-    ghost invariant = { λ c. (vec_len c.of_lines ≡ PLACES) × AreApart c.of_lines.items };
+    ghost invariant = { λ c. (vec_len c.of_lines ≡ LINE_INDICES) × AreApart c.of_lines.items };
 }
 
 impl Claims {
@@ -61,21 +61,21 @@ impl Claims {
         ensures none { IfOk result (All (λ claim. claim ≡ None)) }
         ensures apart { IfOk result AreApart }
     {
-        let mut of_lines = Vec::with_capacity(alloc, PLACES)?;
-        for _ in 0..PLACES {
+        let mut of_lines = Vec::with_capacity(alloc, LINE_INDICES)?;
+        for _ in 0..LINE_INDICES {
             of_lines.push_reserved(None);
         }
         Ok(Claims { of_lines })
     }
 
-    /// Has the file be the line's, unless it is another line's and one of both is written: the place of that line is the error.
+    /// Gives the file to the line, unless another line has it and one of the two is written. The error is that line's place.
     pub fn claim(&mut self, line: Line, claim: Claim) -> Result<(), usize>
-        ensures has { IfOk result (λ _. Has (claim_at self.new (place_of line.call line.side)) claim) }
-        ensures others { (k : ℕ) → k ≢ place_of line.call line.side → claim_at self.new k ≡ claim_at self.old k }
-        ensures taken { IfErr result (λ other. (self.new ≡ self.old) × IsTaken self.old (place_of line.call line.side) claim other) }
+        ensures has { IfOk result (λ _. Has (claim_at self.new (index_of_line line.call line.side)) claim) }
+        ensures others { (k : ℕ) → k ≢ index_of_line line.call line.side → claim_at self.new k ≡ claim_at self.old k }
+        ensures taken { IfErr result (λ other. (self.new ≡ self.old) × IsTaken self.old (index_of_line line.call line.side) claim other) }
         ensures apart { AreApart self.new }
     {
-        let place = place(line);
+        let place = line_index(line);
         if has(self.of_lines[place], claim) {
             return Ok(());
         }
@@ -88,12 +88,12 @@ impl Claims {
         }
     }
 
-    // The place of another line that has this file, where one of both is written.
+    // The place of another line that has this file, if one of the two is written.
     fn other(&self, place: usize, claim: Claim) -> Option<usize>
         ensures taken { IfSome result (λ other. IsTaken self.now place claim other) }
         ensures free { result ≡ None → MayHave self.now place claim }
     {
-        for other in 0..PLACES {
+        for other in 0..LINE_INDICES {
             if other != place && clash(self.of_lines[other], claim) {
                 return Some(other);
             }
@@ -102,7 +102,7 @@ impl Claims {
     }
 }
 
-// Whether a line has this file already, for this or for more.
+// Whether a line has this file already, for the same access or for writing.
 fn has(held: Option<Claim>, claim: Claim) -> bool
     ensures { IsTrue result → Has held claim }
 {
@@ -115,7 +115,7 @@ fn has(held: Option<Claim>, claim: Claim) -> bool
     }
 }
 
-// Whether another line's file is this one, and one of both is written.
+// Whether another line's file is this one, and one of the two is written.
 fn clash(held: Option<Claim>, claim: Claim) -> bool
     ensures written { IsTrue result → IfSome held (λ b. (b.file ≡ claim.file) × ((b.access ≡ Writing) ⊎ (claim.access ≡ Writing))) }
     ensures some { IsTrue result → IsSome held }

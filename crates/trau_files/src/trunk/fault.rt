@@ -5,15 +5,15 @@ use std::fmt::{Display, Formatter};
 use std::{fmt, io};
 use trau_io::{Line, Side};
 
-// Of so many lines the reason is told.
+// For this many lines the reason is printed.
 const TOLD: u32 = 20;
 
 /// Why a line's file can't be opened, read or written.
 #[derive(Drop)]
 pub enum Fault {
-    /// What the system said.
+    /// The system's error.
     System(io::Error),
-    /// The file is that of the line at this place, and one of both is written.
+    /// The line at this place has the same file, and one of the two is written.
     Shared(usize),
 }
 
@@ -46,8 +46,8 @@ fn side_at(place: usize) -> Side {
     }
 }
 
-/// Tells on standard error why lines failed, of the first twenty. No clause speaks of standard error; what the report says of a
-/// line doesn't hang on it.
+/// Prints on standard error why lines failed, for the first twenty. No clause speaks of standard error, and the report of a run
+/// doesn't depend on it.
 #[derive(Drop)]
 pub struct Reasons {
     lines: u32,
@@ -59,7 +59,7 @@ impl Reasons {
         Reasons { lines: 0 }
     }
 
-    /// Tells why a line failed.
+    /// Prints why a line failed.
     pub fn tell<R: Eprint>(&mut self, rt: &R, line: Line, fault: &Fault) {
         self.lines = self.lines.saturating_add(1);
         if self.lines <= TOLD {
@@ -69,7 +69,7 @@ impl Reasons {
         }
     }
 
-    /// Tells how many lines failed beside the first twenty.
+    /// Prints how many lines failed beside the first twenty.
     pub fn tell_rest<R: Eprint>(&self, rt: &R) {
         let others = self.lines.saturating_sub(TOLD);
         if others > 0 {

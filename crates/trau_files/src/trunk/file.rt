@@ -38,7 +38,7 @@ impl LineFile {
         }
     }
 
-    /// Moves the next octets of the file into the front of `buf`.
+    /// Reads the next octets of the file to the start of `buf`.
     pub fn read<R: Files + Eprint>(
         &mut self,
         files: &mut LineFiles<'_, R>,
@@ -59,8 +59,7 @@ impl LineFile {
         }
     }
 
-    /// Appends the front of `bytes` to what was written, at least one octet. The first octets make the
-    /// file anew.
+    /// Appends a prefix of `bytes`, at least one octet, to what was written. The first write starts the file anew.
     pub fn write<R: Files + Eprint>(
         &mut self,
         files: &mut LineFiles<'_, R>,
@@ -81,7 +80,7 @@ impl LineFile {
         }
     }
 
-    // The reason is told once a line. The count stops at its last value.
+    // The reason is printed for a line's first fault only. The count stops at its highest value.
     fn fail<R: Files + Eprint>(
         &mut self,
         files: &mut LineFiles<'_, R>,

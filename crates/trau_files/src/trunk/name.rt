@@ -6,7 +6,7 @@ use arrayvec::ArrayString;
 use itoa::Buffer;
 use trau_io::Line;
 
-/// The name of a line's file, as `7.up`. It takes no memory.
+/// The name of a line's file, as `7.up`. It doesn't allocate.
 pub fn name_of(line: Line) -> ArrayString<48>
     ensures { result.bytes ≡ file_name line.call line.side }
 {

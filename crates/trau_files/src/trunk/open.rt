@@ -1,4 +1,4 @@
-//! The files of lines, of which some are open.
+//! The files of all lines. Some of them are open.
 
 ghost use Rattle.std.specs.Prelude.{◌≡◌, ◌<◌, ◌↔◌, ◌⊎◌, length, pos, IfOk, IsTrue, All, Some, None};
 ghost use Rattle.std.specs.IoError.{raw_os_error};
@@ -21,13 +21,13 @@ use std::rt::Files;
 use std::{fs, io};
 use trau_io::Line;
 
-// The system's errors where no descriptor is left: in the whole system, and in this process.
+// The system's errors if no descriptor is left: in the whole system (ENFILE), and in this process (EMFILE).
 const NONE_IN_SYSTEM: i32 = 23;
 
 const NONE_IN_PROCESS: i32 = 24;
 
-/// The files of all lines. The first 255 that are opened stay open, and of the others the last one; fewer where the system
-/// gives fewer. A fault closes the file. A file of a disk that is written for one line is no other line's.
+/// The files of all lines. The first 255 that are opened stay open, and of the others the latest; fewer if the system allows
+/// fewer. A fault closes the file. A file on a disk that is written for one line is no other line's.
 #[derive(Drop)]
 pub struct LineFiles<'a, R: Files> {
     files: &'a R,
@@ -68,7 +68,7 @@ impl<'a, R: Files> LineFiles<'a, R> {
         })
     }
 
-    /// Moves octets of a line's file, from this octet on, into the front of `buf`.
+    /// Reads octets of a line's file, from octet `at` on, to the start of `buf`.
     pub fn read_at(&mut self, line: Line, at: u64, buf: &mut [u8]) -> Result<usize, Fault>
         ensures bound { ReadsAtMost result buf.new }
         ensures open { OpenAfter self.old.seats self.new.seats line.call line.side (file_after line.call line.side Reading at result) }
@@ -78,7 +78,7 @@ impl<'a, R: Files> LineFiles<'a, R> {
         self.seats.read(seat, buf)
     }
 
-    /// Writes the front of `bytes` to a line's file, from this octet on, at least one octet.
+    /// Writes a prefix of `bytes`, at least one octet, to a line's file from octet `at` on.
     pub fn write_at(&mut self, line: Line, at: u64, bytes: &[u8]) -> Result<usize, Fault>
         ensures some { IfOk result (λ n. 0 < n) }
         ensures bound { WritesAtMost result bytes.now }
@@ -89,7 +89,7 @@ impl<'a, R: Files> LineFiles<'a, R> {
         self.seats.write(seat, bytes)
     }
 
-    // The seat of the line's file, which stands at this octet: the open one, or opened for it.
+    // The seat of the line's file, at octet `at`. If the file isn't open there, it is opened.
     fn seat(&mut self, line: Line, access: Access, at: u64) -> Result<u8, Fault>
         ensures stands { IfOk result (λ seat. IsOpenAt (in_seat self.new.seats seat) line.call line.side access at) }
         ensures open { OpenAfter self.old.seats self.new.seats line.call line.side (opened line.call line.side access at result) }
@@ -101,8 +101,8 @@ impl<'a, R: Files> LineFiles<'a, R> {
         }
     }
 
-    // Opens a line's file into the next seat, which is freed before. Where no descriptor is left another one is closed first.
-    // It stays a function of its own: what it has room for would be cleared at each use of an open file.
+    // Frees the next seat, and opens a line's file into it. If no descriptor is left, another file is closed first.
+    // It isn't inlined: its room on the stack would be cleared at each read and write of an open file.
     #[cold]
     #[inline(never)]
     fn open(&mut self, line: Line, access: Access, at: u64) -> Result<u8, Fault>
@@ -142,13 +142,13 @@ impl<'a, R: Files> LineFiles<'a, R> {
         Ok(file)
     }
 
-    // Has an opened file be the line's, unless it is another line's. Where nothing has been written yet, it is emptied then, and not
-    // before. A pipe or a device keeps nothing that could be lost, and any number of lines may have it.
+    // Gives an opened file to the line, unless it is another line's. Only then is a file emptied, if it is opened for writing and
+    // nothing has been written yet. A pipe or a device keeps nothing that could be lost; any number of lines may have it.
     fn take(&mut self, line: Line, access: Access, at: u64, file: &R::File) -> Result<(), Fault>
         ensures seats { self.new.seats ≡ self.old.seats }
         ensures apart { AreApart self.new.claims }
     {
-        // Here the check learns that the lines' files are apart.
+        // For the prover only: reading the field brings in the invariant that the lines' files are apart.
         let _ = &self.claims;
         let metadata = file.metadata()?;
         if !metadata.is_file() {
@@ -161,7 +161,8 @@ impl<'a, R: Files> LineFiles<'a, R> {
         }
     }
 
-    // Has the file be the line's, unless it is another line's that was opened before, or that of a recording.
+    // Gives the file to the line, unless a line that was opened before has it and one of the two is written. A file that is written
+    // under several names mustn't be that of any incoming line either, opened or not.
     fn claim(&mut self, line: Line, access: Access, metadata: &Metadata) -> Result<(), Fault>
         ensures seats { self.new.seats ≡ self.old.seats }
         ensures apart { AreApart self.new.claims }
@@ -180,14 +181,14 @@ impl<'a, R: Files> LineFiles<'a, R> {
 }
 
 impl<'a, R: Files + Eprint> LineFiles<'a, R> {
-    /// Tells on standard error why a line failed.
+    /// Prints on standard error why a line failed.
     pub fn tell_why(&mut self, line: Line, fault: &Fault)
         ensures { self.new ≡ self.old }
     {
         self.reasons.tell(self.files, line, fault);
     }
 
-    /// Tells there how many lines failed beside those that were told of.
+    /// Prints there how many lines failed beside those whose reasons were printed.
     pub fn tell_rest(&self) {
         self.reasons.tell_rest(self.files);
     }
@@ -200,8 +201,8 @@ fn lacks_descriptor(fault: &io::Error) -> bool
     matches!(fault.raw_os_error(), Some(NONE_IN_SYSTEM | NONE_IN_PROCESS))
 }
 
-// Whether a line's file has another name beside that of the line: the line's name is a link, or the file has several. Where the
-// system doesn't say, it may.
+// Whether a line's file may have another name beside the line's: that is a symbolic link, the file has several links, or the
+// system doesn't say.
 fn is_linked<R: Files>(files: &R, line: Line, metadata: &Metadata) -> bool {
     metadata.nlink() > 1
         || match fs::symlink_metadata(files, name_of(line).as_str()) {
@@ -210,7 +211,7 @@ fn is_linked<R: Files>(files: &R, line: Line, metadata: &Metadata) -> bool {
         }
 }
 
-// How a line's file is opened. Where nothing has been written yet, a new one is made of its name where there is none.
+// How a line's file is opened. A missing file is created if it is opened for writing and nothing has been written yet.
 fn options_for(access: Access, at: u64) -> OpenOptions
     ensures { result ≡ options_for access at }
 {

@@ -1,4 +1,4 @@
-//! Which files the folder's incoming lines have, also those that no order has opened yet.
+//! Which files the folder's incoming lines have, including lines that no order has opened yet.
 
 use super::claims::FileIdentity;
 use super::name::name_of;
@@ -7,9 +7,9 @@ use std::alloc::{AllocError, Global};
 use std::fs;
 use std::marker::Model;
 use std::rt::Files;
-use trau_io::{Line, PLACES, Side, place};
+use trau_io::{LINE_INDICES, Line, Side, line_index};
 
-/// The files of the incoming lines of all calls, by the lines' places: as they were when one was first asked for.
+/// The files of the incoming lines of all calls, by the lines' places, as they were when `place_of` was first called.
 #[derive(Drop)]
 pub struct Recordings {
     of_lines: Vec<Option<FileIdentity>>,
@@ -18,20 +18,20 @@ pub struct Recordings {
 
 impl Model for Recordings {
     ghost use Rattle.std.specs.Prelude.{◌≡◌, List, Option, vec_len};
-    ghost use Rattle.trau_io.specs.declared.places.TheConstants.{PLACES};
+    ghost use Rattle.trau_io.specs.declared.line_table.TheConstants.{LINE_INDICES};
     ghost use Rattle.trau_files.specs.declared.trunk.claims.FileIdentity.{FileIdentity};
 
     ghost Value = { List (Option FileIdentity) };
 
     ghost view = { λ r. r.of_lines.items };
 
-    ghost invariant = { λ r. vec_len r.of_lines ≡ PLACES };
+    ghost invariant = { λ r. vec_len r.of_lines ≡ LINE_INDICES };
 }
 
 impl Recordings {
     /// The folder isn't searched yet.
     pub fn new(alloc: Global) -> Result<Recordings, AllocError> {
-        let of_lines = Vec::from_elem(alloc, None, PLACES)?;
+        let of_lines = Vec::from_elem(alloc, None, LINE_INDICES)?;
         Ok(Recordings {
             of_lines,
             is_searched: false,
@@ -67,10 +67,10 @@ impl Recordings {
         }
     }
 
-    // The file of an incoming line, where it has one.
+    // Notes the file of an incoming line, if it has one.
     fn note<R: Files>(&mut self, files: &R, line: Line) {
         if let Ok(metadata) = fs::metadata(files, name_of(line).as_str()) {
-            self.of_lines[place(line)] = Some(FileIdentity::of(&metadata));
+            self.of_lines[line_index(line)] = Some(FileIdentity::of(&metadata));
         }
     }
 }

@@ -10,9 +10,9 @@ use crate::retry::{read_again, write_some};
 use std::alloc::{AllocError, Global};
 use std::io::{Read, Write};
 use std::marker::Model;
-use trau_io::{Line, PLACES, place};
+use trau_io::{LINE_INDICES, Line, line_index};
 
-// So many files are open at most; a `u8` names a seat.
+// At most this many files are open; a `u8` names a seat.
 const SEATS: usize = 256;
 
 /// What a line's file is open for.
@@ -22,7 +22,7 @@ pub enum Access {
     Writing,
 }
 
-/// A line's file that is open, what for, and the octet at which it stands.
+/// An open file of a line: what it is open for, and its position in octets.
 #[derive(Drop)]
 pub struct OpenFile<F: Drop> {
     pub file: F,
@@ -37,13 +37,13 @@ impl<F: Drop> Model for OpenFile<F> {
     ghost view = { λ o. record { call = o.line.call; side = o.line.side; access = o.access; at = o.at } };
 }
 
-/// The files that are open, each in a seat. The first ones have a seat each, and all later ones have the last seat in turn.
+/// The open files, each in a seat. The first files keep a seat each; all later ones get the last seat, one after the other.
 #[derive(Drop)]
 pub struct Seats<F: Drop> {
     files: Vec<Option<OpenFile<F>>>,
     // The seat that a line's file had last, by the line's place. Another line's file may have it now.
     seat_of: Vec<u8>,
-    // The seat of the next file that is opened. It goes up to the last one, and stays there.
+    // The seat of the next file that is opened. It rises to `last`, and stays there.
     next: u8,
     last: u8,
 }
@@ -51,13 +51,13 @@ pub struct Seats<F: Drop> {
 impl<F: Drop> Model for Seats<F> {
     ghost use Rattle.std.specs.Prelude.{◌≡◌, List, Option, vec_len};
     ghost use Rattle.trau_files.specs.Files.{OpenLine, AreSeated};
-    ghost use Rattle.trau_io.specs.declared.places.TheConstants.{PLACES};
+    ghost use Rattle.trau_io.specs.declared.line_table.TheConstants.{LINE_INDICES};
 
     ghost Value = { List (Option OpenLine) };
 
     ghost view = { λ s. s.files.items };
 
-    ghost invariant = { λ s. (vec_len s.files ≡ 256) × (vec_len s.seat_of ≡ PLACES) × AreSeated s.files.items s.seat_of.items };
+    ghost invariant = { λ s. (vec_len s.files ≡ 256) × (vec_len s.seat_of ≡ LINE_INDICES) × AreSeated s.files.items s.seat_of.items };
 }
 
 impl<F: Drop> Seats<F> {
@@ -70,7 +70,7 @@ impl<F: Drop> Seats<F> {
         for _ in 0..SEATS {
             files.push_reserved(None);
         }
-        let seat_of = Vec::from_elem(alloc, 0u8, PLACES)?;
+        let seat_of = Vec::from_elem(alloc, 0u8, LINE_INDICES)?;
         Ok(Seats {
             files,
             seat_of,
@@ -79,7 +79,7 @@ impl<F: Drop> Seats<F> {
         })
     }
 
-    /// The seat of the line's file, where it is open for this and stands at this octet; else it is closed.
+    /// The seat of the line's file, if it is open for this access and at octet `at`. Otherwise None, and the line has no open file.
     pub fn find(&mut self, line: Line, access: Access, at: u64) -> Option<u8>
         ensures stands { IfSome result (λ seat. IsOpenAt (in_seat self.new seat) line.call line.side access at) }
         ensures open { IsSome result → OpenAfter self.old self.new line.call line.side
@@ -88,14 +88,14 @@ impl<F: Drop> Seats<F> {
         ensures others { OnlyCloses self.old self.new }
         ensures number { length self.new ≡ length self.old }
     {
-        let seat = self.seat_of[place(line)];
+        let seat = self.seat_of[line_index(line)];
         if stands(&mut self.files[seat as usize], line, access, at) {
             return Some(seat);
         }
         None
     }
 
-    /// Closes the file in the next seat, where there is one. Which file it closes, no clause says.
+    /// Closes the file in the next seat, if there is one. No clause says which file it closes.
     pub fn free_next(&mut self)
         ensures others { OnlyCloses self.old self.new }
         ensures number { length self.new ≡ length self.old }
@@ -103,7 +103,8 @@ impl<F: Drop> Seats<F> {
         self.files[self.next as usize] = None;
     }
 
-    /// Closes the file before the next seat, which is the last one from now on. Which file it closes, no clause says.
+    /// Closes the file in the seat before the next one. That seat is the next and the last one from now on. No clause says which
+    /// file it closes.
     pub fn lessen(&mut self)
         ensures others { OnlyCloses self.old self.new }
         ensures number { length self.new ≡ length self.old }
@@ -113,14 +114,14 @@ impl<F: Drop> Seats<F> {
         self.free_next();
     }
 
-    /// Puts a line's file, of which none is open, into the next seat, which is the line's from now on.
+    /// Puts the file of a line that has none open into the next seat, and returns that seat.
     pub fn put(&mut self, file: OpenFile<F>) -> u8
         requires { IsFileOf self.old file.call file.side None }
         ensures there { in_seat self.new result ≡ Some file }
         ensures open { OpenAfter self.old self.new file.call file.side (Some file) }
     {
         let seat = self.next;
-        self.seat_of[place(file.line)] = seat;
+        self.seat_of[line_index(file.line)] = seat;
         self.files[seat as usize] = Some(file);
         self.next = self.last.min(seat.saturating_add(1));
         seat
@@ -128,7 +129,7 @@ impl<F: Drop> Seats<F> {
 }
 
 impl<F: Read + Write + Drop> Seats<F> {
-    /// Moves the next octets of the file in a seat into the front of `buf`. A fault closes the file.
+    /// Reads the next octets of the file in a seat to the start of `buf`. A fault closes the file.
     pub fn read(&mut self, seat: u8, buf: &mut [u8]) -> Result<usize, Fault>
         requires { IsSome (in_seat self.old seat) }
         ensures bound { ReadsAtMost result buf.new }
@@ -137,7 +138,7 @@ impl<F: Read + Write + Drop> Seats<F> {
         read_in(&mut self.files[seat as usize], buf)
     }
 
-    /// Writes the front of `bytes` to the file in a seat, at least one octet. A fault closes the file.
+    /// Writes a prefix of `bytes`, at least one octet, to the file in a seat. A fault closes the file.
     pub fn write(&mut self, seat: u8, bytes: &[u8]) -> Result<usize, Fault>
         requires { IsSome (in_seat self.old seat) }
         ensures some { IfOk result (λ n. 0 < n) }
@@ -148,8 +149,8 @@ impl<F: Read + Write + Drop> Seats<F> {
     }
 }
 
-// Whether the file in a seat is this line's, is open for this and stands at this octet. Another line's stays, and another
-// one of this line is closed.
+// Whether the file in a seat is this line's, open for this access and at octet `at`. If it is this line's but isn't open so, it
+// is closed. Another line's file stays open.
 fn stands<F: Drop>(seat: &mut Option<OpenFile<F>>, line: Line, access: Access, at: u64) -> bool
     ensures stands { IsTrue result → IsOpenAt seat.new line.call line.side access at }
     ensures same { IsTrue result → seat.new ≡ seat.old }
@@ -166,7 +167,7 @@ fn stands<F: Drop>(seat: &mut Option<OpenFile<F>>, line: Line, access: Access, a
     }
 }
 
-// Reads from the file in a seat; the file stays there.
+// Reads from the file in a seat. A fault closes it.
 fn read_in<F: Read + Drop>(seat: &mut Option<OpenFile<F>>, buf: &mut [u8]) -> Result<usize, Fault>
     requires { IsSome seat.old }
     ensures bound { ReadsAtMost result buf.new }
@@ -187,7 +188,7 @@ fn read_in<F: Read + Drop>(seat: &mut Option<OpenFile<F>>, buf: &mut [u8]) -> Re
     }
 }
 
-// Writes to the file in a seat; the file stays there.
+// Writes to the file in a seat. A fault closes it.
 fn write_in<F: Write + Drop>(seat: &mut Option<OpenFile<F>>, bytes: &[u8]) -> Result<usize, Fault>
     requires { IsSome seat.old }
     ensures some { IfOk result (λ n. 0 < n) }

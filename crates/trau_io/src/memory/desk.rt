@@ -9,7 +9,7 @@ use crate::{Desk, Failed};
 use std::alloc::{AllocError, Global};
 use std::marker::Model;
 
-/// A desk in memory: one line that is read, and one that is written. It tells all that they hold.
+/// A desk in memory: one line to read and one to write. Contracts know everything in them.
 #[derive(Drop)]
 pub struct MemDesk {
     orders: MemLine,
@@ -23,8 +23,8 @@ impl Model for MemDesk {
 }
 
 impl MemDesk {
-    /// A desk with these orders. Read number i, from 0, fails where i is in `read_fails`, and write
-    /// number i where it is in `write_fails` or no room is left of `room` octets.
+    /// A desk with these orders. Read number i, from 0, fails if i is in `read_fails`. Write number i fails if i is
+    /// in `write_fails` or the `room` octets are used up.
     pub fn new(
         alloc: Global,
         contents: Vec<u8>,
@@ -47,7 +47,7 @@ impl MemDesk {
         })
     }
 
-    /// The octets written.
+    /// The texts so far.
     pub fn text(&self) -> &[u8]
         ensures { result.now ≡ self.now.1.written }
     {

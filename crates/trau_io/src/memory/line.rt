@@ -8,7 +8,7 @@ use crate::Failed;
 use std::alloc::{AllocError, Global};
 use std::marker::Model;
 
-/// A line in memory: what it gives and takes, and which of its operations are cut or fail.
+/// A line in memory, with the operations that move less than they could (`cuts`) and those that fail.
 #[derive(Drop)]
 pub struct MemLine {
     contents: Vec<u8>,
@@ -60,7 +60,7 @@ impl MemLine {
         })
     }
 
-    /// A line that is only read, since it has no room. It takes no memory.
+    /// A line for reading only: it has no room. It takes no memory.
     pub fn to_read(alloc: Global, contents: Vec<u8>, fails: Vec<u32>) -> MemLine
         ensures { result ≡ new_line contents.items [] fails.items 0 }
     {
@@ -76,7 +76,7 @@ impl MemLine {
         }
     }
 
-    /// A line that gives nothing and has no room. It takes no memory.
+    /// A line with nothing to read and no room. It takes no memory.
     pub fn empty(alloc: Global) -> MemLine
         ensures { result ≡ new_line [] [] [] 0 }
     {
@@ -91,7 +91,7 @@ impl MemLine {
         self.fails.iter().any(|number| *number as usize == calls)
     }
 
-    // How many of at most `count` octets the next operation may move.
+    // How many of `count` octets the next operation may move at most.
     fn cut(&self, count: usize) -> usize
         requires { 0 < count }
         ensures value { result ≡ cut_of self.now count }
@@ -104,7 +104,7 @@ impl MemLine {
         }
     }
 
-    /// Reads the next octets, as many as there are, as there is room for, and as the cut lets through.
+    /// Reads the next octets: as many as the line, `buf` and the operation's cut allow.
     pub fn read(&mut self, buf: &mut [u8]) -> Result<usize, Failed>
         requires { 0 < length buf.old }
         ensures answer { result ≡ read_answer self.old (length buf.old) }
@@ -121,7 +121,7 @@ impl MemLine {
         Ok(count)
     }
 
-    /// Writes the first octets, as many as there is room for and as the cut lets through. Without room it fails.
+    /// Writes a prefix of `bytes`: as much as the room and the operation's cut allow. Without room it fails.
     pub fn write(&mut self, bytes: &[u8]) -> Result<usize, Failed>
         requires { 0 < length bytes.now }
         ensures answer { result ≡ write_answer self.old (length bytes.now) }
@@ -138,7 +138,7 @@ impl MemLine {
         Ok(count)
     }
 
-    // An operation that fails is counted twice over, as an operation and as a fault.
+    // A failed operation counts as an operation and as a fault.
     fn fail(&mut self) -> Result<usize, Failed>
         ensures answer { IsErr result }
         ensures after { self.new ≡ after_read self.old result }
@@ -148,7 +148,7 @@ impl MemLine {
         Err(Failed)
     }
 
-    /// What was written.
+    /// The octets written.
     pub fn written(&self) -> &[u8]
         ensures { result.now ≡ self.now.written }
     {

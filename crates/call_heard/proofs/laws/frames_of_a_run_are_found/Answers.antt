@@ -16,7 +16,7 @@ returns-clause-found g =
 pub returns-clause-heard : goal.returns-clause-heard
 returns-clause-heard g = λ r c past heard orders opened same are.
     let whole = g.calls_are_whole.ensures.whole r c orders opened in
-    let look : LooksBack = record { newest = g.the_newest_is_the_last.ensures; table = g.the_table_looks_back.ensures } in
+    let look : LooksBack = record { newest = g.the_newest_is_the_last.ensures; table = g.steps_give_effectives.ensures } in
     g.frames_of_a_call_are_found.ensures.heard (whole_call r c) past heard whole (run-hands r c)
     (line_bits-octets past ∙ ap bits_of same ∙ run-bits look r c whole) are
 

@@ -7,7 +7,3 @@ pub good-requires-clause-bits : goal.good-requires-clause-bits
 good-requires-clause-bits c = λ k d below.
     let one : get_or (replicate {A = ℕ} 260 1) k d ≡ 1 = get_or-replicate 260 k 1 d below in
     subst (λ (n : ℕ). n < 2) (sym one) (omega arith)
-
-pub returns-in-3 : goal.returns-in-3
-unfolding hostile_octets
-returns-in-3 c = search rules

@@ -9,7 +9,7 @@ returns g c =
     let lines_seen = ap (λ (t : TrunkFiles). t.lines) c.self.view_is in
     let files_seen = ap (λ (t : TrunkFiles). t.files) c.self.view_is in
     let line = replaced known_line _ _ _ _ _ _ c.write.new.self lines_seen
-    (sym c.self.inside.lines.ok.0 ∙ c.self.invariant.0) c.place.ensures.value c.place.ensures.within c.index_mut.ensures.value in
+    (sym c.self.inside.lines.ok.0 ∙ c.self.invariant.0) c.line_index.ensures.value c.line_index.ensures.within c.index_mut.ensures.value in
     let lines = line.put ∙ ap (slice_set _ _) c.write.ensures.after in
     let files = subst (λ (fs : List (Option OpenLine)). OpenAfter fs c.write.new.files.seats c.args.line.call c.args.line.side
     (file_after c.args.line.call c.args.line.side Writing c.index_mut.result.now.written c.write.result)) files_seen c.write.ensures.place in

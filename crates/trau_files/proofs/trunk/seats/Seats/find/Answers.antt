@@ -6,9 +6,9 @@ use Rattle.trau_files.proofs.trunk.seats.Seats.find.Goals as goal
 pub returns-then-stands-clause-open : goal.returns-then-stands-clause-open
 returns-then-stands-clause-open g c = λ is.
     let low : c.index-seat.result.now < 256 = search rules in
-    let seat = seat_read c.self.inside.files.items c.self.inside.seat_of.items c.args.line.call c.args.line.side c.place.result c.index-seat.result.now
+    let seat = seat_read c.self.inside.files.items c.self.inside.seat_of.items c.args.line.call c.args.line.side c.line_index.result c.index-seat.result.now
     c.index_mut.result.now (sym c.self.inside.files.ok.0 ∙ c.self.invariant.0)
-    (sym c.self.inside.seat_of.ok.0 ∙ c.self.invariant.1) low c.place.ensures.within c.place.ensures.value c.index-seat.ensures c.index_mut.ensures.value in
+    (sym c.self.inside.seat_of.ok.0 ∙ c.self.invariant.1) low c.line_index.ensures.within c.line_index.ensures.value c.index-seat.ensures c.index_mut.ensures.value in
     let there = c.stands.ensures.stands c.if-stands.true in
     let was = seat.here ∙ sym (c.stands.ensures.same c.if-stands.true) ∙ there in
     let moved = moved_to c.self.inside.files.items c.self.inside.seat_of.items
@@ -23,9 +23,9 @@ returns-then-stands-clause-open g c = λ is.
 pub invariant_of-self-2 : goal.invariant_of-self-2
 invariant_of-self-2 g c =
     let low : c.index-seat.result.now < 256 = search rules in
-    let seat = seat_read c.self.inside.files.items c.self.inside.seat_of.items c.args.line.call c.args.line.side c.place.result c.index-seat.result.now
+    let seat = seat_read c.self.inside.files.items c.self.inside.seat_of.items c.args.line.call c.args.line.side c.line_index.result c.index-seat.result.now
     c.index_mut.result.now (sym c.self.inside.files.ok.0 ∙ c.self.invariant.0)
-    (sym c.self.inside.seat_of.ok.0 ∙ c.self.invariant.1) low c.place.ensures.within c.place.ensures.value c.index-seat.ensures c.index_mut.ensures.value in (
+    (sym c.self.inside.seat_of.ok.0 ∙ c.self.invariant.1) low c.line_index.ensures.within c.line_index.ensures.value c.index-seat.ensures c.index_mut.ensures.value in (
       c.self.invariant.0,
       c.self.invariant.1,
       seated_still c.self.inside.files.items c.self.inside.seat_of.items c.index-seat.result.now c.stands.new.seat
@@ -35,8 +35,8 @@ invariant_of-self-2 g c =
 pub returns-clause-closed : goal.returns-clause-closed
 returns-clause-closed g c = λ is.
     let low : c.index-seat.result.now < 256 = search rules in
-    let seat = seat_read c.self.inside.files.items c.self.inside.seat_of.items c.args.line.call c.args.line.side c.place.result c.index-seat.result.now
+    let seat = seat_read c.self.inside.files.items c.self.inside.seat_of.items c.args.line.call c.args.line.side c.line_index.result c.index-seat.result.now
     c.index_mut.result.now (sym c.self.inside.files.ok.0 ∙ c.self.invariant.0)
-    (sym c.self.inside.seat_of.ok.0 ∙ c.self.invariant.1) low c.place.ensures.within c.place.ensures.value c.index-seat.ensures c.index_mut.ensures.value in
+    (sym c.self.inside.seat_of.ok.0 ∙ c.self.invariant.1) low c.line_index.ensures.within c.line_index.ensures.value c.index-seat.ensures c.index_mut.ensures.value in
     none_open c.self.inside.files.items c.self.inside.seat_of.items c.index-seat.result.now c.stands.new.seat seat.within c.self.invariant.2 c.args.line.call
     c.args.line.side seat.named (kept_or_closed seat.here c.stands.ensures.others) (c.stands.ensures.closed c.if-stands.false)

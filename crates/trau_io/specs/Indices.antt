@@ -1,4 +1,4 @@
--- The place of each line in a list of all lines, the sides of a call side by side (this project's profile).
+-- The index of each line in a list of all lines: four lines a call, in the order of the sides (this project's profile).
 use Rattle.std.specs.Prelude.{ℕ, ◌+◌, ◌*◌}
 use Rattle.trau_io.specs.declared.line.Side.{Side}
 use Rattle.trau_io.specs.declared.line.Side.TheVariants.{Up, Pcm, Down, Out}
@@ -9,6 +9,5 @@ number_of_side Pcm = 1
 number_of_side Down = 2
 number_of_side Out = 3
 
--- the place of a line in the list of all lines
-abbrev pub place_of : ℕ → Side → ℕ
-place_of call side = 4 * call + number_of_side side
+abbrev pub index_of_line : ℕ → Side → ℕ
+index_of_line call side = 4 * call + number_of_side side
