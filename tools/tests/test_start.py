@@ -302,11 +302,14 @@ class TheFirstStart(Started):
     def test_the_second_of_two_waits(self):
         how = {"env": {**self.surroundings, "FAILS": "pause"}, "cwd": self.folder, "stdin": subprocess.DEVNULL, "text": True}
         how.update(stdout=subprocess.PIPE, stderr=subprocess.PIPE)
+        # (Two runs in one folder at once would be refused.)
+        other = self.folder / "other"
+        other.mkdir()
         with subprocess.Popen([self.top / "trau", "relay", "7"], **how) as first:
             for line in first.stderr:
                 if "crate 4 of 4" in line:
                     break
-            with subprocess.Popen([self.top / "trau", "relay", "8"], **how) as second:
+            with subprocess.Popen([self.top / "trau", "relay", "8"], **{**how, "cwd": other}) as second:
                 said = second.stderr.readline()
                 self.path("asked.goes-on", b"")
                 self.assertEqual(first.communicate()[0], "the program: relay 7\n")
