@@ -1,6 +1,6 @@
--- What is handed over, and the start and the end of a bridge.
+-- How many handed frames wait, and the start and the end of a bridge.
 use Rattle.std.proofs.Common.{◌≡◌, refl, sym, ap, ◌∙◌, subst, ℕ, ◌+◌, ◌*◌, ◌≤◌, suc, Bool, true, false, not, ◌&&◌, ◌||◌, nat_le, Option, Some, None, is_some}
-use Rattle.std.proofs.Common.{filter, List, [], ◌∷◌, ◌++◌, length, slice_get, arith, inl, inr}
+use Rattle.std.proofs.Common.{filter, List, [], ◌∷◌, length, slice_get, arith, inl, inr}
 use Rattle.std.specs.Prelude.{◌==◌}
 use Rattle.std.proofs.lemmas.Bool.{cond-false, cond_both, ne_eqb, true≢false, and_right}
 use Rattle.std.proofs.lemmas.List.{append-nil}
@@ -53,35 +53,6 @@ queue-short past q h w = go (latest_start (down_periods past)) refl
 -- before the handing over at most one waits
 pub halfway-short : (who : Who) (ts : List CallPeriod) (now : Settings) (up : List ℕ) (d : DownMemory) → Halfway who ts now up None d → length d.waiting ≤ 1
 halfway-short who ts now up d h = subst (λ z. length z ≤ 1) (sym (h.waits.2 ∙ append-nil h.waits.0)) (queue-short ts h.waits.0 h.history h.waits.1)
-
--- the partner's frame is handed over
-pub hand-stands : (who : Who) (ts : List CallPeriod) (now : Settings) (up : List ℕ) (x x1 : List ℕ) (d d1 : DownMemory) → Halfway who ts now up None d →
-    x ≡ x1 →
-    d1.waiting ≡ d.waiting ++ x ∷ [] →
-    d1.law ≡ d.law → d1.framer ≡ d.framer → d1.align ≡ d.align → d1.coder ≡ d.coder → d1.level ≡ d.level → d1.mode ≡ d.mode → d1.dtxd ≡ d.dtxd →
-    d1.quiet ≡ d.quiet → d1.bridged ≡ d.bridged → d1.sent ≡ d.sent → d1.made ≡ d.made →
-    Halfway who ts now up (Some x1) d1
-hand-stands who ts now up x x1 d d1 h ex eq la ef al co lv md ul qt br sn mn = record {
-  held = record {
-    law = la ∙ h.law;
-    pcms = h.pcms;
-    history = h.history;
-    places = subst (λ z. Holds (pcm_of ts) (down_made who (frames_of ts)) (320 * length (down_periods ts)) (next_start (frames_of ts)) z) (sym ef) h.places;
-    frozen = ap (λ z. z.frozen) al ∙ h.frozen;
-    coded = subst (CoderStands who.law (coded_stretch who.number (epoch_now ts now) (frames_of ts))) (sym co) h.coded;
-    sent = sn ∙ h.sent;
-    made = mn ∙ h.made;
-    level = lv ∙ h.level;
-    mode = md ∙ h.mode;
-    bridged = br ∙ h.bridged;
-    alone = h.alone;
-    goes_on = h.goes_on;
-  };
-  waits = (h.waits.0, h.waits.1, eq ∙ ap (λ z. z ++ x ∷ []) (h.waits.2 ∙ append-nil h.waits.0) ∙ ap (λ z. h.waits.0 ++ z ∷ []) ex);
-  kept = ap (λ z. z.kept) al ∙ h.kept;
-  dtxd = ul ∙ h.dtxd;
-  quiet = qt ∙ h.quiet;
-}
 
 -- ---- no frame and no period is of an epoch to come
 

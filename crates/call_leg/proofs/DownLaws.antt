@@ -1,15 +1,12 @@
--- The handing over and the downlink half of a period, on any memory that stands.
+-- The downlink half of a period, on any memory that stands.
 use Rattle.std.proofs.Common.{◌≡◌, refl, sym, ap, ◌∙◌, subst, ℕ, ◌-◌, ◌≤◌, ℤ, Bool, true, false, not, ◌&&◌, ◌||◌, if◌then◌else◌, nat_le, Option, Some, None}
 use Rattle.std.proofs.Common.{is_some, unwrap_or, List, [], ◌∷◌, ◌++◌, length, map, take, drop, slice_get, length-append, arith, inl, inr}
 use Rattle.std.specs.Prelude.{◌==◌}
 use Rattle.std.proofs.lemmas.Bool.{cond-true, cond-false, cases_lt, lt-leb, le-leb}
 use Rattle.circular_buffer.specs.Buffer.{keep_last}
-use Rattle.trau_params.specs.Bits260.{bits260}
 use Rattle.trau_frame.specs.declared.frames.DownFrame.TheVariants as frame
 use Rattle.trau_frame.specs.DownFrame as frames
 use Rattle.trau_frame.proofs.Again.{length-down_bits}
-use Rattle.rx_handler.specs.Origin.{EffectiveFields}
-use Rattle.fr_decoder.specs.Stands as decoder
 use Rattle.fr_encoder.specs.Encoded.{encoding_of}
 use Rattle.fr_encoder.specs.Stands as encoder
 use Rattle.fr_encoder.specs.Step.{encoded_frame}
@@ -31,24 +28,20 @@ use Rattle.down_framer.proofs.Due.{none_made, one_made}
 use Rattle.trau_alaw.specs.declared.Law.{Law}
 use Rattle.trau_alaw.specs.Period.{expanded}
 use Rattle.call_leg.specs.Who.{Who}
-use Rattle.call_leg.specs.Uplink.{handed_fields}
 use Rattle.call_leg.specs.Periods.{CallPeriod, pcm_of, quiet_now, handed_in, dtx_in, dtx_now, level_now}
 use Rattle.call_leg.specs.Settings.{Settings, settings_later, period_with}
 use Rattle.call_leg.specs.Down.{CallFrame, down_period, down_periods, frames_of, coded_stretch, samples_of, coded_as, coded_after, coded_frames, speech}
 use Rattle.call_leg.specs.Down.{frame_now, down_now}
 use Rattle.call_leg.specs.Waiting.{bits_in}
-use Rattle.call_leg.specs.Memory.{CoderMemory, home_coder, DownMemory, LegMemory}
+use Rattle.call_leg.specs.Memory.{CoderMemory, home_coder, DownMemory}
 use Rattle.call_leg.specs.Places.{CoderStands, Halfway, Between}
 use Rattle.call_leg.proofs.Inside.{Inside}
-use Rattle.call_leg.specs.Stands.{Stands, Midway}
-use Rattle.call_leg.specs.Step.{with_down, thawed, after_handing, own_next, next_by, frame_made, frame_tried, with_framer, down_worked}
+use Rattle.call_leg.specs.Step.{thawed, own_next, next_by, frame_made, frame_tried, with_framer, down_worked}
 use Rattle.call_leg.proofs.Shifts.{adopted-shift, adopted-kept, adopted-frozen}
 use Rattle.call_leg.proofs.Stretch.{stretch-coded, frame-coded, stretch-carries, frame-carries, stretch-quiet, frame-quiet}
 use Rattle.call_leg.proofs.Queue.{waits-first}
 use Rattle.call_leg.proofs.Step.{next, begun-same, come, not_come, shift_is, inside-next}
-use Rattle.call_leg.proofs.Bridges.{halfway-short, hand-stands}
 use Rattle.call_leg.proofs.Period.{enter, leave}
-use Rattle.call_leg.proofs.Upward.{plain-more}
 
 -- ---- the handing over
 
@@ -58,21 +51,6 @@ one_more q x l =
     let n = length-append q (x ∷ []) in
     let z : length (q ++ x ∷ []) - 2 ≡ 0 = omega arith in
     ap (λ k. drop k (q ++ x ∷ [])) z
-
--- **The handing over of a partner's frame.**
-pub handing-stands : (who : Who) (ts : List CallPeriod) (now : Settings) (up : List ℕ) (e : EffectiveFields) (m : LegMemory) → Midway who ts now up None m →
-    Midway who ts now up (Some (bits260 (handed_fields e))) (with_down m (after_handing m.down e))
-handing-stands who ts now up e m h =
-    let x = bits260 (handed_fields e) in
-    record {
-      law = h.law;
-      search = h.search;
-      rx = h.rx;
-      decoder = h.decoder;
-      counts = h.counts;
-      down = hand-stands who ts now up x x m.down (after_handing m.down e) h.down refl (one_more m.down.waiting x (halfway-short who ts now up m.down h.down))
-          refl refl refl refl refl refl refl refl refl refl refl;
-    }
 
 -- ---- the coder
 
@@ -198,7 +176,7 @@ tried-inside who t past fs d h =
 
 -- ---- the downlink half
 
--- **The downlink half of a period, on its side ..**
+-- **The downlink half of a period.**
 pub half-stands : (who : Who) (ts : List CallPeriod) (now : Settings) (up pcm : List ℕ) (handed : Option (List ℕ)) (d : DownMemory) → length pcm ≡ 160 →
     is_some handed ≡ now.bridged →
     Halfway who ts now up handed d → Between who (period_with now up pcm handed ∷ ts) (settings_later now) (down_worked d pcm).1
@@ -216,22 +194,4 @@ half-stands who ts now up pcm handed d l b h =
       leave who ts now up handed pcm d made l b h i2 _ (λ pcm0 line out start p. take-holds made.framer pcm0 line out start p) refl refl refl refl refl refl refl
           refl refl refl,
       ap (take 320) i2.places.stored,
-    )
-
--- **.. and on the leg.**
-pub down-stands : (who : Who) (ts : List CallPeriod) (now : Settings) (up pcm : List ℕ) (handed : Option (List ℕ)) (m : LegMemory) → length pcm ≡ 160 →
-    is_some handed ≡ now.bridged →
-    Midway who ts now up handed m → Stands who (period_with now up pcm handed ∷ ts) (settings_later now) (with_down m (down_worked m.down pcm).1)
-    × ((down_worked m.down pcm).0 ≡ down_now who (period_with now up pcm handed ∷ ts))
-down-stands who ts now up pcm handed m l b h =
-    let half = half-stands who ts now up pcm handed m.down l b h.down in (
-      record {
-        law = h.law;
-        search = h.search;
-        rx = h.rx;
-        decoder = subst (λ z. decoder.Stands z m.decoder) (plain-more who.number ts now up pcm handed b) h.decoder;
-        counts = h.counts;
-        down = half.0;
-      },
-      half.1,
     )

@@ -1,86 +1,33 @@
 -- The halves of a leg, apart, on any memory that stands.
-use Rattle.std.proofs.Common.{◌≡◌, refl, sym, ap, ◌∙◌, subst, ℕ, Bool, true, false, not, Option, Some, None, is_some, unwrap_or, List, ◌∷◌, length}
-use Rattle.trau_frame.specs.declared.frames.Kind.{Kind}
-use Rattle.trau_frame.specs.declared.frames.Kind.TheVariants as kinds
+use Rattle.std.proofs.Common.{◌≡◌, refl, sym, ap, ◌∙◌, subst, ℕ, Bool, true, false, not, Option, Some, None, is_some, unwrap_or, List, [], ◌∷◌, ◌++◌, length}
+use Rattle.std.proofs.lemmas.List.{append-nil}
+use Rattle.circular_buffer.specs.Buffer.{keep_last}
 use Rattle.trau_params.specs.Bits260.{bits260}
 use Rattle.frame_sync.specs.Step as search
 use Rattle.frame_sync.proofs.Steps.{stands-next}
 use Rattle.rx_handler.specs.Origin.{EffectiveFields}
-use Rattle.rx_handler.specs.Past.{effective_of}
 use Rattle.rx_handler.specs.Stands as rx
 use Rattle.rx_handler.specs.Step.{received}
 use Rattle.rx_handler.proofs.Steps.{received_more}
 use Rattle.fr_decoder.specs.Stands as decoder
-use Rattle.time_align.specs.Shift.{shift_of}
-use Rattle.time_align.specs.Memory as align
+use Rattle.time_align.specs.Shift.{shift_of, asked_then, latest_ask}
+use Rattle.time_align.specs.Memory.{AlignMemory}
 use Rattle.time_align.specs.Step.{after_ask}
+use Rattle.down_framer.specs.Made.{counted_fields}
 use Rattle.call_leg.specs.Who.{Who}
-use Rattle.call_leg.specs.Uplink.{Sighting, Nothing, Missed, Framed, sighting_in, heard_as, field_by, dtxd_by, is_quiet, handed_fields}
-use Rattle.call_leg.specs.Periods.{CallPeriod, ups_of, sighting_after, heard_of}
+use Rattle.call_leg.specs.Uplink.{heard_as, field_of, dtxd_after, is_quiet, handed_fields}
+use Rattle.call_leg.specs.Periods.{CallPeriod, ups_of, sighting_after, heard_of, bridges_begun}
 use Rattle.call_leg.specs.Settings.{Settings, epoch_now, settings_later, without_bridge, period_with}
 use Rattle.call_leg.specs.Counted.{counted}
-use Rattle.call_leg.specs.Out.{plain_with, plain_stretch, out_of}
-use Rattle.call_leg.specs.Down.{down_now}
-use Rattle.call_leg.specs.Memory.{DownMemory, LegMemory}
-use Rattle.call_leg.specs.Places.{Halfway, Between}
-use Rattle.call_leg.specs.Stands.{Stands}
-use Rattle.call_leg.specs.Step.{after_asking, after_sighting, played, up_worked, after_handing, bridge_over, down_worked}
-use Rattle.call_leg.specs.Halves.{UpMemory, up_of, joined, Note, dtx_by, note_of, note_in, up_turned, noted, with_handed, down_turned, up_unbridged}
-use Rattle.call_leg.specs.Halves.{handed_bits, UpStands}
-use Rattle.call_leg.proofs.Bridges.{halfway-short, hand-stands, ends}
-use Rattle.call_leg.proofs.Upward.{plain-more, up-out}
-use Rattle.call_leg.proofs.UpLaws.{played-stands, hear-stands, found_in, hears}
+use Rattle.call_leg.specs.Out.{plain_stretch, decoded_octets, out_of}
+use Rattle.call_leg.specs.Down.{down_periods, frames_of, down_now}
+use Rattle.call_leg.specs.Memory.{DownMemory}
+use Rattle.call_leg.specs.Places.{DownStands, Halfway, Between}
+use Rattle.call_leg.specs.Step.{played, after_handing, bridge_over, down_worked}
+use Rattle.call_leg.specs.Halves.{UpMemory, Note, note_of, note_in, up_turned, noted, with_handed, down_turned, up_unbridged, handed_bits, UpStands}
+use Rattle.call_leg.proofs.Bridges.{halfway-short, ends}
+use Rattle.call_leg.proofs.UpLaws.{played-stands, plain-more, found_in, hears}
 use Rattle.call_leg.proofs.DownLaws.{one_more, half-stands, thawed-kept, thawed-frozen}
-
--- ---- a leg and its halves
-
--- where a leg stands its uplink half does
-pub split-stands : (who : Who) (ts : List CallPeriod) (now : Settings) (m : LegMemory) → Stands who ts now m → UpStands who ts now (up_of m)
-split-stands who ts now m h = record { law = h.law; search = h.search; rx = h.rx; decoder = h.decoder; counts = h.counts; bridged = h.down.bridged }
-
--- halves that stand at one period are a leg that stands there
-pub join-stands : (who : Who) (ts : List CallPeriod) (now : Settings) (u : UpMemory) (d : DownMemory) → UpStands who ts now u → Between who ts now d →
-    Stands who ts now (joined u d)
-join-stands who ts now u d h k = record { law = h.law; search = h.search; rx = h.rx; decoder = h.decoder; counts = h.counts; down = k }
-
--- ---- what a note tells
-
--- field 0 asks for nothing
-ask-none : (m : align.AlignMemory) → after_ask m 0 ≡ m
-unfolding shift_of
-ask-none m = refl
-
--- the downlink side behind what a note changes
-abbrev heard_by : DownMemory → align.AlignMemory → Bool → Bool → DownMemory
-heard_by d a u q = record d { align = a; dtxd = u; quiet = q }
-
--- a note says all that the downlink side takes from the uplink
-pub noted-is : (d : DownMemory) (s : Sighting) (e : EffectiveFields) → noted d (note_of s e) ≡ after_sighting d s (is_quiet e)
-noted-is d Nothing e = ap (λ a. heard_by d a d.dtxd (is_quiet e)) (ask-none d.align)
-noted-is d Missed e = ap (λ a. heard_by d a d.dtxd (is_quiet e)) (ask-none d.align)
-noted-is d (Framed w) e = go w.kind w.align w.dtxd
-  where
-    go : (k : Kind) (field : ℕ) (t : Bool) → heard_by d (after_ask d.align (unwrap_or (field_by k field) 0)) (unwrap_or (dtx_by k t) d.dtxd) (is_quiet e)
-        ≡ heard_by d (after_asking d.align (field_by k field)) (dtxd_by k t d.dtxd) (is_quiet e)
-    go kinds.Speech field t = refl
-    go kinds.Idle field t = refl
-    go kinds.Other field t = ap (λ a. heard_by d a d.dtxd (is_quiet e)) (ask-none d.align)
-
--- the uplink half of a leg's period, by its halves
-pub halves-worked : (m : LegMemory) (up : List ℕ) → let t = up_turned (up_of m) up in up_worked m up ≡ (t.0.eff, t.1, joined t.2 (noted m.down t.0))
-unfolding up_worked up_turned
-halves-worked m up =
-    let found = search.next_period m.search up in
-    let s = sighting_in found.0 in
-    let heard = received m.rx (heard_as s) in
-    let out = played m.law m.decoder heard.0 (not m.down.bridged) in
-    ap (λ (d : DownMemory). (
-      heard.0,
-      out.0,
-      joined
-          (record { law = m.law; search = found.1; rx = heard.1; decoder = out.1; counts = counted s m.counts; bridged = m.down.bridged }) d,
-    ))
-    (sym (noted-is m.down s heard.0))
 
 -- ---- the uplink half
 
@@ -95,15 +42,12 @@ turn-stands who ts now up pcm handed u l b h =
     let heard = received u.rx (heard_as s) in
     let out = played u.law u.decoder heard.0 (not u.bridged) in
     let e = hears who.number ts up u.search u.rx l h.search h.rx in
-    let q : EffectiveFields = effective_of who.number (heard_as (sighting_after ts up) ∷ heard_of ts) in
     record {
       law = h.law;
       search = (stands-next u.search found.1 up found.0 l refl (ups_of ts) h.search).0;
       rx = subst (λ z. rx.Stands who.number (heard_as z ∷ heard_of ts) heard.1) e.0
           (received_more who.number (heard_of ts) u.rx (heard_as s) heard.0 heard.1 refl h.rx).0;
-      decoder = subst (λ z. decoder.Stands z out.1)
-          (ap (λ z. plain_with z (not u.bridged) (plain_stretch who.number (epoch_now ts now) ts)) e.1
-          ∙ ap (λ z. plain_with q (not z) (plain_stretch who.number (epoch_now ts now) ts)) h.bridged ∙ plain-more who.number ts now up pcm handed b)
+      decoder = subst (λ z. decoder.Stands z out.1) (plain-more who.number ts now up pcm handed heard.0 u.bridged e.1 h.bridged b)
           (played-stands u.law heard.0 (not u.bridged) (plain_stretch who.number (epoch_now ts now) ts) u.decoder h.decoder).0;
       counts = ap (λ z. counted z u.counts) e.0 ∙ ap (counted (sighting_after ts up)) h.counts;
       bridged = h.bridged;
@@ -125,8 +69,11 @@ pub turn-plays : (who : Who) (ts : List CallPeriod) (now : Settings) (up pcm : L
 unfolding up_turned
 turn-plays who ts now up pcm handed u l b h =
     let heard = received u.rx (heard_as (found_in u.search up)) in
-    up-out who ts now up pcm handed u.law u.bridged heard.0 _ h.law h.bridged (hears who.number ts up u.search u.rx l h.search h.rx).1 b
+    let e = hears who.number ts up u.search u.rx l h.search h.rx in
+    let t = period_with now up pcm handed in
     (played-stands u.law heard.0 (not u.bridged) (plain_stretch who.number (epoch_now ts now) ts) u.decoder h.decoder).1
+    ∙ ap (decoded_octets u.law) (plain-more who.number ts now up pcm handed heard.0 u.bridged e.1 h.bridged b)
+    ∙ ap (λ law. decoded_octets law (plain_stretch who.number (bridges_begun (t ∷ ts)) (t ∷ ts))) h.law
 
 -- where the bridge is taken off the uplink half still stands
 pub up_off-stands : (who : Who) (ts : List CallPeriod) (now : Settings) (u : UpMemory) → UpStands who ts now u →
@@ -135,25 +82,68 @@ up_off-stands who ts now u h = record { law = h.law; search = h.search; rx = h.r
 
 -- ---- the downlink half
 
--- a note is heard, and the partner's effective frame handed over
+-- what an input of the downlink half leaves as it was
+same-held : (who : Who) (ts : List CallPeriod) (now : Settings) (d : DownMemory) (align : AlignMemory) (waiting : List (List ℕ)) (dtxd quiet : Bool) →
+    align.frozen ≡ d.align.frozen → DownStands who ts now d → DownStands who ts now (record d { align = align; waiting = waiting; dtxd = dtxd; quiet = quiet })
+same-held who ts now d align waiting dtxd quiet e h = record {
+  law = h.law;
+  pcms = h.pcms;
+  history = h.history;
+  places = h.places;
+  frozen = e ∙ h.frozen;
+  coded = h.coded;
+  sent = h.sent;
+  made = h.made;
+  level = h.level;
+  mode = h.mode;
+  bridged = h.bridged;
+  alone = h.alone;
+  goes_on = h.goes_on;
+}
+
+-- the shift of a note is asked for; field 0, which stands for none, asks for nothing
+ask-kept : (m : AlignMemory) (field : Option ℕ) (fields : List (Option ℕ)) → m.kept ≡ latest_ask fields →
+    (after_ask m (unwrap_or field 0)).kept ≡ latest_ask (field ∷ fields)
+unfolding shift_of
+ask-kept m None fields e = e
+ask-kept m (Some field) fields e = ap (λ o. asked_then field o) e
+
+-- a note is heard
+pub noted-stands : (who : Who) (ts : List CallPeriod) (now : Settings) (up : List ℕ) (d : DownMemory) → Between who ts now d →
+    Halfway who ts now up None (noted d (note_in who.number ts up))
+noted-stands who ts now up d h =
+    let s = sighting_after ts up in
+    let n = note_in who.number ts up in
+    record {
+      held = same-held who ts now d (after_ask d.align n.ask) d.waiting (unwrap_or n.dtx d.dtxd) (is_quiet n.eff) refl h.held;
+      waits = (d.waiting, h.waits, sym (append-nil d.waiting));
+      kept = ask-kept d.align (field_of s) (counted_fields (down_periods ts) (frames_of ts)) h.kept;
+      dtxd = ap (dtxd_after s) h.dtxd;
+      quiet = refl;
+    }
+
+-- the partner's effective frame is handed over
+pub handed-stands : (who : Who) (ts : List CallPeriod) (now : Settings) (up : List ℕ) (e : EffectiveFields) (d : DownMemory) → Halfway who ts now up None d →
+    Halfway who ts now up (Some (bits260 (handed_fields e))) (after_handing d e)
+handed-stands who ts now up e d h =
+    let x = bits260 (handed_fields e) in
+    record {
+      held = same-held who ts now d d.align (keep_last 2 (d.waiting ++ x ∷ [])) d.dtxd d.quiet refl h.held;
+      waits = (
+        h.waits.0,
+        h.waits.1,
+        one_more d.waiting x (halfway-short who ts now up d h) ∙ ap (λ (q : List (List ℕ)). q ++ x ∷ []) (h.waits.2 ∙ append-nil h.waits.0),
+      );
+      kept = h.kept;
+      dtxd = h.dtxd;
+      quiet = h.quiet;
+    }
+
+-- a note is heard, and the partner's effective frame handed over, if there is one
 pub halfway_from : (who : Who) (ts : List CallPeriod) (now : Settings) (up : List ℕ) (d : DownMemory) (item : Option EffectiveFields) → Between who ts now d →
     Halfway who ts now up (handed_bits item) (with_handed (noted d (note_in who.number ts up)) item)
-halfway_from who ts now up d item h = go item
-  where
-    e : EffectiveFields
-    e = effective_of who.number (heard_as (sighting_after ts up) ∷ heard_of ts)
-
-    heard : Halfway who ts now up None (noted d (note_in who.number ts up))
-    heard = subst (Halfway who ts now up None) (sym (noted-is d (sighting_after ts up) e))
-        (hear-stands who ts now up (sighting_after ts up) (is_quiet e) d refl refl h)
-
-    go : (item : Option EffectiveFields) → Halfway who ts now up (handed_bits item) (with_handed (noted d (note_in who.number ts up)) item)
-    go None = heard
-    go (Some f) =
-        let x = bits260 (handed_fields f) in
-        let m = noted d (note_in who.number ts up) in
-        hand-stands who ts now up x x m (after_handing m f) heard refl (one_more m.waiting x (halfway-short who ts now up m heard)) refl refl refl refl refl
-        refl refl refl refl refl refl
+halfway_from who ts now up d None h = noted-stands who ts now up d h
+halfway_from who ts now up d (Some e) h = handed-stands who ts now up e (noted d (note_in who.number ts up)) (noted-stands who ts now up d h)
 
 -- bits are handed over exactly where a frame is
 is_some-handed : (item : Option EffectiveFields) → is_some (handed_bits item) ≡ is_some item

@@ -13,11 +13,11 @@ use Rattle.fr_decoder.specs.Memory.{DecoderMemory}
 use Rattle.down_framer.specs.Step.{after_put}
 use Rattle.std.proofs.lemmas.Bool.{cond_both}
 use Rattle.trau_alaw.specs.declared.Law.{Law}
-use Rattle.call_leg.specs.Uplink.{Sighting, sighting_in, heard_as, field_of}
+use Rattle.call_leg.specs.Uplink.{Sighting, sighting_in, heard_as, field_of, dtx_told}
 use Rattle.call_leg.specs.Counted.{counted}
-use Rattle.call_leg.specs.Memory.{DownMemory}
+use Rattle.call_leg.specs.Memory.{DownMemory, LegMemory}
 use Rattle.call_leg.specs.Step.{played, frame_made, frame_tried, with_framer, down_worked}
-use Rattle.call_leg.specs.Halves.{UpMemory, Note, dtx_told, note_of, up_turned, noted, with_handed, down_turned, item_of}
+use Rattle.call_leg.specs.Halves.{UpMemory, up_of, joined, Note, note_of, up_turned, noted, with_handed, down_turned, up_worked, item_of}
 
 -- ---- what the functions make of memories
 
@@ -67,6 +67,22 @@ pub down_turn-step : (d0 d1 d2 : DownMemory) (n : Note) (item : Option Effective
 unfolding down_turned
 down_turn-step d0 d1 d2 n item pcm bits d3 a b c = ap (λ d. down_worked (with_handed d item) pcm) (sym a) ∙ ap (λ d. down_worked d pcm) (sym b) ∙ c
 
+-- ---- a leg of two halves
+
+-- halves of one bridge are those of their leg
+pub up_of-joined : (u : UpMemory) (d : DownMemory) → u.bridged ≡ d.bridged → up_of (joined u d) ≡ u
+up_of-joined u d e = ap (left u.law u.search u.rx u.decoder u.counts) (sym e)
+
+-- the uplink half of a leg's period, by the turn of its uplink half, whose note the other takes over
+pub leg-step : (u u1 : UpMemory) (d d1 : DownMemory) (m : LegMemory) (up out : List ℕ) (n : Note) → joined u d ≡ m → u.bridged ≡ d.bridged →
+    up_turned u up ≡ (n, out, u1) → d1 ≡ noted d n →
+    up_worked m up ≡ (n.eff, out, joined u1 d1)
+unfolding up_worked
+leg-step u u1 d d1 m up out n em eb et ed =
+    let after : Note × List ℕ × UpMemory → EffectiveFields × List ℕ × LegMemory = λ t. (t.0.eff, t.1, joined t.2 (noted d t.0)) in
+    ap (λ (l : LegMemory). up_worked l up) (sym em)
+    ∙ ap (λ (x : UpMemory). after (up_turned x up)) (up_of-joined u d eb) ∙ ap after et ∙ ap (λ (x : DownMemory). (n.eff, out, joined u1 x)) (sym ed)
+
 -- ---- a bridge stays on or off over a period
 
 -- over the uplink half's turn
@@ -84,10 +100,12 @@ handed-keeps : (d : DownMemory) (item : Option EffectiveFields) → (with_handed
 handed-keeps d None = refl
 handed-keeps d (Some e) = refl
 
+-- over the downlink half of a period
+pub half-keeps : (d : DownMemory) (pcm : List ℕ) → (down_worked d pcm).1.bridged ≡ d.bridged
+unfolding down_worked
+half-keeps d pcm = let put = with_framer d (after_put d.framer pcm) in tried-keeps (frame_tried put) ∙ tried-keeps put
+
 -- over the downlink half's turn
 pub down-keeps : (d : DownMemory) (n : Note) (item : Option EffectiveFields) (pcm : List ℕ) → (down_turned d n item pcm).1.bridged ≡ d.bridged
-unfolding down_turned down_worked
-down-keeps d n item pcm =
-    let h = with_handed (noted d n) item in
-    let put = with_framer h (after_put h.framer pcm) in
-    tried-keeps (frame_tried put) ∙ tried-keeps put ∙ handed-keeps (noted d n) item
+unfolding down_turned
+down-keeps d n item pcm = half-keeps (with_handed (noted d n) item) pcm ∙ handed-keeps (noted d n) item

@@ -1,4 +1,4 @@
--- What the downlink side holds within a period. Lists have the newest first.
+-- What the downlink half holds within a period. Lists have the newest first.
 use Rattle.std.specs.Prelude.{◌≡◌, ◌+◌, ◌*◌, ◌<◌, true, ◌||◌, None, is_some, List, ◌∷◌, length}
 use Rattle.time_align.specs.Shift.{latest_ask}
 use Rattle.down_framer.specs.Made.{next_start, handed_due, counted_fields}

@@ -9,7 +9,6 @@ pub mod Step
 pub mod Bridges
 pub mod Bounds
 pub mod Heard
-pub mod Upward
 pub mod Stepping
 pub mod Lines
 pub mod UpLaws
@@ -17,6 +16,7 @@ pub mod DownLaws
 pub mod OrderLaws
 pub mod LineLaws
 pub mod HalfLaws
+pub mod LegLaws
 pub mod HalfSteps
 pub mod Reloaded
 pub mod Noted

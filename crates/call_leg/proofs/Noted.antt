@@ -4,8 +4,6 @@ use Rattle.std.proofs.Common.{length, map, take, drop}
 use Rattle.std.specs.Prelude.{◌==◌, is_none}
 use Rattle.trau_alaw.specs.declared.Law.{Law}
 use Rattle.trau_alaw.specs.Period.{expanded}
-use Rattle.trau_frame.specs.declared.frames.Kind.{Kind}
-use Rattle.trau_frame.specs.declared.frames.Kind.TheVariants as kinds
 use Rattle.trau_frame.specs.declared.frames.DownFrame.{DownFrame}
 use Rattle.trau_frame.specs.declared.frames.DownFrame.TheVariants as down
 use Rattle.trau_frame.specs.DownFrame as frames
@@ -15,11 +13,10 @@ use Rattle.tx_dtx.specs.Sent.{sent_of}
 use Rattle.rx_handler.specs.Past.{effective_of}
 use Rattle.down_framer.specs.Made.{Period, down_of}
 use Rattle.call_leg.specs.Who.{Who}
-use Rattle.call_leg.specs.Uplink.{Sighting, Nothing, Missed, Framed, dtxd_by, dtxd_after}
+use Rattle.call_leg.specs.Uplink.{dtxd_after}
 use Rattle.call_leg.specs.Periods.{CallPeriod, sighting_after, pcm_of, handed_in, quiet_now, dtxd_of, dtx_in, dtx_now, level_now}
 use Rattle.call_leg.specs.Down.{CallFrame, down_period, down_periods, is_coded, coded_stretch, samples_of, coded_as, coded_after, coded_frames, speech}
 use Rattle.call_leg.specs.Down.{frame_now, bits_now, down_now}
-use Rattle.call_leg.specs.Halves.{dtx_by, dtx_told}
 use Rattle.call_leg.specs.Noted.{NotedPeriod, NotedFrame, noted_periods}
 use Rattle.call_leg.specs.Noted as by_notes
 use Rattle.call_leg.proofs.Reloaded.{reseen, reloaded, down_of-reloaded}
@@ -45,19 +42,9 @@ unfolding effective_of
 quiet-noted call [] = refl
 quiet-noted call (t ∷ past) = refl
 
-dtxd-more : (s : Sighting) (new old : Bool) → new ≡ old → unwrap_or (dtx_told s) new ≡ dtxd_after s old
-dtxd-more Nothing new old e = e
-dtxd-more Missed new old e = e
-dtxd-more (Framed w) new old e = by w.kind
-  where
-    by : (k : Kind) → unwrap_or (dtx_by k w.dtxd) new ≡ dtxd_by k w.dtxd old
-    by kinds.Speech = refl
-    by kinds.Idle = e
-    by kinds.Other = e
-
 dtxd-noted : (call : ℕ) (ts : List CallPeriod) → by_notes.dtxd_of (noted_periods call ts) ≡ dtxd_of ts
 dtxd-noted call [] = refl
-dtxd-noted call (t ∷ past) = dtxd-more (sighting_after past t.up) (by_notes.dtxd_of (noted_periods call past)) (dtxd_of past) (dtxd-noted call past)
+dtxd-noted call (t ∷ past) = ap (dtxd_after (sighting_after past t.up)) (dtxd-noted call past)
 
 dtx-noted : (call : ℕ) (ts : List CallPeriod) → by_notes.dtx_now (noted_periods call ts) ≡ dtx_now ts
 dtx-noted call [] = refl

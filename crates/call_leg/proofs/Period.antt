@@ -1,4 +1,4 @@
--- The downlink side over a whole period.
+-- The downlink half over a whole period.
 use Rattle.std.proofs.Common.{◌≡◌, refl, sym, ap, ◌∙◌, subst, ℕ, ◌+◌, ◌-◌, ◌*◌, ◌<◌, suc, Bool, true, false, not, ◌||◌, if◌then◌else◌, nat_le, Option, Some}
 use Rattle.std.proofs.Common.{None, is_some, List, [], ◌∷◌, ◌++◌, length, map, take, find, is_none, option_to_list, length-append, filter, All, arith}
 use Rattle.std.specs.Prelude.{◌==◌}

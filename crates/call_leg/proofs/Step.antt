@@ -1,4 +1,4 @@
--- The downlink side, when one more frame is made.
+-- The downlink half, when one more frame is made.
 use Rattle.std.proofs.Common.{◌≡◌, refl, sym, ap, ◌∙◌, subst, ℕ, ◌+◌, ◌-◌, ◌*◌, ◌≤◌, ◌<◌, suc, ℤ, pos, Bool, true, false, not, ◌&&◌, ◌||◌, if◌then◌else◌}
 use Rattle.std.proofs.Common.{Option, Some, None, is_some, unwrap_or, filter, List, [], ◌∷◌, ◌++◌, length, drop, length-append, length-drop, arith, min}
 use Rattle.std.specs.Prelude.{◌==◌}

@@ -1,4 +1,4 @@
--- What each operation makes of a leg's memory.
+-- What each operation makes of the downlink half's memory, and the decoding of a frame.
 use Rattle.std.proofs.Common.{◌≡◌, refl, sym, ap, ◌∙◌, ℕ, ◌+◌, ℤ, Bool, not, ◌||◌, if◌then◌else◌, List, [], length, drop, take}
 use Rattle.std.specs.Prelude.{◌==◌}
 use Rattle.trau_params.specs.declared.params.Params.{Params}
@@ -8,13 +8,6 @@ use Rattle.trau_params.specs.Fields.{Fields}
 use Rattle.trau_frame.specs.declared.frames.DownFrame.{DownFrame}
 use Rattle.trau_frame.specs.declared.frames.DownFrame.TheVariants as frame
 use Rattle.trau_frame.specs.DownFrame as frames
-use Rattle.frame_sync.specs.declared.yields.Yield.{Yield}
-use Rattle.frame_sync.specs.Step as search
-use Rattle.frame_sync.specs.Memory.{SyncMemory}
-use Rattle.std.proofs.Common.{Option}
-use Rattle.rx_handler.specs.Origin.{EffectiveFields}
-use Rattle.rx_handler.specs.Memory.{RxMemory}
-use Rattle.rx_handler.specs.Step.{received}
 use Rattle.fr_decoder.specs.Step as decoder
 use Rattle.fr_decoder.specs.Memory.{DecoderMemory}
 use Rattle.fr_encoder.specs.Encoded.{Encoded, encoded_of}
@@ -27,20 +20,16 @@ use Rattle.time_align.specs.Memory as align
 use Rattle.time_align.specs.Step.{adopted, after_thaw}
 use Rattle.down_framer.specs.Memory as framer
 use Rattle.down_framer.specs.Step.{after_frame, after_put, after_take}
-use Rattle.trau_io.specs.declared.ends.Counts.{Counts}
 use Rattle.trau_orders.specs.declared.order.DtxMode.{DtxMode}
 use Rattle.trau_alaw.specs.declared.Law.{Law}
 use Rattle.trau_alaw.specs.Period.{expanded, compressed}
-use Rattle.call_leg.specs.Uplink.{Sighting, sighting_in, heard_as, is_quiet}
 use Rattle.call_leg.specs.Periods.{dtx_in}
-use Rattle.call_leg.specs.Counted.{counted}
 use Rattle.call_leg.specs.Down.{coded_as, speech}
-use Rattle.call_leg.specs.Memory.{CoderMemory, home_coder, DownMemory, home_down, LegMemory}
+use Rattle.call_leg.specs.Memory.{CoderMemory, home_coder, DownMemory, home_down}
 use Rattle.call_leg.specs.Places.{in_u32, in_u64}
-use Rattle.call_leg.specs.Step.{played_frame, played, after_sighting, up_worked, coded_next, next_by, thawed, after_made, frame_made, frame_tried, with_framer}
-use Rattle.call_leg.specs.Step.{down_worked}
+use Rattle.call_leg.specs.Step.{played_frame, coded_next, next_by, thawed, after_made, frame_made, frame_tried, with_framer, down_worked}
 
--- the downlink side of a new leg is at home
+-- the downlink half of a new leg is at home
 pub home-step : (law : Law) (f : framer.FramerMemory) (a : align.AlignMemory) (w : List (List ℕ)) (m : CoderMemory) → f ≡ framer.home_memory →
     a ≡ align.home_memory → w ≡ [] → m.encoder ≡ encoder.home_memory → m.tx ≡ tx.home_memory →
     record (home_down law) { framer = f; align = a; waiting = w; coder = m } ≡ home_down law
@@ -137,70 +126,3 @@ half-step old d0 d1 d2 new pcm bits e0 e1 e2 en eb =
     ∙ ap frame_tried (sym e1) ∙ sym e2 in
     ap (λ (d : DownMemory). (take 320 d.framer.stored, with_framer d (after_take d.framer))) e
     ∙ ap (λ b. (b, with_framer d2 (after_take d2.framer))) (sym eb) ∙ ap (λ n. (bits, n)) (sym en)
-
--- the uplink half
-pub up-step : (m : LegMemory) (up : List ℕ) (y : Option Yield) (found : SyncMemory) (s : Sighting) (e : EffectiveFields) (heard : RxMemory)
-    (out : List ℕ) (decoder1 : DecoderMemory) (n : Counts) (d : DownMemory) (quiet : Bool) →
-    search.next_period m.search up ≡ (y, found) → s ≡ sighting_in y → received m.rx (heard_as s) ≡ (e, heard) → played m.law m.decoder e (not m.down.bridged)
-    ≡ (out, decoder1) →
-    n ≡ counted s m.counts → quiet ≡ is_quiet e → d ≡ after_sighting m.down s quiet →
-    up_worked m up ≡ (e, out, record { law = m.law; search = found; rx = heard; decoder = decoder1; counts = n; down = d })
-unfolding up_worked
-up-step m up y found s e heard out decoder1 n d quiet ey es er ep en eq ed =
-    let s1 = sighting_in y in
-    let er1 : received m.rx (heard_as (sighting_in y)) ≡ (e, heard) = ap (λ z. received m.rx (heard_as z)) (sym es) ∙ er in
-    let ed1 : d ≡ after_sighting m.down (sighting_in y) (is_quiet e) = ed ∙ ap (λ z. after_sighting m.down z quiet) es
-    ∙ ap (after_sighting m.down (sighting_in y)) eq in
-    let en1 : n ≡ counted (sighting_in y) m.counts = en ∙ ap (λ z. counted z m.counts) es in
-    ap (λ (f : Option Yield × SyncMemory).
-    let h = received m.rx (heard_as (sighting_in f.0)) in
-    let o = played m.law m.decoder h.0 (not m.down.bridged) in (
-      h.0,
-      o.0,
-      record {
-        law = m.law;
-        search = f.1;
-        rx = h.1;
-        decoder = o.1;
-        counts = counted (sighting_in f.0) m.counts;
-        down = after_sighting m.down (sighting_in f.0) (is_quiet h.0);
-      },
-    )) ey
-    ∙ ap (λ (h : EffectiveFields × RxMemory).
-    let o = played m.law m.decoder h.0 (not m.down.bridged) in (
-      h.0,
-      o.0,
-      record {
-        law = m.law;
-        search = found;
-        rx = h.1;
-        decoder = o.1;
-        counts = counted (sighting_in y) m.counts;
-        down = after_sighting m.down (sighting_in y) (is_quiet h.0);
-      },
-    )) er1
-    ∙ ap (λ (o : List ℕ × DecoderMemory). (
-      e,
-      o.0,
-      record {
-        law = m.law;
-        search = found;
-        rx = heard;
-        decoder = o.1;
-        counts = counted (sighting_in y) m.counts;
-        down = after_sighting m.down (sighting_in y) (is_quiet e);
-      },
-    )) ep
-    ∙ ap (λ z. (
-      e,
-      out,
-      record {
-        law = m.law;
-        search = found;
-        rx = heard;
-        decoder = decoder1;
-        counts = z;
-        down = after_sighting m.down (sighting_in y) (is_quiet e);
-      },
-    )) (sym en1)
-    ∙ ap (λ z. (e, out, record { law = m.law; search = found; rx = heard; decoder = decoder1; counts = n; down = z })) (sym ed1)

@@ -1,8 +1,6 @@
--- The two halves of a leg apart; a note goes from the uplink half to the downlink half. Lists have the newest first.
+-- The two halves of a leg, and a period of each: the uplink half's note goes to the downlink half. Lists have the newest first.
 use Rattle.std.specs.Prelude.{◌≡◌, ℕ, Bool, true, false, not, Option, Some, None, option_map, unwrap_or, List, ◌∷◌}
 use Rattle.trau_alaw.specs.declared.Law.{Law}
-use Rattle.trau_frame.specs.declared.frames.Kind.{Kind}
-use Rattle.trau_frame.specs.declared.frames.Kind.TheVariants as kinds
 use Rattle.trau_io.specs.declared.ends.Counts.{Counts}
 use Rattle.trau_params.specs.Bits260.{bits260}
 use Rattle.frame_sync.specs.Stands as search
@@ -20,17 +18,17 @@ use Rattle.fr_decoder.specs.Memory.{DecoderMemory}
 use Rattle.fr_decoder.specs.Memory as decoders
 use Rattle.time_align.specs.Step as align
 use Rattle.call_leg.specs.Who.{Who}
-use Rattle.call_leg.specs.Uplink.{Sighting, Nothing, Missed, Framed, sighting_in, heard_as, field_of, is_quiet, handed_fields}
+use Rattle.call_leg.specs.Uplink.{Sighting, sighting_in, heard_as, field_of, dtx_told, is_quiet, handed_fields}
 use Rattle.call_leg.specs.Periods.{CallPeriod, ups_of, sighting_after, heard_of}
 use Rattle.call_leg.specs.Settings.{Settings, epoch_now}
 use Rattle.call_leg.specs.Counted.{counted, sightings_counted}
 use Rattle.call_leg.specs.Out.{plain_stretch}
 use Rattle.call_leg.specs.Memory.{DownMemory, LegMemory}
-use Rattle.call_leg.specs.Step.{played, after_handing, down_worked}
+use Rattle.call_leg.specs.Step.{played, with_down, after_handing, down_worked}
 
 -- ---- their memories
 
--- the uplink half: a leg's memory without its downlink side, and whether a bridge is on
+-- the uplink half: a leg's memory without that of its downlink half, and whether a bridge is on
 pub record UpMemory : Type 0 where
   pub law : Law
   pub search : SyncMemory
@@ -39,7 +37,7 @@ pub record UpMemory : Type 0 where
   pub counts : Counts
   pub bridged : Bool
 
--- the uplink half of a leg; the downlink half is the leg's downlink side
+-- the uplink half of a leg; its downlink half is the field `down`
 abbrev pub up_of : LegMemory → UpMemory
 up_of m = record { law = m.law; search = m.search; rx = m.rx; decoder = m.decoder; counts = m.counts; bridged = m.down.bridged }
 
@@ -54,16 +52,6 @@ pub record Note : Type 0 where
   pub eff : EffectiveFields
   pub ask : ℕ
   pub dtx : Option Bool
-
-abbrev pub dtx_by : Kind → Bool → Option Bool
-dtx_by kinds.Speech dtxd = Some dtxd
-dtx_by kinds.Idle dtxd = None
-dtx_by kinds.Other dtxd = None
-
-abbrev pub dtx_told : Sighting → Option Bool
-dtx_told Nothing = None
-dtx_told Missed = None
-dtx_told (Framed w) = dtx_by w.kind w.dtxd
 
 abbrev pub note_of : Sighting → EffectiveFields → Note
 note_of s e = record { eff = e; ask = unwrap_or (field_of s) 0; dtx = dtx_told s }
@@ -105,6 +93,21 @@ up_bridged u = record u { decoder = decoders.home_memory; bridged = true }
 -- the uplink half when its bridge ends
 abbrev pub up_unbridged : UpMemory → UpMemory
 up_unbridged u = record u { bridged = false }
+
+-- ---- a period of the leg
+
+-- its uplink half: the effective frame, the octets of the Out line, and the memory after them, with the note taken over
+unfoldable pub up_worked : LegMemory → List ℕ → EffectiveFields × List ℕ × LegMemory
+up_worked m up = let t = up_turned (up_of m) up in (t.0.eff, t.1, joined t.2 (noted m.down t.0))
+
+-- both halves: the octets of the Out line, the bits of the Down line, and the memory after them
+abbrev pub period_worked : LegMemory → List ℕ → List ℕ → List ℕ × List ℕ × LegMemory
+period_worked m up pcm =
+    let first = up_worked m up in
+    let last = down_worked first.2.down pcm in
+    (first.1, last.0, with_down first.2 last.1)
+
+-- ---- what is handed over
 
 -- the fields of an effective frame of the code, if there is one
 abbrev pub item_of : Option Effective → Option EffectiveFields

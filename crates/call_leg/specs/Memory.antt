@@ -25,7 +25,7 @@ pub record CoderMemory : Type 0 where
 abbrev pub home_coder : CoderMemory
 home_coder = record { encoder = encoder.home_memory; tx = tx.home_memory }
 
--- the downlink side: the call's law, the framer (bits in store, octets held), the shift that was asked for, the handed frames that wait,
+-- the downlink half: the call's law, the framer (bits in store, octets held), the shift that was asked for, the handed frames that wait,
 -- the coder, the settings, DTXd of the last speech frame, whether this period is quiet and whether it lies in a bridge, how many handed
 -- frames of the latest bridge were sent, and how many frames were made
 pub record DownMemory : Type 0 where
@@ -42,7 +42,7 @@ pub record DownMemory : Type 0 where
   pub sent : ℕ
   pub made : ℕ
 
--- the downlink side of a new call with this law
+-- the downlink half of a new call with this law
 abbrev pub home_down : Law → DownMemory
 home_down law = record {
   law = law;
@@ -59,7 +59,7 @@ home_down law = record {
   made = 0;
 }
 
--- a leg: the call's law, the memory of the uplink, and the downlink side
+-- a leg: the call's law, the memory of the uplink, and the downlink half
 pub record LegMemory : Type 0 where
   pub law : Law
   pub search : search.SyncMemory

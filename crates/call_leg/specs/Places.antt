@@ -1,4 +1,4 @@
--- The memory of a leg's downlink side after the periods so far. Lists have the newest first.
+-- The memory of a leg's downlink half after the periods so far. Lists have the newest first.
 use Rattle.std.specs.Prelude.{◌≡◌, ℕ, ◌+◌, ◌*◌, ◌<◌, ◌≤◌, true, not, ◌&&◌, ◌||◌, ◌==◌, if◌then◌else◌, Bool, Option, None, is_some, List, [], ◌∷◌, ◌++◌, length}
 use Rattle.std.specs.Prelude.{map, All, option_to_list, suc, min}
 use Rattle.trau_alaw.specs.declared.Law.{Law}
@@ -42,7 +42,7 @@ pub record CoderStands (law : Law) (stretch : List CallFrame) (m : CoderMemory) 
   pub encoder : encoder.Stands (map (samples_of law) stretch) m.encoder
   pub tx : tx.Stands (coded_frames law stretch) m.tx
 
--- What holds of the downlink side after the periods `ts`, between periods and midway in the next one, whose settings are `now`.
+-- What holds of the downlink half after the periods `ts`, between periods and midway in the next one, whose settings are `now`.
 pub record DownStands (who : Who) (ts : List CallPeriod) (now : Settings) (d : DownMemory) : Type 0 where
   pub law : d.law ≡ who.law
   -- each period has 160 octets of the Pcm line

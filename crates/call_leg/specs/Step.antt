@@ -1,5 +1,5 @@
--- How each operation of a leg changes its memory.
-use Rattle.std.specs.Prelude.{ℕ, ◌+◌, ℤ, Bool, true, false, not, ◌||◌, ◌==◌, nat_le, if◌then◌else◌, Option, Some, None, List, [], ◌∷◌, ◌++◌, length, take, drop}
+-- How each operation of a leg changes its memory. A period is in Halves.antt.
+use Rattle.std.specs.Prelude.{ℕ, ◌+◌, ℤ, Bool, true, false, not, ◌||◌, ◌==◌, nat_le, if◌then◌else◌, List, [], ◌∷◌, ◌++◌, length, take, drop}
 use Rattle.circular_buffer.specs.Buffer.{keep_last}
 use Rattle.trau_alaw.specs.declared.Law.{Law}
 use Rattle.trau_alaw.specs.Period.{expanded, compressed}
@@ -9,35 +9,23 @@ use Rattle.trau_orders.specs.declared.order.DtxMode.{DtxMode}
 use Rattle.trau_frame.specs.declared.frames.DownFrame.{DownFrame}
 use Rattle.trau_frame.specs.declared.frames.DownFrame.TheVariants as frame
 use Rattle.trau_frame.specs.DownFrame as frames
-use Rattle.frame_sync.specs.Step.{next_period}
 use Rattle.rx_handler.specs.Origin.{EffectiveFields, Quiet, Speech, Made}
-use Rattle.rx_handler.specs.Step.{received}
 use Rattle.fr_decoder.specs.Memory as decoder
 use Rattle.fr_decoder.specs.Step.{decoded_frame}
 use Rattle.fr_encoder.specs.Step as encoder
 use Rattle.tx_dtx.specs.Step as tx
 use Rattle.time_align.specs.Memory as align
-use Rattle.time_align.specs.Step.{after_ask, after_thaw, after_freeze, adopted}
+use Rattle.time_align.specs.Step.{after_thaw, after_freeze, adopted}
 use Rattle.down_framer.specs.Memory as framer
 use Rattle.down_framer.specs.Step.{after_frame, after_put, after_take}
-use Rattle.call_leg.specs.Uplink.{Sighting, sighting_in, heard_as, field_of, dtxd_after, is_quiet, handed_fields}
+use Rattle.call_leg.specs.Uplink.{handed_fields}
 use Rattle.call_leg.specs.Periods.{dtx_in}
-use Rattle.call_leg.specs.Counted.{counted}
 use Rattle.call_leg.specs.Out.{idle_octets}
 use Rattle.call_leg.specs.Down.{coded_as, speech}
 use Rattle.call_leg.specs.Memory.{CoderMemory, home_coder, DownMemory, LegMemory}
 use Rattle.call_leg.specs.Places.{in_u32, in_u64}
 
--- ---- the uplink half
-
--- the shift of a field is asked for, if there is one
-abbrev pub after_asking : align.AlignMemory → Option ℕ → align.AlignMemory
-after_asking m None = m
-after_asking m (Some field) = after_ask m field
-
--- the downlink side after a period of the uplink
-abbrev pub after_sighting : DownMemory → Sighting → Bool → DownMemory
-after_sighting d s quiet = record d { align = after_asking d.align (field_of s); dtxd = dtxd_after s d.dtxd; quiet = quiet }
+-- ---- the uplink
 
 -- a frame is decoded: its octets, and the decoder after it
 abbrev pub played_frame : Law → decoder.DecoderMemory → Fields → List ℕ × decoder.DecoderMemory
@@ -52,24 +40,6 @@ abbrev pub played : Law → decoder.DecoderMemory → EffectiveFields → Bool �
 played law m Quiet alone = played_none law
 played law m (Speech p) alone = if alone then played_frame law m p else played_none law
 played law m (Made p) alone = if alone then played_frame law m p else played_none law
-
--- the effective frame, the octets of the Out line, and the memory after them
-unfoldable pub up_worked : LegMemory → List ℕ → EffectiveFields × List ℕ × LegMemory
-up_worked m up =
-    let found = next_period m.search up in
-    let heard = received m.rx (heard_as (sighting_in found.0)) in
-    let out = played m.law m.decoder heard.0 (not m.down.bridged) in (
-      heard.0,
-      out.0,
-      record {
-        law = m.law;
-        search = found.1;
-        rx = heard.1;
-        decoder = out.1;
-        counts = counted (sighting_in found.0) m.counts;
-        down = after_sighting m.down (sighting_in found.0) (is_quiet heard.0);
-      },
-    )
 
 -- ---- orders
 
@@ -101,7 +71,7 @@ bridge_over d = record d { align = thawed d.align false d.waiting; bridged = fal
 abbrev pub after_handing : DownMemory → EffectiveFields → DownMemory
 after_handing d e = record d { waiting = keep_last 2 (d.waiting ++ bits260 (handed_fields e) ∷ []) }
 
--- ---- the downlink half
+-- ---- the downlink
 
 -- the speech frame that is sent for 160 octets
 abbrev pub coded_next : Law → CoderMemory → List ℕ → ℤ → Bool → DownFrame × CoderMemory
@@ -151,10 +121,3 @@ unfoldable pub down_worked : DownMemory → List ℕ → List ℕ × DownMemory
 down_worked d pcm =
     let made = frame_tried (frame_tried (with_framer d (after_put d.framer pcm))) in
     (take 320 made.framer.stored, with_framer made (after_take made.framer))
-
--- both halves of a period: the octets of the Out line, the bits of the Down line, and the memory after them
-abbrev pub period_worked : LegMemory → List ℕ → List ℕ → List ℕ × List ℕ × LegMemory
-period_worked m up pcm =
-    let first = up_worked m up in
-    let last = down_worked first.2.down pcm in
-    (first.1, last.0, with_down first.2 last.1)

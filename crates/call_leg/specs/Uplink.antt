@@ -1,5 +1,5 @@
 -- What each period of a call's uplink brings (the frames of GSM 08.60; what they ask for is this project's profile).
-use Rattle.std.specs.Prelude.{ℕ, Bool, true, false, Option, Some, None}
+use Rattle.std.specs.Prelude.{ℕ, Bool, true, false, Option, Some, None, unwrap_or}
 use Rattle.trau_frame.specs.declared.frames.Kind.{Kind}
 use Rattle.trau_frame.specs.declared.frames.Kind.TheVariants as kinds
 use Rattle.trau_frame.specs.UpFrame.{UpWords, words_in, up_words_of}
@@ -45,16 +45,20 @@ field_of Nothing = None
 field_of Missed = None
 field_of (Framed w) = field_by w.kind w.align
 
--- DTXd of the last speech frame, after one more period
-abbrev pub dtxd_by : Kind → Bool → Bool → Bool
-dtxd_by kinds.Speech dtxd before = dtxd
-dtxd_by kinds.Idle dtxd before = before
-dtxd_by kinds.Other dtxd before = before
+-- DTXd of a speech frame
+abbrev pub dtx_by : Kind → Bool → Option Bool
+dtx_by kinds.Speech dtxd = Some dtxd
+dtx_by kinds.Idle dtxd = None
+dtx_by kinds.Other dtxd = None
 
+abbrev pub dtx_told : Sighting → Option Bool
+dtx_told Nothing = None
+dtx_told Missed = None
+dtx_told (Framed w) = dtx_by w.kind w.dtxd
+
+-- DTXd of the last speech frame, after one more period
 abbrev pub dtxd_after : Sighting → Bool → Bool
-dtxd_after Nothing before = before
-dtxd_after Missed before = before
-dtxd_after (Framed w) before = dtxd_by w.kind w.dtxd before
+dtxd_after s before = unwrap_or (dtx_told s) before
 
 -- ---- effective frames
 

@@ -1,9 +1,9 @@
-//! How the downlink side of a leg makes its frames: handed, idle and coded ones.
+//! How the downlink half of a leg makes its frames: handed, idle and coded ones.
 
 ghost use Rattle.std.specs.Prelude.{◌≡◌, ◌≤◌, ◌<◌, ◌+◌, All, length, drop, if◌then◌else◌, ◌||◌};
 ghost use Rattle.trau_bits.specs.Bits.{bits_of, AreBits};
 ghost use Rattle.trau_frame.specs.DownFrame.{HasBits};
-ghost use Rattle.down_framer.specs.Memory.{IsBetweenPeriods, IsWithinPeriod};
+ghost use Rattle.down_framer.specs.Memory.{IsWithinPeriod};
 ghost use Rattle.call_leg.specs.Memory.{coder_memory, down_memory};
 ghost use Rattle.call_leg.specs.Places.{in_u32, in_u64};
 ghost use Rattle.time_align.specs.Step.{after_thaw};
@@ -11,6 +11,7 @@ ghost use Rattle.call_leg.specs.Step.{own_next, next_by, frame_made, frame_tried
 
 use crate::coder::{Coder, dtx_on};
 use crate::down_side::DownSide;
+use crate::halves::DownLeg;
 use circular_buffer::HeapCircularBuffer;
 use down_framer::Framer;
 use time_align::Align;
@@ -128,16 +129,16 @@ impl DownSide {
             self.make_frame();
         }
     }
+}
 
-    /// The downlink half of a period. It makes at most two frames.
+impl DownLeg {
+    /// The downlink half of a period, after its note and what is handed over. It makes at most two frames.
     pub(crate) fn half(&mut self, pcm: &[u8; 160], down: &mut [u8; 40])
-        requires between { IsBetweenPeriods self.old.framer }
-        ensures between { IsBetweenPeriods self.new.framer }
-        ensures step { down_worked (down_memory self.old) pcm.now ≡ (bits_of down.new, down_memory self.new) }
+        ensures { down_worked self.old pcm.now ≡ (bits_of down.new, self.new) }
     {
-        self.framer.put(pcm);
-        self.try_frame();
-        self.try_frame();
-        self.framer.take(down);
+        self.side.framer.put(pcm);
+        self.side.try_frame();
+        self.side.try_frame();
+        self.side.framer.take(down);
     }
 }

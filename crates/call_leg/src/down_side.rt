@@ -1,4 +1,4 @@
-//! The state of a leg's downlink side.
+//! The state of a leg's downlink half.
 
 ghost use Rattle.std.specs.Prelude.{◌≡◌, All};
 ghost use Rattle.trau_bits.specs.Bits.{AreBits};
@@ -10,7 +10,7 @@ use time_align::Align;
 use trau_alaw::Law;
 use trau_orders::DtxMode;
 
-/// The downlink side of a leg.
+/// The state of a downlink half (`DownLeg`), also while it makes its frames.
 #[derive(Drop)]
 pub(crate) struct DownSide {
     // The law of the call's octets from and to the exchange.

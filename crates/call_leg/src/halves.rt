@@ -1,4 +1,4 @@
-//! The two halves of a leg as separate values, and the note that goes from one to the other.
+//! The two halves of a leg, and the note that goes from one to the other.
 
 use crate::down_side::DownSide;
 use fr_decoder::Decoder;

@@ -19,8 +19,8 @@ ghost use Rattle.call_leg.specs.Down.{down_periods, frames_of, down_made, down_n
 ghost use Rattle.call_leg.specs.Numbered.{first_frames, frame_start};
 ghost use Rattle.call_leg.specs.Memory.{DownMemory, LegMemory, home_memory, periods_of_leg};
 ghost use Rattle.call_leg.specs.Stands.{Stands, OfItsCall, Midway};
-ghost use Rattle.call_leg.specs.Step.{up_worked, with_down, after_handing, down_worked, period_worked, set_level, set_mode, begin_bridge, bridge_over};
-ghost use Rattle.call_leg.specs.Halves.{up_of, joined, Note, up_turned, noted, down_turned};
+ghost use Rattle.call_leg.specs.Step.{with_down, after_handing, down_worked, set_level, set_mode, begin_bridge, bridge_over};
+ghost use Rattle.call_leg.specs.Halves.{up_of, joined, Note, up_turned, noted, down_turned, up_worked, period_worked};
 ghost use Rattle.call_leg.specs.Noted.{noted_periods};
 ghost use Rattle.call_leg.specs.Noted as by_notes;
 ghost use Rattle.call_leg.specs.Runs.{LegHistory, UpRun, DownRun, AreNotes, outs_run, downs_run, handed_run};
@@ -133,7 +133,8 @@ pub fn the_downlink_has_its_length()
     ensures { (who : Who) (ts : List CallPeriod) → length (down_made who (frames_of ts)) ≡ 320 + 2 * next_start (frames_of ts) }
 {}
 
-/// A period of a leg is a period of its uplink half and one of its downlink half, which gets the note of the uplink half.
+/// A period of a leg is a period of its uplink half and one of its downlink half, which gets the note of the uplink half. By
+/// definition (`up_worked`): a leg is its halves.
 pub fn the_halves_are_the_leg()
     ensures leg { (m : LegMemory) → joined (up_of m) m.down ≡ m }
     ensures up { (m : LegMemory) (up : List ℕ) → let t = up_turned (up_of m) up in up_worked m up ≡ (t.0.eff, t.1, joined t.2 (noted m.down t.0)) }

@@ -15,13 +15,12 @@ ghost use Rattle.call_leg.specs.Counted.{call_counts};
 ghost use Rattle.call_leg.specs.Out.{out_of};
 ghost use Rattle.call_leg.specs.Down.{down_periods, frames_of, down_now};
 ghost use Rattle.call_leg.specs.Memory.{home_memory, periods_of_leg};
-ghost use Rattle.call_leg.specs.Places.{sent_now, is_draining};
+ghost use Rattle.call_leg.specs.Places.{Between, sent_now, is_draining};
 ghost use Rattle.call_leg.specs.Stands.{Stands, OfItsCall, Midway};
-ghost use Rattle.call_leg.specs.Step.{up_worked, with_down, after_handing, down_worked, begin_bridge, bridge_over, set_level, set_mode, period_worked};
+ghost use Rattle.call_leg.specs.Step.{with_down, after_handing, down_worked, begin_bridge, bridge_over, set_level, set_mode};
+ghost use Rattle.call_leg.specs.Halves.{up_of, joined, up_worked, period_worked, UpStands};
 
-use crate::down_side::DownSide;
-use crate::up::{hear, is_quiet, play};
-use crate::uplink::{count, read};
+use crate::halves::{DownLeg, UpLeg};
 use fr_decoder::Decoder;
 use frame_sync::FrameSync;
 use rx_handler::{Effective, Rx};
@@ -31,8 +30,8 @@ use trau_alaw::Law;
 use trau_io::{Counts, NO_COUNTS};
 use trau_orders::DtxMode;
 
-/// The leg of one call. It is alone, bridged or draining. Within a bridge its partner's frames go out on its
-/// downlink; it is draining while one of them still waits after the bridge.
+/// The leg of one call: its two halves. It is alone, bridged or draining. Within a bridge its partner's frames go out
+/// on its downlink; it is draining while one of them still waits after the bridge.
 ///
 /// A period is `up_half`, then within a bridge `hand` with the partner's effective frame, then `down_half`. For a
 /// leg that isn't bridged, `period` is both halves. Level, DTX and bridges are set between periods, and a bridge
@@ -40,26 +39,20 @@ use trau_orders::DtxMode;
 /// safe and still meet `step`; only the clauses on a call's history then say nothing.
 #[derive(Drop)]
 pub struct Leg {
-    // The law of the call's octets from and to the exchange. The downlink side has it too.
-    pub(crate) law: Law,
-    pub(crate) search: FrameSync,
-    pub(crate) rx: Rx,
-    pub(crate) decoder: Decoder,
-    pub(crate) counts: Counts,
-    pub(crate) down: DownSide,
+    up: UpLeg,
+    down: DownLeg,
 }
 
 impl Model for Leg {
-    ghost use Rattle.std.specs.Prelude.{◌≡◌, ◌≤◌};
-    ghost use Rattle.down_framer.specs.Memory.{IsBetweenPeriods};
-    ghost use Rattle.call_leg.specs.Counted.{sighted_in};
-    ghost use Rattle.call_leg.specs.Memory.{LegMemory, down_memory};
+    ghost use Rattle.std.specs.Prelude.{◌≡◌};
+    ghost use Rattle.call_leg.specs.Memory.{LegMemory};
+    ghost use Rattle.call_leg.specs.Halves.{joined};
 
     ghost Value = { LegMemory };
 
-    ghost view = { λ l. record { law = l.law; search = l.search; rx = l.rx; decoder = l.decoder; counts = l.counts; down = down_memory l.down } };
+    ghost view = { λ l. joined l.up l.down };
 
-    ghost invariant = { λ l. (l.search.periods ≤ 4294967295) × (sighted_in l.counts ≡ l.search.periods) × IsBetweenPeriods l.down.framer };
+    ghost invariant = { λ l. l.up.bridged ≡ l.down.bridged };
 }
 
 impl Leg {
@@ -71,15 +64,35 @@ impl Leg {
         ensures history { IfOk result (λ leg. Stands (record { number = call; law = law }) [] new_settings leg) }
         ensures periods { IfOk result (λ leg. periods_of_leg leg ≡ 0) }
     {
-        let down = DownSide::new(alloc, law)?;
-        Ok(Leg {
+        let down = DownLeg::new(alloc, law)?;
+        let up = UpLeg {
             law,
             search: FrameSync::new(),
             rx: Rx::new(call),
             decoder: Decoder::home(),
             counts: NO_COUNTS,
-            down,
-        })
+            bridged: false,
+        };
+        Ok(Leg { up, down })
+    }
+
+    /// Splits a leg, between periods, into its halves.
+    pub fn split(self) -> (UpLeg, DownLeg)
+        ensures up { result.0 ≡ up_of self }
+        ensures down { result.1 ≡ self.down }
+        ensures history { OfItsCall self (λ who ts now. UpStands who ts now result.0 × Between who ts now result.1) }
+    {
+        let Leg { up, down } = self;
+        (up, down)
+    }
+
+    /// Joins two halves. If both stand for the same call, periods and next settings, so does the leg (`history`).
+    pub fn join(mut up: UpLeg, down: DownLeg) -> Leg
+        ensures step { result ≡ joined up down }
+        ensures history { (who : Who) (ts : List CallPeriod) (now : Settings) → UpStands who ts now up → Between who ts now down → Stands who ts now result }
+    {
+        up.agree(&down);
+        Leg { up, down }
     }
 
     /// The uplink half of a period: reads its 40 octets of the Up line, writes its 160 of the Out line, and returns
@@ -99,13 +112,9 @@ impl Leg {
         ensures out { (pcm : List ℕ) (handed : Option (List ℕ)) → OfItsCall self.old (λ who ts now.
             is_some handed ≡ now.bridged → out.new ≡ out_of who (period_with now up.now pcm handed ∷ ts)) }
     {
-        let yielded = self.search.feed(up);
-        let found = read(&yielded);
-        count(&mut self.counts, &found);
-        let e = hear(&mut self.rx, &found);
-        play(&mut self.decoder, self.law, &e, !self.down.bridged, out);
-        self.down.hear(&found, is_quiet(&e));
-        e
+        let period = self.up.turn(up, out);
+        self.down.note(&period);
+        period.eff
     }
 
     /// Takes the partner's effective frame of the period, between the halves of a period within a bridge.
@@ -167,7 +176,7 @@ impl Leg {
         ensures history { OfItsCall self.old (λ who ts now.
             handed_due (down_periods ts) (frames_of ts) ≡ None → Stands who ts (with_bridge now) self.new) }
     {
-        self.decoder = Decoder::home();
+        self.up.bridge_on();
         self.down.bridge_on();
     }
 
@@ -177,7 +186,8 @@ impl Leg {
         ensures step { self.new ≡ with_down self.old (bridge_over self.old.down) }
         ensures history { OfItsCall self.old (λ who ts now. now.bridged ≡ true → Stands who ts (without_bridge now) self.new) }
     {
-        self.down.bridge_off();
+        self.down.end_bridge();
+        self.up.agree(&self.down);
     }
 
     /// Whether a handed frame waits while the leg isn't bridged. Between periods at most one waits.
@@ -196,7 +206,7 @@ impl Leg {
         ensures periods { periods_of_leg self.new ≡ periods_of_leg self.old }
         ensures history { OfItsCall self.old (λ who ts now. Stands who ts (with_level level now) self.new) }
     {
-        self.down.level = level;
+        self.down.set_level(level);
     }
 
     /// Sets when DTX is on, from the next period on.
@@ -205,7 +215,7 @@ impl Leg {
         ensures periods { periods_of_leg self.new ≡ periods_of_leg self.old }
         ensures history { OfItsCall self.old (λ who ts now. Stands who ts (with_mode mode now) self.new) }
     {
-        self.down.mode = mode;
+        self.down.set_dtx(mode);
     }
 
     /// How many handed frames of the latest bridge were sent.
@@ -213,7 +223,8 @@ impl Leg {
         ensures memory { result ≡ self.now.down.sent }
         ensures history { OfItsCall self.now (λ who ts now. result ≡ sent_now ts now) }
     {
-        self.down.sent
+        self.up.periods_are_few();
+        self.down.sent()
     }
 
     /// What was counted over the call's periods.
@@ -221,9 +232,10 @@ impl Leg {
         ensures memory { result ≡ record self.now.counts { made = self.now.down.made } }
         ensures history { OfItsCall self.now (λ who ts now. result ≡ call_counts ts) }
     {
+        self.up.periods_are_few();
         Counts {
-            made: self.down.made,
-            ..self.counts
+            made: self.down.made(),
+            ..self.up.counts()
         }
     }
 }

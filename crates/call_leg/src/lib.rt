@@ -10,9 +10,9 @@
 //! - `leg`: the leg of a call.
 //! - `found`, `uplink`: what a period of the uplink brings.
 //! - `up`: from what is found to the octets of the Out line.
-//! - `down_side`: the state of the downlink side; `down_told`: its inputs; `down_frames`: how it makes its frames.
+//! - `halves`: the two halves of a leg, and the note from one to the other; `turns`: their operations.
+//! - `down_side`: the state of the downlink half; `down_told`: its inputs; `down_frames`: how it makes its frames.
 //! - `coder`: the encoder and the transmit side.
-//! - `halves`: the two halves of a leg as separate values; `turns`: their operations.
 //! - `laws`: laws of a call.
 //!
 //! Definitions: `specs/Who.antt` (a call's number and law), `specs/Periods.antt` (its periods), `specs/Uplink.antt`
@@ -20,8 +20,8 @@
 //! `specs/Down.antt` (its outgoing lines), `specs/Numbered.antt` (its made frames by number), `specs/Waiting.antt`
 //! (the handed frames that wait), `specs/Counted.antt`, `specs/Places.antt` and `specs/Stands.antt` (a leg's memory
 //! after all periods so far), `specs/Memory.antt` (the shape of that memory), `specs/Step.antt` (how each operation
-//! changes it), `specs/Halves.antt` (the two halves of a leg apart), `specs/Noted.antt` (the Down line by the notes of
-//! the uplink half) and `specs/Runs.antt` (the runs of the halves over some periods).
+//! but a period changes it), `specs/Halves.antt` (the two halves, and a period of each and of both), `specs/Noted.antt`
+//! (the Down line by the notes of the uplink half) and `specs/Runs.antt` (the runs of the halves over some periods).
 #![tactic(auto)]
 
 mod coder;

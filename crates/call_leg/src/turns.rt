@@ -1,4 +1,4 @@
-//! Operations of a leg's halves: splitting and joining, periods, and what orders set between periods.
+//! Operations of a leg's halves: periods, and what orders set between periods.
 
 ghost use Rattle.std.specs.Prelude.{◌≡◌, ◌≤◌, ◌<◌, ◌+◌, ℕ, pos, ◌≤ℤ◌, true, is_some, Option, List, ◌∷◌, option_copied};
 ghost use Rattle.trau_bits.specs.Bits.{bits_of};
@@ -8,69 +8,17 @@ ghost use Rattle.call_leg.specs.Settings.{Settings, settings_later, without_brid
 ghost use Rattle.call_leg.specs.Out.{out_of};
 ghost use Rattle.call_leg.specs.Down.{down_now};
 ghost use Rattle.call_leg.specs.Places.{Between};
-ghost use Rattle.call_leg.specs.Stands.{Stands, OfItsCall};
 ghost use Rattle.call_leg.specs.Step.{bridge_begun, bridge_over, set_level, set_mode};
 ghost use Rattle.call_leg.specs.Halves.{up_of, joined, up_turned, down_turned, up_bridged, up_unbridged, item_of, handed_bits, note_in, UpStands, OfItsUp};
 
+use crate::coder::Coder;
 use crate::halves::{DownLeg, UpLeg, UpNote};
-use crate::leg::Leg;
 use crate::up::{hear, play};
 use crate::uplink::{asked, count, dtx_told, read};
 use fr_decoder::Decoder;
 use rx_handler::Effective;
 use trau_io::Counts;
 use trau_orders::DtxMode;
-
-impl Leg {
-    /// Splits a leg, between periods, into its halves.
-    pub fn split(self) -> (UpLeg, DownLeg)
-        ensures up { result.0 ≡ up_of self }
-        ensures down { result.1 ≡ self.down }
-        ensures history { OfItsCall self (λ who ts now. UpStands who ts now result.0 × Between who ts now result.1) }
-    {
-        let Leg {
-            law,
-            search,
-            rx,
-            decoder,
-            counts,
-            down,
-        } = self;
-        let up = UpLeg {
-            law,
-            search,
-            rx,
-            decoder,
-            counts,
-            bridged: down.bridged,
-        };
-        (up, DownLeg { side: down })
-    }
-
-    /// Joins two halves. If both stand for the same call, periods and next settings, so does the leg (`history`).
-    pub fn join(up: UpLeg, down: DownLeg) -> Leg
-        ensures step { result ≡ joined up down }
-        ensures history { (who : Who) (ts : List CallPeriod) (now : Settings) → UpStands who ts now up → Between who ts now down → Stands who ts now result }
-    {
-        let UpLeg {
-            law,
-            search,
-            rx,
-            decoder,
-            counts,
-            bridged: _,
-        } = up;
-        let DownLeg { side } = down;
-        Leg {
-            law,
-            search,
-            rx,
-            decoder,
-            counts,
-            down: side,
-        }
-    }
-}
 
 impl UpLeg {
     /// Whether it is bridged.
@@ -185,16 +133,19 @@ impl DownLeg {
             is_some item.entry ≡ now.bridged →
             bits_of down.new ≡ down_now who (period_with now up pcm.now (handed_bits (item_of (option_copied item.entry))) ∷ ts) }
     {
-        self.side.note(note);
-        self.side.hand_item(item);
-        self.side.half(pcm, down);
+        self.note(note);
+        self.hand_item(item);
+        self.half(pcm, down);
     }
 
     /// Starts a bridge with the next period. That no handed frame waits is a premise of the leg's law (`orders_stand`).
     pub fn bridge_on(&mut self)
         ensures { self.new ≡ bridge_begun self.old }
     {
-        self.side.bridge_on();
+        self.side.align.freeze();
+        self.side.coder = Coder::home();
+        self.side.bridged = true;
+        self.side.sent = 0;
     }
 
     /// Sets the level below which a frame's peak counts as silence, from the next period on.
@@ -232,6 +183,6 @@ impl DownLeg {
         ensures step { self.new ≡ bridge_over self.old }
         ensures history { (who : Who) (ts : List CallPeriod) (now : Settings) → Between who ts now self.old → Between who ts (without_bridge now) self.new }
     {
-        self.side.bridge_off();
+        self.end_bridge();
     }
 }

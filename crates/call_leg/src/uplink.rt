@@ -2,8 +2,7 @@
 
 ghost use Rattle.std.specs.Prelude.{◌≡◌, ◌<◌, ◌≤◌, ◌+◌, IfSome, unwrap_or};
 ghost use Rattle.frame_sync.specs.Periods.{CarriesFrame};
-ghost use Rattle.call_leg.specs.Uplink.{sighting_in, sighting_of, field_of, dtxd_after};
-ghost use Rattle.call_leg.specs.Halves.{dtx_told};
+ghost use Rattle.call_leg.specs.Uplink.{sighting_in, sighting_of, field_of, dtx_told};
 ghost use Rattle.call_leg.specs.Counted.{counted, counted_frame, sighted_in};
 
 use crate::found::Found;
@@ -23,27 +22,17 @@ pub(crate) fn read(found: &Option<Yield>) -> Found
     }
 }
 
-/// The alignment field of a frame of speech or idle.
-pub(crate) fn field(found: &Found) -> Option<u8>
-    ensures { result ≡ field_of (sighting_of found.now) }
-{
-    match found {
-        Found::Frame(f) => match f.kind {
-            Kind::Speech | Kind::Idle => Some(f.align),
-            Kind::Other => None,
-        },
-        Found::Nothing | Found::Missed => None,
-    }
-}
-
 /// The alignment field of a frame of speech or idle; 0 if there is none.
 pub(crate) fn asked(found: &Found) -> u8
     ensures value { result ≡ unwrap_or (field_of (sighting_of found.now)) 0 }
     ensures within { result ≤ 63 }
 {
-    match field(found) {
-        Some(field) => field,
-        None => 0,
+    match found {
+        Found::Frame(f) => match f.kind {
+            Kind::Speech | Kind::Idle => f.align,
+            Kind::Other => 0,
+        },
+        Found::Nothing | Found::Missed => 0,
     }
 }
 
@@ -57,19 +46,6 @@ pub(crate) fn dtx_told(found: &Found) -> Option<bool>
             Kind::Idle | Kind::Other => None,
         },
         Found::Nothing | Found::Missed => None,
-    }
-}
-
-/// DTXd of the last speech frame up to this period; `before`: up to the one before.
-pub(crate) fn dtxd(found: &Found, before: bool) -> bool
-    ensures { result ≡ dtxd_after (sighting_of found.now) before }
-{
-    match found {
-        Found::Frame(f) => match f.kind {
-            Kind::Speech => f.dtxd,
-            Kind::Idle | Kind::Other => before,
-        },
-        Found::Nothing | Found::Missed => before,
     }
 }
 

@@ -162,8 +162,10 @@ both-turned a b k g h on on' below below' w v =
     let d' = done-is b k (bridged_periods k b a) (settings_at k b.now) h v in
     let t = is_before g.io.done m (omega arith) in
     let t' = is_before h.io.done m (omega arith) in
-    let f = turned-bridged m (effective m h) g (w.leg.down.bridged ∙ still-bridged k a.now ∙ on) t ∙ ap (bridged g) (tells-is m h t') in
-    let f' = turned-bridged m (effective m g) h (v.leg.down.bridged ∙ still-bridged k b.now ∙ on') t' ∙ ap (bridged h) (tells-is m g t) in
+    let o = w.leg.down.bridged ∙ still-bridged k a.now ∙ on in
+    let o' = v.leg.down.bridged ∙ still-bridged k b.now ∙ on' in
+    let f = turned-bridged m (effective m h) g o t ∙ ap (bridged g) (tells-is m h o' t') in
+    let f' = turned-bridged m (effective m g) h o' t' ∙ ap (bridged h) (tells-is m g o t) in
     ap (λ (x : HalfMemory). Two x (half_turned m (effective m g) h)) f ∙ ap (Two (bridged g (tells h))) f'
 
 -- the job of two calls in a bridge, n turns long

@@ -1,128 +1,127 @@
 -- One place of a half more, for every history of its call.
-use Rattle.std.proofs.Common.{◌≡◌, ◌==◌, ◌&&◌, ℕ, suc, ◌<◌, ◌≤◌, length, Bool, true, false, if◌then◌else◌, Some, None, List, ◌∷◌, refl, sym, ap, subst, ◌∙◌}
+use Rattle.std.proofs.Common.{◌≡◌, ◌==◌, ◌&&◌, ℕ, suc, ◌<◌, ◌≤◌, length, Bool, true, false, if◌then◌else◌, Option, Some, None, is_some, List, ◌∷◌, refl, sym}
+use Rattle.std.proofs.Common.{ap, subst, ◌∙◌}
 use Rattle.trau_params.specs.Bits260.{bits260}
 use Rattle.trau_bits.specs.Bits.{octets_of}
-use Rattle.call_leg.specs.Memory.{LegMemory}
 use Rattle.rx_handler.specs.Origin.{EffectiveFields}
+use Rattle.call_leg.specs.Memory.{LegMemory}
 use Rattle.call_leg.specs.Uplink.{handed_fields}
 use Rattle.call_leg.specs.Periods.{CallPeriod, effective_now}
 use Rattle.call_leg.specs.Settings.{Settings, settings_later, without_bridge, period_with}
-use Rattle.call_leg.specs.Step.{up_worked, with_down, after_handing, down_worked, period_worked}
-use Rattle.call_leg.proofs.UpLaws.{up-stands, up-effective, up-plays}
-use Rattle.call_leg.proofs.DownLaws.{handing-stands, down-stands}
+use Rattle.call_leg.specs.Step.{with_down, bridge_over}
+use Rattle.call_leg.specs.Halves.{up_of, joined, Note, up_turned, down_turned, up_unbridged, handed_bits}
+use Rattle.call_leg.proofs.HalfLaws.{turn-stands, turn-note, turn-plays, down_turn-stands}
+use Rattle.call_leg.proofs.LegLaws.{join-stands}
 use Rattle.call_leg.proofs.OrderLaws.{end-stands}
 use Rattle.call_pair.specs.Memory.{IoMemory, HalfMemory, IsIo}
 use Rattle.call_pair.specs.Periods.{up_at, pcm_at, with_out, with_period}
-use Rattle.call_pair.specs.Turn.{unbridged, leg_at, effective, place_worked, half_turned}
+use Rattle.call_pair.specs.Turn.{effective, half_turned}
+use Rattle.call_pair.specs.Phases.{item_if}
 use Rattle.call_pair.specs.History.{Start, who_of, HasWorked}
 use Rattle.call_pair.proofs.Octets.{io_more}
 use Rattle.call_pair.proofs.Places.{length-up_at, length-pcm_at, is_same, is_past}
 
 -- ---- a place of a half, by whether it lies in a bridge
 
--- a period of a call that lies in no bridge
+-- a place in which this is handed over, if anything is
+abbrev pub worked_with : Option EffectiveFields → HalfMemory → HalfMemory
+worked_with item h =
+    let up = up_turned (up_of h.leg) (up_at h.io.done h.io) in
+    let down = down_turned h.leg.down up.0 item (pcm_at h.io.done h.io) in
+    record { leg = joined up.2 down.1; io = with_period (with_out h.io up.1) (octets_of down.0) }
+
+-- a place that lies in no bridge
 abbrev pub alone : HalfMemory → HalfMemory
-alone h =
-    let worked = period_worked h.leg (up_at h.io.done h.io) (pcm_at h.io.done h.io) in
-    record { leg = worked.2; io = with_period (with_out h.io worked.0) (octets_of worked.1) }
+alone h = worked_with None h
+
+-- a place within a bridge
+abbrev pub bridged : HalfMemory → EffectiveFields → HalfMemory
+bridged h handed = worked_with (Some handed) h
 
 -- the effective frame of the next place
 abbrev pub tells : HalfMemory → EffectiveFields
-tells h = (up_worked h.leg (up_at h.io.done h.io)).0
+tells h = (up_turned (up_of h.leg) (up_at h.io.done h.io)).0.eff
 
--- a period within a bridge
-abbrev pub bridged : HalfMemory → EffectiveFields → HalfMemory
-bridged h handed =
-    let first = up_worked h.leg (up_at h.io.done h.io) in
-    let last = down_worked (after_handing first.2.down handed) (pcm_at h.io.done h.io) in
-    record { leg = with_down first.2 last.1; io = with_period (with_out h.io first.1) (octets_of last.0) }
+-- the bridge is off
+abbrev unbridged : LegMemory → LegMemory
+unbridged m = with_down m (bridge_over m.down)
 
--- a period of a half whose partner, with so many places, has none left
+-- a place of a half whose partner, with so many places, has none left
 abbrev pub left_alone : HalfMemory → ℕ → HalfMemory
 left_alone h others = alone (record { leg = if h.io.done == others then unbridged h.leg else h.leg; io = h.io })
 
-abbrev by_flag : Bool → EffectiveFields → LegMemory → IoMemory → HalfMemory
-by_flag b partner leg io =
-    let first = up_worked leg (up_at io.done io) in
-    let down = if b then after_handing first.2.down partner else first.2.down in
-    let last = down_worked down (pcm_at io.done io) in
-    record { leg = with_down first.2 last.1; io = with_period (with_out io first.1) (octets_of last.0) }
+-- the next place, by whether a bridge ends at it
+abbrev by_end : EffectiveFields → HalfMemory → Bool → HalfMemory
+by_end e h ends =
+    let up = up_turned (if ends then up_unbridged (up_of h.leg) else up_of h.leg) (up_at h.io.done h.io) in
+    let before = if ends then bridge_over h.leg.down else h.leg.down in
+    let down = down_turned before up.0 (item_if before.bridged e) (pcm_at h.io.done h.io) in
+    record { leg = joined up.2 down.1; io = with_period (with_out h.io up.1) (octets_of down.0) }
+
+-- whether one does
+ends-is : (m : ℕ) (h : HalfMemory) (b t : Bool) → h.leg.down.bridged ≡ b → (h.io.done == m) ≡ t → (h.leg.down.bridged && h.io.done == m) ≡ (b && t)
+ends-is m h b t eb et = ap (λ (x : Bool). x && h.io.done == m) eb ∙ ap (λ (x : Bool). b && x) et
 
 -- the turn of a half that lies in no bridge
 pub turned-alone : (m : ℕ) (e : EffectiveFields) (h : HalfMemory) → h.leg.down.bridged ≡ false → half_turned m e h ≡ alone h
-turned-alone m e h off =
-    ap (λ (b : Bool). place_worked e (if b && h.io.done == m then unbridged h.leg else h.leg) h.io) off ∙ ap (λ (b : Bool). by_flag b e h.leg h.io) off
+turned-alone m e h off = ap (by_end e h) (ends-is m h false (h.io.done == m) off refl) ∙ ap (λ (b : Bool). worked_with (item_if b e) h) off
 
--- before the bridge's end the leg is as it was
-leg-same : (m : ℕ) (h : HalfMemory) → (h.io.done == m) ≡ false → leg_at m h ≡ h.leg
-leg-same m h t = ap (λ (b : Bool). if h.leg.down.bridged && b then unbridged h.leg else h.leg) t ∙ go h.leg.down.bridged
-  where
-    go : (b : Bool) → (if b && false then unbridged h.leg else h.leg) ≡ h.leg
-    go true = refl
-    go false = refl
-
--- so its turn is one within the bridge ..
+-- before the bridge's end the turn is one within the bridge ..
 pub turned-bridged : (m : ℕ) (e : EffectiveFields) (h : HalfMemory) → h.leg.down.bridged ≡ true → (h.io.done == m) ≡ false → half_turned m e h ≡ bridged h e
-turned-bridged m e h on t = ap (λ (l : LegMemory). place_worked e l h.io) (leg-same m h t) ∙ ap (λ (b : Bool). by_flag b e h.leg h.io) on
+turned-bridged m e h on t = ap (by_end e h) (ends-is m h true false on t) ∙ ap (λ (b : Bool). worked_with (item_if b e) h) on
 
 -- .. with the frame that it tells
-pub tells-is : (m : ℕ) (h : HalfMemory) → (h.io.done == m) ≡ false → effective m h ≡ tells h
-tells-is m h t = ap (λ (l : LegMemory). (up_worked l (up_at h.io.done h.io)).0) (leg-same m h t)
+pub tells-is : (m : ℕ) (h : HalfMemory) → h.leg.down.bridged ≡ true → (h.io.done == m) ≡ false → effective m h ≡ tells h
+tells-is m h on t =
+    ap (λ (ends : Bool). (up_turned (if ends then up_unbridged (up_of h.leg) else up_of h.leg) (up_at h.io.done h.io)).0.eff) (ends-is m h true false on t)
 
 -- at the bridge's end the turn is that of a half alone
 pub turned-ends : (m : ℕ) (e : EffectiveFields) (h : HalfMemory) → h.leg.down.bridged ≡ true → (h.io.done == m) ≡ true → half_turned m e h
     ≡ alone (record { leg = unbridged h.leg; io = h.io })
-turned-ends m e h on t =
-    ap (λ (b : Bool). place_worked e (if b && h.io.done == m then unbridged h.leg else h.leg) h.io) on
-    ∙ ap (λ (b : Bool). place_worked e (if b then unbridged h.leg else h.leg) h.io) t
+turned-ends m e h on t = ap (by_end e h) (ends-is m h true true on t)
 
 -- ---- a place more
+
+-- a period in which this is handed over
+place-worked : (s : Start) (k : ℕ) (ts : List CallPeriod) (now : Settings) (h : HalfMemory) (item : Option EffectiveFields) → IsIo s.io → k ≤ length ts →
+    k < s.io.given → is_some item ≡ now.bridged → is_some (handed_bits item) ≡ now.bridged →
+    HasWorked s k ts now h → HasWorked s (suc k) (period_with now (up_at k s.io) (pcm_at k s.io) (handed_bits item) ∷ ts) (settings_later now)
+    (worked_with item h)
+place-worked s k ts now h item room enough below b some w =
+    let who = who_of s in
+    let up = up_at k s.io in
+    let pcm = pcm_at k s.io in
+    let t = period_with now up pcm (handed_bits item) in
+    let lu = length-up_at s.io k room below in
+    let first = up_turned (up_of h.leg) up in
+    let last = down_turned h.leg.down first.0 item pcm in
+    let down = down_turn-stands who ts now up pcm first.0 item h.leg.down (length-pcm_at s.io k room below) w.leg.down
+    (turn-note who ts now up (up_of h.leg) lu w.leg.up) b in
+    subst (λ (io : IoMemory). HasWorked s (suc k) (t ∷ ts) (settings_later now) (worked_with item (record { leg = h.leg; io = io }))) (sym w.io) (record {
+      io = io_more s k ts t first.1 last.0 enough (turn-plays who ts now up pcm (handed_bits item) (up_of h.leg) lu some w.leg.up) down.1;
+      leg = join-stands who (t ∷ ts) (settings_later now) first.2 last.1
+          (turn-stands who ts now up pcm (handed_bits item) (up_of h.leg) lu some w.leg.up) down.0;
+    })
 
 -- a period that lies in no bridge
 pub alone-worked : (s : Start) (k : ℕ) (ts : List CallPeriod) (now : Settings) (h : HalfMemory) → IsIo s.io → k ≤ length ts → k < s.io.given → now.bridged
     ≡ false →
     HasWorked s k ts now h → HasWorked s (suc k) (period_with now (up_at k s.io) (pcm_at k s.io) None ∷ ts) (settings_later now) (alone h)
-alone-worked s k ts now h room enough below b w =
-    let who = who_of s in
-    let up = up_at k s.io in
-    let pcm = pcm_at k s.io in
-    let t = period_with now up pcm None in
-    let first = up_worked h.leg up in
-    let last = down-stands who ts now up pcm None first.2 (length-pcm_at s.io k room below) (sym b)
-    (up-stands who ts now up h.leg (length-up_at s.io k room below) w.leg) in
-    subst (λ (io : IoMemory). HasWorked s (suc k) (t ∷ ts) (settings_later now) (alone (record { leg = h.leg; io = io }))) (sym w.io) (record {
-      io = io_more s k ts t first.1 (down_worked first.2.down pcm).0 enough (up-plays who ts now up pcm None h.leg (length-up_at s.io k room below)
-          (sym b) w.leg) last.1;
-      leg = last.0;
-    })
-
--- the effective frame of the next place, whatever is handed over in it
-pub effective-is : (s : Start) (k : ℕ) (ts : List CallPeriod) (now : Settings) (h : HalfMemory) → IsIo s.io → k < s.io.given →
-    HasWorked s k ts now h → tells h ≡ effective_now s.io.call (period_with now (up_at k s.io) (pcm_at k s.io) None ∷ ts)
-effective-is s k ts now h room below w =
-    ap (λ (io : IoMemory). (up_worked h.leg (up_at io.done io)).0) w.io ∙
-    up-effective (who_of s) ts now (up_at k s.io) (pcm_at k s.io) None h.leg (length-up_at s.io k room below) w.leg
+alone-worked s k ts now h room enough below b w = place-worked s k ts now h None room enough below (sym b) (sym b) w
 
 -- a period within a bridge
 pub bridged-worked : (s : Start) (k : ℕ) (ts : List CallPeriod) (now : Settings) (h : HalfMemory) (e : EffectiveFields) → IsIo s.io → k ≤ length ts →
     k < s.io.given → now.bridged ≡ true →
     HasWorked s k ts now h → HasWorked s (suc k) (period_with now (up_at k s.io) (pcm_at k s.io) (Some (bits260 (handed_fields e))) ∷ ts) (settings_later now)
     (bridged h e)
-bridged-worked s k ts now h e room enough below b w =
-    let who = who_of s in
-    let up = up_at k s.io in
-    let pcm = pcm_at k s.io in
-    let handed = Some (bits260 (handed_fields e)) in
-    let t = period_with now up pcm handed in
-    let first = up_worked h.leg up in
-    let mid = with_down first.2 (after_handing first.2.down e) in
-    let last = down-stands who ts now up pcm handed mid (length-pcm_at s.io k room below) (sym b)
-    (handing-stands who ts now up e first.2 (up-stands who ts now up h.leg (length-up_at s.io k room below) w.leg)) in
-    subst (λ (io : IoMemory). HasWorked s (suc k) (t ∷ ts) (settings_later now) (bridged (record { leg = h.leg; io = io }) e)) (sym w.io) (record {
-      io = io_more s k ts t first.1 (down_worked mid.down pcm).0 enough (up-plays who ts now up pcm handed h.leg (length-up_at s.io k room below) (sym b) w.leg)
-          last.1;
-      leg = last.0;
-    })
+bridged-worked s k ts now h e room enough below b w = place-worked s k ts now h (Some e) room enough below (sym b) (sym b) w
+
+-- the effective frame of the next place, whatever is handed over in it
+pub effective-is : (s : Start) (k : ℕ) (ts : List CallPeriod) (now : Settings) (h : HalfMemory) → IsIo s.io → k < s.io.given →
+    HasWorked s k ts now h → tells h ≡ effective_now s.io.call (period_with now (up_at k s.io) (pcm_at k s.io) None ∷ ts)
+effective-is s k ts now h room below w =
+    ap (λ (io : IoMemory). (up_turned (up_of h.leg) (up_at io.done io)).0.eff) w.io
+    ∙ ap (λ (n : Note). n.eff) (turn-note (who_of s) ts now (up_at k s.io) (up_of h.leg) (length-up_at s.io k room below) w.leg.up)
 
 -- a half whose partner has no place left
 pub left_alone-is : (h : HalfMemory) (others : ℕ) (b : Bool) → (h.io.done == others) ≡ b → left_alone h others

@@ -6,7 +6,7 @@ use Rattle.call_leg.specs.Settings.{Settings, settings_later}
 use Rattle.call_leg.specs.Out.{out_of}
 use Rattle.call_leg.specs.Halves.{UpMemory, note_in, up_turned, up_unbridged, UpStands}
 use Rattle.call_leg.specs.Runs.{EndsAt, UpRun, periods_run, outs_run}
-use Rattle.call_leg.proofs.HalfLaws.{split-stands, turn-stands, turn-note, turn-plays, up_off-stands}
+use Rattle.call_leg.proofs.HalfLaws.{turn-stands, turn-note, turn-plays, up_off-stands}
 use Rattle.call_leg.proofs.LineLaws.{length-out_of}
 use Rattle.call_pair.specs.Memory.{IoMemory, HalfMemory}
 use Rattle.call_pair.specs.Periods.{up_at, written}
@@ -54,7 +54,7 @@ module _ (s : Start) (h : HalfMemory) (m : ℕ) (b : Begins s h) where
     unfolding ups
     ups-stand zero le =
         subst (λ (set : Settings). UpStands (who_of s) s.past set (ups m h 0)) (sym (set-past 0 m s.now false (not_below m 0 (omega arith))))
-        (split-stands (who_of s) s.past s.now h.leg b.leg)
+        b.leg.up
     ups-stand (suc k) le =
         let u = up_before m k (ups m h k) in
         let r = up-ready k (ups-stand k (omega arith)) in

@@ -1,35 +1,27 @@
 -- One turn of a job: the next place of its call, or of each of its two calls.
-use Rattle.std.specs.Prelude.{ℕ, Bool, true, false, ◌==◌, ◌&&◌, min, if◌then◌else◌}
+use Rattle.std.specs.Prelude.{ℕ, Bool, true, false, min, List}
 use Rattle.trau_bits.specs.Bits.{octets_of}
 use Rattle.rx_handler.specs.Origin.{EffectiveFields, Quiet}
-use Rattle.call_leg.specs.Memory.{LegMemory}
-use Rattle.call_leg.specs.Step.{up_worked, with_down, after_handing, down_worked, bridge_over}
-use Rattle.call_pair.specs.Memory.{IoMemory, HalfMemory, Job, One, Two}
+use Rattle.call_leg.specs.Halves.{UpMemory, up_of, joined, Note, up_turned, down_turned}
+use Rattle.call_pair.specs.Memory.{HalfMemory, Job, One, Two}
 use Rattle.call_pair.specs.Periods.{up_at, pcm_at, with_out, with_period, has_period}
+use Rattle.call_pair.specs.Phases.{up_before, down_before, item_if}
 
--- the bridge is off
-abbrev pub unbridged : LegMemory → LegMemory
-unbridged m = with_down m (bridge_over m.down)
-
--- the leg of a half before its next place; if it has a bridge, that ends at place m
-abbrev pub leg_at : ℕ → HalfMemory → LegMemory
-leg_at m h = if h.leg.down.bridged && h.io.done == m then unbridged h.leg else h.leg
+-- the uplink half of the next place: its note, its octets of Out, and the memory after it; a bridge ends at place m
+abbrev pub heard_next : ℕ → HalfMemory → Note × List ℕ × UpMemory
+heard_next m h = up_turned (up_before m h.io.done (up_of h.leg)) (up_at h.io.done h.io)
 
 -- the effective frame of the next place
 abbrev pub effective : ℕ → HalfMemory → EffectiveFields
-effective m h = (up_worked (leg_at m h) (up_at h.io.done h.io)).0
+effective m h = (heard_next m h).0.eff
 
--- The next place of a leg: the uplink half; within a bridge, the handing over of the partner's effective frame; and the downlink half.
-abbrev pub place_worked : EffectiveFields → LegMemory → IoMemory → HalfMemory
-place_worked partner leg io =
-    let first = up_worked leg (up_at io.done io) in
-    let down = if leg.down.bridged then after_handing first.2.down partner else first.2.down in
-    let last = down_worked down (pcm_at io.done io) in
-    record { leg = with_down first.2 last.1; io = with_period (with_out io first.1) (octets_of last.0) }
-
--- the next place of a half, with its partner's effective frame there
+-- The next place of a half: the uplink half; within a bridge, the handing over of the partner's effective frame; and the downlink half.
 abbrev pub half_turned : ℕ → EffectiveFields → HalfMemory → HalfMemory
-half_turned m partner h = place_worked partner (leg_at m h) h.io
+half_turned m partner h =
+    let up = heard_next m h in
+    let before = down_before m h.io.done h.leg.down in
+    let down = down_turned before up.0 (item_if before.bridged partner) (pcm_at h.io.done h.io) in
+    record { leg = joined up.2 down.1; io = with_period (with_out h.io up.1) (octets_of down.0) }
 
 -- The next place of a half, if one remains.
 abbrev pub half_turned_if : Bool → ℕ → EffectiveFields → HalfMemory → HalfMemory

@@ -1,4 +1,4 @@
-use Rattle.call_leg.proofs.DownLaws.{down-stands}
+use Rattle.call_leg.proofs.LegLaws.{down-stands}
 use Rattle.call_leg.proofs.laws.the_downlink_half_stands.Goals as goal
 
 pub returns : goal.returns

@@ -1,10 +1,10 @@
 use Rattle.std.proofs.Common.{refl}
-use Rattle.call_leg.specs.Halves.{down_turned}
-use Rattle.call_leg.proofs.HalfLaws.{halves-worked}
+use Rattle.call_leg.specs.Halves.{down_turned, up_worked}
 use Rattle.call_leg.proofs.laws.the_halves_are_the_leg.Goals as goal
 
 pub returns-clause-up : goal.returns-clause-up
-returns-clause-up c = halves-worked
+unfolding up_worked
+returns-clause-up c = λ m up. refl
 
 pub returns-clause-down : goal.returns-clause-down
 unfolding down_turned

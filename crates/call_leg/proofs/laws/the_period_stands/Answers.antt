@@ -1,7 +1,6 @@
 use Rattle.std.proofs.Common.{sym, None}
-use Rattle.call_leg.specs.Step.{up_worked}
-use Rattle.call_leg.proofs.UpLaws.{up-stands, up-plays}
-use Rattle.call_leg.proofs.DownLaws.{down-stands}
+use Rattle.call_leg.specs.Halves.{up_worked}
+use Rattle.call_leg.proofs.LegLaws.{up-stands, up-plays, down-stands}
 use Rattle.call_leg.proofs.laws.the_period_stands.Goals as goal
 
 pub returns-clause-stands : goal.returns-clause-stands

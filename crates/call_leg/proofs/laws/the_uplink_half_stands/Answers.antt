@@ -1,4 +1,4 @@
-use Rattle.call_leg.proofs.UpLaws.{up-stands, up-effective, up-plays}
+use Rattle.call_leg.proofs.LegLaws.{up-stands, up-effective, up-plays}
 use Rattle.call_leg.proofs.laws.the_uplink_half_stands.Goals as goal
 
 pub returns-clause-stands : goal.returns-clause-stands

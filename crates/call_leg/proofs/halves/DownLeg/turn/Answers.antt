@@ -1,18 +1,17 @@
 use Rattle.std.proofs.Common.{sym, subst, ap, ◌∙◌, ℕ, List, ◌∷◌}
 use Rattle.std.specs.Prelude.{option_copied}
 use Rattle.call_leg.specs.Settings.{settings_later, period_with}
-use Rattle.call_leg.specs.Memory.{DownMemory, down_memory}
+use Rattle.call_leg.specs.Memory.{DownMemory}
 use Rattle.call_leg.specs.Places.{Between}
-use Rattle.call_leg.specs.Halves.{noted, item_of, handed_bits}
+use Rattle.call_leg.specs.Halves.{item_of, handed_bits}
 use Rattle.call_leg.proofs.HalfLaws.{down_turn-stands}
 use Rattle.call_leg.proofs.HalfSteps.{is_some-item, down_turn-step, down-keeps}
 use Rattle.call_leg.proofs.halves.DownLeg.turn.Goals as goal
 
 pub returns-clause-step : goal.returns-clause-step
 returns-clause-step c =
-    down_turn-step c.args.self.now (down_memory c.note.new.self) (down_memory c.hand_item.new.self) c.args.note.now (item_of (option_copied c.args.item))
-    c.args.pcm.now _ _
-    (c.note.ensures.step ∙ ap (λ (d : DownMemory). noted d c.args.note.now) c.self.view_is) c.hand_item.ensures.step c.half.ensures.step
+    down_turn-step c.args.self.now c.note.new.self c.hand_item.new.self c.args.note.now (item_of (option_copied c.args.item)) c.args.pcm.now _ _
+    c.note.ensures c.hand_item.ensures c.half.ensures
 
 pub returns-clause-history : goal.returns-clause-history
 returns-clause-history c = λ who ts now up h e b.

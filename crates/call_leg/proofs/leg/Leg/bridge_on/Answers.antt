@@ -1,17 +1,14 @@
 use Rattle.std.proofs.Common.{sym, subst, ap, ◌∙◌}
-use Rattle.fr_decoder.specs.Memory as decoder
 use Rattle.call_leg.specs.Settings.{with_bridge}
-use Rattle.call_leg.specs.Memory.{down_memory}
 use Rattle.call_leg.specs.Stands.{Stands}
 use Rattle.call_leg.specs.Step.{begin_bridge}
-use Rattle.call_leg.specs.contracts.leg.Leg.{the_view}
+use Rattle.call_leg.specs.Halves.{UpMemory, joined, up_bridged}
 use Rattle.call_leg.proofs.OrderLaws.{begin-stands}
 use Rattle.call_leg.proofs.leg.Leg.bridge_on.Goals as goal
 
 pub returns-clause-step : goal.returns-clause-step
 returns-clause-step c =
-    ap (λ d. record (the_view c.self.inside) { decoder = d; down = down_memory c.bridge_on.new.self }) c.home-self-inside.ensures.value
-    ∙ ap (λ d. record (the_view c.self.inside) { decoder = decoder.home_memory; down = d }) c.bridge_on.ensures.step
+    ap (λ (u : UpMemory). joined u c.bridge_on-2.new.self) c.bridge_on.ensures.step ∙ ap (joined (up_bridged c.self.inside.up)) c.bridge_on-2.ensures
     ∙ ap begin_bridge c.self.view_is
 
 pub returns-clause-history : goal.returns-clause-history

@@ -5,14 +5,13 @@ use Rattle.call_leg.specs.Uplink.{handed_fields}
 use Rattle.call_leg.specs.Memory.{LegMemory}
 use Rattle.call_leg.specs.Stands.{Midway}
 use Rattle.call_leg.specs.Step.{with_down, after_handing}
-use Rattle.call_leg.specs.contracts.leg.Leg.{the_view}
-use Rattle.call_leg.proofs.DownLaws.{handing-stands}
+use Rattle.call_leg.specs.Halves.{joined}
+use Rattle.call_leg.proofs.LegLaws.{handing-stands}
 use Rattle.call_leg.proofs.leg.Leg.hand.Goals as goal
 
 pub returns-clause-step : goal.returns-clause-step
 returns-clause-step c =
-    ap (λ d. with_down (the_view c.self.inside) d) c.hand.ensures.step ∙ ap (λ (m : LegMemory). with_down m (after_handing m.down (effective_fields c.args.e)))
-    c.self.view_is
+    ap (joined c.self.inside.up) c.hand.ensures ∙ ap (λ (m : LegMemory). with_down m (after_handing m.down (effective_fields c.args.e))) c.self.view_is
 
 pub returns-clause-history : goal.returns-clause-history
 returns-clause-history c = λ who ts now up h.

@@ -1,21 +1,17 @@
 use Rattle.std.proofs.Common.{sym, ap, ◌∙◌, subst, ℕ, List, None}
 use Rattle.rx_handler.specs.Origin.{EffectiveFields}
-use Rattle.rx_handler.specs.State.{effective_fields}
-use Rattle.call_leg.specs.Uplink.{sighting_of}
 use Rattle.call_leg.specs.Memory.{LegMemory}
 use Rattle.call_leg.specs.Stands.{Midway}
-use Rattle.call_leg.specs.Step.{up_worked}
-use Rattle.call_leg.specs.contracts.leg.Leg.{the_view}
-use Rattle.call_leg.proofs.Stepping.{up-step}
-use Rattle.call_leg.proofs.UpLaws.{up-stands, up-effective, up-plays}
+use Rattle.call_leg.specs.Halves.{joined, Note}
+use Rattle.call_leg.proofs.HalfSteps.{leg-step}
+use Rattle.call_leg.proofs.LegLaws.{up-stands, up-effective, up-plays}
 use Rattle.call_leg.proofs.leg.Leg.up_half.Goals as goal
 
 pub returns-clause-step : goal.returns-clause-step
 returns-clause-step c =
-    ap (λ m. up_worked m c.args.up.now) (sym c.self.view_is) ∙
-    up-step (the_view c.self.inside) c.args.up.now c.feed-yielded.result c.feed-yielded.new.self (sighting_of c.read-found.result)
-    (effective_fields c.hear-e.result) c.hear-e.new.rx c.play.new.octets c.play.new.decoder c.count.new.counts _ c.is_quiet.result
-    c.feed-yielded.ensures.step c.read-found.ensures c.hear-e.ensures c.play.ensures c.count.ensures.value c.is_quiet.ensures c.hear.ensures.step
+    leg-step c.self.inside.up c.turn-period.new.self c.self.inside.down c.note.new.self c.args.self.now c.args.up.now c.turn-period.new.out
+    c.turn-period.result c.self.view_is c.self.invariant c.turn-period.ensures.step c.note.ensures
+    ∙ ap (λ (n : Note). (n.eff, c.turn-period.new.out, joined c.turn-period.new.self c.note.new.self)) (sym c.period.view_is)
 
 pub returns-clause-history : goal.returns-clause-history
 returns-clause-history c = λ who ts now h.

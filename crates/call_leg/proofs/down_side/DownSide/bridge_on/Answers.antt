@@ -1,5 +1,0 @@
-use Rattle.std.proofs.Common.{rules}
-use Rattle.call_leg.proofs.down_side.DownSide.bridge_on.Goals as goal
-
-pub returns-clause-step : goal.returns-clause-step
-returns-clause-step c = search rules
