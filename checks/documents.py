@@ -29,13 +29,18 @@ if {"-h", "--help"} & set(sys.argv[1:]):
     sys.exit(print(__doc__.strip()))
 if len(sys.argv) < 3 or any(word.startswith("-") and word not in ("--write", "--no-reasons") for word in sys.argv[3:]):
     sys.exit("usage: documents.sh [--write] [--no-reasons] [DOCUMENT..]")
-TOP, WORK = (pathlib.Path(word) for word in sys.argv[1:3])
+TOP, WORK = pathlib.Path(sys.argv[1]), pathlib.Path(sys.argv[2]).resolve()
 WRITE = "--write" in sys.argv[3:]
 REASONS = "--no-reasons" not in sys.argv[3:]
 NAMED = {TOP / word for word in sys.argv[3:] if not word.startswith("-")}
 # Made by the examples themselves, and by no clone.
 MADE = shutil.ignore_patterns("*.down", "*.out", "7.pcm", "__pycache__")
 INDENT = "    "
+# What of the surroundings changes what commands print: where `cd` goes, what a system's commands do, how wide a help is, and that a tool
+# writes piece by piece, so that `head` ends before it.
+LEFT_OUT = {"CDPATH", "POSIXLY_CORRECT", "COLUMNS", "PYTHONUNBUFFERED"}
+# A session that takes longer than this many seconds hangs, however slow the machine is.
+PATIENCE = 7200
 
 
 def documents():
@@ -113,9 +118,8 @@ def run(session, folder):
         if (TOP / name).exists():
             shutil.copytree(TOP / name, place / name, ignore=MADE)
     shutil.copytree(TOP / "examples/farm/wanted", place / "examples/farm/wanted", dirs_exist_ok=True)
-    surroundings = dict(
-        os.environ, LC_ALL="C", TMPDIR=str(folder / "tmp"), HOME=str(folder / "tmp"), PYTHONDONTWRITEBYTECODE="1"
-    )
+    surroundings = {name: value for name, value in os.environ.items() if name not in LEFT_OUT}
+    surroundings.update(LC_ALL="C", TMPDIR=str(folder / "tmp"), HOME=str(folder / "tmp"), PYTHONDONTWRITEBYTECODE="1")
     try:
         ran = subprocess.run(
             ["sh", "-c", script(session)],
@@ -124,11 +128,11 @@ def run(session, folder):
             stdin=subprocess.DEVNULL,
             stdout=subprocess.PIPE,
             stderr=subprocess.STDOUT,
-            timeout=600,
+            timeout=PATIENCE,
         )
         text = ran.stdout.decode(errors="replace")
     except subprocess.TimeoutExpired:
-        text = "no end within ten minutes"
+        text = f"no end within {PATIENCE} seconds"
     shutil.rmtree(folder)
     # Folders whose names the system chooses.
     text = text.replace(str(folder / "tmp"), "/tmp")

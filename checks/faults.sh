@@ -9,8 +9,13 @@ top=$(cd "$(dirname "$0")/.." && pwd)
 . "$top/checks/program"
 work=$(mktemp -d)
 mounted=
+# A device that somebody looks into just now is unmounted once nobody does.
+unmount() {
+    umount "$work/small" 2>/dev/null || umount -l "$work/small"
+    mounted=
+}
 finish() {
-    [ -z "$mounted" ] || umount "$work/small"
+    [ -z "$mounted" ] || unmount
     rm -rf "$work"
 }
 trap finish EXIT
@@ -45,10 +50,12 @@ for folder in "$top"/checks/faults/*/; do
     recorded "$(basename "$folder")"
 done
 
-# lay FOLDER: links to the incoming lines of examples/farm, so that the folder has no other files than outgoing lines
+# lay FOLDER: links to the incoming lines of examples/farm, so that the folder, one in $work, has no other files than outgoing lines.
+# Wherever the repository is, the links are short: a long one takes room on a small device.
+ln -s "$top/examples/farm" "$work/farm"
 lay() {
     for file in "$top"/examples/farm/*.up "$top"/examples/farm/*.pcm; do
-        ln -s "$file" "$1"
+        ln -s "../farm/${file##*/}" "$1"
     done
 }
 
@@ -131,8 +138,7 @@ for size in 8k 32k 56k; do
     status=0
     (cd "$work/small" && "$top/trau" run --batch 7 <"$top/examples/farm/orders.txt") >"$work/text" 2>/dev/null || status=$?
     fronts "a device of $size" "$work/small"
-    umount "$work/small"
-    mounted=
+    unmount
 done
 
 # Lines that share a file.

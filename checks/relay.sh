@@ -101,7 +101,9 @@ expect "a full standard output" 4 ""
 
 # With less and less memory the program ends with status 5 and its text, until it can't be started at all.
 met=0
-for limit in 6000 5000 4000 3600 3400 3200 3000 2900 2800 2700 2600 2500; do
+limit=20000
+while [ $limit -gt 2000 ]; do
+    limit=$((limit - 100))
     status=0
     text=$(ulimit -v "$limit" && exec "$TRAU_PROGRAM" relay 7 2>/dev/null </dev/null) || status=$?
     case "$status $text" in

@@ -132,17 +132,18 @@ expect() {
     fi
 }
 
-# A part that fails, here because the program is missing, is reported and run again alone; so is one that was run with other words.
+# A part that fails, here because the program is missing, is reported and run again alone; so is one that was run with other words. (A name
+# that a shell wouldn't take as it is stands in quotes.)
 status=0
 TRAU=$work/none sh "$work/cut/1/run.sh" 2>/dev/null || status=$?
 [ "$status" = 127 ] || {
     echo "FAILED: a part without a program ended with $status"
     failed=1
 }
-expect 2 "no whole report of part 1; run again: sh $work/cut/1/run.sh"
+expect 2 "no whole report of part 1; run again: sh '*$work/cut/1/run.sh"
 (cd "$work/cut/1" && "$top/trau" run --periods 90 <orders.txt >report.txt) || true
 echo 0 >"$work/cut/1/status"
-expect 2 "was this part run by other words? run it again: sh $work/cut/1/run.sh"
+expect 2 "was this part run by other words? run it again: sh '*$work/cut/1/run.sh"
 sh "$work/cut/1/run.sh"
 joined "$work/cut"
 same "$work/one" "$work/farm" "$work/cut" "a part run again alone"

@@ -154,10 +154,11 @@ class Files(unittest.TestCase):
 
     def test_the_program(self) -> None:
         Path("7.up").write_bytes(UP * 2)
-        ran = subprocess.run([str(TOP / "model/trau"), "relay", "7"], stdout=subprocess.PIPE)
+        words = [str(TOP / "model/trau"), "relay", "7"]
+        ran = subprocess.run(words, stdin=subprocess.DEVNULL, stdout=subprocess.PIPE)
         self.assertEqual((ran.returncode, ran.stdout), (0, b"relay frames 2\n"))
         with open("/dev/full", "wb") as full:
-            self.assertEqual(subprocess.run([str(TOP / "model/trau"), "relay", "7"], stdout=full).returncode, 4)
+            self.assertEqual(subprocess.run(words, stdin=subprocess.DEVNULL, stdout=full).returncode, 4)
 
 
 class Tools(unittest.TestCase):

@@ -2,6 +2,7 @@
 
 import contextlib
 import io
+import os
 import sys
 import tempfile
 import unittest
@@ -15,6 +16,17 @@ DATA = TOOLS / "tests" / "data"
 
 sys.path.insert(0, str(TOOLS))
 
+# Under a limit on the size of files, as some tests set it, Python would keep a part of what it compiles, and every later start would read it.
+os.environ["PYTHONDONTWRITEBYTECODE"] = "1"
+
+# The system's commands, without the toolchain and without anything that is installed by hand.
+PLAIN_PATH = "/usr/bin:/bin"
+
+
+def put_python(folder):
+    """Puts the Python of these tests into a folder of a path, as python3: the system's may be missing, or an old one."""
+    (folder / "python3").symlink_to(sys.executable)
+
 
 class InFolder(unittest.TestCase):
     """A test with an empty folder of its own."""
@@ -22,7 +34,8 @@ class InFolder(unittest.TestCase):
     def setUp(self):
         folder = tempfile.TemporaryDirectory()
         self.addCleanup(folder.cleanup)
-        self.folder = Path(folder.name)
+        # Without links, as the tools name it.
+        self.folder = Path(folder.name).resolve()
 
     def path(self, name, content=None):
         """A file of the folder, with this content if any."""

@@ -12,15 +12,11 @@ import unittest
 from pathlib import Path
 from unittest import mock
 
-from support import EXAMPLES, TOOLS, TOP, InFolder
+from support import EXAMPLES, PLAIN_PATH, TOOLS, TOP, InFolder, put_python
 
 import tool_pages
 import trau_deb
 import trau_package
-
-# A path without the toolchain, and without anything that is installed by hand.
-PLAIN_PATH = "/usr/bin:/bin"
-
 
 # Without TRAU_PROGRAM no program is packed, so that these tests prove nothing.
 HAS_PROGRAM = os.access(os.environ.get("TRAU_PROGRAM", ""), os.X_OK)
@@ -53,6 +49,12 @@ if not HAS_LIBRARY:
 
 @unittest.skipUnless(HAS_PROGRAM, "TRAU_PROGRAM names no program")
 class Package(InFolder):
+    def setUp(self):
+        super().setUp()
+        self.commands = self.path("commands")
+        self.commands.mkdir()
+        put_python(self.commands)
+
     def make(self, name="made"):
         """The package's file."""
         folder = self.folder / name
@@ -74,7 +76,7 @@ class Package(InFolder):
 
     def said(self, *words, given=b"", folder=None, **changes):
         """The status, standard output and standard error, on a machine without the toolchain."""
-        surroundings = {"PATH": PLAIN_PATH, "TMPDIR": str(self.folder), **changes}
+        surroundings = {"PATH": f"{self.commands}:{PLAIN_PATH}", "TMPDIR": str(self.folder), **changes}
         ended = subprocess.run(words, input=given, capture_output=True, env=surroundings, cwd=folder or self.folder)
         return ended.returncode, ended.stdout.decode(), ended.stderr.decode()
 

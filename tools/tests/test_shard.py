@@ -3,6 +3,7 @@ program makes of the parts is compared by checks/shards.sh."""
 
 import os
 import random
+import shlex
 import unittest
 from collections import Counter
 
@@ -24,6 +25,11 @@ def restricted(report, orders, numbers):
         [failed for failed in report.failed if failed.call in calls],
         sum(number > len(report.replies) for number in numbers),
     )
+
+
+def script(cut, part):
+    """The script of a part, as a shell takes its name."""
+    return shlex.quote(f"{cut}/{part}/run.sh")
 
 
 class Components(unittest.TestCase):
@@ -151,14 +157,14 @@ class Farms(InFolder):
         self.assert_refused(shard.main, ["merge", cut], "no whole report of part 0 1 2; run again: sh ")
         self.give_reports(cut, report)
         (cut / "1" / "status").write_text("137\n")
-        self.assert_refused(shard.main, ["merge", cut], f"no whole report of part 1; run again: sh {cut}/1/run.sh")
+        self.assert_refused(shard.main, ["merge", cut], f"no whole report of part 1; run again: sh {script(cut, 1)}")
         self.give_reports(cut, report)
         text = (cut / "2" / "report.txt").read_text()
         for changed in (text[:-1], text[text.index("\n") + 1 :], ""):
             (cut / "2" / "report.txt").write_text(changed)
-            self.assert_refused(shard.main, ["merge", cut], f"run it again: sh {cut}/2/run.sh")
+            self.assert_refused(shard.main, ["merge", cut], f"run it again: sh {script(cut, 2)}")
         (cut / "2" / "report.txt").unlink()
-        self.assert_refused(shard.main, ["merge", cut], f"run it again: sh {cut}/2/run.sh")
+        self.assert_refused(shard.main, ["merge", cut], f"run it again: sh {script(cut, 2)}")
 
     def test_a_part_of_other_periods(self):
         farm = self.lay("mixed")
