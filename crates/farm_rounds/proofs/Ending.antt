@@ -9,9 +9,9 @@ use Rattle.switchboard.specs.declared.act.Act.TheVariants as act
 use Rattle.farm_rounds.specs.declared.open.OpenCall.{OpenCall}
 use Rattle.farm_rounds.specs.Numbers.{IsRising}
 use Rattle.farm_rounds.specs.Calls.{Kept, kept_in, call_in, partner_in}
-use Rattle.farm_rounds.specs.Acts.{put_at, freed, parted, without_partner, IsOpen, Applied}
+use Rattle.farm_rounds.specs.Acts.{put_at, released, parted, without_partner, IsOpen, Applied}
 use Rattle.farm_rounds.specs.Opens.{kept_of, IsOpenCall, AreOpen, AreMutual}
-use Rattle.farm_rounds.specs.Opened.{IsFreed}
+use Rattle.farm_rounds.specs.Opened.{IsReleased}
 use Rattle.farm_rounds.proofs.Rising.{rising-remove}
 use Rattle.farm_rounds.proofs.Changing.{numbers_of, calls_changed, partners_put}
 use Rattle.farm_rounds.proofs.Edited.{remove_map, remove_all, kept_remove, IsAlone}
@@ -20,29 +20,29 @@ use Rattle.farm_rounds.proofs.Mutual.{mutual_after, partner_open}
 
 -- ---- the partner goes on alone
 
-freed_calls : (p : Option ℕ) (before now : List OpenCall) → IsFreed p before now → (d : ℕ) →
-    call_in (map kept_of now) d ≡ freed p parted (call_in (map kept_of before)) d
-freed_calls None before now e d = ap (λ (os : List OpenCall). call_in (map kept_of os) d) e
-freed_calls (Some q) before now m d = calls_changed q _ before now m parted (λ k. refl) d
+released_calls : (p : Option ℕ) (before now : List OpenCall) → IsReleased p before now → (d : ℕ) →
+    call_in (map kept_of now) d ≡ released p parted (call_in (map kept_of before)) d
+released_calls None before now e d = ap (λ (os : List OpenCall). call_in (map kept_of os) d) e
+released_calls (Some q) before now m d = calls_changed q _ before now m parted (λ k. refl) d
 
-freed_partners : (p : Option ℕ) (before now : List OpenCall) → ((q : ℕ) → p ≡ Some q → IsOpen (map kept_of before) q) → IsFreed p before now → (d : ℕ) →
+released_partners : (p : Option ℕ) (before now : List OpenCall) → ((q : ℕ) → p ≡ Some q → IsOpen (map kept_of before) q) → IsReleased p before now → (d : ℕ) →
     partner_in (map kept_of now) d ≡ without_partner p (partner_in (map kept_of before)) d
-freed_partners None before now isopen e d = ap (λ (os : List OpenCall). partner_in (map kept_of os) d) e
-freed_partners (Some q) before now isopen m d = partners_put q _ before now m None (λ k. refl) (isopen q refl) d
+released_partners None before now isopen e d = ap (λ (os : List OpenCall). partner_in (map kept_of os) d) e
+released_partners (Some q) before now isopen m d = partners_put q _ before now m None (λ k. refl) (isopen q refl) d
 
-pub freed_numbers : (p : Option ℕ) (before now : List OpenCall) → IsFreed p before now → numbers_of now ≡ numbers_of before
-freed_numbers None before now e = ap numbers_of e
-freed_numbers (Some q) before now m = m.numbers
+pub released_numbers : (p : Option ℕ) (before now : List OpenCall) → IsReleased p before now → numbers_of now ≡ numbers_of before
+released_numbers None before now e = ap numbers_of e
+released_numbers (Some q) before now m = m.numbers
 
-freed_each : (p : Option ℕ) (before now : List OpenCall) → IsFreed p before now → (most : ℕ) → All (IsOpenCall most) before → All (IsOpenCall most) now
-freed_each None before now e most all = subst (All (IsOpenCall most)) (sym e) all
-freed_each (Some q) before now m most all = m.each most all
+released_each : (p : Option ℕ) (before now : List OpenCall) → IsReleased p before now → (most : ℕ) → All (IsOpenCall most) before → All (IsOpenCall most) now
+released_each None before now e most all = subst (All (IsOpenCall most)) (sym e) all
+released_each (Some q) before now m most all = m.each most all
 
 -- the call itself is as it was
-freed_other : (p : Option ℕ) (c : ℕ) (before now : List OpenCall) → ((q : ℕ) → p ≡ Some q → c ≢ q) → IsFreed p before now →
+released_other : (p : Option ℕ) (c : ℕ) (before now : List OpenCall) → ((q : ℕ) → p ≡ Some q → c ≢ q) → IsReleased p before now →
     kept_in (map kept_of now) c ≡ kept_in (map kept_of before) c
-freed_other None c before now apart e = ap (λ (os : List OpenCall). kept_in (map kept_of os) c) e
-freed_other (Some q) c before now apart m = m.calls c ∙ rw (ne_eqb c q (apart q refl)) refl
+released_other None c before now apart e = ap (λ (os : List OpenCall). kept_in (map kept_of os) c) e
+released_other (Some q) c before now apart m = m.calls c ∙ rw (ne_eqb c q (apart q refl)) refl
 
 -- ---- the call goes
 
@@ -61,12 +61,12 @@ alone_at live os k e rising l j lj ne q =
 
 module _ (live : List ℕ) (k call : ℕ) (l : k < length live) (own : get_or live k 0 ≡ call) (before mid : List OpenCall)
     (e : live ≡ numbers_of before) (rising : IsRising live) (both : AreMutual (map kept_of before))
-    (free : IsFreed (partner_in (map kept_of before) call) before mid) where
+    (free : IsReleased (partner_in (map kept_of before) call) before mid) where
   abbrev p : Option ℕ
   p = partner_in (map kept_of before) call
 
   same : live ≡ numbers_of mid
-  same = e ∙ sym (freed_numbers p before mid free)
+  same = e ∙ sym (released_numbers p before mid free)
 
   gone : (c : ℕ) → kept_in (map kept_of (remove mid k)) c ≡ (if call == c then None else kept_in (map kept_of mid) c)
   gone c =
@@ -77,16 +77,16 @@ module _ (live : List ℕ) (k call : ℕ) (l : k < length live) (own : get_or li
   partner_there : (q : ℕ) → p ≡ Some q → IsOpen (map kept_of before) q
   partner_there q s = partner_open (map kept_of before) q call (both call q s).0
 
-  calls : (c : ℕ) → call_in (map kept_of (remove mid k)) c ≡ put_at call None (freed p parted (call_in (map kept_of before))) c
+  calls : (c : ℕ) → call_in (map kept_of (remove mid k)) c ≡ put_at call None (released p parted (call_in (map kept_of before))) c
   calls c = ap (option_map (λ k. k.call)) (gone c) ∙ elim (cases_Bool (call == c)) [
     | inl t ↦ simp t refl
-    | inr f ↦ simp f (freed_calls p before mid free c)
+    | inr f ↦ simp f (released_calls p before mid free c)
   ]
 
   partners : (c : ℕ) → partner_in (map kept_of (remove mid k)) c ≡ put_at call None (without_partner p (partner_in (map kept_of before))) c
   partners c = ap (option_and_then (λ k. k.partner)) (gone c) ∙ elim (cases_Bool (call == c)) [
     | inl t ↦ simp t refl
-    | inr f ↦ simp f (freed_partners p before mid partner_there free c)
+    | inr f ↦ simp f (released_partners p before mid partner_there free c)
   ]
 
   pub ended_applied : Applied (act.Closed call p) (map kept_of before) (map kept_of (remove mid k))
@@ -96,10 +96,10 @@ module _ (live : List ℕ) (k call : ℕ) (l : k < length live) (own : get_or li
   ended_sound isopen most s = record {
     listed = ap (λ (ns : List ℕ). remove ns k) same ∙ sym (remove_map (λ (o : OpenCall). o.job.io.call) mid k);
     rising = rising-remove live k rising l;
-    each = remove_all (IsOpenCall most) mid k (freed_each p before mid free most s.each);
+    each = remove_all (IsOpenCall most) mid k (released_each p before mid free most s.each);
     both = mutual_after (act.Closed call p) (map kept_of before) (map kept_of (remove mid k)) (isopen, refl) both ended_applied;
   }
 
   -- what is seen of the call that ended is what was seen before
   pub ended_same : kept_in (map kept_of mid) call ≡ kept_in (map kept_of before) call
-  ended_same = freed_other p call before mid (λ q s. (both call q s).1) free
+  ended_same = released_other p call before mid (λ q s. (both call q s).1) free

@@ -11,7 +11,7 @@ use Rattle.switchboard.specs.declared.act.Act.{Act}
 use Rattle.switchboard.specs.declared.act.Act.TheVariants as act
 use Rattle.farm_rounds.specs.declared.open.OpenCall.{OpenCall}
 use Rattle.farm_rounds.specs.Calls.{Call, Kept, call_in}
-use Rattle.farm_rounds.specs.Acts.{new_call, parted, bridged_call, set_by, put_at, changed, freed, calls_after, Stays, Applied}
+use Rattle.farm_rounds.specs.Acts.{new_call, parted, bridged_call, set_by, put_at, changed, released, calls_after, Stays, Applied}
 use Rattle.farm_rounds.specs.Failed.{KnowsLines, AreFailed, NoneListed}
 use Rattle.farm_rounds.specs.Opens.{calls_of}
 
@@ -48,13 +48,13 @@ module _ (lines : List Line) where
     | inr n ↦ let q : f c ≡ Some x = simp n at e in h c x q
   ]
 
-  know_freed : (p : Option ℕ) (f : ℕ → Option Call) → KnowAll f → KnowAll (freed p parted f)
+  know_freed : (p : Option ℕ) (f : ℕ → Option Call) → KnowAll f → KnowAll (released p parted f)
   know_freed None f h = h
   know_freed (Some q) f h = know_changed q parted f (λ c y k. k) h
 
   know_after : (a : Act) (f : ℕ → Option Call) → NoneListed a lines → KnowAll f → KnowAll (calls_after a f)
   know_after (act.Opened c law) f fresh h = know_new c f (new_call c law) (fresh Up, fresh Pcm, sym (fresh Down), sym (fresh Out)) h
-  know_after (act.Closed c p) f fresh h = know_gone c (freed p parted f) (know_freed p f h)
+  know_after (act.Closed c p) f fresh h = know_gone c (released p parted f) (know_freed p f h)
   know_after (act.Bridged a b) f fresh h =
       know_changed a bridged_call (changed b bridged_call f) (λ c y k. k) (know_changed b bridged_call f (λ c y k. k) h)
   know_after (act.Unbridged a b) f fresh h = know_changed a parted (changed b parted f) (λ c y k. k) (know_changed b parted f (λ c y k. k) h)

@@ -69,7 +69,6 @@ still_in start ended n o s up pcm r =
       given = ap (λ (x : OpenCall). x.job.io.given) s ∙ r.given ∙ sym (ap (λ (x : OpenCall). x.lines.periods) s);
       fresh = ap (λ (x : OpenCall). x.job.notes) s ∙ r.fresh;
       alone = ap (λ (x : OpenCall). x.job.partner) s ∙ r.alone;
-      agrees = ap (λ (x : OpenCall). x.job.up.bridged) s ∙ r.agrees ∙ sym (ap (λ (x : OpenCall). x.job.down.bridged) s);
       bridge = ap (λ (x : OpenCall). x.job.bridge_end) s ∙ r.bridge ∙ sym (ap (λ (x : OpenCall). if is_some x.partner then x.lines.periods else 0) s);
       fits = record {
         up = up ∙ r.fits.up ∙ forty;

@@ -1,17 +1,17 @@
 -- The open calls by their numbers: the one with a number, in whatever list is made of them.
-use Rattle.std.proofs.Common.{◌≡◌, refl, sym, ap, ◌∙◌, subst, ℕ, zero, suc, ◌<◌, Bool, true, Option, Some, None, List, [], ◌∷◌, length, get_or, arith, inl, inr}
+use Rattle.std.proofs.Common.{◌≡◌, refl, sym, ap, ◌∙◌, ℕ, zero, suc, ◌<◌, true, Option, Some, None, is_some, List, [], ◌∷◌, length, get_or, arith, inl, inr}
 use Rattle.std.specs.Prelude.{◌==◌, map}
 use Rattle.std.specs.Option.{option_map, option_and_then}
 use Rattle.std.specs.List.{All, find}
 use Rattle.std.proofs.lemmas.Bool.{cases_Bool, eqb-true, eq-eqb, ne_eqb}
 use Rattle.std.proofs.lemmas.List.{get_or-map, length-map}
-use Rattle.std.proofs.lemmas.List.Elements.{All-nil, All-cons, All-head, All-tail, All-get_or}
+use Rattle.round_lines.specs.Seats.{SeatMemory}
 use Rattle.farm_rounds.specs.declared.open.OpenCall.{OpenCall}
 use Rattle.farm_rounds.specs.Calls.{Kept, kept_in, partner_in}
 use Rattle.farm_rounds.specs.Numbers.{IsRising, is_among}
 use Rattle.farm_rounds.specs.Opens.{kept_of, seat_of_open}
-use Rattle.farm_rounds.specs.Opened.{standing, no_open}
-use Rattle.farm_rounds.proofs.Rising.{there}
+use Rattle.farm_rounds.specs.Opened.{Standing, standing, no_open}
+use Rattle.farm_rounds.proofs.Numbered.{found_map, found_is, found_same, among_found}
 
 abbrev pub number_of : OpenCall → ℕ
 number_of o = o.job.io.call
@@ -22,8 +22,7 @@ open_in os c = find (λ o. o.job.io.call == c) os
 
 -- what holds of whatever it is
 pub all_of : {A : Type 0} (P : A → Type 0) (xs : List A) → ((x : A) → P x) → All P xs
-all_of P [] h = All-nil P
-all_of P (x ∷ xs) h = All-cons P x xs (h x) (all_of P xs h)
+all_of P xs h k d l = h (get_or xs k d)
 
 -- ---- one that is found
 
@@ -53,15 +52,11 @@ is_found (x ∷ os) c o e = elim (cases_Bool (x.job.io.call == c)) [
 
 -- what holds of all calls holds of it
 pub found_all : (P : OpenCall → Type 0) (os : List OpenCall) (c : ℕ) (o : OpenCall) → open_in os c ≡ Some o → All P os → P o
-found_all P os c o e a = let r = is_found os c o e in subst P r.there (All-get_or P os r.index no_open r.inside a)
+found_all P os c o e a = (found_is number_of P os c o a e).0
 
 -- its number is there
 pub found_among : (os : List OpenCall) (c : ℕ) (o : OpenCall) → open_in os c ≡ Some o → is_among (map number_of os) c ≡ true
-found_among os c o e =
-    let r = is_found os c o e in
-    let l = r.inside in
-    there (map number_of os) c r.index (omega (arith, l, length-map os number_of))
-    (get_or-map number_of os r.index no_open 0 r.inside ∙ ap number_of r.there ∙ r.number)
+found_among os c o e = among_found number_of os c ∙ ap (λ (x : Option OpenCall). is_some x) e
 
 -- each call is found by its own number
 pub find_at : (os : List OpenCall) (k : ℕ) → IsRising (map number_of os) → k < length os →
@@ -76,41 +71,24 @@ find_at (x ∷ os) (suc k) rising l =
 
 -- ---- what is made of each call
 
-pub find_made : {A B : Type 0} (f : A → B) (p : B → Bool) (q : A → Bool) (xs : List A) → All (λ x. p (f x) ≡ q x) xs →
-    find p (map f xs) ≡ option_map f (find q xs)
-find_made f p q [] a = refl
-find_made f p q (x ∷ xs) a =
-    let here = All-head (λ y. p (f y) ≡ q y) x xs a in
-    let rest = find_made f p q xs (All-tail (λ y. p (f y) ≡ q y) x xs a) in
-    elim (cases_Bool (q x)) [ inl t ↦ rw (here, t) refl | inr e ↦ rw (here, e) rest ]
-
 pub kept_by : (os : List OpenCall) (c : ℕ) → kept_in (map kept_of os) c ≡ option_map kept_of (open_in os c)
-kept_by os c = find_made kept_of (λ k. k.call.number == c) (λ o. o.job.io.call == c) os
-    (all_of (λ (o : OpenCall). ((kept_of o).call.number == c) ≡ (o.job.io.call == c)) os (λ o. refl))
+kept_by os c = found_map (λ (k : Kept). k.call.number == c) kept_of os
 
 pub standing_by : (os : List OpenCall) (c : ℕ) → find (λ s. s.number == c) (map standing os) ≡ option_map standing (open_in os c)
-standing_by os c = find_made standing (λ s. s.number == c) (λ o. o.job.io.call == c) os
-    (all_of (λ (o : OpenCall). ((standing o).number == c) ≡ (o.job.io.call == c)) os (λ o. refl))
+standing_by os c = found_map (λ (s : Standing). s.number == c) standing os
 
 pub seat_by : (os : List OpenCall) (c : ℕ) → All (λ o. o.lines.call ≡ o.job.io.call) os →
     find (λ s. s.lines.call == c) (map seat_of_open os) ≡ option_map seat_of_open (open_in os c)
-seat_by os c same = find_made seat_of_open (λ s. s.lines.call == c) (λ o. o.job.io.call == c) os (by os same)
-  where
-    by : (xs : List OpenCall) → All (λ o. o.lines.call ≡ o.job.io.call) xs → All (λ o. ((seat_of_open o).lines.call == c) ≡ (o.job.io.call == c)) xs
-    by [] a = All-nil (λ o. ((seat_of_open o).lines.call == c) ≡ (o.job.io.call == c))
-    by (x ∷ xs) a = All-cons (λ o. ((seat_of_open o).lines.call == c) ≡ (o.job.io.call == c)) x xs
-        (ap (λ (n : ℕ). n == c) (All-head (λ o. o.lines.call ≡ o.job.io.call) x xs a)) (by xs (All-tail (λ o. o.lines.call ≡ o.job.io.call) x xs a))
+seat_by os c same =
+    found_map (λ (s : SeatMemory). s.lines.call == c) seat_of_open os
+    ∙ ap (λ (x : Option OpenCall). option_map seat_of_open x) (found_same number_of (λ (o : OpenCall). o.lines.call) os c same)
 
 -- calls that keep their numbers
 pub changed_by : (g : OpenCall → OpenCall) (os : List OpenCall) (c : ℕ) → All (λ o. (g o).job.io.call ≡ o.job.io.call) os →
     open_in (map g os) c ≡ option_map g (open_in os c)
-changed_by g os c same = find_made g (λ o. o.job.io.call == c) (λ o. o.job.io.call == c) os (by os same)
-  where
-    by : (xs : List OpenCall) → All (λ o. (g o).job.io.call ≡ o.job.io.call) xs → All (λ o. ((g o).job.io.call == c) ≡ (o.job.io.call == c)) xs
-    by [] a = All-nil (λ o. ((g o).job.io.call == c) ≡ (o.job.io.call == c))
-    by (x ∷ xs) a = All-cons (λ o. ((g o).job.io.call == c) ≡ (o.job.io.call == c)) x xs
-        (ap (λ (n : ℕ). n == c) (All-head (λ o. (g o).job.io.call ≡ o.job.io.call) x xs a))
-        (by xs (All-tail (λ o. (g o).job.io.call ≡ o.job.io.call) x xs a))
+changed_by g os c same =
+    found_map (λ (o : OpenCall). o.job.io.call == c) g os
+    ∙ ap (λ (x : Option OpenCall). option_map g x) (found_same number_of (λ (o : OpenCall). (g o).job.io.call) os c same)
 
 -- ---- partners
 

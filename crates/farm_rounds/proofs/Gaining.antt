@@ -1,9 +1,9 @@
 -- The lines that are listed after a round: those from before and those that failed in it, each once, and what the calls that
 -- go on know of theirs.
-use Rattle.std.proofs.Common.{◌≡◌, refl, sym, ap, ◌∙◌, subst, ℕ, ◌*◌, ◌/◌, ◌<◌, Bool, true, false, Some, List, length, map, arith, inl, inr, ◌⊎◌}
+use Rattle.std.proofs.Common.{◌≡◌, refl, sym, ap, ◌∙◌, subst, ℕ, ◌*◌, ◌/◌, ◌<◌, Bool, true, false, Some, List, ◌++◌, length, map, arith, inl, inr, ◌⊎◌}
 use Rattle.std.specs.Prelude.{min, ◌||◌}
 use Rattle.std.specs.List.{Contains}
-use Rattle.std.specs.List.Sorted.{IsStrictlyIncreasing}
+use Rattle.std.specs.List.Sorted.{IsNonDecreasingBy, IsPermutation, IsStrictlyIncreasing}
 use Rattle.std.proofs.lemmas.Bool.{cases_lt, eqb-true, true≢false, false≢true}
 use Rattle.std.proofs.lemmas.List.{length-map}
 use Rattle.std.proofs.lemmas.List.Elements.{All-get_or}
@@ -120,8 +120,7 @@ neither false q e f = f
 
 -- ---- all calls
 
-module _ (most : ℕ) (live : List ℕ) (opens : List OpenCall) (w : IsWorkedRound most live opens) (before now : List Line) (h : AreFailedBefore before opens)
-    (g : GainsFailed before now (map seat_of_open opens)) where
+module _ (most : ℕ) (live : List ℕ) (opens : List OpenCall) (w : IsWorkedRound most live opens) (before : List Line) (h : AreFailedBefore before opens) where
   abbrev seats : List SeatMemory
   seats = map seat_of_open opens
 
@@ -142,13 +141,15 @@ module _ (most : ℕ) (live : List ℕ) (opens : List OpenCall) (w : IsWorkedRou
       name_listed before (call_at seats m.k) m.side (subst (λ (z : Name). Contains (map line_name before) z) m.name a) in
       true≢false (sym m.fails ∙ fails_once before (seat_at seats m.k).lines m.side (seat_knows m.k m.within) listed)
 
-  -- **Each line is listed once.**
-  gained_once : IsStrictlyIncreasing (map line_place now)
-  gained_once = listed_once before now seats g rising none_again h.once
+  -- **So each line is listed once if the list is sorted.**
+  pub gained_once : (lines now : List Line) → map line_name lines ≡ map line_name before ++ names seats → IsPermutation lines now →
+      IsNonDecreasingBy line_place now → IsStrictlyIncreasing (map line_place now)
+  gained_once lines now named sorted order = listed_once before lines now seats named sorted order rising none_again h.once
 
   -- **A call that goes on knows its lines.**
-  gained_known : (c : ℕ) (x : Call) → call_in (map kept_of (left_open (numbers_left opens) opens)) c ≡ Some x → KnowsLines now c x
-  gained_known c x e = subst (KnowsLines now c) z.same (
+  gained_known : (now : List Line) → GainsFailed before now seats → (c : ℕ) (x : Call) →
+      call_in (map kept_of (left_open (numbers_left opens) opens)) c ≡ Some x → KnowsLines now c x
+  gained_known now g c x e = subst (KnowsLines now c) z.same (
     listed Up ∙ neither (is_listed before c Up) z.was.lines.up.failed (here Up ∙ knows.up) (sound_up z.was.lines knows.short full),
     listed Pcm ∙ neither (is_listed before c Pcm) z.was.lines.pcm.failed (here Pcm ∙ knows.pcm) (sound_pcm z.was.lines knows.short full),
     stands_failed z.was.lines.down ∙ ap (λ (b : Bool). b || fails_now z.was.lines.down) (knows.down ∙ sym (here Down)) ∙ sym (listed Down),
@@ -187,8 +188,8 @@ module _ (most : ℕ) (live : List ℕ) (opens : List OpenCall) (w : IsWorkedRou
       full : whole_in z.was.lines ≡ z.was.lines.periods
       full = eqb-true (whole_in z.was.lines) z.was.lines.periods z.goes
 
-  failed_after : AreFailed now (map kept_of (left_open (numbers_left opens) opens))
-  failed_after = record { once = gained_once; known = gained_known }
+  failed_after : (now : List Line) → GainsFailed before now seats → AreFailed now (map kept_of (left_open (numbers_left opens) opens))
+  failed_after now g = record { once = g.order; known = gained_known now g }
 
 -- **So the farm after a round lists each line once, and its calls know theirs.**
 pub failed_passed : (most : ℕ) (live : List ℕ) (opens : List OpenCall) (before now : List Line) (numbers : List ℕ) (left : List OpenCall) →
@@ -196,4 +197,4 @@ pub failed_passed : (most : ℕ) (live : List ℕ) (opens : List OpenCall) (befo
     left ≡ left_open numbers opens → AreFailed now (map kept_of left)
 failed_passed most live opens before now numbers left w h g en el =
     subst (λ (os : List OpenCall). AreFailed now (map kept_of os)) (sym el)
-    (subst (λ (ns : List ℕ). AreFailed now (map kept_of (left_open ns opens))) (sym en) (failed_after most live opens w before now h g))
+    (subst (λ (ns : List ℕ). AreFailed now (map kept_of (left_open ns opens))) (sym en) (failed_after most live opens w before h now g))

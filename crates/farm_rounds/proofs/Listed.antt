@@ -1,15 +1,10 @@
 -- The calls of a round, one after the other: their numbers and their seats.
-use Rattle.std.proofs.Common.{◌≡◌, refl, sym, ap, ◌∙◌, ℕ, zero, suc, ◌<◌, List, [], ◌∷◌, length, map, get_or, slice_index, arith}
+use Rattle.std.proofs.Common.{◌≡◌, refl, ap, ◌∙◌, ℕ, zero, suc, ◌<◌, List, [], ◌∷◌, length, map, get_or, slice_index, arith}
 use Rattle.std.specs.Global.{Box}
-use Rattle.std.specs.List.{All}
-use Rattle.std.proofs.lemmas.List.Elements.{All-get_or}
 use Rattle.round_lines.specs.Seats.{SeatMemory}
-use Rattle.round_lines.specs.Rounds.{Rising, call_at}
 use Rattle.farm_rounds.specs.declared.open.OpenCall.{OpenCall}
-use Rattle.farm_rounds.specs.Numbers.{IsRising}
 use Rattle.farm_rounds.specs.Opens.{opens_in, seats_of, seat_of_open}
-use Rattle.farm_rounds.specs.Opened.{open_at, no_open}
-use Rattle.farm_rounds.proofs.Boxes.{opens_long, seat_read, seats_long}
+use Rattle.farm_rounds.specs.Opened.{open_at}
 
 -- the seat of the call that a loop looks at
 seat_got : (bs : List (Box OpenCall)) (k : ℕ) (b : Box OpenCall) (s : SeatMemory) → k < length bs → seat_of_open (get_or bs k b).value ≡ get_or (seats_of bs) k s
@@ -32,18 +27,3 @@ number_read (x ∷ bs) (suc k) l = number_read bs k (omega arith)
 pub numbers_long : (bs : List (Box OpenCall)) → length (numbers_of bs) ≡ length bs
 numbers_long [] = refl
 numbers_long (x ∷ bs) = let e = numbers_long bs in omega (arith, e)
-
--- calls whose numbers rise have seats that do
-pub seats_rise : (bs : List (Box OpenCall)) → IsRising (numbers_of bs) → All (λ o. o.lines.call ≡ o.job.io.call) (opens_in bs) → Rising (seats_of bs)
-seats_rise bs rising places i j less within =
-    let inside : j < length bs = omega (arith, within, seats_long bs) in
-    let first = numbered_at i (omega (arith, less, inside)) in
-    let second = numbered_at j inside in
-    let rises = rising i j less (omega (arith, inside, numbers_long bs)) in
-    omega (arith, first, second, rises)
-  where
-    numbered_at : (k : ℕ) → k < length bs → call_at (seats_of bs) k ≡ slice_index (numbers_of bs) k
-    numbered_at k l =
-        ap (λ (s : SeatMemory). s.lines.call) (sym (seat_read bs k l))
-        ∙ All-get_or (λ o. o.lines.call ≡ o.job.io.call) (opens_in bs) k no_open (omega (arith, l, opens_long bs)) places
-        ∙ sym (number_read bs k l)

@@ -7,20 +7,20 @@ use Rattle.std.proofs.lemmas.List.{length-map, get_or-map}
 use Rattle.std.proofs.lemmas.Simd.{map-map}
 use Rattle.call_leg.specs.Stands.{Stands}
 use Rattle.round_lines.specs.Seats.{SeatMemory}
-use Rattle.round_lines.specs.Rounds.{Rising, no_seat, seat_at}
+use Rattle.round_lines.specs.Rounds.{Rising}
 use Rattle.farm_rounds.specs.declared.open.OpenCall.{OpenCall}
 use Rattle.farm_rounds.specs.Calls.{Call, Kept, call_in, partner_in}
+use Rattle.farm_rounds.specs.Numbers.{IsRising}
 use Rattle.farm_rounds.specs.Opens.{kept_of, seat_of_open, same_call}
-use Rattle.farm_rounds.specs.Opened.{HasBuffers, no_open}
+use Rattle.farm_rounds.specs.Opened.{HasBuffers}
 use Rattle.farm_rounds.specs.Histories.{CallHistory, whose}
 use Rattle.farm_rounds.specs.Settling.{goes_on_in}
 use Rattle.farm_rounds.specs.Working.{IsWorkedCall, IsWorkedRound, StaysBridged, goes_on_call}
 use Rattle.farm_rounds.specs.RoundHistories.{WorkedCall}
-use Rattle.farm_rounds.proofs.Numbered.{found, found_map, any_map}
-use Rattle.farm_rounds.proofs.Passing.{own, risen}
-
-abbrev number : OpenCall → ℕ
-number o = o.job.io.call
+use Rattle.farm_rounds.proofs.Found.{number_of, open_in, kept_by}
+use Rattle.farm_rounds.proofs.Numbered.{found_map, any_map}
+use Rattle.farm_rounds.proofs.Passing.{own}
+use Rattle.farm_rounds.proofs.Working.{seats_rising}
 
 -- ---- one call
 
@@ -68,10 +68,10 @@ module _ (opens now : List OpenCall) (same : map same_call now ≡ map same_call
       (sym (get_or-map same_call opens k d (same_call d) there) ∙ ap (λ (os : List OpenCall). get_or os k (same_call d)) (sym same)
       ∙ get_or-map same_call now k d (same_call d) l) (all k d there)
 
-  same_found : (c : ℕ) → option_map same_call (found number now c) ≡ option_map same_call (found number opens c)
+  same_found : (c : ℕ) → option_map same_call (open_in now c) ≡ option_map same_call (open_in opens c)
   same_found c =
-      sym (found_map (λ (o : OpenCall). number o == c) same_call now) ∙ ap (λ (os : List OpenCall). found number os c) same
-      ∙ found_map (λ (o : OpenCall). number o == c) same_call opens
+      sym (found_map (λ (o : OpenCall). number_of o == c) same_call now) ∙ ap (λ (os : List OpenCall). open_in os c) same
+      ∙ found_map (λ (o : OpenCall). number_of o == c) same_call opens
 
   -- the calls that go on ..
   pub same_going : goes_on_call (map seat_of_open now) ≡ goes_on_call (map seat_of_open opens)
@@ -88,14 +88,14 @@ module _ (opens now : List OpenCall) (same : map same_call now ≡ map same_call
   same_partners = λ i. λ c. at c i where
     at : (c : ℕ) → partner_in (map kept_of now) c ≡ partner_in (map kept_of opens) c
     at c =
-        ap partner (found_map (λ (k : Kept). k.call.number == c) kept_of now)
-        ∙ partner_marked (found number now c) (found number opens c) (same_found c)
-        ∙ sym (ap partner (found_map (λ (k : Kept). k.call.number == c) kept_of opens))
+        ap partner (kept_by now c)
+        ∙ partner_marked (open_in now c) (open_in opens c) (same_found c)
+        ∙ sym (ap partner (kept_by opens c))
 
   -- the round is still worked ..
   pub still_worked : (most : ℕ) (live : List ℕ) → IsWorkedRound most live opens → IsWorkedRound most live now
   still_worked most live w = record {
-    listed = w.listed ∙ sym (same_map number);
+    listed = w.listed ∙ sym (same_map number_of);
     rising = w.rising;
     each =
         λ k d l.
@@ -116,10 +116,10 @@ module _ (opens now : List OpenCall) (same : map same_call now ≡ map same_call
       subst (λ (f : ℕ → Bool). WorkedCall f c (h c) (call_in (map kept_of now) c) (partner_in (map kept_of now) c)) (sym same_going)
       (subst (λ (p : ℕ → Option ℕ). WorkedCall (goes_on_call (map seat_of_open opens)) c (h c) (call_in (map kept_of now) c) (p c)) (sym same_partners)
       (subst (λ (k : Option Kept). WorkedCall (goes_on_call (map seat_of_open opens)) c (h c) (called k) (partner_in (map kept_of opens) c))
-      (sym (found_map (λ (k : Kept). k.call.number == c) kept_of now))
-      (stands_marked (goes_on_call (map seat_of_open opens)) c (h c) (found number now c) (found number opens c) (partner_in (map kept_of opens) c) (same_found c)
+      (sym (kept_by now c))
+      (stands_marked (goes_on_call (map seat_of_open opens)) c (h c) (open_in now c) (open_in opens c) (partner_in (map kept_of opens) c) (same_found c)
       (subst (λ (k : Option Kept). WorkedCall (goes_on_call (map seat_of_open opens)) c (h c) (called k) (partner_in (map kept_of opens) c))
-      (found_map (λ (k : Kept). k.call.number == c) kept_of opens) (stand c)))))
+      (kept_by opens c) (stand c)))))
 
 -- the calls' buffers have the round's length ..
 pub buffered : (most : ℕ) (live : List ℕ) (opens : List OpenCall) → IsWorkedRound most live opens → All HasBuffers opens
@@ -127,8 +127,4 @@ buffered most live opens w k d l = (w.each k d l).fits
 
 -- .. and their seats rise
 pub seats_rise : (most : ℕ) (live : List ℕ) (opens : List OpenCall) → IsWorkedRound most live opens → Rising (map seat_of_open opens)
-seats_rise most live opens w i j l m =
-    let long = length-map opens seat_of_open in
-    let at : (k : ℕ) → k < length opens → (seat_at (map seat_of_open opens) k).lines.call ≡ number (get_or opens k no_open) = λ k lk.
-    ap (λ (s : SeatMemory). s.lines.call) (get_or-map seat_of_open opens k no_open no_seat lk) ∙ own most live opens w k no_open lk in
-    omega (arith, risen most live opens w i j no_open l (omega (arith, m, long)), at i (omega (arith, l, m, long)), at j (omega (arith, m, long)))
+seats_rise most live opens w = seats_rising opens (subst IsRising w.listed w.rising) (own most live opens w)

@@ -3,7 +3,7 @@ use Rattle.std.proofs.Common.{◌≡◌, refl, sym, ap, ◌∙◌, subst, ℕ, s
 use Rattle.std.proofs.Common.{arith}
 use Rattle.std.specs.Prelude.{eqb, ◌==◌, if◌then◌else◌, slice_index}
 use Rattle.std.specs.List.{AllByRecursion, Contains, IsDistinct, filter_map, cons_option}
-use Rattle.std.specs.List.Sorted.{IsNonDecreasing, IsNonDecreasingBy, IsStrictlyIncreasing}
+use Rattle.std.specs.List.Sorted.{IsNonDecreasing, IsNonDecreasingBy, IsPermutation, IsStrictlyIncreasing}
 use Rattle.std.proofs.lemmas.Bool.{ne_eqb, eq-eqb, eqb-true}
 use Rattle.std.proofs.lemmas.List.{get_or-map, length-map}
 use Rattle.std.proofs.lemmas.List.Elements.{Contains-append_right}
@@ -16,7 +16,6 @@ use Rattle.trau_io.specs.Indices.{index_of_line}
 use Rattle.round_lines.specs.Memory.{LinesMemory, fails_in, line_name, name_where_failed, failed_in_round}
 use Rattle.round_lines.specs.Seats.{SeatMemory}
 use Rattle.round_lines.specs.Rounds.{Rising, call_at}
-use Rattle.farm_rounds.specs.Working.{GainsFailed}
 use Rattle.farm_rounds.proofs.Naming.{Name, names, one_line, same_test}
 
 -- the place of a line, and of its name
@@ -149,13 +148,14 @@ not_falling (x ∷ lines) h i j d l m =
     omega (arith, first, second, k)
 
 -- **Where no line was listed before that failed in the round, each is listed once.**
-pub listed_once : (before now : List Line) (seats : List SeatMemory) → GainsFailed before now seats → Rising seats →
+pub listed_once : (before lines now : List Line) (seats : List SeatMemory) → map line_name lines ≡ map line_name before ++ names seats →
+    IsPermutation lines now → IsNonDecreasingBy line_place now → Rising seats →
     ((y : Name) → Contains (map line_name before) y → Contains (names seats) y → ⊥) → IsStrictlyIncreasing (map line_place before) →
     IsStrictlyIncreasing (map line_place now)
-listed_once before now seats g r none s =
-    IsStrictlyIncreasing-from_distinct (map line_place now) (not_falling now g.order)
+listed_once before lines now seats named sorted order r none s =
+    IsStrictlyIncreasing-from_distinct (map line_place now) (not_falling now order)
     (distinct_places now
-    (IsDistinct-IsPermutation same flips (map line_name g.lines) (map line_name now) (IsPermutation-map line_name g.lines now g.same)
-    (subst (λ (ys : List Name). IsDistinct same ys) (sym g.told)
+    (IsDistinct-IsPermutation same flips (map line_name lines) (map line_name now) (IsPermutation-map line_name lines now sorted)
+    (subst (λ (ys : List Name). IsDistinct same ys) (sym named)
     (distinct_append (map line_name before) (names seats) (rising_distinct 0 (map line_name before) (lines_rise before 0 s (λ m. omega arith)))
     (rising_distinct 0 (names seats) (seats_rise seats 0 r (λ m. omega arith))) none))))

@@ -12,14 +12,14 @@ use Rattle.farm_rounds.specs.declared.open.OpenCall.{OpenCall}
 use Rattle.farm_rounds.specs.Calls.{Call, Kept, call_in, partner_in}
 use Rattle.farm_rounds.specs.Histories.{CallHistory, CallsStand}
 use Rattle.farm_rounds.specs.Opens.{opens_in, calls_of, seats_of, kept_of, seat_of_open, seat_with, open_begun, open_finished}
-use Rattle.farm_rounds.specs.Opened.{standings, end_beside, all_begun, all_met, met_beside}
+use Rattle.farm_rounds.specs.Opened.{standings, end_beside, all_begun, all_met, met_beside, OctetsFit}
 use Rattle.farm_rounds.specs.RoundHistories.{worked_histories, WorkedCall, AreWorked}
 use Rattle.farm_rounds.specs.Working.{RoundMemory, IsRound, goes_on_call}
 use Rattle.farm_rounds.specs.Finishing.{half_worked}
 use Rattle.farm_rounds.proofs.Boxes.{opens_long}
-use Rattle.farm_rounds.proofs.Working.{back}
+use Rattle.farm_rounds.proofs.Written.{back}
 use Rattle.farm_rounds.proofs.Rounded.{told, all_told, done, all_done, after_first, after_second}
-use Rattle.farm_rounds.proofs.Works.{IsSound, came, seats_done_rising, seats_number, same_place, same_partner, leg_after, seat_left, worked_call, worked_octets}
+use Rattle.farm_rounds.proofs.Works.{came, seats_done_rising, seats_number, same_place, same_partner, leg_after, seat_left, worked_call, worked_octets}
 
 -- ---- the boxes behind each phase
 
@@ -95,10 +95,10 @@ module _ (start ended : ℕ) (live : List ℕ) (items run : List (Box OpenCall))
       ∙ ap (λ (ss : List SeatMemory). seat_with (seat_at ss k).lines (half_worked r (seat_at ss k).lines.call).io) (sym seats)
 
   -- what the types of the calls say of them
-  pub sound_after : All IsSound (opens_in run) → All IsSound (all_done (opens_in items))
-  sound_after s = subst (λ (xs : List OpenCall). All IsSound xs) is s
+  pub sound_after : All OctetsFit (opens_in run) → All OctetsFit (all_done (opens_in items))
+  sound_after s = subst (λ (xs : List OpenCall). All OctetsFit xs) is s
 
-  pub stands_after : All IsSound (opens_in run) → (h : ℕ → Option CallHistory) → CallsStand h r.calls → (c : ℕ) →
+  pub stands_after : All OctetsFit (opens_in run) → (h : ℕ → Option CallHistory) → CallsStand h r.calls → (c : ℕ) →
       WorkedCall (goes_on_call (seats_of run)) c (worked_histories r.seats (partner_in r.calls) h c) (call_in (calls_of run) c) (partner_in (calls_of run) c)
   stands_after sound h stand c =
       let within = came start ended live (opens_in items) i (sound_after sound) in
@@ -111,7 +111,7 @@ module _ (start ended : ℕ) (live : List ℕ) (items run : List (Box OpenCall))
       (call_in (map kept_of (all_done (opens_in items))) c) (partner_in (map kept_of (all_done (opens_in items))) c)) (sym calls)
       (worked_call start ended live (opens_in items) i r calls seats within h (subst (CallsStand h) calls stand) c)))
 
-  pub octets_after : All IsSound (opens_in run) → (h : ℕ → Option CallHistory) → CallsStand h r.calls →
+  pub octets_after : All OctetsFit (opens_in run) → (h : ℕ → Option CallHistory) → CallsStand h r.calls →
       AreWorked r.seats (worked_histories r.seats (partner_in r.calls) h) (seats_of run)
   octets_after sound h stand =
       let within = came start ended live (opens_in items) i (sound_after sound) in

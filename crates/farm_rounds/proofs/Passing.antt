@@ -24,18 +24,13 @@ use Rattle.farm_rounds.specs.Histories.{CallHistory, whose, CallStands, CallsSta
 use Rattle.farm_rounds.specs.Settling.{goes_on_in}
 use Rattle.farm_rounds.specs.Working.{WorkedMemory, IsWorkedCall, IsWorkedRound, StaysBridged, goes_on_call, that_stays, partner_past}
 use Rattle.farm_rounds.specs.RoundHistories.{seat_of, WorkedCall, WorkedStand, KnowFailed, those_that}
+use Rattle.farm_rounds.proofs.Found.{number_of, open_in, kept_by}
 use Rattle.farm_rounds.proofs.Numbered.{found, found_map, any_map, map_same, Rise, rise, rising_filter, found_filter, any_found, among_found, found_same}
-
-abbrev number : OpenCall → ℕ
-number o = o.job.io.call
 
 abbrev place : OpenCall → ℕ
 place o = o.lines.call
 
--- the call with a number, and the same where it goes on
-abbrev open_in : List OpenCall → ℕ → Option OpenCall
-open_in opens c = found number opens c
-
+-- a call that is found, where it goes on
 abbrev going : Option OpenCall → Option OpenCall
 going o = option_filter goes_on_open o
 
@@ -163,17 +158,17 @@ module _ (most : ℕ) (live : List ℕ) (opens : List OpenCall) (w : IsWorkedRou
   abbrev now : List Kept
   now = map kept_of (left_open rest opens)
 
-  pub risen : Rise number opens
-  risen = rise number opens (subst IsRising w.listed w.rising)
+  pub risen : Rise number_of opens
+  risen = rise number_of opens (subst IsRising w.listed w.rising)
 
-  pub own : All (λ o. place o ≡ number o) opens
+  pub own : All (λ o. place o ≡ number_of o) opens
   own k d l = (w.each k d l).lines
 
   placed : Rise place opens
-  placed = rise place opens (subst IsRising (sym (map_same place number opens own)) (subst IsRising w.listed w.rising))
+  placed = rise place opens (subst IsRising (sym (map_same place number_of opens own)) (subst IsRising w.listed w.rising))
 
   by_place : (c : ℕ) → found place opens c ≡ open_in opens c
-  by_place c = found_same number place opens c own
+  by_place c = found_same number_of place opens c own
 
   stays_is : (c : ℕ) → goes_on_call seats c ≡ is_some (going (open_in opens c))
   stays_is c =
@@ -181,7 +176,7 @@ module _ (most : ℕ) (live : List ℕ) (opens : List OpenCall) (w : IsWorkedRou
       ∙ ap (λ (o : Option OpenCall). is_some (going o)) (by_place c)
 
   live_is : (c : ℕ) → is_among live c ≡ is_some (open_in opens c)
-  live_is c = ap (λ (ns : List ℕ). is_among ns c) w.listed ∙ among_found number opens c
+  live_is c = ap (λ (ns : List ℕ). is_among ns c) w.listed ∙ among_found number_of opens c
 
   rest_is : (c : ℕ) → is_among rest c ≡ is_some (going (open_in opens c))
   rest_is c =
@@ -191,13 +186,10 @@ module _ (most : ℕ) (live : List ℕ) (opens : List OpenCall) (w : IsWorkedRou
   rest_stays : (c : ℕ) → is_among rest c ≡ goes_on_call seats c
   rest_stays c = rest_is c ∙ sym (stays_is c)
 
-  before_is : (c : ℕ) → kept_in (map kept_of opens) c ≡ seen (open_in opens c)
-  before_is c = found_map (λ (k : Kept). k.call.number == c) kept_of opens
-
   now_is : (c : ℕ) → kept_in now c ≡ after rest (open_in opens c)
   now_is c =
-      found_map (λ (k : Kept). k.call.number == c) kept_of (left_open rest opens)
-      ∙ ap seen (found_map (λ (o : OpenCall). number o == c) (open_rested rest) (filter goes_on_open opens) ∙ ap (option_map (open_rested rest)) (found_filter number goes_on_open opens c risen))
+      kept_by (left_open rest opens) c
+      ∙ ap seen (found_map (λ (o : OpenCall). number_of o == c) (open_rested rest) (filter goes_on_open opens) ∙ ap (option_map (open_rested rest)) (found_filter number_of goes_on_open opens c risen))
       ∙ twice (going (open_in opens c))
     where
       twice : (o : Option OpenCall) → seen (option_map (open_rested rest) o) ≡ option_map (λ (x : OpenCall). kept_of (open_rested rest x)) o
@@ -220,7 +212,7 @@ module _ (most : ℕ) (live : List ℕ) (opens : List OpenCall) (w : IsWorkedRou
   partners_left : (c : ℕ) → partner_in now c ≡ partner_past (goes_on_call seats) (partner_in (map kept_of opens)) c
   partners_left c =
       ap partner (now_is c) ∙ partner_left rest (goes_on_call seats) rest_stays (open_in opens c) (goes_on_call seats c) (stays_is c)
-      ∙ ap (λ (k : Option Kept). if goes_on_call seats c then that_stays (goes_on_call seats) (partner k) else None) (sym (before_is c))
+      ∙ ap (λ (k : Option Kept). if goes_on_call seats c then that_stays (goes_on_call seats) (partner k) else None) (sym (kept_by opens c))
 
   failed_known : KnowFailed seats now
   failed_known c x e =
@@ -234,7 +226,7 @@ module _ (most : ℕ) (live : List ℕ) (opens : List OpenCall) (w : IsWorkedRou
   -- a call that was worked stands for its periods
   worked_at : (h : Option CallHistory) (c : ℕ) → WorkedCall (goes_on_call seats) c h (call_in (map kept_of opens) c) (partner_in (map kept_of opens) c) →
       WorkedCall (goes_on_call seats) c h (call (seen (open_in opens c))) (partner (seen (open_in opens c)))
-  worked_at h c k = subst (λ (x : Option Kept). WorkedCall (goes_on_call seats) c h (call x) (partner x)) (before_is c) k
+  worked_at h c k = subst (λ (x : Option Kept). WorkedCall (goes_on_call seats) c h (call x) (partner x)) (kept_by opens c) k
 
   history_left : (h : ℕ → Option CallHistory) →
       ((c : ℕ) → WorkedCall (goes_on_call seats) c (h c) (call_in (map kept_of opens) c) (partner_in (map kept_of opens) c)) →
@@ -257,7 +249,7 @@ module _ (most : ℕ) (live : List ℕ) (opens : List OpenCall) (w : IsWorkedRou
   still_open : AreOpen most rest (left_open rest opens)
   still_open = record {
     listed =
-        map_same place number (filter goes_on_open opens) (All-filter goes_on_open (λ o. place o ≡ number o) opens own)
+        map_same place number_of (filter goes_on_open opens) (All-filter goes_on_open (λ o. place o ≡ number_of o) opens own)
         ∙ sym (twice (filter goes_on_open opens));
     rising = rising_filter place goes_on_open opens placed;
     each =
@@ -269,8 +261,8 @@ module _ (most : ℕ) (live : List ℕ) (opens : List OpenCall) (w : IsWorkedRou
         (partners_left d ∙ m.0, m.1);
   }
     where
-      twice : (xs : List OpenCall) → map number (map (open_rested rest) xs) ≡ map number xs
-      twice xs = map-map number (open_rested rest) xs
+      twice : (xs : List OpenCall) → map number_of (map (open_rested rest) xs) ≡ map number_of xs
+      twice xs = map-map number_of (open_rested rest) xs
 
       rested : (o : OpenCall) → IsWorkedCall most o → o.job.down.bridged ≡ is_some (that_stays (goes_on_call seats) o.partner) →
           IsOpenCall most (open_rested rest o)

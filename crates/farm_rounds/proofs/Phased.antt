@@ -98,7 +98,7 @@ pub begun_is : (start ended m : ℕ) (o : OpenCall) → IsInRound start ended o 
 begun_is start ended m o r =
     let j = o.job in
     let w = whole_in o.lines in
-    ap (λ (b : Bool). shape j w m b j.io.call j.io.done j.notes j.partner j.phase) r.agrees
+    ap (λ (b : Bool). shape j w m b j.io.call j.io.done j.notes j.partner j.phase) (r.call.up ∙ sym r.call.down)
     ∙ ap (λ (c : ℕ). shape j w m j.down.bridged c j.io.done j.notes j.partner j.phase) (sym r.call.lines)
     ∙ ap (λ (d : ℕ). shape j w m j.down.bridged o.lines.call d j.notes j.partner j.phase) r.call.none
     ∙ ap (λ (ns : List Note). shape j w m j.down.bridged o.lines.call 0 ns j.partner j.phase) r.fresh

@@ -75,7 +75,6 @@ planned_call before start n later o h = record {
   given = refl;
   fresh = refl;
   alone = refl;
-  agrees = refl;
   bridge = refl;
   fits = record {
     up = length-replicate (40 * n) 0;

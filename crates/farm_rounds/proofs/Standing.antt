@@ -81,8 +81,8 @@ module _ (h : ℕ → Option CallHistory) (ks : List Kept) (both : AreMutual ks)
     | inr f ↦ simp f (s d)
   ]
 
-  freed : (c q : ℕ) → partner_in ks c ≡ Some q → (d : ℕ) → (c == d) ≡ false → Goal (act.Closed c (Some q)) d
-  freed c q e d f = elim (cases_Bool (q == d)) [
+  released : (c q : ℕ) → partner_in ks c ≡ Some q → (d : ℕ) → (c == d) ≡ false → Goal (act.Closed c (Some q)) d
+  released c q e d f = elim (cases_Bool (q == d)) [
     | inl t ↦
         let back : partner_in ks d ≡ Some c = at q d (λ n. partner_in ks n ≡ Some c) t (both c q e).0 in
         simp (f, t) (parts d (h d) (call_in ks d) (partner_in ks d) (ap is_some back) (s d))
@@ -91,7 +91,7 @@ module _ (h : ℕ → Option CallHistory) (ks : List Kept) (both : AreMutual ks)
 
   closed : (c : ℕ) (p : Option ℕ) → ActFits ks (act.Closed c p) → (d : ℕ) → Goal (act.Closed c p) d
   closed c None fits d = elim (cases_Bool (c == d)) [ inl t ↦ simp t refl | inr f ↦ simp f (s d) ]
-  closed c (Some q) fits d = elim (cases_Bool (c == d)) [ inl t ↦ simp t refl | inr f ↦ freed c q fits.1 d f ]
+  closed c (Some q) fits d = elim (cases_Bool (c == d)) [ inl t ↦ simp t refl | inr f ↦ released c q fits.1 d f ]
 
   joined_two : (a b : ℕ) → ActFits ks (act.Bridged a b) → NoneDrains (act.Bridged a b) h → (d : ℕ) → Goal (act.Bridged a b) d
   joined_two a b fits w d = elim (cases_Bool (a == d)) [

@@ -2,7 +2,6 @@
 use Rattle.std.proofs.Common.{◌≡◌, ◌≢◌, refl, sym, ap, ◌∙◌, subst, ℕ, ◌*◌, ◌<◌, ◌≤◌, Bool, true, false, Option, Some, None, List, [], ◌∷◌, length, get_or, arith, inl, inr}
 use Rattle.std.specs.Prelude.{◌==◌, ◌&&◌, nat_le, min, if◌then◌else◌, is_some, map}
 use Rattle.std.proofs.lemmas.Bool.{cases_Bool, eqb-true, eq-eqb, false≢true}
-use Rattle.std.proofs.lemmas.Map.Entries.{option_filter}
 use Rattle.std.specs.Option.{option_map, option_and_then}
 use Rattle.std.specs.List.{All}
 use Rattle.std.proofs.lemmas.List.{length-map, get_or-map}
@@ -20,7 +19,7 @@ use Rattle.farm_rounds.specs.declared.open.OpenCall.{OpenCall}
 use Rattle.farm_rounds.specs.Calls.{Call, Kept, call_in, partner_in}
 use Rattle.farm_rounds.specs.Numbers.{IsRising}
 use Rattle.farm_rounds.specs.Opens.{kept_of, seat_of_open, seat_with, goes_on_open, open_finished}
-use Rattle.farm_rounds.specs.Opened.{no_open, met_beside}
+use Rattle.farm_rounds.specs.Opened.{no_open, met_beside, OctetsFit}
 use Rattle.farm_rounds.specs.Histories.{CallHistory, whose, CallStands, CallsStand}
 use Rattle.farm_rounds.specs.Rounds.{io_of}
 use Rattle.farm_rounds.specs.Settling.{goes_on_in}
@@ -29,15 +28,11 @@ use Rattle.farm_rounds.specs.Working.{RoundMemory, IsInRound, IsRound, IsWorkedC
 use Rattle.farm_rounds.specs.Finishing.{half_worked}
 use Rattle.farm_rounds.proofs.Found.{number_of, open_in, is_found, found_all, find_at, kept_by, partner_by, partner_found}
 use Rattle.farm_rounds.proofs.Phased.{half_open, IsDone, done_keeps, done_periods}
-use Rattle.farm_rounds.proofs.Working.{seat_read_at, seats_rising, goes_on_at}
+use Rattle.farm_rounds.proofs.GoingOn.{goes_on_at}
+use Rattle.farm_rounds.proofs.Working.{seat_read_at, seats_rising}
 use Rattle.farm_rounds.proofs.Rounded.{ends, ends_with, told as told_open, all_told, done, all_done, done_found, in_round, beside, seat_found, kept_found, job_alone, job_both, worked_half}
-use Rattle.farm_rounds.proofs.Numbered.{any_map, any_found, found_same, map_same, rise}
 use Rattle.farm_rounds.proofs.Flags.{flag_after, le_is, not_le_is}
 use Rattle.farm_rounds.proofs.Finished.{Seated, Finished, alone_finished, beside_finished}
-
--- what the types of a call keep true: its octets fit together, and no more periods came than were planned
-abbrev pub IsSound : OpenCall → Type 0
-IsSound o = IsIo o.job.io × (whole_in o.lines ≤ o.lines.periods)
 
 -- what stands for an open call
 record Told (c : ℕ) (o : Option CallHistory) (h : HalfMemory) (partner : Option ℕ) : Type 0 where
@@ -138,6 +133,19 @@ module _ (start ended : ℕ) (live : List ℕ) (os : List OpenCall) (i : IsRound
 
   -- ---- a call after it
 
+  -- it goes on if its lines gave all periods
+  going : (c : ℕ) (o : OpenCall) → open_in os c ≡ Some o → goes_on_call (map seat_of_open (all_done os)) c ≡ goes_on_open o
+  going c o e =
+      let after = map seat_of_open (all_done os) in
+      let f = is_found os c o e in
+      let k = f.index in
+      let lk : k < length (map seat_of_open os) = omega (arith, f.inside, length-map os seat_of_open) in
+      let la : k < length after = omega (arith, lk, seats_number) in
+      let place : (seat_at after k).lines ≡ o.lines = same_place k lk ∙ ap (λ (s : SeatMemory). s.lines) (seat_before k f.inside ∙ ap seat_of_open f.there) in
+      let call : call_at after k ≡ c = ap (λ (p : LinesMemory). p.call) place ∙ (in_round start ended live os i c o e).call.lines ∙ f.number in
+      subst (λ (n : ℕ). goes_on_call after n ≡ goes_on_in (seat_at after k)) call (goes_on_at after k seats_done_rising la)
+      ∙ ap (λ (p : LinesMemory). whole_in p == p.periods) place
+
   call_after : (c : ℕ) (o : OpenCall) → open_in os c ≡ Some o → call_in (map kept_of (all_done os)) c ≡ Some (kept_of (done os o)).call
   call_after c o e =
       ap (option_map (λ (k : Kept). k.call)) (kept_by (all_done os) c ∙ ap (option_map kept_of) (done_found os c ∙ ap (option_map (done os)) e))
@@ -181,18 +189,6 @@ module _ (start ended : ℕ) (live : List ℕ) (os : List OpenCall) (i : IsRound
       abbrev partner : ℕ → Option ℕ
       partner = partner_in (map kept_of os)
 
-      -- a call goes on by its place
-      goes_on : (c : ℕ) (o : OpenCall) → open_in os c ≡ Some o → goes_on_call after c ≡ goes_on_in (seat_of_open o)
-      goes_on c o e =
-          let f = is_found os c o e in
-          let k = f.index in
-          let lk : k < length before = omega (arith, f.inside, length-map os seat_of_open) in
-          let la : k < length after = omega (arith, lk, seats_number) in
-          let place : (seat_at after k).lines ≡ o.lines = same_place k lk ∙ ap (λ (s : SeatMemory). s.lines) (seat_before k f.inside ∙ ap seat_of_open f.there) in
-          let call : call_at after k ≡ c = ap (λ (p : LinesMemory). p.call) place ∙ (in_round start ended live os i c o e).call.lines ∙ f.number in
-          subst (λ (n : ℕ). goes_on_call after n ≡ goes_on_in (seat_at after k)) call (goes_on_at after k seats_done_rising la)
-          ∙ ap (λ (p : LinesMemory). whole_in p == p.periods) place
-
       seated : (c : ℕ) (o : OpenCall) → open_in os c ≡ Some o → Seated before (goes_on_call after) o.lines.periods c (half_open o)
       seated c o e =
           let q = in_round start ended live os i c o e in
@@ -215,7 +211,7 @@ module _ (start ended : ℕ) (live : List ℕ) (os : List OpenCall) (i : IsRound
                 });
             number = ap (λ (s : SeatMemory). s.lines.call) is ∙ q.call.lines ∙ (is_found os c o e).number;
             within = subst (λ (s : SeatMemory). whole_in s.lines ≤ o.lines.periods) (sym is) bound;
-            full = goes_on c o e ∙ ap (λ (s : SeatMemory). whole_in s.lines == o.lines.periods) (sym is);
+            full = going c o e ∙ ap (λ (s : SeatMemory). whole_in s.lines == o.lines.periods) (sym is);
           }
 
       told : (c : ℕ) (o : OpenCall) → open_in os c ≡ Some o → Told c (h c) (half_open o) (partner c)
@@ -299,14 +295,14 @@ module _ (start ended : ℕ) (live : List ℕ) (os : List OpenCall) (i : IsRound
   -- ---- the round that is worked
 
   -- no more periods came than were planned
-  pub came : All IsSound (all_done os) → All (λ o. whole_in o.lines ≤ o.lines.periods) os
+  pub came : All OctetsFit (all_done os) → All (λ o. whole_in o.lines ≤ o.lines.periods) os
   came sound = All-from_get_or (λ o. whole_in o.lines ≤ o.lines.periods) os no_open (λ k l.
       let o = get_or os k no_open in
-      let s = subst IsSound (get_or-map (done os) os k no_open no_open l)
-      (All-get_or IsSound (all_done os) k no_open (omega (arith, l, length-map os (done os))) sound) in
+      let s = subst OctetsFit (get_or-map (done os) os k no_open no_open l)
+      (All-get_or OctetsFit (all_done os) k no_open (omega (arith, l, length-map os (done os))) sound) in
       subst (λ (p : LinesMemory). whole_in p ≤ p.periods) (keeps o).lines s.1)
 
-  worked_one : (o : OpenCall) → IsInRound start ended o → IsSound (done os o) → IsWorkedCall ended (done os o)
+  worked_one : (o : OpenCall) → IsInRound start ended o → OctetsFit (done os o) → IsWorkedCall ended (done os o)
   worked_one o q s =
       let d = done os o in
       let place = (keeps o).lines in
@@ -326,20 +322,6 @@ module _ (start ended : ℕ) (live : List ℕ) (os : List OpenCall) (i : IsRound
           out = omega (arith, room.out_room, same, periods);
         };
       }
-
-  -- a call goes on where all its periods came
-  going : (d : ℕ) (p : OpenCall) → open_in os d ≡ Some p → goes_on_call (map seat_of_open (all_done os)) d ≡ goes_on_open p
-  going d p e =
-      let xs = all_done os in
-      let place : OpenCall → ℕ = λ o. o.lines.call in
-      let risen = rise place xs (subst IsRising (sym (map_same place number_of xs placed_done)) rising_done) in
-      any_map (λ (s : SeatMemory). (s.lines.call == d) && goes_on_in s) seat_of_open xs ∙ any_found place goes_on_open xs d risen
-      ∙ ap (λ (o : Option OpenCall). is_some (option_filter goes_on_open o))
-      (found_same number_of place xs d placed_done ∙ done_found os d ∙ ap (option_map (done os)) e)
-      ∙ kept (done os p) ∙ ap (λ (q : LinesMemory). whole_in q == q.periods) (keeps p).lines
-    where
-      kept : (o : OpenCall) → is_some (option_filter goes_on_open (Some o)) ≡ goes_on_open o
-      kept o = elim (cases_Bool (goes_on_open o)) [ inl t ↦ simp t refl | inr f ↦ simp f refl ]
 
   -- whether a call is bridged behind both phases
   done_flag : (o : OpenCall) → IsInRound start ended o →
@@ -385,20 +367,20 @@ module _ (start ended : ℕ) (live : List ℕ) (os : List OpenCall) (i : IsRound
         stayed true = refl
         stayed false = refl
 
-  still_bridged : All IsSound (all_done os) → All (StaysBridged (goes_on_call (map seat_of_open (all_done os)))) (all_done os)
+  still_bridged : All OctetsFit (all_done os) → All (StaysBridged (goes_on_call (map seat_of_open (all_done os)))) (all_done os)
   still_bridged sound =
       All-map (StaysBridged (goes_on_call (map seat_of_open (all_done os)))) (done os) os
       (All-from_get_or (λ o. StaysBridged (goes_on_call (map seat_of_open (all_done os))) (done os o)) os no_open
       (λ k l. still_one (get_or os k no_open) (find_at os k rising l) (came sound)))
 
-  pub worked_round : All IsSound (all_done os) → IsWorkedRound ended live (all_done os)
+  pub worked_round : All OctetsFit (all_done os) → IsWorkedRound ended live (all_done os)
   worked_round sound = record {
     listed = i.opened.listed ∙ sym (numbers_in os);
     rising = i.opened.rising;
     each = All-map (IsWorkedCall ended) (done os) os (All-from_get_or (λ o. IsWorkedCall ended (done os o)) os no_open (λ k l.
         worked_one (get_or os k no_open) (All-get_or (IsInRound start ended) os k no_open l i.each)
-        (subst IsSound (get_or-map (done os) os k no_open no_open l)
-        (All-get_or IsSound (all_done os) k no_open (omega (arith, l, length-map os (done os))) sound))));
+        (subst OctetsFit (get_or-map (done os) os k no_open no_open l)
+        (All-get_or OctetsFit (all_done os) k no_open (omega (arith, l, length-map os (done os))) sound))));
     both = λ c d e.
         let b = i.opened.both c d (sym (same_partner c) ∙ e) in
         (same_partner d ∙ b.0, b.1);

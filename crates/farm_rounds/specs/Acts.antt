@@ -52,13 +52,13 @@ abbrev pub changed : {A : Type 0} → ℕ → (A → A) → (ℕ → Option A) �
 changed c g f d = if c == d then option_map g (f d) else f d
 
 -- the partner's value is changed by g, if there is one
-abbrev pub freed : {A : Type 0} → Option ℕ → (A → A) → (ℕ → Option A) → ℕ → Option A
-freed None g f = f
-freed (Some p) g f = changed p g f
+abbrev pub released : {A : Type 0} → Option ℕ → (A → A) → (ℕ → Option A) → ℕ → Option A
+released None g f = f
+released (Some p) g f = changed p g f
 
 abbrev pub calls_after : Act → (ℕ → Option Call) → ℕ → Option Call
 calls_after (Opened c law) f = put_at c (Some (new_call c law)) f
-calls_after (Closed c p) f = put_at c None (freed p parted f)
+calls_after (Closed c p) f = put_at c None (released p parted f)
 calls_after (Bridged a b) f = changed a bridged_call (changed b bridged_call f)
 calls_after (Unbridged a b) f = changed a parted (changed b parted f)
 calls_after (LevelSet c level) f = changed c (set_by (LevelSet c level)) f

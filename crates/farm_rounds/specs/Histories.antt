@@ -13,7 +13,7 @@ use Rattle.call_leg.specs.Stands.{Stands}
 use Rattle.down_framer.specs.Made.{handed_due}
 use Rattle.farm_rounds.specs.declared.tally.Tally.{Tally}
 use Rattle.farm_rounds.specs.Calls.{Call, Kept, call_in, partner_in}
-use Rattle.farm_rounds.specs.Acts.{put_at, changed, freed}
+use Rattle.farm_rounds.specs.Acts.{put_at, changed, released}
 
 -- the law of a call's octets, its periods so far, and what is set for the next one
 pub record CallHistory : Type 0 where
@@ -47,7 +47,7 @@ set_now f h = record { law = h.law; periods = h.periods; now = f h.now }
 
 abbrev pub histories_after : Act → (ℕ → Option CallHistory) → ℕ → Option CallHistory
 histories_after (Opened c law) h = put_at c (Some (record { law = law; periods = []; now = new_settings })) h
-histories_after (Closed c p) h = put_at c None (freed p (set_now without_bridge) h)
+histories_after (Closed c p) h = put_at c None (released p (set_now without_bridge) h)
 histories_after (Bridged a b) h = changed a (set_now with_bridge) (changed b (set_now with_bridge) h)
 histories_after (Unbridged a b) h = changed a (set_now without_bridge) (changed b (set_now without_bridge) h)
 histories_after (LevelSet c level) h = changed c (set_now (with_level level)) h

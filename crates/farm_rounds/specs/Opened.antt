@@ -7,6 +7,7 @@ use Rattle.call_leg.specs.Who.{Who}
 use Rattle.call_leg.specs.Periods.{CallPeriod}
 use Rattle.call_leg.specs.Settings.{Settings}
 use Rattle.call_leg.specs.Stands.{Stands}
+use Rattle.call_pair.specs.Memory.{IsIo}
 use Rattle.call_pair.specs.Phases.{turned_down, heard_from, leg_in, periods_left}
 use Rattle.call_pair.specs.declared.call_job.Phase.TheVariants.{First}
 use Rattle.farm_rounds.specs.Numbers.{IsRising, is_among}
@@ -26,6 +27,10 @@ no_open = new_open 0 A
 -- the call in the box at an index
 abbrev pub open_at : List (Box OpenCall) → ℕ → OpenCall
 open_at boxes k = get_or (opens_in boxes) k no_open
+
+-- what the types of a call's octets and lines keep true: its octets fit together, and no more periods came than were planned
+abbrev pub OctetsFit : OpenCall → Type 0
+OctetsFit o = IsIo o.job.io × (whole_in o.lines ≤ o.lines.periods)
 
 -- its buffers have the round's length
 abbrev pub HasBuffers : OpenCall → Type 0
@@ -129,6 +134,6 @@ pub record IsChanged (call : ℕ) (f : Kept → Kept) (before now : List OpenCal
   pub numbers : map (λ o. o.job.io.call) now ≡ map (λ o. o.job.io.call) before
 
 -- the partner of a call that ends, if there is one, goes on alone
-abbrev pub IsFreed : Option ℕ → List OpenCall → List OpenCall → Type 0
-IsFreed None before now = now ≡ before
-IsFreed (Some p) before now = IsChanged p (λ k. record { call = parted k.call; partner = None }) before now
+abbrev pub IsReleased : Option ℕ → List OpenCall → List OpenCall → Type 0
+IsReleased None before now = now ≡ before
+IsReleased (Some p) before now = IsChanged p (λ k. record { call = parted k.call; partner = None }) before now

@@ -4,7 +4,7 @@ use Rattle.std.specs.List.{All, list_any}
 use Rattle.trau_io.specs.declared.ends.CallEnd.{CallEnd}
 use Rattle.trau_io.specs.declared.line.Line.{Line}
 use Rattle.trau_io.specs.Indices.{index_of_line}
-use Rattle.std.specs.List.Sorted.{IsPermutation, IsNonDecreasingBy}
+use Rattle.std.specs.List.Sorted.{IsPermutation, IsStrictlyIncreasing}
 use Rattle.round_lines.specs.Memory.{line_name, failed_in_round}
 use Rattle.round_lines.specs.Seats.{SeatMemory, Fits}
 use Rattle.farm_rounds.specs.declared.tally.Tally.{Tally}
@@ -33,7 +33,6 @@ pub record IsInRound (start ended : ℕ) (o : OpenCall) : Type 0 where
   pub given : o.job.io.given ≡ o.lines.periods
   pub fresh : o.job.notes ≡ []
   pub alone : o.job.partner ≡ []
-  pub agrees : o.job.up.bridged ≡ o.job.down.bridged
   pub bridge : o.job.bridge_end ≡ (if is_some o.partner then o.lines.periods else 0)
   pub fits : Fits o.lines.periods o.job.io.up o.job.io.pcm o.job.io.down o.job.io.out
 
@@ -83,10 +82,10 @@ pub record IsWorkedRound (ended : ℕ) (live : List ℕ) (opens : List OpenCall)
 abbrev pub partner_past : (ℕ → Bool) → (ℕ → Option ℕ) → ℕ → Option ℕ
 partner_past stays partner c = if stays c then that_stays stays (partner c) else None
 
--- The failed lines are those from before the round and those of the round, in call-number order, and a call's in the order Up,
--- Pcm, Down, Out.
+-- The failed lines are those from before the round and those of the round, each once, in call-number order, and a call's in the
+-- order Up, Pcm, Down, Out.
 pub record GainsFailed (before now : List Line) (seats : List SeatMemory) : Type 0 where
   pub lines : List Line
   pub told : map line_name lines ≡ map line_name before ++ flat_map (λ s. failed_in_round s.lines) seats
   pub same : IsPermutation lines now
-  pub order : IsNonDecreasingBy (λ l. index_of_line l.call l.side) now
+  pub order : IsStrictlyIncreasing (map (λ l. index_of_line l.call l.side) now)

@@ -3,7 +3,7 @@
 
 ghost use Rattle.std.specs.Prelude.{◌≡◌, ◌≢◌, ℕ, List, Some, None, true, is_some, length, slice_index, IfOk, IfErr, IfSome};
 ghost use Rattle.std.specs.List.{All};
-ghost use Rattle.switchboard.specs.declared.act.Act.TheVariants as done;
+ghost use Rattle.switchboard.specs.declared.act.Act.TheVariants.{Opened, Closed};
 ghost use Rattle.call_leg.specs.Periods.{CallPeriod};
 ghost use Rattle.call_leg.specs.Settings.{Settings};
 ghost use Rattle.call_leg.specs.Stands.{Stands};
@@ -13,7 +13,7 @@ ghost use Rattle.farm_rounds.specs.Calls.{Call, call_in, partner_in};
 ghost use Rattle.farm_rounds.specs.Acts.{HasLevel, IsOpen, ActFits, Stays, Applied, bridged_call, parted, set_by};
 ghost use Rattle.farm_rounds.specs.Histories.{tally_of};
 ghost use Rattle.farm_rounds.specs.Opens.{opens_in, calls_of, kept_of, AreOpen};
-ghost use Rattle.farm_rounds.specs.Opened.{open_at, AreListed, IsChanged, IsFreed};
+ghost use Rattle.farm_rounds.specs.Opened.{open_at, AreListed, IsChanged, IsReleased};
 
 use crate::live::{index_of, insertion_index};
 use crate::open::OpenCall;
@@ -31,8 +31,8 @@ pub(crate) fn open(
     law: Law,
 ) -> Result<(), AllocError>
     requires sound { (most : ℕ) × AreOpen most live.old.items (opens_in calls.old.items) }
-    requires fits { ActFits (calls_of calls.old.items) (done.Opened call law) }
-    ensures applied { IfOk result (λ u. Applied (done.Opened call law) (calls_of calls.old.items) (calls_of calls.new.items)) }
+    requires fits { ActFits (calls_of calls.old.items) (Opened call law) }
+    ensures applied { IfOk result (λ u. Applied (Opened call law) (calls_of calls.old.items) (calls_of calls.new.items)) }
     ensures sound { (most : ℕ) → AreOpen most live.old.items (opens_in calls.old.items) →
         AreOpen most live.new.items (opens_in calls.new.items) }
     ensures calls { IfErr result (λ e. calls.new.items ≡ calls.old.items) }
@@ -101,11 +101,11 @@ pub(crate) fn change(calls: &mut [Box<OpenCall>], live: &[u32], act: &Act)
 }
 
 // Ends the bridge of the partner of a call that ends, if there is one.
-fn free(calls: &mut [Box<OpenCall>], live: &[u32], partner: Option<u32>)
+fn release_partner(calls: &mut [Box<OpenCall>], live: &[u32], partner: Option<u32>)
     requires listed { AreListed live.now (opens_in calls.old) }
     requires there { IfSome partner (λ p. is_among live.now p ≡ true) }
     requires back { IfSome partner (λ p. is_some (partner_in (calls_of calls.old) p) ≡ true) }
-    ensures { IsFreed partner (opens_in calls.old) (opens_in calls.new) }
+    ensures { IsReleased partner (opens_in calls.old) (opens_in calls.new) }
 {
     if let Some(partner) = partner {
         part(calls, live, partner);
@@ -113,10 +113,10 @@ fn free(calls: &mut [Box<OpenCall>], live: &[u32], partner: Option<u32>)
 }
 
 /// Ends a call and its bridge, and returns its tally.
-pub(crate) fn end(calls: &mut Vec<Box<OpenCall>>, live: &mut Vec<u32>, call: u32) -> Tally
+pub(crate) fn close(calls: &mut Vec<Box<OpenCall>>, live: &mut Vec<u32>, call: u32) -> Tally
     requires sound { (most : ℕ) × AreOpen most live.old.items (opens_in calls.old.items) }
     requires fits { IsOpen (calls_of calls.old.items) call }
-    ensures applied { Applied (done.Closed call (partner_in (calls_of calls.old.items) call)) (calls_of calls.old.items)
+    ensures applied { Applied (Closed call (partner_in (calls_of calls.old.items) call)) (calls_of calls.old.items)
         (calls_of calls.new.items) }
     ensures sound { (most : ℕ) → AreOpen most live.old.items (opens_in calls.old.items) →
         AreOpen most live.new.items (opens_in calls.new.items) }
@@ -125,8 +125,8 @@ pub(crate) fn end(calls: &mut Vec<Box<OpenCall>>, live: &mut Vec<u32>, call: u32
 {
     let at = index_of(live, call);
     let partner = calls[at].partner;
-    free(calls, live, partner);
+    release_partner(calls, live, partner);
     live.remove(at);
-    let ended = calls.remove(at);
-    ended.tally()
+    let closed = calls.remove(at);
+    closed.tally()
 }

@@ -11,7 +11,7 @@ ghost use Rattle.farm_rounds.specs.Memory.{tally_in};
 ghost use Rattle.farm_rounds.specs.Numbers.{IsRising};
 ghost use Rattle.farm_rounds.specs.Opens.{opens_in, seats_of, calls_of, AreOpen, IsOpenCall, with_job, open_planned, goes_on_open, open_rested};
 ghost use Rattle.farm_rounds.specs.Working.{IsRound, IsWorkedRound};
-ghost use Rattle.farm_rounds.specs.Opened.{open_at, same_seats, same_calls, standings, end_beside, all_begun, all_met, TallyKept, HasBuffers, ArePaired, IsReady, IsTold};
+ghost use Rattle.farm_rounds.specs.Opened.{open_at, same_seats, same_calls, standings, end_beside, all_begun, all_met, TallyKept, HasBuffers, ArePaired, IsReady, OctetsFit, IsTold};
 ghost use Rattle.call_pair.specs.Phases.{heard_from, periods_left};
 ghost use Rattle.call_pair.specs.declared.call_job.Phase.TheVariants.{First};
 
@@ -107,7 +107,7 @@ pub(crate) fn meet_all(calls: &mut [Box<OpenCall>], live: &[u32])
     for at in 0..calls.len() {
         match calls[at].partner {
             Some(partner) => meet(calls, at, index_of(live, partner)),
-            None => calls[at].turn_down(),
+            None => calls[at].begin_second_phase(),
         }
     }
 }
@@ -129,9 +129,13 @@ pub(crate) fn drain_all<T: Trunk>(trunk: &mut T, calls: &mut [Box<OpenCall>])
 pub(crate) fn list_ends(calls: &[Box<OpenCall>], start: u32, ends: &mut Vec<CallEnd>)
     requires within { EndsWithin start (seats_of calls.now) }
     requires room { vec_len ends.old + length calls.now ≤ vec_capacity ends.old }
-    ensures { ends.new.items ≡ ends.old.items ++ filter_map (seat_end start) (seats_of calls.now) }
+    ensures listed { ends.new.items ≡ ends.old.items ++ filter_map (seat_end start) (seats_of calls.now) }
+
+    // For the prover: what the types of each call's octets and lines keep true.
+    ensures sound { All OctetsFit (opens_in calls.now) }
 {
     for call in calls {
+        call.octets_fit();
         if let Some(end) = call.lines.end(start) {
             ends.push_reserved(end);
         }

@@ -4,7 +4,7 @@ ghost use Rattle.std.specs.Prelude.{◌≡◌, ◌<◌, ◌≢◌, ℕ, false, i
 ghost use Rattle.std.specs.List.Sorted.{IsStrictlyIncreasing};
 ghost use Rattle.trau_io.specs.declared.line.Side.{Side};
 ghost use Rattle.trau_io.specs.Indices.{index_of_line};
-ghost use Rattle.switchboard.specs.declared.act.Act.TheVariants as done;
+ghost use Rattle.switchboard.specs.declared.act.Act.TheVariants.{Opened, Closed};
 ghost use Rattle.call_leg.specs.Periods.{CallPeriod};
 ghost use Rattle.call_leg.specs.Settings.{Settings};
 ghost use Rattle.call_leg.specs.Counted.{call_counts};
@@ -40,7 +40,7 @@ pub struct Farm {
     // Each once, in rising order of their indices.
     pub(crate) failed: Vec<Line>,
     // The first period after the last round.
-    pub(crate) end: u32,
+    pub(crate) ended: u32,
 }
 
 impl Model for Farm {
@@ -52,9 +52,9 @@ impl Model for Farm {
 
     ghost Value = { FarmMemory };
 
-    ghost view = { λ f. record { calls = calls_of f.calls.items; live = f.live.items; tallies = f.tallies.items; failed = f.failed.items; ended = f.end } };
+    ghost view = { λ f. record { calls = calls_of f.calls.items; live = f.live.items; tallies = f.tallies.items; failed = f.failed.items; ended = f.ended } };
 
-    ghost invariant = { λ f. AreOpen f.end f.live.items (opens_in f.calls.items) × (length f.tallies.items ≡ NUMBERS)
+    ghost invariant = { λ f. AreOpen f.ended f.live.items (opens_in f.calls.items) × (length f.tallies.items ≡ NUMBERS)
         × AreFailed f.failed.items (calls_of f.calls.items) };
 }
 
@@ -69,7 +69,7 @@ impl Farm {
             live: Vec::new(alloc),
             tallies: vec![in alloc; NO_TALLY; NUMBERS]?,
             failed: Vec::new(alloc),
-            end: 0,
+            ended: 0,
         })
     }
 
@@ -111,10 +111,10 @@ impl Farm {
 
     // Opens a call with this law.
     fn open(&mut self, alloc: Global, call: u32, law: Law) -> Result<(), AllocError>
-        requires fits { ActFits self.old.calls (done.Opened call law) }
+        requires fits { ActFits self.old.calls (Opened call law) }
         requires fresh { (s : Side) → is_listed self.old.failed call s ≡ false }
         ensures before { AreMutual self.old.calls }
-        ensures applied { IfOk result (λ u. Applied (done.Opened call law) self.old.calls self.new.calls) }
+        ensures applied { IfOk result (λ u. Applied (Opened call law) self.old.calls self.new.calls) }
         ensures refused { IfErr result (λ e. self.new ≡ self.old) }
         ensures others { self.new ≡ record self.old { calls = self.new.calls; live = self.new.live } }
     {
@@ -125,13 +125,13 @@ impl Farm {
     fn close(&mut self, call: u32)
         requires { IsOpen self.old.calls call }
         ensures before { AreMutual self.old.calls }
-        ensures applied { Applied (done.Closed call (partner_in self.old.calls call)) self.old.calls self.new.calls }
+        ensures applied { Applied (Closed call (partner_in self.old.calls call)) self.old.calls self.new.calls }
         ensures others { self.new ≡ record self.old { calls = self.new.calls; live = self.new.live; tallies = self.new.tallies } }
         ensures tallies { (c : ℕ) → c ≢ call → tally_in self.new.tallies c ≡ tally_in self.old.tallies c }
         ensures tally { (x : Call) (who : Who) (ts : List CallPeriod) (now : Settings) → call_in self.old.calls call ≡ Some x → Stands who ts now x.leg →
             tally_in self.new.tallies call ≡ tally_of ts now }
     {
-        let tally = acts::end(&mut self.calls, &mut self.live, call);
+        let tally = acts::close(&mut self.calls, &mut self.live, call);
         self.tallies[call as usize] = tally;
     }
 

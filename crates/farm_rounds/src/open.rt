@@ -231,7 +231,7 @@ impl OpenCall {
     }
 
     /// Between the phases: begins the second phase of a call without a partner.
-    pub(crate) fn turn_down(&mut self)
+    pub(crate) fn begin_second_phase(&mut self)
         requires first { self.old.job.phase ≡ First }
         requires finished { periods_left self.old.job ≡ 0 }
         requires alone { self.old.job.bridge_end ≡ 0 }
@@ -241,7 +241,7 @@ impl OpenCall {
     }
 
     /// The octets that go out on Down and on Out: 40 and 160 for each whole period.
-    pub(crate) fn given(&self) -> (&[u8], &[u8])
+    pub(crate) fn outgoing(&self) -> (&[u8], &[u8])
         requires { Fits self.now.lines.periods self.now.job.io.up self.now.job.io.pcm self.now.job.io.down self.now.job.io.out }
         ensures down { result.0.now ≡ down_given (seat_of_open self.now) }
         ensures out { result.1.now ≡ out_given (seat_of_open self.now) }

@@ -2,15 +2,14 @@
 
 ghost use Rattle.std.specs.Prelude.{◌≡◌, ℕ, ◌+◌, ◌<◌, ◌≤◌, length, Option, Some, slice_index, IfOk, map};
 ghost use Rattle.std.specs.Option.{option_map};
-ghost use Rattle.std.specs.List.{All, filter_map};
-ghost use Rattle.call_pair.specs.Memory.{IsIo};
-ghost use Rattle.round_lines.specs.Memory.{whole_in};
+ghost use Rattle.std.specs.List.{filter_map};
 ghost use Rattle.round_lines.specs.Seats.{Fills};
 ghost use Rattle.round_lines.specs.Rounds.{Each, KeepsButEach, IsIncoming, Rising, call_at, seat_at, seat_end};
 ghost use Rattle.farm_rounds.specs.Calls.{call_in, partner_in};
 ghost use Rattle.farm_rounds.specs.Numbers.{IsRising};
+ghost use Rattle.farm_rounds.specs.Failed.{AreFailed};
 ghost use Rattle.farm_rounds.specs.Histories.{CallHistory, CallsStand};
-ghost use Rattle.farm_rounds.specs.Opens.{opens_in, seat_with};
+ghost use Rattle.farm_rounds.specs.Opens.{seat_with};
 ghost use Rattle.farm_rounds.specs.Rounds.{EndsShort, IsUnread};
 ghost use Rattle.farm_rounds.specs.Finishing.{half_worked};
 ghost use Rattle.farm_rounds.specs.RoundHistories.{seat_for, worked_histories, WorkedStand, AreWorked};
@@ -31,7 +30,7 @@ use trau_io::{CallEnd, Line, Trunk};
 #[derive(Drop)]
 pub struct Round {
     start: u32,
-    end: u32,
+    ended: u32,
     calls: Vec<Box<OpenCall>>,
     live: Vec<u32>,
     tallies: Vec<Tally>,
@@ -53,7 +52,7 @@ impl Model for Round {
 
     ghost view = { λ r. record {
       start = r.start;
-      ended = r.end;
+      ended = r.ended;
       live = r.live.items;
       tallies = r.tallies.items;
       failed = r.failed.items;
@@ -61,7 +60,7 @@ impl Model for Round {
       seats = seats_of r.calls.items;
     } };
 
-    ghost invariant = { λ r. IsRound r.start r.end r.live.items (opens_in r.calls.items) × (r.ends.items ≡ []) × (length r.live.items ≤ vec_capacity r.ends)
+    ghost invariant = { λ r. IsRound r.start r.ended r.live.items (opens_in r.calls.items) × (r.ends.items ≡ []) × (length r.live.items ≤ vec_capacity r.ends)
         × (length r.live.items ≤ r.first) × (length r.live.items ≤ r.second) × (length r.tallies.items ≡ NUMBERS)
         × (length r.failed.items + 4 * length r.live.items ≤ vec_capacity r.failed) × AreFailedBefore r.failed.items (opens_in r.calls.items) };
 }
@@ -97,20 +96,23 @@ impl Round {
         // It has the calls of the farm, in rising order of their numbers.
         ensures order { IfOk result (λ r. IsRising (map (λ k. k.call.number) r.calls)) }
         ensures calls { IfOk result (λ r. r.calls ≡ farm.calls) }
+
+        // Each line that failed before is listed once, and each open call knows which of its lines are.
+        ensures known { IfOk result (λ r. AreFailed farm.failed farm.calls) }
     {
         let Farm {
             mut calls,
             live,
             tallies,
             mut failed,
-            end: _,
+            ended: _,
         } = farm;
         plan_all(&mut calls, periods)?;
         failed.reserve(4 * live.len())?;
         let most = live.len() as u32;
         Ok(Round {
             start,
-            end: start + periods,
+            ended: start + periods,
             ends: Vec::with_capacity(alloc, live.len())?,
             first: PoolRoom::reserve(alloc, workers, most)?,
             second: PoolRoom::reserve(alloc, workers, most)?,
@@ -176,7 +178,7 @@ impl Round {
     {
         let Round {
             start,
-            end,
+            ended,
             mut calls,
             live,
             tallies,
@@ -186,27 +188,17 @@ impl Round {
             second,
         } = self;
         begin_all(&mut calls, &live);
-        let mut told = run_pool(rt, first, calls, slice, gate);
-        meet_all(&mut told, &live);
-        let calls = run_pool(rt, second, told, slice, gate);
-        all_octets_fit(&calls);
+        let mut halfway = run_pool(rt, first, calls, slice, gate);
+        meet_all(&mut halfway, &live);
+        let calls = run_pool(rt, second, halfway, slice, gate);
         list_ends(&calls, start, &mut ends);
         Worked {
-            end,
+            ended,
             calls,
             live,
             tallies,
             failed,
             ends,
         }
-    }
-}
-
-// For the prover only: reading the fields of each call brings in the invariants of their types.
-fn all_octets_fit(calls: &[Box<OpenCall>])
-    ensures { All (λ o. IsIo o.job.io × (whole_in o.lines ≤ o.lines.periods)) (opens_in calls.now) }
-{
-    for call in calls {
-        call.octets_fit();
     }
 }

@@ -62,7 +62,7 @@ impl Sums {
         ensures { AddsSeat (seat_of_open call.now) (sum_in self.old) (sum_in self.new) }
     {
         let number = call.lines.call();
-        let (down, out) = call.given();
+        let (down, out) = call.outgoing();
         self.add(
             Line {
                 call: number,

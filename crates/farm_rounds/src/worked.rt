@@ -22,7 +22,7 @@ use trau_io::{CallEnd, Line, Trunk, line_index};
 /// A processed round: what its calls give to their outgoing lines, and which calls end.
 #[derive(Drop)]
 pub struct Worked {
-    pub(crate) end: u32,
+    pub(crate) ended: u32,
     pub(crate) calls: Vec<Box<OpenCall>>,
     pub(crate) live: Vec<u32>,
     pub(crate) tallies: Vec<Tally>,
@@ -40,7 +40,7 @@ impl Model for Worked {
     ghost Value = { WorkedMemory };
 
     ghost view = { λ r. record {
-      ended = r.end;
+      ended = r.ended;
       live = r.live.items;
       tallies = r.tallies.items;
       failed = r.failed.items;
@@ -49,7 +49,7 @@ impl Model for Worked {
       ends = r.ends.items;
     } };
 
-    ghost invariant = { λ r. IsWorkedRound r.end r.live.items (opens_in r.calls.items) × (length r.tallies.items ≡ NUMBERS)
+    ghost invariant = { λ r. IsWorkedRound r.ended r.live.items (opens_in r.calls.items) × (length r.tallies.items ≡ NUMBERS)
         × (length r.failed.items + 4 * length r.live.items ≤ vec_capacity r.failed) × AreFailedBefore r.failed.items (opens_in r.calls.items) };
 }
 
@@ -112,7 +112,7 @@ impl Worked {
             tally_in result.tallies c ≡ (if goes_on_call self.seats c then tally_in self.tallies c else kept_of (h c) (tally_in self.tallies c)) }
     {
         let Worked {
-            end,
+            ended,
             mut calls,
             mut live,
             mut tallies,
@@ -128,7 +128,7 @@ impl Worked {
             live,
             tallies,
             failed,
-            end,
+            ended,
         }
     }
 }

@@ -2,6 +2,5 @@
 pub mod Tests
 pub mod Counts
 pub mod Boards
-pub mod Seated
 pub mod Round
 pub mod Behind

@@ -2,3 +2,4 @@
 pub mod Calls
 pub mod Numbers
 pub mod Resumption
+pub mod Parts

@@ -15,3 +15,4 @@ pub mod Stages
 pub mod Marking
 pub mod Saving
 pub mod Resuming
+pub mod Parts

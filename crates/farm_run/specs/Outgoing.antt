@@ -11,7 +11,6 @@ use Rattle.round_lines.specs.Rounds.{Each, KeepsButEach, IsOutgoing}
 use Rattle.farm_rounds.specs.Memory.{FarmMemory}
 use Rattle.farm_rounds.specs.Sums.{sum_in, no_sums}
 use Rattle.farm_rounds.specs.Working.{WorkedMemory, GainsFailed}
-use Rattle.farm_rounds.specs.RoundHistories.{KnowFailed}
 use Rattle.farm_run.specs.declared.outgoing.Outgoing.{Outgoing}
 use Rattle.farm_run.specs.declared.outgoing.Outgoing.TheVariants.{Written, Summed, Held}
 
@@ -50,7 +49,7 @@ pub record Settles (before now : Side → LineState) (s t : SeatMemory) : Type 0
   pub kept : t ≡ record s { lines = record s.lines { down = t.lines.down; out = t.lines.out } }
   pub faults : (first : Side → LineState) → TellsFaults first before s.lines → TellsFaults first now t.lines
 
--- The octets of a processed round were written or held back, and the farm knows which lines failed.
+-- The octets of a processed round were written or held back, and the farm lists the lines that failed.
 pub record IsSettled (held : Bool) (before now : ℕ → Side → LineState) (worked : WorkedMemory) (after : FarmMemory) : Type 0 where
   -- the seats after it
   pub seats : List SeatMemory
@@ -58,7 +57,6 @@ pub record IsSettled (held : Bool) (before now : ℕ → Side → LineState) (wo
   pub settles : Each Settles before now worked.seats seats (length worked.seats)
   pub others : KeepsButEach IsOutgoing before now worked.seats (length worked.seats)
   pub gains : GainsFailed worked.failed after.failed seats
-  pub know : KnowFailed seats after.calls
   -- if they are written, each call's lines were given what goes out; if they are held back, lines and seats are unchanged
   pub written : held ≡ false → Each Drains before now worked.seats seats (length worked.seats)
   pub back : held ≡ true → (now ≡ before) × (seats ≡ worked.seats)

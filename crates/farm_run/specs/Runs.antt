@@ -1,7 +1,6 @@
 -- What a run leaves on the lines of its calls, and what it reports, whatever fails (this project's profile). `before` are
 -- the lines before it, `now` those after it.
-use Rattle.std.specs.Prelude.{◌≡◌, ◌⊎◌, ◌<◌, ◌≤◌, ℕ, ◌+◌, ◌-◌, ◌*◌, Bool, true, false, ◌==◌, Some, List, ◌++◌, length, map, take, drop}
-use Rattle.std.specs.List.{list_any}
+use Rattle.std.specs.Prelude.{◌≡◌, ◌⊎◌, ◌<◌, ◌≤◌, ℕ, ◌+◌, ◌-◌, ◌*◌, Bool, true, false, Some, List, ◌++◌, length, map, take, drop}
 use Rattle.std.specs.List.Sorted.{IsStrictlyIncreasing}
 use Rattle.std.specs.Io.KnownBytes.{Appends}
 use Rattle.trau_io.specs.declared.line.Line.{Line}
@@ -20,6 +19,8 @@ use Rattle.run_spec.specs.Run.{Run, start_in, end_in, periods_in, IsOpened, caus
 use Rattle.run_spec.specs.Lines.{out_of_call, down_of_call}
 use Rattle.run_spec.specs.Facts.{report_of}
 use Rattle.farm_run.specs.declared.pace.Pace.{Pace}
+-- `is_listed lines c s`: whether `lines` has the line of call c on side s
+pub use Rattle.farm_rounds.specs.Failed.{is_listed}
 
 -- ---- the lines that failed
 
@@ -27,10 +28,6 @@ use Rattle.farm_run.specs.declared.pace.Pace.{Pace}
 pub record AreFailures (fails : ℕ → Side → Bool) (before now : ℕ → Side → LineState) : Type 0 where
   pub rose : (c : ℕ) (s : Side) → fails c s ≡ true → Rose (before c s).faults (now c s).faults
   pub kept : (c : ℕ) (s : Side) → fails c s ≡ false → (now c s).faults ≡ (before c s).faults
-
--- whether the line of a call on a side is one of these
-abbrev pub is_listed : List Line → ℕ → Side → Bool
-is_listed lines c s = list_any (λ l. index_of_line l.call l.side == index_of_line c s) lines
 
 -- These are the lines that failed, each once, in call-number order, and a call's in the order Up, Pcm, Down, Out.
 pub record TellsFailed (before now : ℕ → Side → LineState) (lines : List Line) : Type 0 where

@@ -30,7 +30,7 @@ pub record IsStage (s : Stage) : Type 0 where
   pub shut : AreShut s.board s.journal.ends
   pub bridges : length s.journal.bridges ≤ length s.board.done
   pub ended : s.farm.ended ≤ s.clock
-  pub knows : KnowsListed s.board s.farm.calls s.farm.failed
+  pub knows : KnowsListed s.board s.farm.failed
   pub few : length (orders_of s.board) ≤ 65536
 
 -- the run of these orders, before the first of them

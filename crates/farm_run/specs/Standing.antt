@@ -3,17 +3,16 @@
 use Rattle.std.specs.Prelude.{◌≡◌, ◌<◌, ℕ, ◌+◌, ◌-◌, min, Bool, true, false, ◌||◌, Some, is_some, unwrap_or, List, [], ◌++◌, length, take, drop}
 use Rattle.trau_io.specs.declared.line.Line.{Line}
 use Rattle.trau_io.specs.declared.line.Side.{Side}
-use Rattle.trau_io.specs.declared.line.Side.TheVariants.{Up, Pcm, Down, Out}
+use Rattle.trau_io.specs.declared.line.Side.TheVariants.{Up, Pcm}
 use Rattle.trau_io.specs.Lines.{LineState}
 use Rattle.round_lines.specs.declared.transfer.Taken.{Taken}
-use Rattle.round_lines.specs.Memory as places
+use Rattle.round_lines.specs.Memory as round_lines
 use Rattle.round_lines.specs.Memory.{fails_in}
 use Rattle.round_lines.specs.Seats.{SeatMemory}
 use Rattle.round_lines.specs.Rounds.{IsIncoming, seat_at, call_at}
 use Rattle.switchboard.specs.Calls.{closed_at}
 use Rattle.switchboard.specs.State.{State, gone_in}
 use Rattle.switchboard.specs.Open.{opened_now}
-use Rattle.farm_rounds.specs.Calls.{Call, Kept, call_in}
 use Rattle.run_spec.specs.Run.{Run}
 use Rattle.farm_run.specs.Runs.{is_listed, ReadsOn}
 
@@ -44,14 +43,12 @@ pub record StandingGoesOn (before now : Standing) : Type 0 where
   pub lines : (c : ℕ) (s : Side) → IsIncoming s → before.over c ≡ true → (now.lines c s).to_come ≡ (before.lines c s).to_come
   pub listed : (c : ℕ) (s : Side) → IsIncoming s → before.over c ≡ true → now.listed c s ≡ before.listed c s
 
--- What board and farm know of the lines that are listed as failed. So a line that failed isn't used in a later round.
-pub record KnowsListed (b : State) (kept : List Kept) (failed : List Line) : Type 0 where
+-- What the board knows of the lines that are listed as failed. So an incoming line that failed isn't read in a later round.
+pub record KnowsListed (b : State) (failed : List Line) : Type 0 where
   -- an order opened the line's call
   pub opened : (c : ℕ) (s : Side) → is_listed failed c s ≡ true → opened_now b c ≡ true
   -- an incoming line ended its call, and the board knows this
   pub ended : (c : ℕ) (s : Side) → IsIncoming s → is_listed failed c s ≡ true → gone_in b c ≡ true
-  -- an open call knows which of its outgoing lines are listed
-  pub calls : (c : ℕ) (x : Call) → call_in kept c ≡ Some x → (x.down_failed ≡ is_listed failed c Down) × (x.out_failed ≡ is_listed failed c Out)
 
 -- ---- what a line gives
 
@@ -97,4 +94,4 @@ pub record MeetsRun (r : Run) (n : ℕ) (seats : List SeatMemory) (behind last :
   -- of the incoming lines of the round's calls, exactly those that failed in it are listed after it
   pub listed : (k : ℕ) (s : Side) → k < length seats → IsIncoming s → behind.listed (call_at seats k) s ≡ fails_in (seat_at seats k).lines s
   -- a call whose lines lack one of the periods has ended after it
-  pub over : (k : ℕ) → k < length seats → places.whole_in (seat_at seats k).lines < n → behind.over (call_at seats k) ≡ true
+  pub over : (k : ℕ) → k < length seats → round_lines.whole_in (seat_at seats k).lines < n → behind.over (call_at seats k) ≡ true

@@ -57,7 +57,7 @@ fn execute(
     requires shut { AreShut board.old journal.old.ends }
     requires few { length (orders_of board.old) ≤ 65536 }
     requires bridges { length journal.old.bridges ≤ length board.old.done }
-    requires knows { KnowsListed board.old farm.old.calls farm.old.failed }
+    requires knows { KnowsListed board.old farm.old.failed }
     ensures clock { IfOk result (λ more. AtClock clock board.new farm.new.calls) }
     ensures shut { IfOk result (λ more. AreShut board.new journal.new.ends) }
     ensures bridges { IfOk result (λ more. length journal.new.bridges ≤ length board.new.done) }
@@ -66,7 +66,7 @@ fn execute(
     ensures left { IfOk result (λ more. more ≡ true → length board.new.left + 1 ≡ length board.old.left) }
     ensures ended { IfOk result (λ more. farm.new.ended ≡ farm.old.ended) }
     ensures failed { IfOk result (λ more. farm.new.failed ≡ farm.old.failed) }
-    ensures knows { IfOk result (λ more. KnowsListed board.new farm.new.calls farm.new.failed) }
+    ensures knows { IfOk result (λ more. KnowsListed board.new farm.new.failed) }
     ensures over { (c : ℕ) → is_over board.old c ≡ true → is_over board.new c ≡ true }
     ensures follows { (r : Run) → clock < r.periods → FollowsRun r clock board.old farm.old.calls →
         IfOk result (λ more. FollowsRun r clock board.new farm.new.calls) }
@@ -99,7 +99,7 @@ pub(crate) fn execute_orders(
     requires shut { AreShut board.old journal.old.ends }
     requires few { length (orders_of board.old) ≤ 65536 }
     requires bridges { length journal.old.bridges ≤ length board.old.done }
-    requires knows { KnowsListed board.old farm.old.calls farm.old.failed }
+    requires knows { KnowsListed board.old farm.old.failed }
     ensures clock { IfOk result (λ u. AtClock clock board.new farm.new.calls) }
     ensures shut { IfOk result (λ u. AreShut board.new journal.new.ends) }
     ensures bridges { IfOk result (λ u. length journal.new.bridges ≤ length board.new.done) }
@@ -107,7 +107,7 @@ pub(crate) fn execute_orders(
     ensures done { IfOk result (λ u. IfSome (first_stamp board.new.left) (λ s. clock < s)) }
     ensures ended { IfOk result (λ u. farm.new.ended ≡ farm.old.ended) }
     ensures failed { IfOk result (λ u. farm.new.failed ≡ farm.old.failed) }
-    ensures knows { IfOk result (λ u. KnowsListed board.new farm.new.calls farm.new.failed) }
+    ensures knows { IfOk result (λ u. KnowsListed board.new farm.new.failed) }
     ensures over { (c : ℕ) → is_over board.old c ≡ true → is_over board.new c ≡ true }
     ensures follows { (r : Run) → clock < r.periods → FollowsRun r clock board.old farm.old.calls →
         IfOk result (λ u. FollowsRun r clock board.new farm.new.calls) }

@@ -5,10 +5,9 @@ ghost use Rattle.farm_run.specs.Pace.{IsPace};
 ghost use Rattle.farm_run.specs.Runs.{KeepsSides, Runs};
 ghost use Rattle.farm_run.specs.Fronts.{IsCutShort};
 
-use crate::clock::work_until;
-use crate::finish::finish;
 use crate::outgoing::Outgoing;
 use crate::pace::Pace;
+use crate::parts::run_to_end;
 use crate::stage::Stage;
 use farm_report::Report;
 use pool_run::Gate;
@@ -41,13 +40,5 @@ pub fn run<R: Threads + Wait + Sync, T: Trunk, G: Gate + Sync>(
 {
     let count = orders.list().len();
     let first = Stage::new(alloc, orders, Outgoing::Written)?;
-    let mut last = work_until(rt, alloc, pace, first, pace.periods, trunk, gate)?;
-    finish(
-        alloc,
-        &mut last.board,
-        &last.farm,
-        &mut last.journal,
-        count,
-        pace.periods,
-    )
+    run_to_end(rt, alloc, pace, first, count, pace.periods, trunk, gate)
 }

@@ -5,11 +5,13 @@ ghost use Rattle.farm_run.specs.Pace.{IsPace};
 ghost use Rattle.farm_run.specs.Runs.{KeepsSides};
 ghost use Rattle.farm_run.specs.Fronts.{IsCutShort};
 ghost use Rattle.farm_run.specs.Saving.{Saves};
+ghost use Rattle.farm_run.specs.Stages.{IsStage};
+ghost use Rattle.farm_run.specs.Parts.{IsKeptOf};
 
-use crate::clock::work_until;
 use crate::marking::mark_calls;
 use crate::outgoing::Outgoing;
 use crate::pace::Pace;
+use crate::parts::run_to;
 use crate::stage::Stage;
 use farm_checkpoint::Mark;
 use farm_rounds::Sums;
@@ -38,6 +40,20 @@ impl Model for Saved {
     ghost view = { λ s. record { failed = s.failed.items; mark = s.mark } };
 }
 
+// What is kept of a run at its last clock, which is `period`.
+fn keep(alloc: Global, last: &Stage, period: u32) -> Result<Saved, AllocError>
+    requires { IsStage last.now }
+    ensures { IfOk result (λ saved. IsKeptOf last.now period saved) }
+{
+    Ok(Saved {
+        failed: last.farm.failed().to_vec(alloc)?,
+        mark: Mark {
+            period,
+            calls: mark_calls(alloc, last)?,
+        },
+    })
+}
+
 /// Runs these orders over the lines of a trunk as `run` does, and marks the run at its end. An error says that memory ran out.
 /// The run waits for its workers; that it returns isn't proved.
 pub fn save<R: Threads + Wait + Sync, T: Trunk, G: Gate + Sync>(
@@ -59,13 +75,6 @@ pub fn save<R: Threads + Wait + Sync, T: Trunk, G: Gate + Sync>(
     ensures sides { KeepsSides (T.lines trunk.old) (T.lines trunk.new) }
 {
     let outgoing = Outgoing::Summed(Sums::new(alloc)?);
-    let first = Stage::new(alloc, orders, outgoing)?;
-    let last = work_until(rt, alloc, pace, first, pace.periods, trunk, gate)?;
-    Ok(Saved {
-        failed: last.farm.failed().to_vec(alloc)?,
-        mark: Mark {
-            period: pace.periods,
-            calls: mark_calls(alloc, &last)?,
-        },
-    })
+    let last = run_to(rt, alloc, pace, orders, outgoing, pace.periods, trunk, gate)?;
+    keep(alloc, &last, pace.periods)
 }

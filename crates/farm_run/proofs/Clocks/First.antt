@@ -17,7 +17,7 @@ use Rattle.switchboard.specs.Ends.{start_of}
 use Rattle.switchboard.specs.State.{State, EndBefore, first_stamp, last_stamp, orders_of}
 use Rattle.switchboard.specs.Open.{open_now, partner_now}
 use Rattle.call_leg.specs.Who.{Who}
-use Rattle.farm_rounds.specs.Calls.{Kept, call_in}
+use Rattle.farm_rounds.specs.Calls.{Kept}
 use Rattle.farm_rounds.specs.Histories.{CallsStand}
 use Rattle.run_spec.specs.Run.{Run, done_in, periods_to, end_in, who_in, worked_to}
 use Rattle.run_spec.specs.Now.{IsSoFar}
@@ -110,12 +110,8 @@ at_first r b calls periods lines last a none g run =
     }
 
 -- **Before the first round no line is listed.**
-pub knows_first : (b : State) (calls : List Kept) → calls ≡ [] → KnowsListed b calls []
-knows_first b calls empty = record {
-  opened = λ c s l. cc;
-  ended = λ c s i l. cc;
-  calls = λ c x e. (let q : None ≡ Some x = sym (ap (λ (gs : List Kept). call_in gs c) empty) ∙ e in cc);
-}
+pub knows_first : (b : State) → KnowsListed b []
+knows_first b = record { opened = λ c s l. cc; ended = λ c s i l. cc }
 
 -- what is listed at the run's end is what the run says
 pub flags_of : (r : Run) (os : List Order) (periods : ℕ) (first : ℕ → Side → LineState) (last : Standing) →

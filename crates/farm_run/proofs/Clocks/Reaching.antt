@@ -22,7 +22,7 @@ use Rattle.farm_run.proofs.Worked.Short.{short_none}
 use Rattle.farm_run.proofs.Lines.Sides.{sides_none, sides_more}
 use Rattle.farm_run.proofs.Clocks.Summing.{sums_first}
 
--- ---- one stretch after another
+-- ---- one part after another
 
 -- **Nothing has happened.**
 pub reaches_none : (batch : ℕ) (s : Stage) (lines : ℕ → Side → LineState) → IsStage s → Reaches batch s s lines lines
@@ -44,7 +44,7 @@ reaches_none batch s lines stage = record {
   short = λ r first last flags within on at short. short;
 }
 
--- **Two stretches are one.**
+-- **Two parts are one.**
 pub reaches_more : (batch : ℕ) (s u v : Stage) (before between now : ℕ → Side → LineState) → Reaches batch s u before between → Reaches batch u v between now →
     Reaches batch s v before now
 reaches_more batch s u v before between now g h = record {

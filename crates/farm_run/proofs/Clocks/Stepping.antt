@@ -1,4 +1,4 @@
--- A stretch of a run: the orders of the clock, and behind them a round, or none where no call is open.
+-- A part of a run: the orders of the clock, and behind them a round, or none where no call is open.
 use Rattle.std.proofs.Common.{◌≡◌, refl, sym, ap, ◌∙◌, subst, ℕ, ◌<◌, ◌≤◌, true, false, List, length, arith}
 use Rattle.std.specs.Prelude.{is_some, IfSome, Result, Ok, Err, IfOk}
 use Rattle.trau_io.specs.declared.line.Line.{Line}
@@ -44,7 +44,7 @@ pub record OrdersDone (s : Stage) (b : State) (farm : FarmMemory) (j : JournalMe
   pub kept : orders_of b ≡ orders_of s.board
   pub ended : farm.ended ≡ s.farm.ended
   pub failed : farm.failed ≡ s.farm.failed
-  pub knows : KnowsListed b farm.calls farm.failed
+  pub knows : KnowsListed b farm.failed
   pub over : (c : ℕ) → is_over s.board c ≡ true → is_over b c ≡ true
   pub follows : (r : Run) → s.clock < r.periods → FollowsRun r s.clock s.board s.farm.calls → FollowsRun r s.clock b farm.calls
   pub told : b.told ≡ s.board.told
@@ -55,7 +55,7 @@ pub record OrdersDone (s : Stage) (b : State) (farm : FarmMemory) (j : JournalMe
 -- **The orders of the clock are done.**
 pub orders_done : (s : Stage) (b : State) (farm : FarmMemory) (j : JournalMemory) → AtClock s.clock b farm.calls → AreShut b j.ends →
     length j.bridges ≤ length b.done → orders_of b ≡ orders_of s.board → farm.ended ≡ s.farm.ended → farm.failed ≡ s.farm.failed →
-    KnowsListed b farm.calls farm.failed → ((c : ℕ) → is_over s.board c ≡ true → is_over b c ≡ true) →
+    KnowsListed b farm.failed → ((c : ℕ) → is_over s.board c ≡ true → is_over b c ≡ true) →
     ((r : Run) → s.clock < r.periods → FollowsRun r s.clock s.board s.farm.calls → FollowsRun r s.clock b farm.calls) → b.told ≡ s.board.told →
     ((n : ℕ) → s.clock < n → OpenedBefore n s.journal.calls → OpenedBefore n j.calls) →
     ((r : Run) → s.clock < r.periods → FollowsRun r s.clock s.board s.farm.calls → Noted r s.board.done s.clock s.journal s.farm.tallies →

@@ -54,7 +54,7 @@ fronts_at r t b calls failed first now at wrote = record {
 
 -- **A run that ends at a clock is cut short there.**
 pub cut_at : (os : List Order) (periods t : ℕ) (b : State) (calls : List Kept) (failed : List Line) (first now : ℕ → Side → LineState) →
-    t ≤ periods → KnowsListed b calls failed → TellsFailed first now failed → KeepsSides first now → ReadsOn first now →
+    t ≤ periods → KnowsListed b failed → TellsFailed first now failed → KeepsSides first now → ReadsOn first now →
     ((r : Run) → IsRunOver os r.periods (is_listed failed) first now r → periods ≤ r.periods → IsAtClock r t b calls (standing b failed now) first now) →
     ((r : Run) → IsRunOver os r.periods (is_listed failed) first now r → periods ≤ r.periods → WrittenFrom r 0 t (is_listed failed) first now) →
     ((r : Run) → IsRunOver os r.periods (is_listed failed) first now r → periods ≤ r.periods → FailBefore r t (is_listed failed)) →
@@ -79,7 +79,7 @@ cut_at os periods t b calls failed first now within knows tells sides reads goes
       let e = run.same_periods in
       let is = subst (λ (p : ℕ). IsRunOver os p (is_listed failed) first now r) (sym e) run in
       let here = goes r is (omega (arith, e)) in
-      only_opened r t b calls failed here.follows.so_far knows;
+      only_opened r t b failed here.follows.so_far knows;
   there = λ are told. there_is os periods (is_listed failed) first now are
       (λ c s n i. let octets = told c s n i in let k = reads c s octets.0 i octets.1 in (octets.0, k.0, octets.1, k.1));
 }
@@ -144,7 +144,7 @@ cut_before os periods t mark over failed first now within early tells sides read
 
 -- **So is one that stops at a clock behind the mark's period, where the mark is the run's.**
 pub cut_behind : (os : List Order) (periods : ℕ) (mark : MarkView) (t : ℕ) (b : State) (calls : List Kept) (failed : List Line)
-    (first now : ℕ → Side → LineState) → mark.period ≤ t → t ≤ periods → KnowsListed b calls failed →
+    (first now : ℕ → Side → LineState) → mark.period ≤ t → t ≤ periods → KnowsListed b failed →
     TellsFailed first now failed → KeepsSides first now → ReadsOn first now →
     ((r : Run) → IsRunOver os mark.period (is_listed failed) first now r → marked_calls r ≡ mark.calls) →
     ((r : Run) → IsRunOver os r.periods (is_listed failed) first now r → periods ≤ r.periods → IsAtClock r t b calls (standing b failed now) first now) →
@@ -181,7 +181,7 @@ cut_behind os periods mark t b calls failed first now behind within knows tells 
       let e = run.same_periods in
       let is = subst (λ (p : ℕ). IsRunOver os p (is_listed failed) first now r) (sym e) run in
       let here = goes r is (omega (arith, e)) in
-      only_opened r t b calls failed here.follows.so_far knows;
+      only_opened r t b failed here.follows.so_far knows;
   held = λ r run differs. absurd (differs (same r run));
   there = λ are told n. there_is os n (is_listed failed) first now are
       (λ c s n i. let octets = told c s n i in let k = reads c s octets.0 i octets.1 in (octets.0, k.0, octets.1, k.1));

@@ -18,7 +18,6 @@ use Rattle.switchboard.specs.Calls.{opened_at, closed_at}
 use Rattle.switchboard.specs.Ends.{start_of, lack_of}
 use Rattle.switchboard.specs.State.{State, EndBefore, gone_in, told_in}
 use Rattle.switchboard.proofs.Whole.{end_by}
-use Rattle.farm_rounds.specs.Calls.{Kept}
 use Rattle.run_spec.specs.Run.{Run, given_in, whole_in, done_in, end_in, periods_to, IsOpened, cause_in, worked_to}
 use Rattle.run_spec.specs.Lines.{out_of_call, down_of_call}
 use Rattle.run_spec.specs.Now.{IsSoFar}
@@ -37,9 +36,8 @@ use Rattle.farm_run.proofs.Clocks.Reach.{worked_all}
 use Rattle.farm_run.proofs.Lines.Gaining.{out_taken, down_taken}
 
 -- **Of a call that the run opens is each line that is listed as failed.**
-pub only_opened : (r : Run) (t : ℕ) (b : State) (calls : List Kept) (failed : List Line) → IsSoFar r t b.done b.left → KnowsListed b calls failed →
-    OnlyOpenedFail r (is_listed failed)
-only_opened r t b calls failed so knows = λ c side l. by c (opened_at c b.done) refl (knows.opened c side l)
+pub only_opened : (r : Run) (t : ℕ) (b : State) (failed : List Line) → IsSoFar r t b.done b.left → KnowsListed b failed → OnlyOpenedFail r (is_listed failed)
+only_opened r t b failed so knows = λ c side l. by c (opened_at c b.done) refl (knows.opened c side l)
   where
     by : (c : ℕ) (v : Option ℕ) → opened_at c b.done ≡ v → is_some (opened_at c b.done) ≡ true → IsOpened r c
     by c (Some s) e o = ap is_some (opened_run r t b.done b.left c s so e)
@@ -58,9 +56,9 @@ by_lines r batch fails c Down short i l = absurd i
 by_lines r batch fails c Out short i l = absurd i
 
 -- **So did the call of each that is listed: the end was told, and it is the run's.**
-pub fail_before : (r : Run) (t batch : ℕ) (b : State) (calls : List Kept) (failed : List Line) → EndBefore t b → TellsTruly r b →
-    KnowsListed b calls failed → FailedShort r batch (is_listed failed) → FailBefore r t (is_listed failed)
-fail_before r t batch b calls failed before truly knows short =
+pub fail_before : (r : Run) (t batch : ℕ) (b : State) (failed : List Line) → EndBefore t b → TellsTruly r b → KnowsListed b failed →
+    FailedShort r batch (is_listed failed) → FailBefore r t (is_listed failed)
+fail_before r t batch b failed before truly knows short =
     λ c side i l. (by c (told_in b c) refl (knows.ended c side i l), by_lines r batch (is_listed failed) c side short i l)
   where
     by : (c : ℕ) (v : Option ℕ) → told_in b c ≡ v → gone_in b c ≡ true → end_in r c < t

@@ -1,6 +1,6 @@
 -- A run at its end: what it leaves on the lines, and what is told of it.
 use Rattle.std.proofs.Common.{◌≡◌, refl, sym, ap, ◌∙◌, subst, ℕ, ◌≤◌, Bool, List, length, map, arith}
-use Rattle.std.specs.Prelude.{is_some, IfOk, Result, Ok, Err}
+use Rattle.std.specs.Prelude.{is_some}
 use Rattle.trau_io.specs.declared.line.Line.{Line}
 use Rattle.trau_io.specs.declared.line.Side.{Side}
 use Rattle.trau_io.specs.Lines.{LineState}
@@ -69,7 +69,7 @@ module _ (os : List Order) (batch : ℕ) (first now : ℕ → Side → LineState
   opened_end r run =
       let here = at_end r run in
       let knows = (let s = g.stage in s.knows) in
-      only_opened r r.periods u.board u.farm.calls u.farm.failed here.follows.so_far knows
+      only_opened r r.periods u.board u.farm.failed here.follows.so_far knows
 
   -- **Its incoming lines that failed did so short of a round's octets.**
   pub short_end : (r : Run) → IsRunOver os u.clock (is_listed u.farm.failed) first now r → FailedShort r batch (is_listed u.farm.failed)
@@ -111,15 +111,14 @@ over_here os periods failed first now u e f r run =
     (subst (λ (ls : List Line). IsRunOver os periods (is_listed ls) first now r) f run)
 
 -- **A run that came to its last period leaves and reports what the run of the definition gives.**
-pub runs_told : {E : Type 0} (os : List Order) (pace : Pace) (first now : ℕ → Side → LineState) (u : Stage) (count : ℕ) (o : Result ReportView E) →
+pub runs_told : (os : List Order) (pace : Pace) (first now : ℕ → Side → LineState) (u : Stage) (count : ℕ) (report : ReportView) →
     GoneTo os pace.batch first now u → u.clock ≡ pace.periods →
     ((r : Run) (z : Standing) → IsRunOver os r.periods z.listed first z.lines r → u.clock ≤ r.periods → StandingGoesOn (standing u.board u.farm.failed now) z →
     WrittenFrom r 0 u.clock (is_listed u.farm.failed) first now) →
-    IfOk o (λ report. report.failed ≡ u.farm.failed) → count ≡ length os →
-    IfOk o (λ report. (r : Run) (t : ℕ) → IsAtEnd r t u.board u.farm.calls u.farm.tallies u.journal → r.periods ≡ pace.periods → length r.orders ≡ count →
-    report ≡ report_of r report.failed) → IfOk o (λ report. Runs os pace first now report)
-runs_told os pace first now u count (Err x) g e wrote f number h = tt
-runs_told os pace first now u count (Ok report) g e wrote f number h = record {
+    report.failed ≡ u.farm.failed → count ≡ length os →
+    ((r : Run) (t : ℕ) → IsAtEnd r t u.board u.farm.calls u.farm.tallies u.journal → r.periods ≡ pace.periods → length r.orders ≡ count →
+    report ≡ report_of r report.failed) → Runs os pace first now report
+runs_told os pace first now u count report g e wrote f number h = record {
   failed = subst (λ (ls : List Line). TellsFailed first now ls) (sym f) g.tells;
   sides = g.sides;
   reads = g.reads;

@@ -1,39 +1,37 @@
--- What is known of the listed lines behind a round, and how a run goes on in it, whatever fails.
-use Rattle.std.proofs.Common.{◌≡◌, refl, sym, ap, ◌∙◌, subst, ℕ, ◌<◌, true, false, not, ◌&&◌, Option, Some, None, List, length, drop, inl, inr, ◌⊎◌, arith}
-use Rattle.std.specs.Prelude.{is_some, slice_index}
+-- What is known of the seats of a round, of the calls that are over behind it and of the listed lines, and how a run goes on in it,
+-- whatever fails.
+use Rattle.std.proofs.Common.{◌≡◌, refl, sym, ap, ◌∙◌, subst, ℕ, ◌<◌, true, false, not, ◌&&◌, Option, Some, None, List, length, drop, inl, inr, arith, Bool}
+use Rattle.std.specs.Prelude.{is_some, slice_index, ◌==◌, ◌||◌}
 use Rattle.std.specs.Io.KnownBytes.{Consumes}
-use Rattle.std.proofs.lemmas.Bool.{and_parts}
+use Rattle.std.proofs.lemmas.Bool.{ne_eqb}
 use Rattle.std.proofs.Math.Seq.{drop-append_seam}
 use Rattle.trau_io.specs.declared.line.Side.{Side}
 use Rattle.trau_io.specs.declared.line.Side.TheVariants.{Up, Pcm, Down, Out}
 use Rattle.trau_io.specs.declared.ends.CallEnd.{CallEnd}
 use Rattle.trau_io.specs.Lines.{LineState}
-use Rattle.round_lines.specs.Transfer.{has_failed}
-use Rattle.round_lines.specs.Memory as places
-use Rattle.round_lines.specs.Memory.{fails_in}
-use Rattle.round_lines.specs.Seats.{SeatMemory}
-use Rattle.round_lines.specs.Rounds.{Rising, IsIncoming, seat_at}
-use Rattle.switchboard.specs.Calls.{Done, opened_at}
+use Rattle.round_lines.specs.Memory as round_lines
+use Rattle.round_lines.specs.Memory.{fails_in, LinesMemory}
+use Rattle.round_lines.specs.Rounds.{IsIncoming, seat_at, call_at}
+use Rattle.switchboard.specs.Calls.{Done, opened_at, closed_at}
 use Rattle.switchboard.specs.State.{State, gone_in}
 use Rattle.switchboard.specs.Open.{opened_now, open_now}
 use Rattle.farm_rounds.specs.Calls.{Call, call_in}
-use Rattle.farm_rounds.specs.Numbers.{is_among}
 use Rattle.farm_rounds.specs.Memory.{FarmMemory}
 use Rattle.farm_rounds.specs.Working.{goes_on_call}
-use Rattle.farm_rounds.specs.RoundHistories.{seat_of}
-use Rattle.farm_rounds.proofs.Naming.{Lists}
 use Rattle.run_spec.specs.Run.{Run}
 use Rattle.farm_run.specs.Going.{told_after, is_told}
 use Rattle.farm_run.specs.Match.{AtClock}
 use Rattle.farm_run.specs.Runs.{is_listed, ReadsOn}
 use Rattle.farm_run.specs.Standing.{Standing, standing, is_over, StandingGoesOn, KnowsListed, HasFlags, MeetsRun}
-use Rattle.farm_run.proofs.Listed.Boards.{over_shut, open_opened, open_gone, gone_told}
+use Rattle.farm_run.proofs.Listed.Boards.{over_shut, open_opened, open_gone, gone_told, over_told}
 use Rattle.farm_run.proofs.Listed.Counts.{seat_cases}
-use Rattle.farm_run.proofs.Worked.Round.{WorkedRound, among_place}
-use Rattle.farm_run.proofs.Worked.Facts.{lines_kept, incoming_after}
-use Rattle.farm_run.proofs.Worked.Seats.{seat_of_at}
-use Rattle.farm_run.proofs.Listed.Seated as its_seats
-use Rattle.farm_run.proofs.Listed.Round as its_lines
+use Rattle.farm_run.proofs.Worked.Round.{WorkedRound, SeatFacts, filled_call, filled_periods, worked_call, up_long, pcm_long}
+use Rattle.farm_run.proofs.Worked.Facts.{lines_kept, incoming_after, seat_facts}
+use Rattle.farm_run.proofs.Listed.Round.{listed_cases, marked, listed_kept, listed_incoming, marks_kept}
+use Rattle.farm_rounds.proofs.Gaining.{fewer_up, fewer_pcm}
+use Rattle.farm_rounds.proofs.GoingOn.{goes_on_at}
+use Rattle.farm_run.proofs.Told.Boards.{told_done}
+use Rattle.farm_run.proofs.Worked.Clock.{told_is}
 
 -- what a line gave in a round is a prefix
 front_read : (u v : Option (List ℕ)) (front xs : List ℕ) → Consumes u v front → u ≡ Some xs → (k : ℕ) × (v ≡ Some (drop k xs))
@@ -44,97 +42,121 @@ front_read (Some zs) (Some ys) front xs c e = (length front, ap Some (sym (drop-
     same : (zs xs : List ℕ) → Some zs ≡ Some xs → zs ≡ xs
     same zs xs e = cc
 
+-- an end is told of an open call that isn't open afterwards
+over_by : (p q g p' q' g' : Bool) → p' ≡ p → q' ≡ q → (p && not q && not g) ≡ true → (p' && not q' && not g') ≡ false → (g' || q') ≡ true
+over_by true false false true false true a b e f = refl
+over_by true false false true false false a b e f = cc
+over_by true false false true true g' a b e f = cc
+over_by true false false false q' g' a b e f = cc
+over_by true false true p' q' g' a b e f = cc
+over_by true true g p' q' g' a b e f = cc
+over_by false q g p' q' g' a b e f = cc
+
 module _ (t n : ℕ) (b : State) (farm after : FarmMemory) (before now : ℕ → Side → LineState) (ends : List CallEnd)
     (w : WorkedRound t n farm after before now ends) (a : AtClock t b farm.calls)
-    (knows : KnowsListed b farm.calls farm.failed) (b' : State) (told : b' ≡ told_after b ends)
+    (knows : KnowsListed b farm.failed) (b' : State) (told : b' ≡ told_after b ends)
     (o : (c : ℕ) → open_now b' c ≡ (open_now b c && not (is_told c ends))) where
-  -- what is known of the round's seats
-  abbrev Seated : ℕ → ℕ → Type 0
-  Seated k c = its_seats.Seated t n b farm after before now ends w a knows b' told o k c
-
-  abbrev seated : (k c : ℕ) → k < length farm.live → slice_index farm.live k ≡ c → Seated k c
-  seated k c l e = its_seats.seated t n b farm after before now ends w a knows b' told o k c l e
-
+  -- telling ends executes no order
   done_is : b'.done ≡ b.done
-  done_is = its_seats.done_is t n b farm after before now ends w a knows b' told o
+  done_is = ap (λ (s : State). s.done) told ∙ told_done b ends
 
+  -- ---- the seats
+
+  -- there are as many seats as open calls,
   long : length w.filled ≡ length farm.live
-  long = its_seats.long t n b farm after before now ends w a knows b' told o
+  long = w.filled_number ∙ w.number
 
-  long_drained : length w.drained ≡ length farm.live
-  long_drained = its_seats.long_drained t n b farm after before now ends w a knows b' told o
+  -- what is known of the seat at a place
+  record Seated (k c : ℕ) : Type 0 where
+    call : Call
+    called : call_in farm.calls c ≡ Some call
+    facts : SeatFacts n (before c) (w.between c) (now c) c call (seat_at w.planned k) (seat_at w.filled k) (seat_at w.worked k) (seat_at w.drained k)
+    filled_at : call_at w.filled k ≡ c
+    is_open : open_now b c ≡ true
 
-  rising : Rising w.drained
-  rising = its_seats.rising t n b farm after before now ends w a knows b' told o
+  -- the seat of an open call, by where its number stands
+  seated : (k c : ℕ) → k < length farm.live → slice_index farm.live k ≡ c → Seated k c
+  seated k c l e =
+      let f = seat_facts t n farm after before now ends w k c l e in
+      let open_is : open_now b c ≡ true = sym (a.matches.is_open c) ∙ ap is_some f.1 in
+      record {
+        call = f.0;
+        called = f.1;
+        facts = f.2;
+        filled_at = filled_call _ _ _ _ _ _ _ _ f.2.front;
+        is_open = open_is;
+      }
 
-  -- the calls that are over
+  -- ---- the calls that are over
+
+  -- a call that is over stays so
   over_on : (c : ℕ) → is_over b c ≡ true → is_over b' c ≡ true
-  over_on = its_seats.over_on t n b farm after before now ends w a knows b' told o
+  over_on c e = subst (λ (s : State). is_over s c ≡ true) (sym told) (over_told b ends c e)
 
-  lacks : (k c : ℕ) → k < length farm.live → slice_index farm.live k ≡ c → places.whole_in (seat_at w.filled k).lines < n → is_over b' c ≡ true
-  lacks = its_seats.lacks t n b farm after before now ends w a knows b' told o
+  -- **A call is over behind the round where its seat lacks one of the periods.**
+  lacks : (k c : ℕ) → k < length farm.live → slice_index farm.live k ≡ c → round_lines.whole_in (seat_at w.filled k).lines < n → is_over b' c ≡ true
+  lacks k c l e less =
+      over_by (opened_now b c) (is_some (closed_at c b.done)) (gone_in b c) (opened_now b' c) (is_some (closed_at c b'.done)) (gone_in b' c)
+      (ap (λ (ds : List Done). is_some (opened_at c ds)) done_is) (ap (λ (ds : List Done). is_some (closed_at c ds)) done_is) s.is_open
+      (o c ∙ ap (λ (x : Bool). open_now b c && not x) ended ∙ shut (open_now b c))
+    where
+      s : Seated k c
+      s = seated k c l e
 
+      shut : (x : Bool) → (x && false) ≡ false
+      shut true = refl
+      shut false = refl
+
+      place : (seat_at w.worked k).lines ≡ (seat_at w.filled k).lines
+      place = s.facts.front.lines
+
+      apart : round_lines.whole_in (seat_at w.filled k).lines ≡ (seat_at w.filled k).lines.periods → ⊥
+      apart q = absurd (omega (arith, q, less, filled_periods _ _ _ _ _ _ _ _ s.facts.front))
+
+      goes : goes_on_call w.worked c ≡ false
+      goes =
+          ap (goes_on_call w.worked) (sym (worked_call _ _ _ _ _ _ _ _ s.facts.front))
+          ∙ goes_on_at w.worked k w.worked_rising (omega (arith, l, long, w.worked_number))
+          ∙ ap (λ (p : LinesMemory). round_lines.whole_in p == p.periods) place
+          ∙ ne_eqb (round_lines.whole_in (seat_at w.filled k).lines) (seat_at w.filled k).lines.periods apart
+
+      ended : is_told c ends ≡ true
+      ended = told_is t n b farm after before now ends w a c (ap is_some s.called) ∙ ap not goes
+
+  -- an incoming line that failed in the round gave less than all of it
   failed_short : (k c : ℕ) (side : Side) → k < length farm.live → slice_index farm.live k ≡ c → IsIncoming side →
-      fails_in (seat_at w.filled k).lines side ≡ true → places.whole_in (seat_at w.filled k).lines < n
-  failed_short = its_seats.failed_short t n b farm after before now ends w a knows b' told o
+      fails_in (seat_at w.filled k).lines side ≡ true → round_lines.whole_in (seat_at w.filled k).lines < n
+  failed_short k c Up l e i f =
+      let s = seated k c l e in
+      let short = s.facts.front.fills.up.short f in
+      fewer_up (seat_at w.filled k).lines n (omega (arith, short, up_long _ _ _ _ _ _ _ _ s.facts.front))
+  failed_short k c Pcm l e i f =
+      let s = seated k c l e in
+      let short = s.facts.front.fills.pcm.short f in
+      fewer_pcm (seat_at w.filled k).lines n (omega (arith, short, pcm_long _ _ _ _ _ _ _ _ s.facts.front))
+  failed_short k c Down l e i f = absurd i
+  failed_short k c Out l e i f = absurd i
 
-  marks_kept : (k c : ℕ) (side : Side) → k < length farm.live → slice_index farm.live k ≡ c → IsIncoming side →
-      fails_in (seat_at w.drained k).lines side ≡ fails_in (seat_at w.filled k).lines side
-  marks_kept = its_seats.marks_kept t n b farm after before now ends w a knows b' told o
-
-  -- and of the listed lines
-  listed_cases : (c : ℕ) (side : Side) → is_listed after.failed c side ≡ true → (is_listed farm.failed c side ≡ true) ⊎ Lists w.drained (c, side)
-  listed_cases = its_lines.listed_cases t n b farm after before now ends w a knows b' told o
-
-  marked : (c : ℕ) (side : Side) (m : Lists w.drained (c, side)) →
-      (m.k < length farm.live) × (slice_index farm.live m.k ≡ c) × (fails_in (seat_at w.drained m.k).lines side ≡ true)
-  marked = its_lines.marked t n b farm after before now ends w a knows b' told o
-
-  listed_kept : (c : ℕ) (side : Side) → is_some (call_in farm.calls c) ≡ false → is_listed after.failed c side ≡ is_listed farm.failed c side
-  listed_kept = its_lines.listed_kept t n b farm after before now ends w a knows b' told o
-
-  listed_incoming : (k c : ℕ) (side : Side) → k < length farm.live → slice_index farm.live k ≡ c → IsIncoming side →
-      is_listed after.failed c side ≡ fails_in (seat_at w.filled k).lines side
-  listed_incoming = its_lines.listed_incoming t n b farm after before now ends w a knows b' told o
-
-  -- and of the outgoing lines as they stand
-  stands_down : (k c : ℕ) → k < length farm.live → slice_index farm.live k ≡ c → has_failed (seat_at w.drained k).lines.down ≡ is_listed after.failed c Down
-  stands_down = its_lines.stands_down t n b farm after before now ends w a knows b' told o
-
-  stands_out : (k c : ℕ) → k < length farm.live → slice_index farm.live k ≡ c → has_failed (seat_at w.drained k).lines.out ≡ is_listed after.failed c Out
-  stands_out = its_lines.stands_out t n b farm after before now ends w a knows b' told o
+  -- ---- the listed lines, and the run
 
   -- **The same is known of the listed lines.**
-  pub knows_after : KnowsListed b' after.calls after.failed
-  knows_after = record { opened = opened; ended = ended; calls = calls }
+  pub knows_after : KnowsListed b' after.failed
+  knows_after = record { opened = opened; ended = ended }
     where
       opened : (c : ℕ) (side : Side) → is_listed after.failed c side ≡ true → opened_now b' c ≡ true
-      opened c side q = ap (λ (ds : List Done). is_some (opened_at c ds)) done_is ∙ elim (listed_cases c side q) [
+      opened c side q = ap (λ (ds : List Done). is_some (opened_at c ds)) done_is ∙ elim (listed_cases t n farm after before now ends w c side q) [
         | inl m ↦ knows.opened c side m
-        | inr m ↦ let p = marked c side m in let z = seated m.k c p.0 p.1 in open_opened b c z.is_open
+        | inr m ↦ let p = marked t n farm after before now ends w c side m in let z = seated m.k c p.0 p.1 in open_opened b c z.is_open
       ]
 
       ended : (c : ℕ) (side : Side) → IsIncoming side → is_listed after.failed c side ≡ true → gone_in b' c ≡ true
-      ended c side i q = elim (listed_cases c side q) [
+      ended c side i q = elim (listed_cases t n farm after before now ends w c side q) [
         | inl m ↦ subst (λ (s : State). gone_in s c ≡ true) (sym told) (gone_told b ends c (knows.ended c side i m))
         | inr m ↦
-            let p = marked c side m in
+            let p = marked t n farm after before now ends w c side m in
             let z = seated m.k c p.0 p.1 in
-            open_gone b b' c done_is z.is_open (lacks m.k c p.0 p.1 (failed_short m.k c side p.0 p.1 i (sym (marks_kept m.k c side p.0 p.1 i) ∙ p.2)))
+            open_gone b b' c done_is z.is_open (lacks m.k c p.0 p.1 (failed_short m.k c side p.0 p.1 i (sym (marks_kept t n farm after before now ends w m.k c side p.0 p.1 i) ∙ p.2)))
       ]
-
-      calls : (c : ℕ) (x : Call) → call_in after.calls c ≡ Some x → (x.down_failed ≡ is_listed after.failed c Down)
-          × (x.out_failed ≡ is_listed after.failed c Out)
-      calls c x e =
-          let alive : is_among farm.live c ≡ true = (and_parts (is_among farm.live c) (goes_on_call w.worked c) (sym (w.is_open c) ∙ ap is_some e)).0 in
-          let p = among_place farm.live c alive in
-          let s = seated p.0 c p.1 p.2 in
-          let known = w.know c x e in
-          let found : seat_of w.drained c ≡ seat_at w.drained p.0 = ap (seat_of w.drained) (sym s.drained_at)
-          ∙ seat_of_at w.drained p.0 rising (omega (arith, p.1, long_drained)) in (
-            known.0 ∙ ap (λ (x : SeatMemory). has_failed x.lines.down) found ∙ stands_down p.0 c p.1 p.2,
-            known.1 ∙ ap (λ (x : SeatMemory). has_failed x.lines.out) found ∙ stands_out p.0 c p.1 p.2,
-          )
 
   -- a call that is over has no seat
   no_seat_of : (c : ℕ) → is_over b c ≡ true → is_some (call_in farm.calls c) ≡ false
@@ -146,7 +168,7 @@ module _ (t n : ℕ) (b : State) (farm after : FarmMemory) (before now : ℕ →
     over = over_on;
     read_on = read_on;
     lines = λ c s i e. ap (λ (l : LineState). l.to_come) (lines_kept t n farm after before now ends w c (no_seat_of c e) s);
-    listed = λ c s i e. listed_kept c s (no_seat_of c e);
+    listed = λ c s i e. listed_kept t n farm after before now ends w c s (no_seat_of c e);
   }
     where
       given : (c : ℕ) (side : Side) (octets : List ℕ) → IsIncoming side → (before c side).to_come ≡ Some octets → (k : ℕ) → k < length farm.live →
@@ -173,7 +195,7 @@ module _ (t n : ℕ) (b : State) (farm after : FarmMemory) (before now : ℕ →
     listed = λ k side l i.
         let within : k < length farm.live = omega (arith, l, long) in
         let s = seated k (slice_index farm.live k) within refl in
-        ap (λ (d : ℕ). is_listed after.failed d side) s.filled_at ∙ listed_incoming k (slice_index farm.live k) side within refl i;
+        ap (λ (d : ℕ). is_listed after.failed d side) s.filled_at ∙ listed_incoming t n farm after before now ends w k (slice_index farm.live k) side within refl i;
     over = λ k l less.
         let within : k < length farm.live = omega (arith, l, long) in
         let s = seated k (slice_index farm.live k) within refl in

@@ -1,11 +1,10 @@
 -- The calls that are over stay so, and what orders leave of what is known of the listed lines.
 use Rattle.std.proofs.Common.{◌≡◌, refl, sym, ap, ◌∙◌, subst, ℕ, zero, suc, ◌≤◌, Bool, true, false, not, ◌&&◌, Option, Some, None, List, [], ◌∷◌, length}
 use Rattle.std.proofs.Common.{get_or, set, inl, inr, arith}
-use Rattle.std.specs.Prelude.{◌==◌, ◌||◌, if◌then◌else◌, is_some, option_map, IfSome}
+use Rattle.std.specs.Prelude.{◌==◌, ◌||◌, is_some}
 use Rattle.std.proofs.lemmas.Bool.{cases_Bool, cases_lt, eqb-true, eq-eqb, true≢false}
 use Rattle.std.proofs.lemmas.List.{get_or-set_same, get_or-set_other}
 use Rattle.trau_io.specs.declared.line.Line.{Line}
-use Rattle.trau_io.specs.declared.line.Side.TheVariants.{Down, Out}
 use Rattle.trau_io.specs.declared.ends.CallEnd.{CallEnd}
 use Rattle.trau_orders.specs.declared.order.Order.{Order}
 use Rattle.switchboard.specs.declared.act.Act.{Act}
@@ -15,8 +14,6 @@ use Rattle.switchboard.specs.State.{State, gone_in, after_turn, told_more}
 use Rattle.switchboard.specs.Open.{opened_now, open_now, partner_now, Finds}
 use Rattle.switchboard.proofs.Appending.{or_else}
 use Rattle.run_spec.proofs.Executing.{opened-append, closed-append}
-use Rattle.farm_rounds.specs.Calls.{Call, Kept, call_in}
-use Rattle.farm_rounds.specs.Acts.{new_call, bridged_call, parted, set_by, changed, freed, calls_after}
 use Rattle.farm_rounds.specs.Failed.{NoneListed}
 use Rattle.farm_run.specs.Going.{told_after}
 use Rattle.farm_run.specs.Runs.{is_listed}
@@ -34,12 +31,8 @@ not_over_by true true g e = cc
 not_over_by false q g e = cc
 
 -- **An open call isn't over.**
-pub not_over : (b : State) (c : ℕ) → open_now b c ≡ true → is_over b c ≡ false
+not_over : (b : State) (c : ℕ) → open_now b c ≡ true → is_over b c ≡ false
 not_over b c o = not_over_by (is_some (opened_at c b.done)) (is_some (closed_at c b.done)) (gone_in b c) o
-
--- a call that is gone is over
-pub gone_over : (b : State) (c : ℕ) → gone_in b c ≡ true → is_over b c ≡ true
-gone_over b c g = or_first (gone_in b c) (is_some (closed_at c b.done)) g
 
 -- **An open call that is over where no order was executed is gone.**
 pub open_gone : (b n : State) (c : ℕ) → n.done ≡ b.done → open_now b c ≡ true → is_over n c ≡ true → gone_in n c ≡ true
@@ -134,89 +127,21 @@ opened_turned s n o e c h = subst (λ (m : State). opened_now m c ≡ true) (sym
     by None = h
     by (Some x) = ap is_some (opened-append c s.done _) ∙ some_more (opened_at c s.done) _ h
 
--- ---- what the calls know
-
-module _ (failed : List Line) where
-  -- a call of the farm has its outgoing lines' marks as they are listed
-  abbrev Knows : ℕ → Call → Type 0
-  Knows c x = (x.down_failed ≡ is_listed failed c Down) × (x.out_failed ≡ is_listed failed c Out)
-
-  -- what an order does to a call leaves its lines
-  abbrev Leaves : (Call → Call) → Type 0
-  Leaves g = (c : ℕ) (x : Call) → Knows c x → Knows c (g x)
-
-  -- that holds of each of two calls, where it holds of one or the other
-  either : (c : ℕ) (s : Bool) (o p : Option Call) → (s ≡ true → IfSome o (Knows c)) → IfSome p (Knows c) → IfSome (if s then o else p) (Knows c)
-  either c true o p h k = h refl
-  either c false o p h k = k
-
-  -- and of a call that is changed in other fields
-  mapped : (c : ℕ) (g : Call → Call) → Leaves g → (o : Option Call) → IfSome o (Knows c) → IfSome (option_map g o) (Knows c)
-  mapped c g l None h = tt
-  mapped c g l (Some x) h = l c x h
-
-  -- so it does of all calls where one is changed
-  changed_knows : (n : ℕ) (g : Call → Call) (f : ℕ → Option Call) → Leaves g → ((c : ℕ) → IfSome (f c) (Knows c)) → (c : ℕ) → IfSome (changed n g f c) (Knows c)
-  changed_knows n g f l h c = either c (n == c) (option_map g (f c)) (f c) (λ e. mapped c g l (f c) (h c)) (h c)
-
-  -- or freed of its partner
-  freed_knows : (p : Option ℕ) (g : Call → Call) (f : ℕ → Option Call) → Leaves g → ((c : ℕ) → IfSome (f c) (Knows c)) → (c : ℕ) →
-      IfSome (freed p g f c) (Knows c)
-  freed_knows None g f l h c = h c
-  freed_knows (Some p) g f l h c = changed_knows p g f l h c
-
-  -- and after any act, if a call that it opens has no listed line
-  after_knows : (a : Act) (f : ℕ → Option Call) → NoneListed a failed → ((c : ℕ) → IfSome (f c) (Knows c)) → (c : ℕ) → IfSome (calls_after a f c) (Knows c)
-  after_knows (act.Opened n law) f new h c =
-      either c (n == c) (Some (new_call n law)) (f c)
-      (λ e. let same =
-      eqb-true n c e in (sym (new Down) ∙ ap (λ (d : ℕ). is_listed failed d Down) same, sym (new Out) ∙ ap (λ (d : ℕ). is_listed failed d Out) same)) (h c)
-  after_knows (act.Closed n p) f new h c = either c (n == c) None (freed p parted f c) (λ e. tt) (freed_knows p parted f (λ d x k. k) h c)
-  after_knows (act.Bridged a b) f new h c =
-      changed_knows a bridged_call (changed b bridged_call f) (λ d x k. k) (changed_knows b bridged_call f (λ d x k. k) h) c
-  after_knows (act.Unbridged a b) f new h c = changed_knows a parted (changed b parted f) (λ d x k. k) (changed_knows b parted f (λ d x k. k) h) c
-  after_knows (act.LevelSet n level) f new h c = changed_knows n (set_by (act.LevelSet n level)) f (λ d x k. k) h c
-  after_knows (act.DtxSet n mode) f new h c = changed_knows n (set_by (act.DtxSet n mode)) f (λ d x k. k) h c
-
-  -- from calls that are there to all
-  each : (c : ℕ) (o : Option Call) → ((y : Call) → o ≡ Some y → Knows c y) → IfSome o (Knows c)
-  each c None k = tt
-  each c (Some y) k = k y refl
-
-  -- and back
-  known : (c : ℕ) (x : Call) (o : Option Call) → IfSome o (Knows c) → o ≡ Some x → Knows c x
-  known c x None k r = cc
-  known c x (Some y) k r = subst (Knows c) (some y x r) k
-    where
-      some : (a b : Call) → Some a ≡ Some b → a ≡ b
-      some a b r = cc
+-- ---- what the board knows
 
 -- **No line of a call that an accepted order opens is listed.**
-pub new_unlisted : (s : State) (kept : List Kept) (failed : List Line) (a : Act) → Finds a (opened_now s) (open_now s) (partner_now s) →
-    KnowsListed s kept failed → NoneListed a failed
-new_unlisted s kept failed (act.Opened m law) f k = λ side. is_false (is_listed failed m side) (λ l. true≢false (sym (k.opened m side l) ∙ f.1))
-new_unlisted s kept failed (act.Closed m p) f k = tt
-new_unlisted s kept failed (act.Bridged m p) f k = tt
-new_unlisted s kept failed (act.Unbridged m p) f k = tt
-new_unlisted s kept failed (act.LevelSet m level) f k = tt
-new_unlisted s kept failed (act.DtxSet m mode) f k = tt
+pub new_unlisted : (s : State) (failed : List Line) (a : Act) → Finds a (opened_now s) (open_now s) (partner_now s) → KnowsListed s failed →
+    NoneListed a failed
+new_unlisted s failed (act.Opened m law) f k = λ side. is_false (is_listed failed m side) (λ l. true≢false (sym (k.opened m side l) ∙ f.1))
+new_unlisted s failed (act.Closed m p) f k = tt
+new_unlisted s failed (act.Bridged m p) f k = tt
+new_unlisted s failed (act.Unbridged m p) f k = tt
+new_unlisted s failed (act.LevelSet m level) f k = tt
+new_unlisted s failed (act.DtxSet m mode) f k = tt
 
--- **After an accepted order the same is known of the listed lines.**
-pub knows_more : (s n : State) (o : Option Order) (kept after : List Kept) (failed : List Line) (a : Act) → n ≡ after_turn s o →
-    Finds a (opened_now s) (open_now s) (partner_now s) →
-    ((c : ℕ) → call_in after c ≡ calls_after a (call_in kept) c) → KnowsListed s kept failed → KnowsListed n after failed
-knows_more s n o kept after failed a e finds calls k = record {
+-- **After an order the same is known of the listed lines.**
+pub knows_turned : (s n : State) (o : Option Order) (failed : List Line) → n ≡ after_turn s o → KnowsListed s failed → KnowsListed n failed
+knows_turned s n o failed e k = record {
   opened = λ c side l. opened_turned s n o e c (k.opened c side l);
   ended = λ c side i l. gone_turned s n o e c (k.ended c side i l);
-  calls = λ c x q. known failed c x (calls_after a (call_in kept) c)
-      (after_knows failed a (call_in kept) (new_unlisted s kept failed a finds k) (λ d. each failed d (call_in kept d) (k.calls d)) c) (sym (calls c) ∙ q);
-}
-
--- **.. and after a refused one.**
-pub knows_same : (s n : State) (o : Option Order) (kept : List Kept) (failed : List Line) → n ≡ after_turn s o → KnowsListed s kept failed →
-    KnowsListed n kept failed
-knows_same s n o kept failed e k = record {
-  opened = λ c side l. opened_turned s n o e c (k.opened c side l);
-  ended = λ c side i l. gone_turned s n o e c (k.ended c side i l);
-  calls = k.calls;
 }

@@ -3,12 +3,10 @@ use Rattle.std.proofs.Common.{◌≡◌, refl, sym, ap, ◌∙◌, subst, ℕ, �
 use Rattle.std.proofs.Common.{◌⊎◌, arith}
 use Rattle.std.specs.Prelude.{is_some, slice_index}
 use Rattle.std.specs.List.{Contains}
-use Rattle.std.specs.List.Sorted.{IsStrictlyIncreasing}
 use Rattle.std.proofs.lemmas.Bool.{cases_Bool, true≢false}
 use Rattle.trau_io.specs.declared.line.Side.{Side}
 use Rattle.trau_io.specs.declared.line.Side.TheVariants.{Up, Pcm, Down, Out}
 use Rattle.trau_io.specs.Lines.{LineState, Rose}
-use Rattle.trau_io.specs.Indices.{index_of_line}
 use Rattle.trau_io.specs.declared.ends.CallEnd.{CallEnd}
 use Rattle.round_lines.specs.declared.transfer.Outlet.{Outlet}
 use Rattle.round_lines.specs.Memory.{fails_in, line_name}
@@ -43,7 +41,7 @@ moved_later before now was stands octets (inr e) = let same = ap (λ (l : LineSt
 
 module _ (t n : ℕ) (farm after : FarmMemory) (before now : ℕ → Side → LineState) (ends : List CallEnd) (w : WorkedRound t n farm after before now ends) where
   -- there are as many seats as open calls
-  long : length w.drained ≡ length farm.live
+  pub long : length w.drained ≡ length farm.live
   long = w.drained_number ∙ w.worked_number ∙ w.filled_number ∙ w.number
 
   -- a call is open, and then it has a seat, or it isn't
@@ -69,9 +67,8 @@ module _ (t n : ℕ) (farm after : FarmMemory) (before now : ℕ → Side → Li
       side Out u p d o = omega (arith, o, faults (out_between t n farm after before now ends w c))
 
   -- **The farm goes on listing exactly the lines whose counts rose.**
-  pub tells_round : (first : ℕ → Side → LineState) → NeverFell first before → TellsFailed first before farm.failed →
-      IsStrictlyIncreasing (map (λ l. index_of_line l.call l.side) after.failed) → TellsFailed first now after.failed
-  tells_round first l h order = record { failures = record { rose = rose; kept = kept }; order = order }
+  pub tells_round : (first : ℕ → Side → LineState) → NeverFell first before → TellsFailed first before farm.failed → TellsFailed first now after.failed
+  tells_round first l h = record { failures = record { rose = rose; kept = kept }; order = (let g = w.gains in g.order) }
     where
       rose : (c : ℕ) (s : Side) → is_listed after.failed c s ≡ true → Rose (first c s).faults (now c s).faults
       rose c s k = elim (listed_after farm.failed after.failed w.drained (c, s) w.gains (listed_name after.failed c s k)) [

@@ -54,7 +54,7 @@ module _ (os : List Order) (batch periods : ℕ) (first now : ℕ → Side → L
   fail_here r run least =
       let known = g.known r (standing u.board u.farm.failed now) run (omega (arith, l, least)) (stays (standing u.board u.farm.failed now)) in
       let s = g.stage in
-      fail_before r u.clock batch u.board u.farm.calls u.farm.failed s.clock.ends known.truly s.knows
+      fail_before r u.clock batch u.board u.farm.failed s.clock.ends known.truly s.knows
       (g.short r (standing u.board u.farm.failed now) run (omega (arith, l, least)) (stays (standing u.board u.farm.failed now)))
 
   -- **At a clock a run is cut short.**
@@ -78,7 +78,7 @@ module _ (os : List Order) (batch periods : ℕ) (first now : ℕ → Side → L
       cut_before os periods u.clock mark (is_over u.board) u.farm.failed first now l early g.tells g.sides g.reads back
       (λ r run. let here = at_last r run in
       let knows = (let s = g.stage in s.knows) in
-      only_opened r u.clock u.board u.farm.calls u.farm.failed here.follows.so_far knows)
+      only_opened r u.clock u.board u.farm.failed here.follows.so_far knows)
       (λ r run. (at_last r run).lines)
       (λ r run. let e = run.same_periods in
       fail_here r (subst (λ (p : ℕ). IsRunOver os p (is_listed u.farm.failed) first now r) (sym e) run) (omega (arith, e)))
@@ -95,10 +95,10 @@ module _ (os : List Order) (batch periods : ℕ) (first now : ℕ → Side → L
       (λ r run least. wrote r (standing u.board u.farm.failed now) run (omega (arith, l, least)) (stays (standing u.board u.farm.failed now))) fail_here
 
 -- **A run that came to a clock is cut short there.**
-pub stretch_cut : (os : List Order) (batch periods : ℕ) (o : Outgoing) (s : Stage) (first now : ℕ → Side → LineState) →
+pub part_cut : (os : List Order) (batch periods : ℕ) (o : Outgoing) (s : Stage) (first now : ℕ → Side → LineState) →
     IsFirstStage os o s → is_held o ≡ false →
     ((after : Stage) × (after.clock ≤ periods) × Reaches batch s after first now) → IsCutShort os periods first now
-stretch_cut os batch periods o s first now f written after =
+part_cut os batch periods o s first now f written after =
     cut_here os batch periods first now after.0 (gone_more os batch first first now s after.0 (gone_first os batch o s first f) after.2) after.1
     (wrote_first os batch o s after.0 first now f written after.2)
 

@@ -7,7 +7,7 @@ use Rattle.switchboard.specs.declared.act.Act.{Act}
 use Rattle.switchboard.specs.declared.act.Act.TheVariants as act
 use Rattle.switchboard.specs.Calls.{is_this}
 use Rattle.switchboard.specs.Open.{open_after}
-use Rattle.farm_rounds.specs.Acts.{freed}
+use Rattle.farm_rounds.specs.Acts.{released}
 use Rattle.farm_rounds.specs.Histories.{CallHistory, set_now, histories_after}
 use Rattle.call_leg.specs.Periods.{CallPeriod}
 use Rattle.call_leg.specs.Settings.{Settings, new_settings, with_level, with_mode, with_bridge, without_bridge}
@@ -54,7 +54,7 @@ history_by (act.Closed n p) f l ts now c other = elim (cases_eq n c) [
     test m = elim (cases_eq m c) [ inl e ↦ eq-eqb m c e ∙ sym (eq-eqb c m (sym e)) | inr q ↦ q.0 ∙ sym q.1 ]
 
     apart : (s t : Bool) → s ≡ false → t ≡ false → (p : Option ℕ) →
-        (if s then None else freed p (set_now without_bridge) (λ c. past_if (f c) (l c) (ts c) (now c)) c)
+        (if s then None else released p (set_now without_bridge) (λ c. past_if (f c) (l c) (ts c) (now c)) c)
         ≡ past_if (if t then false else f c) (l c) (ts c) (if t || is_this c p then without_bridge (now c) else now c)
     apart false false q r None = freed_by false false (f c) refl
     apart false false q r (Some m) = freed_by (m == c) (c == m) (f c) (test m)

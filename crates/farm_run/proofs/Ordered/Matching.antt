@@ -10,7 +10,7 @@ use Rattle.switchboard.specs.State.{State, gone_in}
 use Rattle.switchboard.specs.Open.{opened_now, open_now, partner_now, open_after, partner_after, Finds}
 use Rattle.call_number.specs.CallNumber.{IsCallNumber}
 use Rattle.farm_rounds.specs.Calls.{Call, Kept, call_in, partner_in}
-use Rattle.farm_rounds.specs.Acts.{new_call, bridged_call, parted, set_by, changed, freed, calls_after, partners_after, ActFits}
+use Rattle.farm_rounds.specs.Acts.{new_call, bridged_call, parted, set_by, changed, released, calls_after, partners_after, ActFits}
 use Rattle.farm_run.specs.Match.{Matches, AreNumbers}
 
 -- two numbers are one, or neither test says so
@@ -93,14 +93,14 @@ live_changed : (n : ℕ) (g : Call → Call) (f : ℕ → Option Call) (c : ℕ)
 live_changed n g f c = some_if (n == c) g (f c)
 
 -- so does freeing a partner
-live_freed : (p : Option ℕ) (g : Call → Call) (f : ℕ → Option Call) (c : ℕ) → is_some (freed p g f c) ≡ is_some (f c)
-live_freed None g f c = refl
-live_freed (Some n) g f c = live_changed n g f c
+live_released : (p : Option ℕ) (g : Call → Call) (f : ℕ → Option Call) (c : ℕ) → is_some (released p g f c) ≡ is_some (f c)
+live_released None g f c = refl
+live_released (Some n) g f c = live_changed n g f c
 
 -- **An act leaves those calls that it leaves open.**
 live_after : (a : Act) (f : ℕ → Option Call) (c : ℕ) → is_some (calls_after a f c) ≡ open_after a (λ c. is_some (f c)) c
 live_after (act.Opened n law) f c = opened_live n c (new_call n law) (f c)
-live_after (act.Closed n p) f c = closed_live n c (freed p parted f c) (f c) (live_freed p parted f c)
+live_after (act.Closed n p) f c = closed_live n c (released p parted f c) (f c) (live_released p parted f c)
 live_after (act.Bridged a b) f c = live_changed a bridged_call (changed b bridged_call f) c ∙ live_changed b bridged_call f c
 live_after (act.Unbridged a b) f c = live_changed a parted (changed b parted f) c ∙ live_changed b parted f c
 live_after (act.LevelSet n level) f c = live_changed n (set_by (act.LevelSet n level)) f c

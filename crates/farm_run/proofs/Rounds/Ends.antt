@@ -10,7 +10,7 @@ use Rattle.trau_orders.specs.declared.order.Order.{Order}
 use Rattle.switchboard.specs.State.{first_stamp}
 use Rattle.switchboard.specs.Calls.{Done, is_open, gone_at}
 use Rattle.switchboard.specs.Ends.{Given, whole_of, lack_of, end_of, start_of, ends_at}
-use Rattle.round_lines.specs.Memory as places
+use Rattle.round_lines.specs.Memory as round_lines
 use Rattle.round_lines.specs.Memory.{LinesMemory, end_in_round}
 use Rattle.round_lines.specs.Shifts.{with_periods}
 use Rattle.round_lines.proofs.Shifting.{lack_shifts}
@@ -143,16 +143,16 @@ with_behind k g l =
 
 -- what a seat took of its call's lines is cut out of them
 cut_of : (r : Run) (ds : List Done) (t n c : ℕ) (p : LinesMemory) (up pcm : List ℕ) → IsTaken r ds t n c p up pcm →
-    IsCut n (behind (t - start_of ds c) (given_in r c)) (places.given_in p)
+    IsCut n (behind (t - start_of ds c) (given_in r c)) (round_lines.given_in p)
 cut_of r ds t n c p up pcm h = record { up = h.up_count; pcm = h.pcm_count; up_failed = h.up_failed; pcm_failed = h.pcm_failed }
 
 -- **The whole periods of a round are the places that the call's lines give.**
 pub whole_taken : (r : Run) (t n : ℕ) (ds : List Done) (left : List Order) (c : ℕ) (p : LinesMemory) (up pcm : List ℕ) → IsRound r t n ds left →
     is_open (gone_at (whole_in r) t ds) ds c ≡ true → IsTaken r ds t n c p up pcm →
-    places.whole_in p ≡ places_in r ds t n c
+    round_lines.whole_in p ≡ places_in r ds t n c
 whole_taken r t n ds left c p up pcm h o k =
     let at = open_at r t ds c (standing_now r t ds left h.so_far) o in
-    whole_cut n (t - start_of ds c) (given_in r c) (places.given_in p) (cut_of r ds t n c p up pcm k)
+    whole_cut n (t - start_of ds c) (given_in r c) (round_lines.given_in p) (cut_of r ds t n c p up pcm k)
     ∙ ap (min n) (turned (start_of ds c) (whole_in r c) t at.begun)
   where
     turned : (s w t : ℕ) → s ≤ t → w - (t - s) ≡ s + w - t
@@ -166,21 +166,21 @@ round_end r t n ds left c p up pcm h o k = elim (cases_lt (places_in r ds t n c)
   | inl l ↦
       let ends : ends_within r ds t n c ≡ true = ap (λ (b : Bool). b && nat_lt (places_in r ds t n c) n) o ∙ lt-ltb (places_in r ds t n c) n l in
       let lacks =
-      lack_cut n (places.whole_in p) (behind (t - start_of ds c) (given_in r c)) (places.given_in p) (cut_of r ds t n c p up pcm k) (all_taken l) (fewer l) in
-      let shifts = lack_shifts (t - start_of ds c) (places.whole_in p) (behind (t - start_of ds c) (given_in r c)) in
+      lack_cut n (round_lines.whole_in p) (behind (t - start_of ds c) (given_in r c)) (round_lines.given_in p) (cut_of r ds t n c p up pcm k) (all_taken l) (fewer l) in
+      let shifts = lack_shifts (t - start_of ds c) (round_lines.whole_in p) (behind (t - start_of ds c) (given_in r c)) in
       let before = with_behind (t - start_of ds c) (given_in r c) (gave) in
-      let cause : lack_of (places.whole_in p) (places.given_in p) ≡ lack_of (whole_in r c) (given_in r c) =
-      lacks ∙ sym shifts ∙ ap (lack_of (t - start_of ds c + places.whole_in p)) before ∙ ap (λ (w : ℕ). lack_of w (given_in r c)) (sum l) in
-      ap (λ (b : Bool). if b then None else Some (ended p.call (t + places.whole_in p) (lack_of (places.whole_in p) (places.given_in p))))
-      (ne_eqb (places.whole_in p) p.periods (λ e. same_not l e))
-      ∙ ap (λ (d : ℕ). Some (ended d (t + places.whole_in p) (lack_of (places.whole_in p) (places.given_in p)))) k.call
-      ∙ ap (λ (w : ℕ). Some (ended c (t + w) (lack_of (places.whole_in p) (places.given_in p)))) wholes
+      let cause : lack_of (round_lines.whole_in p) (round_lines.given_in p) ≡ lack_of (whole_in r c) (given_in r c) =
+      lacks ∙ sym shifts ∙ ap (lack_of (t - start_of ds c + round_lines.whole_in p)) before ∙ ap (λ (w : ℕ). lack_of w (given_in r c)) (sum l) in
+      ap (λ (b : Bool). if b then None else Some (ended p.call (t + round_lines.whole_in p) (lack_of (round_lines.whole_in p) (round_lines.given_in p))))
+      (ne_eqb (round_lines.whole_in p) p.periods (λ e. same_not l e))
+      ∙ ap (λ (d : ℕ). Some (ended d (t + round_lines.whole_in p) (lack_of (round_lines.whole_in p) (round_lines.given_in p)))) k.call
+      ∙ ap (λ (w : ℕ). Some (ended c (t + w) (lack_of (round_lines.whole_in p) (round_lines.given_in p)))) wholes
       ∙ ap (λ (x : Cause). Some (ended c (t + places_in r ds t n c) x)) cause
       ∙ ap Some (sym (end_within r t n ds left c h ends))
       ∙ sym (ap (λ (b : Bool). if b then Some (end_of (given_in r) r.periods (done_in r) c (start_of ds c)) else None) ends)
   | inr l ↦
-      ap (λ (b : Bool). if b then None else Some (ended p.call (t + places.whole_in p) (lack_of (places.whole_in p) (places.given_in p))))
-      (eq-eqb (places.whole_in p) p.periods (full l))
+      ap (λ (b : Bool). if b then None else Some (ended p.call (t + round_lines.whole_in p) (lack_of (round_lines.whole_in p) (round_lines.given_in p))))
+      (eq-eqb (round_lines.whole_in p) p.periods (full l))
       ∙ sym (ap (λ (b : Bool). if b then Some (end_of (given_in r) r.periods (done_in r) c (start_of ds c)) else None)
       (ap (λ (b : Bool). b && nat_lt (places_in r ds t n c) n) o ∙ le-ltb (places_in r ds t n c) n l))
 ]
@@ -191,17 +191,17 @@ round_end r t n ds left c p up pcm h o k = elim (cases_lt (places_in r ds t n c)
     at : IsOpenAt r t ds c
     at = open_at r t ds c (standing_now r t ds left h.so_far) o
 
-    wholes : places.whole_in p ≡ places_in r ds t n c
+    wholes : round_lines.whole_in p ≡ places_in r ds t n c
     wholes = whole_taken r t n ds left c p up pcm h o k
 
     rest : (s w t n m : ℕ) → s ≤ t → t ≤ s + w → m ≡ min n (s + w - t) → m < n → t - s + m ≡ w
     rest s w t n m b a e l = omega arith
 
-    fewer : places_in r ds t n c < n → places.whole_in p < n
+    fewer : places_in r ds t n c < n → round_lines.whole_in p < n
     fewer l = subst (λ (w : ℕ). w < n) (sym wholes) l
 
-    sum : places_in r ds t n c < n → t - start_of ds c + places.whole_in p ≡ whole_in r c
-    sum l = rest (start_of ds c) (whole_in r c) t n (places.whole_in p) at.begun at.alive wholes (fewer l)
+    sum : places_in r ds t n c < n → t - start_of ds c + round_lines.whole_in p ≡ whole_in r c
+    sum l = rest (start_of ds c) (whole_in r c) t n (round_lines.whole_in p) at.begun at.alive wholes (fewer l)
 
     gave : t - start_of ds c ≤ whole_in r c
     gave = held (start_of ds c) (whole_in r c) t at.alive
@@ -209,19 +209,19 @@ round_end r t n ds left c p up pcm h o k = elim (cases_lt (places_in r ds t n c)
         held : (s w t : ℕ) → t ≤ s + w → t - s ≤ w
         held s w t l = omega arith
 
-    all_taken : places_in r ds t n c < n → places.whole_in p ≡ whole_of (behind (t - start_of ds c) (given_in r c))
-    all_taken l = less (given_in r c) (t - start_of ds c) (places.whole_in p) (sum l)
+    all_taken : places_in r ds t n c < n → round_lines.whole_in p ≡ whole_of (behind (t - start_of ds c) (given_in r c))
+    all_taken l = less (given_in r c) (t - start_of ds c) (round_lines.whole_in p) (sum l)
       where
         less : (g : Given) (k m : ℕ) → k + m ≡ whole_of g → m ≡ whole_of (behind k g)
         less g k m e = omega arith
 
-    same_not : places_in r ds t n c < n → places.whole_in p ≡ p.periods → ⊥
-    same_not l e = apart (places.whole_in p) p.periods n (fewer l) k.periods e
+    same_not : places_in r ds t n c < n → round_lines.whole_in p ≡ p.periods → ⊥
+    same_not l e = apart (round_lines.whole_in p) p.periods n (fewer l) k.periods e
       where
         apart : (w m n : ℕ) → w < n → m ≡ n → w ≡ m → ⊥
         apart w m n l e f = absurd (omega arith)
 
-    full : n ≤ places_in r ds t n c → places.whole_in p ≡ p.periods
+    full : n ≤ places_in r ds t n c → round_lines.whole_in p ≡ p.periods
     full l = wholes ∙ most n (start_of ds c + whole_in r c - t) l ∙ sym k.periods
       where
         most : (n m : ℕ) → n ≤ min n m → min n m ≡ n

@@ -7,7 +7,7 @@ use Rattle.switchboard.specs.declared.table.Bridge.{Bridge}
 use Rattle.switchboard.specs.Calls.{Done, is_open, gone_at}
 use Rattle.switchboard.specs.Bridges.{other, bridge_of}
 use Rattle.switchboard.specs.Ends.{start_of}
-use Rattle.round_lines.specs.Memory as places
+use Rattle.round_lines.specs.Memory as round_lines
 use Rattle.round_lines.specs.Memory.{LinesMemory}
 use Rattle.call_leg.specs.Periods.{CallPeriod}
 use Rattle.call_leg.specs.Settings.{Settings}
@@ -40,7 +40,7 @@ taken_place m a x y z block line e l f =
 -- **A call whose buffers were filled from its lines is fed.**
 pub fed_taken : (r : Run) (t n : ℕ) (ds : List Done) (left : List Order) (c : ℕ) (p : LinesMemory) (io : IoMemory) → IsRound r t n ds left →
     is_open (gone_at (whole_in r) t ds) ds c ≡ true → IsTaken r ds t n c p io.up io.pcm →
-    io.call ≡ c → io.given ≡ places.whole_in p → io.done ≡ 0 → IsFed r ds t n c io
+    io.call ≡ c → io.given ≡ round_lines.whole_in p → io.done ≡ 0 → IsFed r ds t n c io
 fed_taken r t n ds left c p io h o k e g d =
     let lines = r.lines c in
     record {

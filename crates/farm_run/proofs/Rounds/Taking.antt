@@ -9,7 +9,7 @@ use Rattle.switchboard.specs.Calls.{Done}
 use Rattle.switchboard.specs.Ends.{start_of}
 use Rattle.round_lines.specs.declared.transfer.Taken.{Taken}
 use Rattle.round_lines.specs.Transfer.{Takes}
-use Rattle.round_lines.specs.Memory as places
+use Rattle.round_lines.specs.Memory as round_lines
 use Rattle.round_lines.specs.Memory.{LinesMemory, fails_in}
 use Rattle.round_lines.specs.Rounds.{IsIncoming}
 use Rattle.round_lines.specs.Seats.{SeatMemory, Fills}
@@ -48,7 +48,7 @@ pub record IsMet (r : Run) (ds : List Done) (t n c : ℕ) (now : Side → LineSt
 pub met : (r : Run) (ds : List Done) (t n c : ℕ) (before now : Side → LineState) (s x : SeatMemory) (behind last : Standing) →
     Fills before now s x → x.lines.call ≡ c → x.lines.periods ≡ n → length x.up ≡ 40 * n → length x.pcm ≡ 160 * n →
     StandingGoesOn behind last → (r.lines c).up_failed ≡ last.listed c Up → (r.lines c).pcm_failed ≡ last.listed c Pcm →
-    ((side : Side) → IsIncoming side → behind.listed c side ≡ fails_in x.lines side) → (places.whole_in x.lines < n → behind.over c ≡ true) →
+    ((side : Side) → IsIncoming side → behind.listed c side ≡ fails_in x.lines side) → (round_lines.whole_in x.lines < n → behind.over c ≡ true) →
     ((side : Side) → IsIncoming side → behind.lines c side ≡ now side) →
     IsToCome (before Up) (40 * (t - start_of ds c)) (r.lines c).up (never_given (last.listed c Up) (last.lines c Up)) →
     IsToCome (before Pcm) (160 * (t - start_of ds c)) (r.lines c).pcm (never_given (last.listed c Pcm) (last.lines c Pcm)) →
@@ -73,13 +73,13 @@ met r ds t n c before now s x behind last f called long up_long pcm_long on up_f
       pcm_left = pcm.left;
     }
   where
-    fewer_up : (p : LinesMemory) → p.up.count < 40 * n → places.whole_in p < n
+    fewer_up : (p : LinesMemory) → p.up.count < 40 * n → round_lines.whole_in p < n
     fewer_up p l = by p.up.count p.pcm.count l
       where
         by : (u v : ℕ) → u < 40 * n → min (u / 40) (v / 160) < n
         by u v l = omega arith
 
-    fewer_pcm : (p : LinesMemory) → p.pcm.count < 160 * n → places.whole_in p < n
+    fewer_pcm : (p : LinesMemory) → p.pcm.count < 160 * n → round_lines.whole_in p < n
     fewer_pcm p l = by p.up.count p.pcm.count l
       where
         by : (u v : ℕ) → v < 160 * n → min (u / 40) (v / 160) < n

@@ -7,7 +7,7 @@ use Rattle.std.proofs.lemmas.Bool.{cases_Bool, eqb-true, eq-eqb, ne_eqb}
 use Rattle.trau_io.specs.declared.ends.CallEnd.{CallEnd}
 use Rattle.switchboard.specs.Ends.{lack_of}
 use Rattle.round_lines.specs.Seats.{SeatMemory}
-use Rattle.round_lines.specs.Memory as places
+use Rattle.round_lines.specs.Memory as round_lines
 use Rattle.round_lines.specs.Rounds.{Rising, seat_at, call_at, seat_end}
 use Rattle.farm_rounds.specs.Settling.{goes_on_in}
 use Rattle.farm_rounds.specs.Working.{goes_on_call}
@@ -29,7 +29,7 @@ has_call seats c = list_any (λ s. s.lines.call == c) seats
 
 -- the end that a seat tells of its call
 abbrev end_of_seat : ℕ → SeatMemory → CallEnd
-end_of_seat t s = record { call = s.lines.call; at = t + places.whole_in s.lines; cause = lack_of (places.whole_in s.lines) (places.given_in s.lines) }
+end_of_seat t s = record { call = s.lines.call; at = t + round_lines.whole_in s.lines; cause = lack_of (round_lines.whole_in s.lines) (round_lines.given_in s.lines) }
 
 -- two numbers of which one is greater aren't the same
 apart_test : (c d : ℕ) → c < d → ((c == d) ≡ false) × ((d == c) ≡ false)

@@ -9,7 +9,7 @@ use Rattle.trau_orders.specs.declared.order.Order.{Order}
 use Rattle.switchboard.specs.Calls.{Done, is_open, gone_at}
 use Rattle.switchboard.specs.Ends.{lack_of, end_of, start_of, ends_at}
 use Rattle.round_lines.specs.Seats.{SeatMemory}
-use Rattle.round_lines.specs.Memory as places
+use Rattle.round_lines.specs.Memory as round_lines
 use Rattle.round_lines.specs.Rounds.{Rising, call_at, seat_end}
 use Rattle.run_spec.specs.Run.{Run, given_in, whole_in, done_in}
 use Rattle.run_spec.proofs.Settling.{at_of}
@@ -120,28 +120,28 @@ told_seats r t n ds left seats h a all c = told_seat r t n ds left c seats h a �
 pub seats_apart : (t : ℕ) (seats : List SeatMemory) → Rising seats → AreApart (filter_map (seat_end t) seats)
 seats_apart t [] r = tt
 seats_apart t (s ∷ seats) r =
-    by (places.whole_in s.lines == s.lines.periods) (above s.lines.call seats (λ j l. r 0 (suc j) (omega arith) (omega arith)))
+    by (round_lines.whole_in s.lines == s.lines.periods) (above s.lines.call seats (λ j l. r 0 (suc j) (omega arith) (omega arith)))
     (seats_apart t seats (λ i j l k. r (suc i) (suc j) (omega arith) (omega arith)))
   where
     by : (b : Bool) → is_told s.lines.call (filter_map (seat_end t) seats) ≡ false → AreApart (filter_map (seat_end t) seats) →
         AreApart (cons_option (if b then None else Some
-        (record { call = s.lines.call; at = t + places.whole_in s.lines; cause = lack_of (places.whole_in s.lines) (places.given_in s.lines) }))
+        (record { call = s.lines.call; at = t + round_lines.whole_in s.lines; cause = lack_of (round_lines.whole_in s.lines) (round_lines.given_in s.lines) }))
         (filter_map (seat_end t) seats))
     by true e k = k
     by false e k = (e, k)
 
     above : (c : ℕ) (seats : List SeatMemory) → ((j : ℕ) → j < length seats → c < call_at seats j) → is_told c (filter_map (seat_end t) seats) ≡ false
     above c [] h = refl
-    above c (x ∷ seats) h = more (places.whole_in x.lines == x.lines.periods) (above c seats (λ j l. h (suc j) (omega arith)))
+    above c (x ∷ seats) h = more (round_lines.whole_in x.lines == x.lines.periods) (above c seats (λ j l. h (suc j) (omega arith)))
       where
         more : (b : Bool) → is_told c (filter_map (seat_end t) seats) ≡ false →
             is_told c
             (cons_option
             (if b then None else Some (record {
               call = x.lines.call;
-              at = t + places.whole_in x.lines;
+              at = t + round_lines.whole_in x.lines;
               cause =
-                  lack_of (places.whole_in x.lines) (places.given_in x.lines);
+                  lack_of (round_lines.whole_in x.lines) (round_lines.given_in x.lines);
             })) (filter_map (seat_end t) seats)) ≡ false
         more true e = e
         more false e = elim (cases_Bool (c == x.lines.call)) [

@@ -23,8 +23,8 @@ use Rattle.run_spec.specs.Run.{Run, given_in, whole_in, done_in, periods_to, law
 use Rattle.run_spec.specs.Now.{settings_now}
 use Rattle.farm_run.specs.Going.{places_in, ends_within, told_after, is_told}
 use Rattle.farm_run.proofs.Rounds.Taken.{IsRound}
-use Rattle.farm_run.specs.Match.{AtClock, Matches, past_if, histories_at}
-use Rattle.farm_run.specs.Standing.{Standing, standing, KnowsListed, MeetsRun}
+use Rattle.farm_run.specs.Match.{Matches, past_if, histories_at}
+use Rattle.farm_run.specs.Standing.{Standing, standing, MeetsRun}
 use Rattle.farm_run.specs.Clock.{IsAtClock}
 use Rattle.farm_run.proofs.Rounds.Open.{open_after, shut_after}
 use Rattle.farm_run.proofs.Rounds.Ends.{end_within}
@@ -41,8 +41,7 @@ call_is e = e.call
 module _ (r : Run) (t n : ℕ) (b : State) (farm after : FarmMemory) (first before now : ℕ → Side → LineState) (ends : List CallEnd)
     (w : WorkedRound t n farm after before now ends) (h : IsRound r t n b.done b.left) (m : Matches b farm.calls) (b' : State) (last : Standing)
     (at : IsAtClock r t b farm.calls last first before)
-    (meets : MeetsRun r n w.filled (standing b' after.failed now) last) (a : AtClock t b farm.calls) (knows : KnowsListed b farm.calls farm.failed)
-    (told : b' ≡ told_after b ends)
+    (meets : MeetsRun r n w.filled (standing b' after.failed now) last) (told : b' ≡ told_after b ends)
     (open_then : (c : ℕ) → open_now b' c ≡ (open_now b c && not (is_told c ends))) where
   -- whether a call is open at the clock
   abbrev pub alive : ℕ → Bool

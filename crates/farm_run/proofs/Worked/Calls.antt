@@ -11,7 +11,7 @@ use Rattle.trau_io.specs.declared.line.Side.{Side}
 use Rattle.trau_io.specs.declared.line.Side.TheVariants.{Up, Pcm}
 use Rattle.trau_io.specs.Lines.{LineState}
 use Rattle.round_lines.specs.Memory.{LinesMemory}
-use Rattle.round_lines.specs.Memory as places
+use Rattle.round_lines.specs.Memory as round_lines
 use Rattle.round_lines.specs.Seats.{SeatMemory}
 use Rattle.round_lines.specs.Rounds.{seat_at, call_at, seat_end, no_seat}
 use Rattle.switchboard.specs.Calls.{is_open, gone_at}
@@ -48,7 +48,7 @@ same_ends t [] [] e h = refl
 same_ends t [] (x ∷ ts) e h = absurd (omega arith)
 same_ends t (s ∷ ss) [] e h = absurd (omega arith)
 same_ends t (s ∷ ss) (x ∷ ts) e h =
-    ap (λ (p : LinesMemory). cons_option (places.end_in_round t p) (filter_map (seat_end t) ss)) (h 0 (omega arith))
+    ap (λ (p : LinesMemory). cons_option (round_lines.end_in_round t p) (filter_map (seat_end t) ss)) (h 0 (omega arith))
     ∙ ap (cons_option (seat_end t x)) (same_ends t ss ts (omega arith) (λ k l. h (suc k) (omega arith)))
 
 module _ (r : Run) (t n : ℕ) (b : State) (farm after : FarmMemory) (first before now : ℕ → Side → LineState) (ends : List CallEnd)
@@ -79,7 +79,7 @@ module _ (r : Run) (t n : ℕ) (b : State) (farm after : FarmMemory) (first befo
     pub found : seat_of w.filled c ≡ seat_at w.filled k
     pub number : (seat_at w.filled k).lines.call ≡ c
     pub taken : IsTaken r b.done t n c (seat_at w.filled k).lines (seat_at w.filled k).up (seat_at w.filled k).pcm
-    pub whole : places.whole_in (seat_at w.filled k).lines ≡ places_in r b.done t n c
+    pub whole : round_lines.whole_in (seat_at w.filled k).lines ≡ places_in r b.done t n c
     pub up_left : IsToCome (now c Up) (40 * (t - start_of b.done c) + 40 * n) (r.lines c).up (never_given (last.listed c Up) (last.lines c Up))
     pub pcm_left : IsToCome (now c Pcm) (160 * (t - start_of b.done c) + 160 * n) (r.lines c).pcm (never_given (last.listed c Pcm) (last.lines c Pcm))
 
@@ -168,6 +168,6 @@ module _ (r : Run) (t n : ℕ) (b : State) (farm after : FarmMemory) (first befo
       let place : (seat_at w.worked s.k).lines ≡ (seat_at w.filled s.k).lines = s.facts.front.lines in
       ap (goes_on_call w.worked) (sym (ap (λ (p : LinesMemory). p.call) place ∙ s.number))
       ∙ goes_on_at w.worked s.k w.worked_rising within
-      ∙ ap (λ (p : LinesMemory). places.whole_in p == p.periods) place
+      ∙ ap (λ (p : LinesMemory). round_lines.whole_in p == p.periods) place
       ∙ ap (λ (i : ℕ). i == (seat_at w.filled s.k).lines.periods) s.whole
       ∙ ap (λ (i : ℕ). places_in r b.done t n c == i) s.taken.periods

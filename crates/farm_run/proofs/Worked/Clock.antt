@@ -9,7 +9,7 @@ use Rattle.std.proofs.lemmas.List.Folds.{list_any_at}
 use Rattle.trau_io.specs.declared.ends.CallEnd.{CallEnd}
 use Rattle.trau_io.specs.declared.line.Side.{Side}
 use Rattle.trau_io.specs.Lines.{LineState}
-use Rattle.round_lines.specs.Memory as places
+use Rattle.round_lines.specs.Memory as round_lines
 use Rattle.round_lines.specs.Memory.{LinesMemory}
 use Rattle.round_lines.specs.Seats.{SeatMemory}
 use Rattle.round_lines.specs.Rounds.{seat_at, call_at, seat_end, no_seat}
@@ -42,17 +42,17 @@ pub record IsRight (t n : ℕ) (b : State) (e : CallEnd) : Type 0 where
 module _ (t n : ℕ) (b : State) (farm : FarmMemory) (before between : ℕ → Side → LineState) (planned filled worked : List SeatMemory) (ends : List CallEnd)
     (w : FilledRound t n farm before between planned filled worked ends) (a : AtClock t b farm.calls) where
   -- no seat has more whole periods than the round
-  few : (k c : ℕ) → k < length farm.live → slice_index farm.live k ≡ c → places.whole_in (seat_at worked k).lines ≤ n
+  few : (k c : ℕ) → k < length farm.live → slice_index farm.live k ≡ c → round_lines.whole_in (seat_at worked k).lines ≤ n
   few k c l e =
       let f = front_facts t n farm before between planned filled worked ends w k c l e in
-      let place = ap places.whole_in f.2.lines in
+      let place = ap round_lines.whole_in f.2.lines in
       let up = f.2.fills.up.bound in
       let long = up_long _ _ _ _ _ _ _ _ f.2 in
       omega (arith, place, up, long)
 
   -- an end that a seat tells is right
   seat_right : (k : ℕ) → k < length worked → IfSome (seat_end t (seat_at worked k)) (IsRight t n b)
-  seat_right k l = by (places.whole_in s.lines == s.lines.periods) refl
+  seat_right k l = by (round_lines.whole_in s.lines == s.lines.periods) refl
     where
       s : SeatMemory
       s = seat_at worked k
@@ -64,9 +64,9 @@ module _ (t n : ℕ) (b : State) (farm : FarmMemory) (before between : ℕ → S
       c = slice_index farm.live k
 
       end : CallEnd
-      end = record { call = s.lines.call; at = t + places.whole_in s.lines; cause = lack_of (places.whole_in s.lines) (places.given_in s.lines) }
+      end = record { call = s.lines.call; at = t + round_lines.whole_in s.lines; cause = lack_of (round_lines.whole_in s.lines) (round_lines.given_in s.lines) }
 
-      right : (places.whole_in s.lines ≡ s.lines.periods → ⊥) → IsRight t n b end
+      right : (round_lines.whole_in s.lines ≡ s.lines.periods → ⊥) → IsRight t n b end
       right other =
           let f = front_facts t n farm before between planned filled worked ends w k c within refl in
           let called : s.lines.call ≡ c = worked_call _ _ _ _ _ _ _ _ f.2 in
@@ -75,7 +75,7 @@ module _ (t n : ℕ) (b : State) (farm : FarmMemory) (before between : ℕ → S
           let o' : open_now b s.lines.call ≡ true = ap (open_now b) called ∙ o in
           record {
             from = omega arith;
-            before = less (places.whole_in s.lines) (few k c within refl) (λ e. other (e ∙ sym all));
+            before = less (round_lines.whole_in s.lines) (few k c within refl) (λ e. other (e ∙ sym all));
             number = a.matches.number s.lines.call o';
             open_now = o';
           }
@@ -83,9 +83,9 @@ module _ (t n : ℕ) (b : State) (farm : FarmMemory) (before between : ℕ → S
           less : (m : ℕ) → m ≤ n → (m ≡ n → ⊥) → t + m < t + n
           less m l ne = elim (cases_lt m n) [ inl q ↦ omega arith | inr q ↦ absurd (ne (omega arith)) ]
 
-      by : (x : Bool) → (places.whole_in s.lines == s.lines.periods) ≡ x → IfSome (if x then None else Some end) (IsRight t n b)
+      by : (x : Bool) → (round_lines.whole_in s.lines == s.lines.periods) ≡ x → IfSome (if x then None else Some end) (IsRight t n b)
       by true e = tt
-      by false e = right (λ q. let g = eq-eqb (places.whole_in s.lines) s.lines.periods q in cc)
+      by false e = right (λ q. let g = eq-eqb (round_lines.whole_in s.lines) s.lines.periods q in cc)
 
   -- so is each that is told
   pub ends_right : AllByRecursion (IsRight t n b) ends

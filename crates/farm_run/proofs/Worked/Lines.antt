@@ -25,8 +25,8 @@ use Rattle.run_spec.proofs.SoFar.{standing_now}
 use Rattle.farm_run.specs.Going.{places_in, ends_within, told_after, is_told}
 use Rattle.farm_run.proofs.Rounds.Taken.{IsRound}
 use Rattle.farm_run.specs.Runs.{IsCutOff, IsReadWhole}
-use Rattle.farm_run.specs.Match.{AtClock, Matches, histories_at}
-use Rattle.farm_run.specs.Standing.{Standing, standing, KnowsListed, MeetsRun, IsToCome, never_given}
+use Rattle.farm_run.specs.Match.{Matches, histories_at}
+use Rattle.farm_run.specs.Standing.{Standing, standing, MeetsRun, IsToCome, never_given}
 use Rattle.farm_run.specs.Clock.{LinesAt, IsAtClock}
 use Rattle.farm_run.proofs.Rounds.Open.{open_at}
 use Rattle.farm_run.proofs.Rounds.Ends.{end_within, start_kept}
@@ -58,8 +58,7 @@ stand_same h k calls e g = λ c. subst (λ x. CallStands c x (call_in calls c) (
 module _ (r : Run) (t n : ℕ) (b : State) (farm after : FarmMemory) (first before now : ℕ → Side → LineState) (ends : List CallEnd)
     (w : WorkedRound t n farm after before now ends) (h : IsRound r t n b.done b.left) (m : Matches b farm.calls) (b' : State) (last : Standing)
     (at : IsAtClock r t b farm.calls last first before)
-    (meets : MeetsRun r n w.filled (standing b' after.failed now) last) (a : AtClock t b farm.calls) (knows : KnowsListed b farm.calls farm.failed)
-    (told : b' ≡ told_after b ends)
+    (meets : MeetsRun r n w.filled (standing b' after.failed now) last) (told : b' ≡ told_after b ends)
     (open_then : (c : ℕ) → open_now b' c ≡ (open_now b c && not (is_told c ends))) where
   -- whether a call is open at the clock
   abbrev pub alive : ℕ → Bool
@@ -82,17 +81,17 @@ module _ (r : Run) (t n : ℕ) (b : State) (farm after : FarmMemory) (first befo
 
   -- a call that isn't open has no period in the round, and its lines stay
   idle : (c : ℕ) → IsOpened r c → alive c ≡ false → worked_to r (t + n) c ≡ worked_to r t c
-  idle = worked_written.idle r t n b farm after first before now ends w h m b' last at meets a knows told open_then
+  idle = worked_written.idle r t n b farm after first before now ends w h m b' last at meets
 
   kept : (c : ℕ) → alive c ≡ false → (s : Side) → now c s ≡ before c s
-  kept = worked_written.kept r t n b farm after first before now ends w h m b' last at meets a knows told open_then
+  kept = worked_written.kept r t n b farm after first before now ends w h m b' last at meets
 
   -- the board and the farm behind it
   tells_after : TellsEnds (whole_in r) (t + n) b'
-  tells_after = worked_board.tells_after r t n b farm after first before now ends w h m b' last at meets a knows told open_then
+  tells_after = worked_board.tells_after r t n b farm after first before now ends w h m b' last at meets told open_then
 
   histories_after : (c : ℕ) → those_that (goes_on_call w.worked) worked_at_end c ≡ histories_at r b.done (t + n) c
-  histories_after = worked_board.histories_after r t n b farm after first before now ends w h m b' last at meets a knows told open_then
+  histories_after = worked_board.histories_after r t n b farm after first before now ends w h m b' last at meets told open_then
 
   -- a call whose incoming lines are read whole has all periods of the round
   reads_all : (c : ℕ) → alive c ≡ true → IsReadWhole r (t + n) c → places_in r b.done t n c ≡ n

@@ -5,7 +5,7 @@ use Rattle.std.proofs.lemmas.Bool.{and_parts, and_from}
 use Rattle.trau_io.specs.declared.ends.CallEnd.{CallEnd}
 use Rattle.trau_io.specs.declared.line.Side.{Side}
 use Rattle.trau_io.specs.Lines.{LineState}
-use Rattle.round_lines.specs.Memory as places
+use Rattle.round_lines.specs.Memory as round_lines
 use Rattle.round_lines.specs.Seats.{SeatMemory}
 use Rattle.round_lines.specs.Rounds.{seat_at}
 use Rattle.switchboard.specs.declared.table.Bridge.{Bridge}
@@ -100,8 +100,8 @@ module _ (r : Run) (t n : ℕ) (b : State) (farm after : FarmMemory) (first befo
       (fed_taken r t n b.done b.left c x.lines (io_of x) h o s.taken s.number refl refl)
 
   -- for so many periods as the run says
-  pub given : (c : ℕ) → is_alive c ≡ true → places.whole_in (seat_of w.filled c).lines ≡ places_in r b.done t n c
-  given c o = let s = seat c o in ap (λ (x : SeatMemory). places.whole_in x.lines) s.found ∙ s.whole
+  pub given : (c : ℕ) → is_alive c ≡ true → round_lines.whole_in (seat_of w.filled c).lines ≡ places_in r b.done t n c
+  given c o = let s = seat c o in ap (λ (x : SeatMemory). round_lines.whole_in x.lines) s.found ∙ s.whole
 
   -- no more than the round has
   at_most : (c : ℕ) → places_in r b.done t n c ≤ n
@@ -144,8 +144,8 @@ module _ (r : Run) (t n : ℕ) (b : State) (farm after : FarmMemory) (first befo
       let k = places_in r b.done t n c in
       let l = at_most c in
       let now = settings_now r b.done t c in
-      let whole = places.whole_in (seat_of w.filled c).lines in
-      let others = places.whole_in (seat_of w.filled d).lines in
+      let whole = round_lines.whole_in (seat_of w.filled c).lines in
+      let others = round_lines.whole_in (seat_of w.filled d).lines in
       record {
         law = refl;
         periods = bridged_worked r t n b.done b.left c x (octets c) (octets d) h some (fed c o) (fed d p)

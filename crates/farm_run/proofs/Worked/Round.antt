@@ -14,9 +14,10 @@ use Rattle.round_lines.specs.Rounds.{Each, KeepsButEach, IsIncoming, IsOutgoing,
 use Rattle.farm_rounds.specs.Calls.{Call, call_in, partner_in}
 use Rattle.farm_rounds.specs.Numbers.{is_among}
 use Rattle.farm_rounds.specs.Memory.{FarmMemory, tally_in}
+use Rattle.farm_rounds.specs.Failed.{AreFailed}
 use Rattle.farm_rounds.specs.Histories.{CallHistory, CallsStand, kept_of}
 use Rattle.farm_rounds.specs.Working.{GainsFailed, goes_on_call, partner_past}
-use Rattle.farm_rounds.specs.RoundHistories.{seat_for, worked_histories, AreWorked, KnowFailed, those_that}
+use Rattle.farm_rounds.specs.RoundHistories.{seat_for, worked_histories, AreWorked, those_that}
 use Rattle.farm_rounds.proofs.Rising.{there}
 use Rattle.farm_run.specs.Outgoing.{Settles}
 
@@ -44,8 +45,8 @@ pub record WorkedRound (t n : ℕ) (farm after : FarmMemory) (before now : ℕ �
   pub back : held ≡ true → (now ≡ between) × (drained ≡ worked)
   pub drained_others : KeepsButEach IsOutgoing between now worked (length worked)
   pub drained_number : length drained ≡ length worked
+  pub known : AreFailed farm.failed farm.calls
   pub gains : GainsFailed farm.failed after.failed drained
-  pub know : KnowFailed drained after.calls
   pub is_open : (c : ℕ) → is_some (call_in after.calls c) ≡ (is_among farm.live c && goes_on_call worked c)
   pub partners : (c : ℕ) → partner_in after.calls c ≡ partner_past (goes_on_call worked) (partner_in farm.calls) c
   pub octets : (h : ℕ → Option CallHistory) → CallsStand h farm.calls → AreWorked filled (worked_histories filled (partner_in farm.calls) h) worked

@@ -20,7 +20,6 @@ drained before now worked after drains others = record {
   settles = λ k l. let d = drains.1 k l in record { down = inl d.down; out = inl d.out; kept = d.kept; faults = d.faults };
   others = others;
   gains = drains.2;
-  know = drains.3;
   written = λ e. drains.1;
   back = λ e. cc;
 }
@@ -34,7 +33,6 @@ passed lines worked after passes = record {
   settles = λ k l. record { down = inr (refl, refl); out = inr (refl, refl); kept = refl; faults = λ first h. h };
   others = λ c side none. refl;
   gains = passes.0;
-  know = passes.1;
   written = λ e. cc;
   back = λ e. (refl, refl);
 }

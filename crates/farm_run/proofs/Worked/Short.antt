@@ -1,5 +1,5 @@
 -- An incoming line that fails in a round gives fewer octets than the round takes of it, and its call ends there.
-use Rattle.std.proofs.Common.{◌≡◌, sym, ap, ◌∙◌, subst, ℕ, ◌+◌, ◌-◌, ◌*◌, ◌<◌, ◌≤◌, Bool, true, false, not, ◌&&◌, List, [], length, inl, inr, arith}
+use Rattle.std.proofs.Common.{◌≡◌, sym, ap, ◌∙◌, subst, ℕ, ◌+◌, ◌-◌, ◌*◌, ◌<◌, ◌≤◌, Bool, true, false, ◌&&◌, List, [], length, inl, inr, arith}
 use Rattle.std.specs.Prelude.{min, nat_lt, if◌then◌else◌}
 use Rattle.std.proofs.lemmas.Bool.{cases_Bool, true≢false, lt-ltb}
 use Rattle.trau_io.specs.declared.ends.CallEnd.{CallEnd}
@@ -13,14 +13,13 @@ use Rattle.round_lines.specs.Rounds.{seat_at}
 use Rattle.switchboard.specs.Calls.{is_open, gone_at}
 use Rattle.switchboard.specs.Ends.{Given, start_of, end_of, lack_of}
 use Rattle.switchboard.specs.State.{State}
-use Rattle.switchboard.specs.Open.{open_now}
 use Rattle.farm_rounds.specs.Memory.{FarmMemory}
 use Rattle.run_spec.specs.Run.{Run, given_in, whole_in, done_in, start_in, end_in, cause_in}
 use Rattle.run_spec.proofs.SoFar.{standing_now}
-use Rattle.farm_run.specs.Going.{places_in, told_after, is_told}
+use Rattle.farm_run.specs.Going.{places_in}
 use Rattle.farm_run.specs.Runs.{FailedIn, FailedShort, IsCutOff, is_listed}
-use Rattle.farm_run.specs.Match.{AtClock, Matches}
-use Rattle.farm_run.specs.Standing.{Standing, standing, KnowsListed, MeetsRun}
+use Rattle.farm_run.specs.Match.{Matches}
+use Rattle.farm_run.specs.Standing.{Standing, standing, MeetsRun}
 use Rattle.farm_run.specs.Clock.{IsAtClock, FailedInRound}
 use Rattle.farm_run.proofs.Rounds.Taken.{IsRound}
 use Rattle.farm_run.proofs.Rounds.Open.{open_at}
@@ -45,9 +44,7 @@ lines_end n g = by (nat_lt g.up (40 * (n + 1))) g.up_failed g.pcm_failed
 module _ (r : Run) (t n : ℕ) (b : State) (farm after : FarmMemory) (first before now : ℕ → Side → LineState) (ends : List CallEnd)
     (w : WorkedRound t n farm after before now ends) (h : IsRound r t n b.done b.left) (m : Matches b farm.calls) (b' : State) (last : Standing)
     (at : IsAtClock r t b farm.calls last first before)
-    (meets : MeetsRun r n w.filled (standing b' after.failed now) last) (a : AtClock t b farm.calls) (knows : KnowsListed b farm.calls farm.failed)
-    (told : b' ≡ told_after b ends)
-    (open_then : (c : ℕ) → open_now b' c ≡ (open_now b c && not (is_told c ends))) where
+    (meets : MeetsRun r n w.filled (standing b' after.failed now) last) where
   -- whether a call is open at the clock
   abbrev alive : ℕ → Bool
   alive = is_open (gone_at (whole_in r) t b.done) b.done
@@ -94,7 +91,7 @@ module _ (r : Run) (t n : ℕ) (b : State) (farm after : FarmMemory) (first befo
   up_failed c o listed =
       let s = seat c o in
       let failed : (seat_at w.filled s.k).lines.up.failed ≡ true =
-      sym (listed_incoming t n b farm after before now ends w a knows b' told open_then s.k c Up s.within s.here tt) ∙ listed in
+      sym (listed_incoming t n farm after before now ends w s.k c Up s.within s.here tt) ∙ listed in
       let less : (seat_at w.filled s.k).lines.up.count < 40 * n =
       (let l = s.facts.front.fills.up.short failed in omega (arith, l, up_long _ _ _ _ _ _ _ _ s.facts.front)) in
       let lacks : places_in r b.done t n c < n = (let l = fewer_up (seat_at w.filled s.k).lines n less in omega (arith, l, s.whole)) in
@@ -109,7 +106,7 @@ module _ (r : Run) (t n : ℕ) (b : State) (farm after : FarmMemory) (first befo
   pcm_failed c o listed =
       let s = seat c o in
       let failed : (seat_at w.filled s.k).lines.pcm.failed ≡ true =
-      sym (listed_incoming t n b farm after before now ends w a knows b' told open_then s.k c Pcm s.within s.here tt) ∙ listed in
+      sym (listed_incoming t n farm after before now ends w s.k c Pcm s.within s.here tt) ∙ listed in
       let less : (seat_at w.filled s.k).lines.pcm.count < 160 * n =
       (let l = s.facts.front.fills.pcm.short failed in omega (arith, l, pcm_long _ _ _ _ _ _ _ _ s.facts.front)) in
       let lacks : places_in r b.done t n c < n = (let l = fewer_pcm (seat_at w.filled s.k).lines n less in omega (arith, l, s.whole)) in
@@ -123,7 +120,7 @@ module _ (r : Run) (t n : ℕ) (b : State) (farm after : FarmMemory) (first befo
   -- one that isn't open lists no line more
   still : (c : ℕ) (s : Side) → alive c ≡ false → is_listed after.failed c s ≡ is_listed farm.failed c s
   still c s o =
-      listed_kept t n b farm after before now ends w a knows b' told open_then c s
+      listed_kept t n farm after before now ends w c s
       (open_is r t n b farm after first before now ends w h m b' last at meets c ∙ o)
 
   -- **Each line that is listed since failed in the round, short of what it takes.**

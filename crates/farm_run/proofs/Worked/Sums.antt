@@ -1,5 +1,5 @@
 -- The sums of the outgoing lines behind a round.
-use Rattle.std.proofs.Common.{◌≡◌, sym, ap, ◌∙◌, subst, ℕ, ◌+◌, ◌%◌, ◌^◌, ◌<◌, Bool, true, false, not, ◌&&◌, List, ◌++◌, length, sum, inl, inr, arith}
+use Rattle.std.proofs.Common.{◌≡◌, sym, ap, ◌∙◌, subst, ℕ, ◌+◌, ◌%◌, ◌^◌, ◌<◌, Bool, true, false, List, ◌++◌, length, sum, inl, inr, arith}
 use Rattle.std.specs.Prelude.{is_some}
 use Rattle.std.proofs.Math.Nat.{mod-add-mod}
 use Rattle.std.proofs.lemmas.Bool.{cases_Bool, true≢false}
@@ -12,7 +12,6 @@ use Rattle.round_lines.specs.Seats as seats
 use Rattle.round_lines.specs.Rounds.{seat_at}
 use Rattle.switchboard.specs.Calls.{is_open, gone_at}
 use Rattle.switchboard.specs.State.{State}
-use Rattle.switchboard.specs.Open.{open_now}
 use Rattle.farm_report.specs.Sums.{sum_of}
 use Rattle.farm_rounds.specs.Calls.{call_in}
 use Rattle.farm_rounds.specs.Memory.{FarmMemory}
@@ -20,9 +19,8 @@ use Rattle.farm_rounds.specs.Sums.{Adds}
 use Rattle.farm_rounds.proofs.Rising.{there}
 use Rattle.run_spec.specs.Run.{Run, whole_in, periods_to, who_in, IsOpened, worked_to}
 use Rattle.run_spec.specs.Lines.{out_line, down_octets}
-use Rattle.farm_run.specs.Going.{told_after, is_told}
-use Rattle.farm_run.specs.Match.{AtClock, Matches}
-use Rattle.farm_run.specs.Standing.{Standing, standing, KnowsListed, MeetsRun}
+use Rattle.farm_run.specs.Match.{Matches}
+use Rattle.farm_run.specs.Standing.{Standing, standing, MeetsRun}
 use Rattle.farm_run.specs.Clock.{IsAtClock}
 use Rattle.farm_run.specs.Stages.{SumsAt}
 use Rattle.farm_run.proofs.Rounds.Taken.{IsRound}
@@ -42,9 +40,7 @@ added old more = mod-add-mod (sum old) (2 ^ 32) (sum more) ∙ ap (λ (n : ℕ).
 module _ (r : Run) (t n : ℕ) (b : State) (farm after : FarmMemory) (first before now : ℕ → Side → LineState) (ends : List CallEnd)
     (w : WorkedRound t n farm after before now ends) (h : IsRound r t n b.done b.left) (m : Matches b farm.calls) (b' : State) (last : Standing)
     (at : IsAtClock r t b farm.calls last first before)
-    (meets : MeetsRun r n w.filled (standing b' after.failed now) last) (a : AtClock t b farm.calls) (knows : KnowsListed b farm.calls farm.failed)
-    (told : b' ≡ told_after b ends)
-    (open_then : (c : ℕ) → open_now b' c ≡ (open_now b c && not (is_told c ends))) (was is : ℕ → Side → ℕ) (adds : Adds w.worked was is) where
+    (meets : MeetsRun r n w.filled (standing b' after.failed now) last) (was is : ℕ → Side → ℕ) (adds : Adds w.worked was is) where
   -- whether a call is open at the clock
   abbrev alive : ℕ → Bool
   alive = is_open (gone_at (whole_in r) t b.done) b.done
@@ -76,10 +72,10 @@ module _ (r : Run) (t n : ℕ) (b : State) (farm after : FarmMemory) (first befo
             (worked_at t n farm after before now ends w s.k s.within ∙ s.here) (adds.out s.k within)
             ∙ ap (λ (v : ℕ). (v + sum more) % 2 ^ 32) (sums.out c i)
             ∙ added (out_line (who_in r c) (periods_to r c (worked_to r t c))) more
-            ∙ sym (ap sum_of (grown_out r t n b farm after first before now ends w h m b' last at meets a knows told open_then c o))
+            ∙ sym (ap sum_of (grown_out r t n b farm after first before now ends w h m b' last at meets c o))
         | inr o ↦ stay c o Out ∙ sums.out c i
             ∙ ap (λ (k : ℕ). sum_of (out_line (who_in r c) (periods_to r c k)))
-            (sym (idle r t n b farm after first before now ends w h m b' last at meets a knows told open_then c i o))
+            (sym (idle r t n b farm after first before now ends w h m b' last at meets c i o))
       ]
 
       down : (c : ℕ) → IsOpened r c → is c Down ≡ sum_of (down_octets (who_in r c) (periods_to r c (worked_to r (t + n) c)))
@@ -93,8 +89,8 @@ module _ (r : Run) (t n : ℕ) (b : State) (farm after : FarmMemory) (first befo
             (worked_at t n farm after before now ends w s.k s.within ∙ s.here) (adds.down s.k within)
             ∙ ap (λ (v : ℕ). (v + sum more) % 2 ^ 32) (sums.down c i)
             ∙ added (down_octets (who_in r c) (periods_to r c (worked_to r t c))) more
-            ∙ sym (ap sum_of (grown_down r t n b farm after first before now ends w h m b' last at meets a knows told open_then c o))
+            ∙ sym (ap sum_of (grown_down r t n b farm after first before now ends w h m b' last at meets c o))
         | inr o ↦ stay c o Down ∙ sums.down c i
             ∙ ap (λ (k : ℕ). sum_of (down_octets (who_in r c) (periods_to r c k)))
-            (sym (idle r t n b farm after first before now ends w h m b' last at meets a knows told open_then c i o))
+            (sym (idle r t n b farm after first before now ends w h m b' last at meets c i o))
       ]

@@ -1,5 +1,5 @@
 -- What goes out in a round is what the run's lines gain.
-use Rattle.std.proofs.Common.{◌≡◌, refl, sym, ap, ◌∙◌, subst, ℕ, ◌+◌, ◌-◌, ◌*◌, ◌≤◌, Bool, true, false, not, ◌&&◌, Option, Some, List, ◌++◌, length, take}
+use Rattle.std.proofs.Common.{◌≡◌, refl, sym, ap, ◌∙◌, subst, ℕ, ◌+◌, ◌-◌, ◌*◌, ◌≤◌, Bool, true, false, Option, Some, List, ◌++◌, length, take}
 use Rattle.std.proofs.Common.{drop, inl, inr, arith}
 use Rattle.std.specs.Prelude.{min, is_some}
 use Rattle.std.proofs.lemmas.Bool.{cases_Bool}
@@ -15,7 +15,6 @@ use Rattle.round_lines.specs.Rounds.{seat_at, call_at}
 use Rattle.switchboard.specs.Calls.{is_open, gone_at}
 use Rattle.switchboard.specs.Ends.{start_of}
 use Rattle.switchboard.specs.State.{State}
-use Rattle.switchboard.specs.Open.{open_now}
 use Rattle.trau_alaw.specs.declared.Law.{Law}
 use Rattle.call_leg.specs.Periods.{CallPeriod}
 use Rattle.call_pair.specs.History.{io_after}
@@ -29,11 +28,11 @@ use Rattle.farm_rounds.specs.RoundHistories.{worked_histories}
 use Rattle.run_spec.specs.Run.{Run, whole_in, done_in, periods_to, end_in, who_in, IsOpened, worked_to}
 use Rattle.run_spec.specs.Lines.{out_line, down_octets}
 use Rattle.run_spec.proofs.SoFar.{standing_now}
-use Rattle.farm_run.specs.Going.{places_in, told_after, is_told}
+use Rattle.farm_run.specs.Going.{places_in}
 use Rattle.farm_run.proofs.Rounds.Taken.{IsRound}
 use Rattle.farm_run.specs.Runs.{HasWritten, is_listed}
-use Rattle.farm_run.specs.Match.{AtClock, Matches, histories_at}
-use Rattle.farm_run.specs.Standing.{Standing, standing, KnowsListed, MeetsRun}
+use Rattle.farm_run.specs.Match.{Matches, histories_at}
+use Rattle.farm_run.specs.Standing.{Standing, standing, MeetsRun}
 use Rattle.farm_run.specs.Clock.{WrittenFrom, IsAtClock}
 use Rattle.farm_run.proofs.Rounds.Open.{open_at}
 use Rattle.farm_run.proofs.Rounds.Finished.{out_written, down_written}
@@ -49,9 +48,7 @@ use Rattle.farm_run.proofs.Worked.Past.{IsPast, worked_past}
 module _ (r : Run) (t n : ℕ) (b : State) (farm after : FarmMemory) (first before now : ℕ → Side → LineState) (ends : List CallEnd)
     (w : WorkedRound t n farm after before now ends) (h : IsRound r t n b.done b.left) (m : Matches b farm.calls) (b' : State) (last : Standing)
     (at : IsAtClock r t b farm.calls last first before)
-    (meets : MeetsRun r n w.filled (standing b' after.failed now) last) (a : AtClock t b farm.calls) (knows : KnowsListed b farm.calls farm.failed)
-    (told : b' ≡ told_after b ends)
-    (open_then : (c : ℕ) → open_now b' c ≡ (open_now b c && not (is_told c ends))) where
+    (meets : MeetsRun r n w.filled (standing b' after.failed now) last) where
   -- whether a call is open at the clock
   abbrev pub alive : ℕ → Bool
   alive = is_open (gone_at (whole_in r) t b.done) b.done
@@ -164,13 +161,13 @@ module _ (r : Run) (t n : ℕ) (b : State) (farm after : FarmMemory) (first befo
       omega (arith, length-out_line (who_in r c) (periods_to r c (worked_to r t c)), length-periods_to r c (worked_to r t c), sooner from c l) in
       let was = wrote.out c (opened_is r t n b farm after first before now ends w h m b' last at meets c o) in
       subst (λ (x : Bool). HasWritten x (first c Out) (now c Out) (drop k (out_line (who_in r c) (periods_to r c (worked_to r (t + n) c)))))
-      (stands_out t n b farm after before now ends w a knows b' told open_then s.k c s.within s.here)
+      (stands_out t n farm after before now ends w s.k c s.within s.here)
       (subst (HasWritten (has_failed (seat_at w.drained s.k).lines.out) (first c Out) (now c Out))
       (sym (ap (drop k) (grown_out c o) ∙ drop-append-le k old (seats.out_given (seat_at w.worked s.k)) fits))
       (gains (first c Out) (w.between c Out) (now c Out) (seat_at w.worked s.k).lines.out (seat_at w.drained s.k).lines.out front
       (seats.out_given (seat_at w.worked s.k)) (writes_at t n farm after before now ends w s.k c s.within s.here written).out
       (subst (λ (x : Bool). HasWritten x (first c Out) (w.between c Out) front)
-      (sym (was_out t n b farm after before now ends w a knows b' told open_then s.k c s.within s.here))
+      (sym (was_out t n farm after before now ends w s.k c s.within s.here))
       (subst (λ (l : LineState). HasWritten (is_listed farm.failed c Out) (first c Out) l front) (sym (out_between t n farm after before now ends w c)) was))))
 
   -- the same of the downlink
@@ -186,13 +183,13 @@ module _ (r : Run) (t n : ℕ) (b : State) (farm after : FarmMemory) (first befo
       omega (arith, length-down_octets (who_in r c) (periods_to r c (worked_to r t c)), length-periods_to r c (worked_to r t c), sooner from c l) in
       let was = wrote.down c (opened_is r t n b farm after first before now ends w h m b' last at meets c o) in
       subst (λ (x : Bool). HasWritten x (first c Down) (now c Down) (drop k (down_octets (who_in r c) (periods_to r c (worked_to r (t + n) c)))))
-      (stands_down t n b farm after before now ends w a knows b' told open_then s.k c s.within s.here)
+      (stands_down t n farm after before now ends w s.k c s.within s.here)
       (subst (HasWritten (has_failed (seat_at w.drained s.k).lines.down) (first c Down) (now c Down))
       (sym (ap (drop k) (grown_down c o) ∙ drop-append-le k old (seats.down_given (seat_at w.worked s.k)) fits))
       (gains (first c Down) (w.between c Down) (now c Down) (seat_at w.worked s.k).lines.down (seat_at w.drained s.k).lines.down front
       (seats.down_given (seat_at w.worked s.k)) (writes_at t n farm after before now ends w s.k c s.within s.here written).down
       (subst (λ (x : Bool). HasWritten x (first c Down) (w.between c Down) front)
-      (sym (was_down t n b farm after before now ends w a knows b' told open_then s.k c s.within s.here))
+      (sym (was_down t n farm after before now ends w s.k c s.within s.here))
       (subst (λ (l : LineState). HasWritten (is_listed farm.failed c Down) (first c Down) l front)
       (sym (down_between t n farm after before now ends w c)) was))))
 
@@ -202,7 +199,7 @@ module _ (r : Run) (t n : ℕ) (b : State) (farm after : FarmMemory) (first befo
   written_after written from l wrote = record { out = out; down = down }
     where
       still : (c : ℕ) (s : Side) → alive c ≡ false → is_listed after.failed c s ≡ is_listed farm.failed c s
-      still c s o = listed_kept t n b farm after before now ends w a knows b' told open_then c s (shut c o)
+      still c s o = listed_kept t n farm after before now ends w c s (shut c o)
 
       out : (c : ℕ) → IsOpened r c → HasWritten (is_listed after.failed c Out) (first c Out) (now c Out)
           (drop (160 * worked_to r from c) (out_line (who_in r c) (periods_to r c (worked_to r (t + n) c))))

@@ -2,7 +2,7 @@ use Rattle.std.proofs.Common.{rules, ◌≡◌, ◌<◌, ◌≤◌, sym, ap, ◌
 use Rattle.std.specs.Prelude.{is_some}
 use Rattle.std.specs.List.{insert}
 use Rattle.std.specs.Global.{Box}
-use Rattle.switchboard.specs.declared.act.Act.TheVariants as done
+use Rattle.switchboard.specs.declared.act.Act.TheVariants as act
 use Rattle.farm_rounds.specs.declared.open.OpenCall.{OpenCall}
 use Rattle.farm_rounds.specs.Numbers.{is_among}
 use Rattle.farm_rounds.specs.Acts.{Applied}
@@ -32,7 +32,7 @@ returns-clause-applied c =
     let calls_now : c.insert-2.new.self.items ≡ insert bs at c.in_ok-opened.opened = search rules in
     let p = subst (λ (ns : List ℕ). AreLines ns at c.args.call) (c.deref.ensures.value ∙ c.reserve.ensures.items)
     (c.insertion_index-at.ensures.within, c.insertion_index-at.ensures.below, c.insertion_index-at.ensures.above) in
-    subst (λ (os : List OpenCall). Applied (done.Opened c.args.call c.args.law) (calls_of bs) (map kept_of os))
+    subst (λ (os : List OpenCall). Applied (act.Opened c.args.call c.args.law) (calls_of bs) (map kept_of os))
     (sym (put_opens bs c.insert-2.new.self.items at c.in_ok-opened.opened _ calls_now c.in_ok-opened.ensures))
     (opened_applied c.args.live.now.items (opens_in bs) at c.args.call c.args.law c.requires.sound.1.listed c.requires.fits p.0 p.1)
 

@@ -1,4 +1,6 @@
-use Rattle.std.proofs.Common.{◌<◌, length, Some, None, sym, ap, ◌∙◌, arith, append-nil}
+use Rattle.std.proofs.Common.{◌≡◌, ◌+◌, ◌<◌, ℕ, length, Some, None, sym, ap, ◌∙◌, subst, inl, inr, arith, append-nil}
+use Rattle.std.specs.Global.{Box}
+use Rattle.std.proofs.lemmas.Bool.{cases_lt}
 use Rattle.std.specs.Vec.{vec_len, vec_capacity}
 use Rattle.round_lines.specs.Memory.{end_in_round}
 use Rattle.round_lines.specs.Seats.{SeatMemory}
@@ -6,7 +8,8 @@ use Rattle.round_lines.specs.Rounds.{no_seat, seat_end}
 use Rattle.round_lines.proofs.Listing.{listed_more}
 use Rattle.farm_rounds.specs.declared.open.OpenCall.{OpenCall}
 use Rattle.farm_rounds.specs.Opens.{seats_of, seat_of_open}
-use Rattle.farm_rounds.proofs.Boxes.{seats_long}
+use Rattle.farm_rounds.specs.Opened.{open_at, OctetsFit}
+use Rattle.farm_rounds.proofs.Boxes.{at_read, seats_long}
 use Rattle.farm_rounds.proofs.Listed.{seat_listed}
 use Rattle.farm_rounds.proofs.calls.list_ends.Goals as goal
 use Rattle.farm_rounds.proofs.calls.list_ends.Goals.{in-Some, in_default}
@@ -15,7 +18,7 @@ pub end-requires : goal.end-requires
 end-requires c =
     let calls = c.args.calls.now in
     let k = c.loop-call.call-index in
-    let own = ap (λ (o : OpenCall). o.lines.periods) c.deref.ensures in
+    let own = ap (λ (o : OpenCall). o.lines.periods) c.deref-in-loop-call.ensures in
     let here = ap (λ (s : SeatMemory). s.lines.periods) (seat_listed calls k c.call-item.result no_seat c.loop-call-test.true c.call-item.is) in
     let within = c.requires.within k (omega (arith, c.loop-call-test.true, seats_long calls)) in
     omega (arith, own, here, within)
@@ -28,18 +31,28 @@ loop-call-preserved c =
     let seat = seat_of_open c.call-item.result.value in
     let less : k < length (seats_of calls) = omega (arith, c.loop-call-test.true, seats_long calls) in
     let here = seat_listed calls k c.call-item.result seat c.loop-call-test.true c.call-item.is in
-    let is = sym (c.end.ensures ∙ ap (λ (o : OpenCall). end_in_round c.args.start o.lines) c.deref.ensures) in
+    let all : (j : ℕ) → j < k + 1 → OctetsFit (open_at calls j) = λ j l. elim (cases_lt j k) [
+      | inl b ↦ i.sound j b
+      | inr b ↦
+          let same : k ≡ j = omega (arith, l, b) in
+          let own : c.deref.result.now ≡ open_at calls k = c.deref.ensures ∙ ap (λ (x : Box OpenCall). x.value) c.call-item.is
+          ∙ at_read calls k c.call-item.result c.loop-call-test.true in
+          subst (λ (n : ℕ). OctetsFit (open_at calls n)) same (subst OctetsFit own (c.octets_fit.ensures.io, c.octets_fit.ensures.came))
+    ] in
+    let is = sym (c.end.ensures ∙ ap (λ (o : OpenCall). end_in_round c.args.start o.lines) c.deref-in-loop-call.ensures) in
     elim c.match-end.branch [
       | in-Some w ↦ record {
         listed = ap (λ v. v.items) w.ends-is ∙ w.push_reserved.ensures.items
             ∙ listed_more (seat_end c.args.start) (seats_of calls) k _ _ seat (Some w.in-Some.end) less here (is ∙ w.in-Some.is) i.listed;
         few = omega (arith, ap vec_len w.ends-is, w.push_reserved.ensures.len, i.few);
         room = ap vec_capacity w.ends-is ∙ w.push_reserved.ensures.capacity ∙ i.room;
+        sound = all;
       }
       | in_default w ↦ record {
         listed = ap (λ v. v.items) w.ends-is ∙ sym (append-nil _)
             ∙ listed_more (seat_end c.args.start) (seats_of calls) k _ _ seat None less here (is ∙ w.in_default.is) i.listed;
         few = omega (arith, ap vec_len w.ends-is, i.few);
         room = ap vec_capacity w.ends-is ∙ i.room;
+        sound = all;
       }
     ]

@@ -37,8 +37,8 @@ meet-requires-clause-told c =
     (next_meets c.args.calls.now now c.args.live.now k c.index_of.result c.in-Some.partner c.requires.paired c.requires.told c.loop-at.invariant l
     (ap (λ (o : OpenCall). o.partner) (sym own) ∙ c.in-Some.is) c.index_of.ensures.within c.index_of.ensures.number).told
 
-pub turn_down-requires-clause-first : goal.turn_down-requires-clause-first
-turn_down-requires-clause-first c =
+pub begin_second_phase-requires-clause-first : goal.begin_second_phase-requires-clause-first
+begin_second_phase-requires-clause-first c =
     let now = c.loop-at.calls in
     let k = c.loop-at.at in
     let l : k < length now = omega (arith, c.loop-at-test.true, c.loop-at.invariant.long) in
@@ -47,8 +47,8 @@ turn_down-requires-clause-first c =
     ap (λ (o : OpenCall). o.job.phase) here
     ∙ (next_alone c.args.calls.now now k c.requires.told c.loop-at.invariant l (ap (λ (o : OpenCall). o.partner) (sym own) ∙ c.in-None.is)).0
 
-pub turn_down-requires-clause-finished : goal.turn_down-requires-clause-finished
-turn_down-requires-clause-finished c =
+pub begin_second_phase-requires-clause-finished : goal.begin_second_phase-requires-clause-finished
+begin_second_phase-requires-clause-finished c =
     let now = c.loop-at.calls in
     let k = c.loop-at.at in
     let l : k < length now = omega (arith, c.loop-at-test.true, c.loop-at.invariant.long) in
@@ -57,8 +57,8 @@ turn_down-requires-clause-finished c =
     ap (λ (o : OpenCall). periods_left o.job) here
     ∙ (next_alone c.args.calls.now now k c.requires.told c.loop-at.invariant l (ap (λ (o : OpenCall). o.partner) (sym own) ∙ c.in-None.is)).1
 
-pub turn_down-requires-clause-alone : goal.turn_down-requires-clause-alone
-turn_down-requires-clause-alone c =
+pub begin_second_phase-requires-clause-alone : goal.begin_second_phase-requires-clause-alone
+begin_second_phase-requires-clause-alone c =
     let now = c.loop-at.calls in
     let k = c.loop-at.at in
     let l : k < length now = omega (arith, c.loop-at-test.true, c.loop-at.invariant.long) in
@@ -86,7 +86,7 @@ loop-at-preserved c =
           subst (λ (bs : List (Box OpenCall)). AreMet before bs (k + 1)) (sym w.calls-is) met
       | in-None w ↦
           let here : w.deref_mut.result.now ≡ open_at now k = w.deref_mut.ensures.value ∙ at_read now k _ l in
-          let down = w.turn_down.ensures ∙ ap (λ (o : OpenCall). with_job o (turned_down o.job)) here
+          let down = w.begin_second_phase.ensures ∙ ap (λ (o : OpenCall). with_job o (turned_down o.job)) here
           ∙ sym (met_alone (opens_in before) (open_at now k) (open_at now k).partner (partner ∙ w.in-None.is)) in
           subst (λ (bs : List (Box OpenCall)). AreMet before bs (k + 1)) (sym w.calls-is)
           (changed_next (λ i o. met_beside (opens_in before) o o.partner) before now _ k inv (at_set now k _ l ∙ down) (λ j ne. at_other now k j _ ne)

@@ -20,7 +20,7 @@ use Rattle.farm_run.proofs.Lines.Cutting.{on_err}
 use Rattle.farm_run.proofs.Told.Few.{new_ends, shut_more}
 use Rattle.farm_run.specs.Standing.{Standing, standing, StandingGoesOn, HasFlags, MeetsRun}
 use Rattle.farm_run.proofs.Noted.Knowing.{known_round}
-use Rattle.farm_run.proofs.Listed.Round.{order_after, listed_back}
+use Rattle.farm_run.proofs.Listed.Round.{listed_back}
 use Rattle.farm_run.proofs.Listed.Behind.{knows_after, goes_after, meets_run}
 use Rattle.farm_run.proofs.Told.Boards.{told_done, told_orders}
 use Rattle.farm_run.proofs.Worked.Making.{IsMade, made_octets, made_open, made_partners, made_stands, made_tallies}
@@ -142,9 +142,9 @@ round g c =
       back = settled.back;
       drained_others = settled.others;
       drained_number = settled.number;
+      known = plan.known;
       gains = subst (λ before. GainsFailed before c.settle-farm.result.failed settled.seats)
           (work.failed ∙ ap (λ (p : RoundMemory). p.failed) fill.kept ∙ plan.failed) settled.gains;
-      know = settled.know;
       is_open = made_open _ _ _ _ _ made;
       partners = made_partners _ _ _ _ _ made;
       octets = made_octets _ _ _ _ _ made;
@@ -187,9 +187,9 @@ ends g c r first last flags l on at =
       ends = c.ends.result.now;
       board = told.told;
       noted = told.noted;
-      each = ends_are r _ _ c.args.stage.board _ _ first _ _ _ w h m b' last at met c.requires.stage.clock c.requires.stage.knows told.told told.open;
+      each = ends_are r _ _ c.args.stage.board _ _ first _ _ _ w h m b' last at met told.told told.open;
       apart = tells_apart _ _ c.args.stage.board _ _ _ _ _ _ _ (parts.front _ _ _ _ _ _ _ w) c.requires.stage.clock;
-      told = told_is r _ _ c.args.stage.board _ _ first _ _ _ w h m b' last at met c.requires.stage.clock c.requires.stage.knows told.told told.open;
+      told = told_is r _ _ c.args.stage.board _ _ first _ _ _ w h m b' last at met told.told told.open;
       tallies = tallies_after r _ _ c.args.stage.board _ _ first _ _ _ w h m b' last at met;
     }
 
@@ -229,28 +229,28 @@ returns-clause-reaches g c =
       way = c.settle-farm.ensures.same;
       openings = λ z l openings. subst (λ (j : JournalMemory). OpenedBefore z j.calls) (sym told.noted) openings;
       fell = fell_round _ _ _ _ _ _ _ w;
-      failed = λ first later failed. tells_round _ _ _ _ _ _ _ w first later failed (order_after _ _ b _ _ _ _ _ w a knows b' told.told told.open failed.order);
+      failed = λ first later failed. tells_round _ _ _ _ _ _ _ w first later failed;
       sides = sides_more _ _ _ (sides_filled _ _ c.in_ok-round.round.seats c.fill.new.self.seats _ c.fill.ensures.fills c.fill.ensures.others)
           c.settle-farm.ensures.sides;
       goes = goes_after _ _ b _ _ _ _ _ w a knows b' told.told told.open;
       back = λ held. record {
         lines = λ d side o. ap (λ (lines : ℕ → Side → LineState). lines d side) (w.back held).0 ∙ outgoing_between _ _ _ _ _ _ _ w d side o;
-        listed = λ d side o. listed_back _ _ b _ _ _ _ _ w a knows b' told.told told.open held d side o;
+        listed = λ d side o. listed_back _ _ _ _ _ _ _ w held d side o;
       };
       run = λ r first last flags l on at. clock_is r _ _ b _ _ first _ _ _ w (in_run g c r first last l at) m b' last at
-          (meets g c r last flags on) a knows told.told told.open;
+          (meets g c r last flags on) told.told told.open;
       known = λ r first last flags l on at known.
           known_round r t n b b' c.args.stage.journal c.tell_ends.new.journal c.args.stage.farm.tallies c.settle-farm.result.tallies
           (in_run g c r first last l at) (ends g c r first last flags l on at) known;
       wrote = λ held from before r first last flags l on at wrote.
           written_after r _ _ b _ _ first _ _ _ w (in_run g c r first last l at) m b' last at
-          (meets g c r last flags on) a knows told.told told.open held from before wrote;
+          (meets g c r last flags on) held from before wrote;
       sums = λ summed r first last flags l on at sums.
-          sums_after r _ _ b _ _ first _ _ _ w (in_run g c r first last l at) m b' last at (meets g c r last flags on) a knows told.told told.open _ _
+          sums_after r _ _ b _ _ first _ _ _ w (in_run g c r first last l at) m b' last at (meets g c r last flags on) _ _
           (c.settle-farm.ensures.adds summed) sums;
       short = λ r first last flags l on at short.
           short_more r c.args.pace.now.batch t (t + n) c.args.stage.farm.failed c.settle-farm.result.failed (omega (arith, c.requires.few))
-          (short_after r _ _ b _ _ first _ _ _ w (in_run g c r first last l at) m b' last at (meets g c r last flags on) a knows told.told told.open) short;
+          (short_after r _ _ b _ _ first _ _ _ w (in_run g c r first last l at) m b' last at (meets g c r last flags on)) short;
     }
 
 pub returns-in_err-round : goal.returns-in_err-round

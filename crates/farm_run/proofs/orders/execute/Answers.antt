@@ -15,7 +15,7 @@ use Rattle.farm_run.proofs.Ordered.Following.{follows_more, follows_same}
 use Rattle.farm_run.specs.Standing.{KnowsListed}
 use Rattle.farm_run.specs.Ending.{AreShut}
 use Rattle.farm_run.proofs.Told.Few.{closes_once, one_more, shut_ordered, shut_same}
-use Rattle.farm_run.proofs.Listed.Boards.{over_turned, new_unlisted, knows_more, knows_same}
+use Rattle.farm_run.proofs.Listed.Boards.{over_turned, new_unlisted, knows_turned}
 use Rattle.trau_io.specs.declared.line.Line.{Line}
 use Rattle.switchboard.specs.State.{State}
 use Rattle.farm_run.specs.Match.{AtClock, FollowsRun}
@@ -70,7 +70,7 @@ apply-requires-clause-fits c =
 
 pub apply-requires-clause-fresh : goal.apply-requires-clause-fresh
 apply-requires-clause-fresh c =
-    new_unlisted c.args.board.now c.args.farm.now.calls c.args.farm.now.failed c.in-Ok.act
+    new_unlisted c.args.board.now c.args.farm.now.failed c.in-Ok.act
     (subst (λ x. IfOk x (λ (a : Act). Finds a (opened_now c.args.board.now) (open_now c.args.board.now) (partner_now c.args.board.now))) c.in-Ok.is
     c.in-Some.ensures.finds) c.requires.knows
 
@@ -155,12 +155,8 @@ returns-in_default-result-clause-noted c = λ r under f noted.
 
 pub returns-in_ok-apply-clause-knows : goal.returns-in_ok-apply-clause-knows
 returns-in_ok-apply-clause-knows c =
-    let b = c.args.board.now in
-    let e = c.in-Some.ensures in
-    let farm = c.args.farm.now in
-    subst (λ (ls : List Line). KnowsListed c.turn.new.self c.apply.new.self.calls ls) (sym c.apply.ensures.failed)
-    (knows_more b c.turn.new.self _ farm.calls c.apply.new.self.calls farm.failed c.in-Ok.act c.turn.ensures.state
-    (subst (λ x. IfOk x (λ (a : Act). Finds a (opened_now b) (open_now b) (partner_now b))) c.in-Ok.is e.finds) c.in_ok-apply.ensures.calls c.requires.knows)
+    subst (λ (ls : List Line). KnowsListed c.turn.new.self ls) (sym c.apply.ensures.failed)
+    (knows_turned c.args.board.now c.turn.new.self _ c.args.farm.now.failed c.turn.ensures.state c.requires.knows)
 
 pub returns-in_ok-apply-clause-over : goal.returns-in_ok-apply-clause-over
 returns-in_ok-apply-clause-over c = over_turned c.args.board.now c.turn.new.self _ c.turn.ensures.state
@@ -202,7 +198,7 @@ returns-in_default-result-clause-failed c = refl
 
 pub returns-in_default-result-clause-knows : goal.returns-in_default-result-clause-knows
 returns-in_default-result-clause-knows c =
-    knows_same c.args.board.now c.turn.new.self _ c.args.farm.now.calls c.args.farm.now.failed c.turn.ensures.state c.requires.knows
+    knows_turned c.args.board.now c.turn.new.self _ c.args.farm.now.failed c.turn.ensures.state c.requires.knows
 
 pub returns-in_default-result-clause-over : goal.returns-in_default-result-clause-over
 returns-in_default-result-clause-over c = over_turned c.args.board.now c.turn.new.self _ c.turn.ensures.state
@@ -218,7 +214,7 @@ returns-in_default-clause-failed c = refl
 
 pub returns-in_default-clause-knows : goal.returns-in_default-clause-knows
 returns-in_default-clause-knows c =
-    knows_same c.args.board.now c.turn.new.self _ c.args.farm.now.calls c.args.farm.now.failed c.turn.ensures.state c.requires.knows
+    knows_turned c.args.board.now c.turn.new.self _ c.args.farm.now.failed c.turn.ensures.state c.requires.knows
 
 pub returns-in_default-clause-over : goal.returns-in_default-clause-over
 returns-in_default-clause-over c = over_turned c.args.board.now c.turn.new.self _ c.turn.ensures.state

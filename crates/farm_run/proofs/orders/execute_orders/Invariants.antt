@@ -16,7 +16,7 @@ invariant-loop l = record {
   kept : orders_of l.board ≡ orders_of l.initial.board;
   ended : l.farm.ended ≡ l.initial.farm.ended;
   failed : l.farm.failed ≡ l.initial.farm.failed;
-  knows : KnowsListed l.board l.farm.calls l.farm.failed;
+  knows : KnowsListed l.board l.farm.failed;
   over : (c : ℕ) → is_over l.initial.board c ≡ true → is_over l.board c ≡ true;
   follows : (r : Run) → l.clock < r.periods → FollowsRun r l.clock l.initial.board l.initial.farm.calls → FollowsRun r l.clock l.board l.farm.calls;
   told : l.board.told ≡ l.initial.board.told;

@@ -14,7 +14,7 @@ sound_read most live ns bs cs e f s =
     subst (λ (xs : List ℕ). AreOpen most xs (opens_in cs)) (sym e) (subst (λ (xs : List (Box OpenCall)). AreOpen most live (opens_in xs)) (sym f) s)
 
 pub change-requires-clause-sound : goal.change-requires-clause-sound
-change-requires-clause-sound c = (c.self.inside.end, sound_read _ _ _ _ _ c.deref.ensures.value c.deref_mut.ensures.value c.self.invariant.0)
+change-requires-clause-sound c = (c.self.inside.ended, sound_read _ _ _ _ _ c.deref.ensures.value c.deref_mut.ensures.value c.self.invariant.0)
 
 pub change-requires-clause-fits : goal.change-requires-clause-fits
 change-requires-clause-fits c =
@@ -24,9 +24,9 @@ change-requires-clause-fits c =
 pub invariant_of-self : goal.invariant_of-self
 invariant_of-self c =
     let items = with_items_is c.self.inside.calls c.change.new.calls (c.change.auto.calls ∙ c.deref_mut.ensures.len) in
-    let s = sound_read c.self.inside.end c.self.inside.live.items c.deref.result.now c.self.inside.calls.items c.deref_mut.result.now c.deref.ensures.value
+    let s = sound_read c.self.inside.ended c.self.inside.live.items c.deref.result.now c.self.inside.calls.items c.deref_mut.result.now c.deref.ensures.value
     c.deref_mut.ensures.value c.self.invariant.0 in (
-      sound_read _ _ _ _ _ (sym c.deref.ensures.value) items (c.change.ensures.sound c.self.inside.end s),
+      sound_read _ _ _ _ _ (sym c.deref.ensures.value) items (c.change.ensures.sound c.self.inside.ended s),
       c.self.invariant.1,
       subst (λ (bs : List (Box OpenCall)). AreFailed c.self.inside.failed.items (calls_of bs)) (sym items)
           (known_after c.args.act.now c.self.inside.failed.items (calls_of c.self.inside.calls.items) (calls_of c.change.new.calls)

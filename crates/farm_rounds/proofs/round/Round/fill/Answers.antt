@@ -11,7 +11,8 @@ use Rattle.farm_rounds.specs.Rounds.{EndsShort}
 use Rattle.farm_rounds.specs.Working.{RoundMemory, IsRound}
 use Rattle.farm_rounds.specs.Failed.{AreFailedBefore}
 use Rattle.farm_rounds.proofs.Boxes.{opens_long, seats_long}
-use Rattle.farm_rounds.proofs.Working.{back, is_short}
+use Rattle.farm_rounds.proofs.Working.{is_short}
+use Rattle.farm_rounds.proofs.Written.{back}
 use Rattle.farm_rounds.proofs.Filling.{round_rising, round_fits, same_boxes, same_kept, as_long, filled, seat_fits}
 use Rattle.farm_rounds.proofs.Known.{known_filled}
 use Rattle.farm_rounds.proofs.round.Round.fill.Goals as goal
@@ -20,13 +21,13 @@ pub fill_all-requires-clause-rising : goal.fill_all-requires-clause-rising
 fill_all-requires-clause-rising g c =
     let i = c.self.inside in
     subst (λ (bs : List (Box OpenCall)). Rising (seats_of bs)) (sym c.deref_mut.ensures.value)
-    (round_rising i.start i.end i.live.items (opens_in i.calls.items) c.self.invariant.0)
+    (round_rising i.start i.ended i.live.items (opens_in i.calls.items) c.self.invariant.0)
 
 pub fill_all-requires-clause-fits : goal.fill_all-requires-clause-fits
 fill_all-requires-clause-fits g c =
     let i = c.self.inside in
     subst (λ (bs : List (Box OpenCall)). All HasBuffers (opens_in bs)) (sym c.deref_mut.ensures.value)
-    (round_fits i.start i.end i.live.items (opens_in i.calls.items) c.self.invariant.0)
+    (round_fits i.start i.ended i.live.items (opens_in i.calls.items) c.self.invariant.0)
 
 pub invariant_of-self : goal.invariant_of-self
 invariant_of-self g c =
@@ -39,8 +40,8 @@ invariant_of-self g c =
     back i.calls.len new i.calls.items (omega (arith, c.deref_mut.ensures.len, ap length c.deref_mut.ensures.value)) (same_boxes new i.calls.items kept) in
     let fills : Each Fills a b (seats_of i.calls.items) (seats_of new) (length i.calls.items) =
     subst (λ (bs : List (Box OpenCall)). Each Fills a b (seats_of bs) (seats_of new) (length bs)) c.deref_mut.ensures.value c.fill_all.ensures.fills in (
-      subst (λ (bs : List (Box OpenCall)). IsRound i.start i.end i.live.items (opens_in bs)) (sym whole)
-          (filled i.start i.end i.live.items (opens_in new) (opens_in i.calls.items) kept (as_long a b new i.calls.items kept fills) c.self.invariant.0),
+      subst (λ (bs : List (Box OpenCall)). IsRound i.start i.ended i.live.items (opens_in bs)) (sym whole)
+          (filled i.start i.ended i.live.items (opens_in new) (opens_in i.calls.items) kept (as_long a b new i.calls.items kept fills) c.self.invariant.0),
       c.self.invariant.1,
       c.self.invariant.2,
       c.self.invariant.3,
@@ -48,7 +49,7 @@ invariant_of-self g c =
       c.self.invariant.5,
       c.self.invariant.6,
       subst (λ (bs : List (Box OpenCall)). AreFailedBefore i.failed.items (opens_in bs)) (sym whole)
-          (known_filled i.start i.end i.live.items i.failed.items a b new i.calls.items c.self.invariant.0 kept fills c.self.invariant.7),
+          (known_filled i.start i.ended i.live.items i.failed.items a b new i.calls.items c.self.invariant.0 kept fills c.self.invariant.7),
     )
 
 pub returns-clause-fills : goal.returns-clause-fills
@@ -86,7 +87,7 @@ returns-clause-kept g c =
     let seats = seats_of (take i.calls.len (new ++ drop (length new) i.calls.items)) in
     ap (λ (ks : List Kept). record {
       start = i.start;
-      ended = i.end;
+      ended = i.ended;
       live = i.live.items;
       tallies = i.tallies.items;
       failed = i.failed.items;
@@ -129,4 +130,4 @@ returns-clause-short g c =
     (λ k l.
     let lk : k < length i.calls.items = omega (arith, l, seats_long new, number) in
     is_short _ _ (seat_at (seats_of i.calls.items) k) (seat_at (seats_of new) k) (fills k lk)
-    (seat_fits i.start i.end i.live.items (opens_in i.calls.items) k c.self.invariant.0 (omega (arith, lk, opens_long i.calls.items))))
+    (seat_fits i.start i.ended i.live.items (opens_in i.calls.items) k c.self.invariant.0 (omega (arith, lk, opens_long i.calls.items))))

@@ -9,9 +9,9 @@ use Rattle.farm_rounds.specs.Memory.{FarmMemory}
 use Rattle.farm_rounds.specs.Opens.{opens_in, open_planned, kept_of, seat_of_open}
 use Rattle.farm_rounds.specs.RoundHistories.{seat_for}
 use Rattle.farm_rounds.specs.Working.{IsRound}
-use Rattle.farm_rounds.specs.Failed.{AreFailedBefore}
+use Rattle.farm_rounds.specs.Failed.{AreFailed, AreFailedBefore}
 use Rattle.farm_rounds.proofs.Boxes.{opens_long}
-use Rattle.farm_rounds.proofs.Working.{back}
+use Rattle.farm_rounds.proofs.Written.{back}
 use Rattle.farm_rounds.specs.Numbers.{IsRising}
 use Rattle.farm_rounds.proofs.Planning.{few_live, kept_all, planned, planned_seat, rising_kept}
 use Rattle.farm_rounds.proofs.Known.{known_planned}
@@ -20,19 +20,19 @@ use Rattle.farm_rounds.proofs.round.Round.plan.Goals as goal
 pub overflow_cast-most : goal.overflow_cast-most
 overflow_cast-most c =
     let i = c.farm.inside in
-    let few = few_live i.end i.live.items (opens_in i.calls.items) c.farm.invariant.0 in
+    let few = few_live i.ended i.live.items (opens_in i.calls.items) c.farm.invariant.0 in
     record { fits = omega (arith, few, c.len-most.ensures, i.live.ok.0) }
 
 pub reserve-requires-2-clause-jobs : goal.reserve-requires-2-clause-jobs
 reserve-requires-2-clause-jobs c =
     let i = c.farm.inside in
-    let few = few_live i.end i.live.items (opens_in i.calls.items) c.farm.invariant.0 in
+    let few = few_live i.ended i.live.items (opens_in i.calls.items) c.farm.invariant.0 in
     omega (arith, few, c.len-most.ensures, i.live.ok.0)
 
 pub reserve-requires-3-clause-jobs : goal.reserve-requires-3-clause-jobs
 reserve-requires-3-clause-jobs c =
     let i = c.farm.inside in
-    let few = few_live i.end i.live.items (opens_in i.calls.items) c.farm.invariant.0 in
+    let few = few_live i.ended i.live.items (opens_in i.calls.items) c.farm.invariant.0 in
     omega (arith, few, c.len-most.ensures, i.live.ok.0)
 
 -- the calls of the round
@@ -51,9 +51,9 @@ pub invariant_of-result : goal.invariant_of-result
 invariant_of-result c =
     let i = c.farm.inside in
     let ended = ap (λ (f : FarmMemory). f.ended) c.farm.view_is in
-    let later : i.end ≤ c.args.start = omega (arith, ended, c.requires.later) in (
+    let later : i.ended ≤ c.args.start = omega (arith, ended, c.requires.later) in (
       subst (λ (os : List OpenCall). IsRound c.args.start (c.args.start + c.args.periods) i.live.items os) (sym (opens c))
-          (planned i.end c.args.start c.args.periods i.live.items (opens_in i.calls.items) later c.requires.last c.farm.invariant.0),
+          (planned i.ended c.args.start c.args.periods i.live.items (opens_in i.calls.items) later c.requires.last c.farm.invariant.0),
       c.in_ok-with_capacity.ensures.items,
       omega (arith, c.in_ok-with_capacity.ensures.capacity, c.len-2.ensures, i.live.ok.0),
       omega (arith, c.in_ok-reserve-2.ensures, c.len-most.ensures, i.live.ok.0),
@@ -63,7 +63,7 @@ invariant_of-result c =
       subst (λ (ls : List Line). AreFailedBefore ls
           (opens_in (take i.calls.len (c.plan_all.new.calls ++ drop (length c.plan_all.new.calls) i.calls.items)))) (sym c.in_ok-reserve.ensures.items)
           (subst (λ (os : List OpenCall). AreFailedBefore i.failed.items os) (sym (opens c))
-          (known_planned i.end c.args.periods i.live.items (opens_in i.calls.items) i.failed.items c.farm.invariant.0 c.farm.invariant.2)),
+          (known_planned i.ended c.args.periods i.live.items (opens_in i.calls.items) i.failed.items c.farm.invariant.0 c.farm.invariant.2)),
     )
 
 pub returns-clause-seats : goal.returns-clause-seats
@@ -73,7 +73,7 @@ returns-clause-seats c =
     seat_at (map seat_of_open (opens_in (take i.calls.len (c.plan_all.new.calls ++ drop (length c.plan_all.new.calls) i.calls.items)))) k
     ≡ seat_for c.args.periods (slice_index f.live k) (call_in f.calls (slice_index f.live k))) c.farm.view_is
     (λ k l. ap (λ (os : List OpenCall). seat_at (map seat_of_open os) k) (opens c)
-    ∙ planned_seat i.end c.args.periods i.live.items (opens_in i.calls.items) k c.farm.invariant.0 l)
+    ∙ planned_seat i.ended c.args.periods i.live.items (opens_in i.calls.items) k c.farm.invariant.0 l)
 
 pub returns-clause-calls : goal.returns-clause-calls
 returns-clause-calls c =
@@ -83,4 +83,7 @@ pub returns-clause-order : goal.returns-clause-order
 returns-clause-order c =
     let i = c.farm.inside in
     subst (λ (os : List OpenCall). IsRising (map (λ k. k.call.number) (map kept_of os))) (sym (opens c))
-    (rising_kept c.args.periods i.end i.live.items (opens_in i.calls.items) c.farm.invariant.0)
+    (rising_kept c.args.periods i.ended i.live.items (opens_in i.calls.items) c.farm.invariant.0)
+
+pub returns-clause-known : goal.returns-clause-known
+returns-clause-known c = subst (λ (f : FarmMemory). AreFailed f.failed f.calls) c.farm.view_is c.farm.invariant.2

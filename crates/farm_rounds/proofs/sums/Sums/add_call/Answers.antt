@@ -9,7 +9,7 @@ pub returns : goal.returns
 returns c =
     let call = c.call-number.result in
     both_added (seat_of_open c.args.call.now) (sum_in c.args.self.now) (sum_in c.add.new.self) (sum_in c.add-2.new.self) call c.call-number.ensures.value
-    (c.add.ensures.this ∙ ap (λ (octets : List ℕ). (sum_in c.args.self.now call Down + sum octets) % 2 ^ 32) c.given.ensures.down)
+    (c.add.ensures.this ∙ ap (λ (octets : List ℕ). (sum_in c.args.self.now call Down + sum octets) % 2 ^ 32) c.outgoing.ensures.down)
     c.add.ensures.others
-    (c.add-2.ensures.this ∙ ap (λ (octets : List ℕ). (sum_in c.add.new.self call Out + sum octets) % 2 ^ 32) c.given.ensures.out)
+    (c.add-2.ensures.this ∙ ap (λ (octets : List ℕ). (sum_in c.add.new.self call Out + sum octets) % 2 ^ 32) c.outgoing.ensures.out)
     c.add-2.ensures.others

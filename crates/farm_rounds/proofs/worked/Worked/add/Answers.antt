@@ -10,7 +10,7 @@ use Rattle.farm_rounds.specs.Opened.{HasBuffers, no_open, open_at}
 use Rattle.farm_rounds.specs.Sums.{AddsSeat, sum_in}
 use Rattle.farm_rounds.specs.Working.{WorkedMemory, IsWorkedCall}
 use Rattle.farm_rounds.proofs.Boxes.{at_read, opens_long, seat_read, seats_long}
-use Rattle.farm_rounds.proofs.Listed.{seats_rise}
+use Rattle.farm_rounds.proofs.Working.{seats_rising}
 use Rattle.farm_rounds.proofs.Summing.{added_more}
 use Rattle.farm_rounds.proofs.worked.Worked.add.Goals as goal
 
@@ -22,7 +22,7 @@ add_call-requires c =
     let l : n < length calls = subst (λ (bs : List (Box OpenCall)). n < length bs) here c.loop-call-test.true in
     let own : c.deref.result.now ≡ open_at calls n = c.deref.ensures ∙ ap (λ (b : Box OpenCall). b.value) c.call-item.is
     ∙ ap (λ (bs : List (Box OpenCall)). (get_or bs n c.call-item.result).value) here ∙ at_read calls n c.call-item.result l in
-    let sound = All-get_or (IsWorkedCall c.self.inside.end) (opens_in calls) n no_open (omega (arith, l, opens_long calls)) c.self.invariant.0.each in
+    let sound = All-get_or (IsWorkedCall c.self.inside.ended) (opens_in calls) n no_open (omega (arith, l, opens_long calls)) c.self.invariant.0.each in
     subst HasBuffers (sym own) sound.fits
 
 pub loop-call-preserved : goal.loop-call-preserved
@@ -36,8 +36,8 @@ loop-call-preserved c =
     let own : c.deref.result.now ≡ open_at calls n = c.deref.ensures ∙ ap (λ (b : Box OpenCall). b.value) c.call-item.is
     ∙ ap (λ (bs : List (Box OpenCall)). (get_or bs n c.call-item.result).value) here ∙ at_read calls n c.call-item.result l in
     let are : seats_of calls ≡ seats = ap (λ (r : WorkedMemory). r.seats) c.self.view_is in
-    let rising : Rising seats = subst Rising are (seats_rise calls (subst IsRising round.listed round.rising)
-    (All-weaker (IsWorkedCall c.self.inside.end) (λ o. o.lines.call ≡ o.job.io.call) (λ o w. w.lines) (opens_in calls) round.each)) in
+    let rising : Rising seats = subst Rising are (seats_rising (opens_in calls) (subst IsRising round.listed round.rising)
+    (All-weaker (IsWorkedCall c.self.inside.ended) (λ o. o.lines.call ≡ o.job.io.call) (λ o w. w.lines) (opens_in calls) round.each)) in
     let within : n < length seats = subst (λ (ss : List SeatMemory). n < length ss) are (omega (arith, l, seats_long calls)) in
     let seat : seat_of_open c.deref.result.now ≡ seat_at seats n = ap seat_of_open own ∙ seat_read calls n l ∙ ap (λ (ss : List SeatMemory). seat_at ss n) are in
     let new = subst (λ (s : SeatMemory). AddsSeat s (sum_in c.loop-call.sums) (sum_in c.add_call.new.self)) seat c.add_call.ensures in

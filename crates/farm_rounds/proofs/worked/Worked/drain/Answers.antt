@@ -43,7 +43,7 @@ after : (g : given.Over) (c : goal.After-pass g) →
     let i = c.self.inside in
     let calls = take i.calls.len (c.drain_all.new.calls ++ drop (length c.drain_all.new.calls) i.calls.items) in
     record {
-      ended = i.end;
+      ended = i.ended;
       live = i.live.items;
       tallies = i.tallies.items;
       failed = i.failed.items;
@@ -55,7 +55,7 @@ after g c =
     let i = c.self.inside in
     ap (λ (bs : List (Box OpenCall)).
     record {
-      ended = i.end;
+      ended = i.ended;
       live = i.live.items;
       tallies = i.tallies.items;
       failed = i.failed.items;
@@ -100,9 +100,9 @@ invariant_of-self g c =
     let here = c.deref_mut.result.now in
     let before = g.T.Trunk.lines c.args.trunk.now in
     let behind = g.T.Trunk.lines c.drain_all.new.trunk in (
-      subst (λ (bs : List (Box OpenCall)). IsWorkedRound i.end i.live.items (opens_in bs))
+      subst (λ (bs : List (Box OpenCall)). IsWorkedRound i.ended i.live.items (opens_in bs))
           (sym (written i.calls.len i.calls.items here now c.deref_mut.ensures.value c.deref_mut.ensures.len c.drain_all.ensures.kept))
-          (still_worked (opens_in i.calls.items) (opens_in now) (kept i.calls.items here now c.deref_mut.ensures.value c.drain_all.ensures.kept) i.end
+          (still_worked (opens_in i.calls.items) (opens_in now) (kept i.calls.items here now c.deref_mut.ensures.value c.drain_all.ensures.kept) i.ended
           i.live.items c.self.invariant.0),
       c.self.invariant.1,
       c.self.invariant.2,

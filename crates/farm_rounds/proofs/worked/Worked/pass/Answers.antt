@@ -3,6 +3,7 @@ use Rattle.std.specs.Prelude.{flat_map}
 use Rattle.std.specs.Global.{Box}
 use Rattle.std.specs.List.{All}
 use Rattle.std.proofs.lemmas.List.{length-map}
+use Rattle.std.specs.List.Sorted.{IsNonDecreasingBy}
 use Rattle.std.proofs.lemmas.List.Sorted.{IsNonDecreasingBy-from_sort_by_key}
 use Rattle.trau_io.specs.declared.line.Line.{Line}
 use Rattle.trau_io.specs.Indices.{index_of_line}
@@ -18,7 +19,7 @@ use Rattle.farm_rounds.specs.Working.{WorkedMemory, GainsFailed}
 use Rattle.farm_rounds.proofs.Boxes.{opens_long}
 use Rattle.farm_rounds.proofs.Passing.{IsPassed, own, passed, still_left}
 use Rattle.farm_rounds.proofs.Written.{back}
-use Rattle.farm_rounds.proofs.Gaining.{failed_passed}
+use Rattle.farm_rounds.proofs.Gaining.{gained_once, failed_passed}
 use Rattle.farm_rounds.proofs.worked.Worked.pass.Goals as goal
 
 -- each call is listed
@@ -68,29 +69,37 @@ whole c =
     let kept =
     subst (λ (ts : List Tally). (d : ℕ) → TallyKept (opens_in i.calls.items) d (tally_in ts d) (tally_in keeps d)) c.deref_mut.ensures.value first in
     subst (λ (r : WorkedMemory). IsPassed r (calls_of c.keep_open.new.calls.items) c.keep_open.new.live.items keeps) c.self.view_is
-    (passed i.end i.live.items (opens_in i.calls.items) i.tallies.items keeps i.failed.items i.ends.items c.keep_open.new.live.items
+    (passed i.ended i.live.items (opens_in i.calls.items) i.tallies.items keeps i.failed.items i.ends.items c.keep_open.new.live.items
     (opens_in c.keep_open.new.calls.items) c.self.invariant.0 c.keep_open.ensures.live c.keep_open.ensures.calls kept)
 
 -- the lines that are listed after the round
+sorted : (c : goal.After-drop-self-inside) → IsNonDecreasingBy (λ (l : Line). index_of_line l.call l.side) c.sort_unstable_by_key.new.self.items
+sorted c =
+    IsNonDecreasingBy-from_sort_by_key (λ (l : Line). index_of_line l.call l.side) _ c.sort_unstable_by_key.ensures.sorted (λ a r q k. search rules)
+
 gains : (c : goal.After-drop-self-inside) →
     GainsFailed c.self.inside.failed.items c.sort_unstable_by_key.new.self.items (seats_of c.self.inside.calls.items)
-gains c = record {
-  lines = c.list_failed.new.failed.items;
-  told =
-      c.list_failed.ensures
-      ∙ ap (λ (bs : List (Box OpenCall)). map line_name c.self.inside.failed.items ++ flat_map (λ (s : SeatMemory). failed_in_round s.lines) (seats_of bs))
-      c.deref.ensures.value;
-  same = c.sort_unstable_by_key.ensures.permutation;
-  order = IsNonDecreasingBy-from_sort_by_key (λ (l : Line). index_of_line l.call l.side) _ c.sort_unstable_by_key.ensures.sorted (λ a r q k. search rules);
-}
+gains c =
+    let i = c.self.inside in
+    let named =
+    c.list_failed.ensures
+    ∙ ap (λ (bs : List (Box OpenCall)). map line_name i.failed.items ++ flat_map (λ (s : SeatMemory). failed_in_round s.lines) (seats_of bs))
+    c.deref.ensures.value in
+    record {
+      lines = c.list_failed.new.failed.items;
+      told = named;
+      same = c.sort_unstable_by_key.ensures.permutation;
+      order = gained_once i.ended i.live.items (opens_in i.calls.items) c.self.invariant.0 i.failed.items c.self.invariant.3
+          c.list_failed.new.failed.items c.sort_unstable_by_key.new.self.items named c.sort_unstable_by_key.ensures.permutation (sorted c);
+    }
 
 pub invariant_of-result : goal.invariant_of-result
 invariant_of-result c =
     let i = c.self.inside in (
-      still_left i.end i.live.items (opens_in i.calls.items) c.keep_open.new.live.items (opens_in c.keep_open.new.calls.items) c.self.invariant.0
+      still_left i.ended i.live.items (opens_in i.calls.items) c.keep_open.new.live.items (opens_in c.keep_open.new.calls.items) c.self.invariant.0
           c.keep_open.ensures.live c.keep_open.ensures.calls,
       ap length (tallies_back c) ∙ c.keep_tallies.ensures.number,
-      failed_passed i.end i.live.items (opens_in i.calls.items) i.failed.items c.sort_unstable_by_key.new.self.items c.keep_open.new.live.items
+      failed_passed i.ended i.live.items (opens_in i.calls.items) i.failed.items c.sort_unstable_by_key.new.self.items c.keep_open.new.live.items
           (opens_in c.keep_open.new.calls.items) c.self.invariant.0 c.self.invariant.3 (gains c) c.keep_open.ensures.live c.keep_open.ensures.calls,
     )
 
