@@ -1,32 +1,24 @@
 -- Why the command `follow` ends as it does, and what it leaves without faults.
-use Rattle.std.proofs.Common.{◌≡◌, inl, inr, ⊎_elim, ℕ, ◌≤◌, ◌++◌, List, length, Some, refl, sym, ◌∙◌, ap, subst, arith}
+use Rattle.std.proofs.Common.{◌≡◌, inl, inr, ⊎_elim, ℕ, ◌≤◌, ◌++◌, List, length, Some, sym, ◌∙◌, ap, subst, arith}
 use Rattle.std.specs.Io.KnownBytes.{Appends}
 use Rattle.std.proofs.KnownBytes.{Appends-trans}
 use Rattle.trau_io.specs.declared.line.Side.{Side}
 use Rattle.trau_io.specs.Lines.{LineState, Rose}
 use Rattle.trau_io.specs.Desks.{DeskState}
-use Rattle.farm_tools.specs.declared.end.ToolEnd.{ToolEnd}
-use Rattle.farm_tools.specs.declared.end.ToolEnd.TheVariants as tool
-use Rattle.farm_tools.specs.Tools.{status_of}
-use Rattle.farm_tools.proofs.Cleaning.{consumed, appended, at_end}
+use Rattle.block_lines.specs.declared.end.ToolEnd.{ToolEnd}
+use Rattle.block_lines.specs.Command.{status_of}
+use Rattle.block_lines.proofs.Alone.{appended, at_end, consumed}
+use Rattle.block_lines.proofs.Ending.{fault_status}
 use Rattle.ccu_end.specs.declared.recording.FollowEnd.{FollowEnd}
 use Rattle.ccu_end.specs.declared.recording.FollowEnd.TheVariants.{Done, ReadFailed, WriteFailed, DeskFailed}
 use Rattle.ccu_end.specs.Heard.{all_of}
 use Rattle.ccu_end.specs.Told.{listed}
 use Rattle.ccu_end.specs.Follows.{Follows}
-use Rattle.ccu_end.specs.Tool.{AreCalm, CleanFollow, FollowCauses, FollowRun, HasCauses, IsFaultOf, LeavesFollowed, TellsLast, last_text}
+use Rattle.ccu_end.specs.Tool.{AreCalm, CleanFollow, FollowCauses, FollowRun, HasCauses, LeavesFollowed, TellsLast, last_text}
 
 -- a count that rose after it stayed or rose
 rose_later : (a b c : ℕ) → a ≤ b → Rose b c → Rose a c
 rose_later a b c le rose = omega (arith, le, rose)
-
--- a line that failed is status 6
-fault_status : (call : ℕ) (side : Side) (result : ToolEnd) → IsFaultOf call side result → status_of result ≡ 6
-fault_status call side tool.Done is = absurd is
-fault_status call side (tool.LineFault line) is = refl
-fault_status call side tool.DeskFault is = absurd is
-fault_status call side (tool.Refused m) is = absurd is
-fault_status call side tool.Memory is = absurd is
 
 module _ (call want : ℕ) (u u' d d' : LineState) (k m k' : DeskState) (result : ToolEnd) where
   -- why the status comes, by the end and by what was told of it

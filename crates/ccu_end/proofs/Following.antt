@@ -13,8 +13,13 @@ use Rattle.ccu_end.specs.Heard.{ArePeriods, CcuMemory, Stands, all_of}
 use Rattle.ccu_end.specs.Told.{lines_of, listed, octets_saying, sent_up}
 use Rattle.ccu_end.specs.Follows.{Follows, Moves}
 use Rattle.ccu_end.specs.FollowStep.{FollowsOn, NoFault, Takes}
-use Rattle.frame_listing.proofs.Blocks.{concat_push, few_with, front_of}
+use Rattle.block_lines.proofs.Blocks.{concat_push, few_with}
 use Rattle.ccu_end.proofs.SoFar.{moves_on, all_more, listed_more, sent_more, SoFar}
+
+-- a prefix of what is last, after all before it, is a prefix of all
+front_of : (before front last : List ℕ) → front ≡ take (length front) last → before ++ front ≡ take (length (before ++ front)) (before ++ last)
+front_of [] front last is = is
+front_of (b ∷ before) front last is = ap (λ l. b ∷ l) (front_of before front last is)
 
 module _ (ccu ccu' : CcuMemory) (want : ℕ) (u0 u1 u2 d0 d1 d2 : LineState) (k0 k1 k2 : DeskState) (n frames : ℕ)
     (so_far : SoFar ccu want u0 u1 d0 d1 k0 k1 n frames) where

@@ -3,6 +3,7 @@
 use Rattle.std.specs.Prelude.{◌≡◌, ◌⊎◌, ℕ, ◌*◌, ◌-◌, ◌^◌, ◌<◌, ◌≤◌, List, [], ◌∷◌, ◌++◌, length, take, reverse}
 use Rattle.std.specs.List.{concat}
 use Rattle.std.specs.Io.KnownBytes.{Appends, IsAtEnd}
+use Rattle.trau_io.specs.declared.line.Side.{Side}
 use Rattle.trau_io.specs.Lines.{LineState, Rose}
 use Rattle.trau_io.specs.Transfer.{Gives}
 use Rattle.trau_io.specs.Desks.{DeskState}
@@ -11,6 +12,10 @@ use Rattle.ccu_end.specs.declared.recording.FollowEnd.TheVariants.{Done, ReadFai
 use Rattle.ccu_end.specs.Found.{FoundFrame}
 use Rattle.ccu_end.specs.Heard.{ArePeriods, AreHeard, all_of}
 use Rattle.ccu_end.specs.Told.{listed, sent_up}
+
+-- every line but these two of one call is unchanged, its fault count included
+abbrev pub AllButTwo : (ℕ → Side → LineState) → (ℕ → Side → LineState) → ℕ → Side → Side → Type 0
+AllButTwo before now call a b = (c : ℕ) (s : Side) → (c ≡ call → s ≡ a → ⊥) → (c ≡ call → s ≡ b → ⊥) → now c s ≡ before c s
 
 -- the outgoing line gained these octets
 pub record Gains (down down' : LineState) (sent : List ℕ) : Type 0 where

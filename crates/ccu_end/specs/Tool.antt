@@ -8,16 +8,15 @@ use Rattle.trau_io.specs.Lines.{LineState, Rose}
 use Rattle.trau_io.specs.Desks.{DeskState}
 use Rattle.trau_io.specs.Texts.{failed_text}
 use Rattle.trau_io.specs.Transfer.{Tells}
-use Rattle.farm_tools.specs.declared.end.ToolEnd.{ToolEnd}
-use Rattle.farm_tools.specs.declared.end.ToolEnd.TheVariants as tool
-use Rattle.farm_tools.specs.Causes.{IsCalm}
-use Rattle.farm_tools.specs.Runs.{AllButTwo}
+use Rattle.block_lines.specs.declared.end.ToolEnd.{ToolEnd}
+use Rattle.block_lines.specs.declared.end.ToolEnd.TheVariants as tool
+use Rattle.block_lines.specs.Command.{IsCalm, IsFaultOf}
 use Rattle.ccu_end.specs.declared.recording.FollowEnd.{FollowEnd}
 use Rattle.ccu_end.specs.declared.recording.FollowEnd.TheVariants.{Done, ReadFailed, WriteFailed, DeskFailed}
 use Rattle.ccu_end.specs.Found.{FoundFrame}
 use Rattle.ccu_end.specs.Heard.{ArePeriods, AreHeard, all_of}
 use Rattle.ccu_end.specs.Told.{listed, sent_up}
-use Rattle.ccu_end.specs.Follows.{Follows}
+use Rattle.ccu_end.specs.Follows.{AllButTwo, Follows}
 
 -- the last line of text: how many frames were found and how many octets are left, or which line failed; none if the desk failed
 abbrev pub last_text : ℕ → FollowEnd → List ℕ
@@ -25,11 +24,6 @@ last_text call (Done frames left) = codes "follow frames " ++ (decimal frames ++
 last_text call ReadFailed = failed_text call Up
 last_text call WriteFailed = failed_text call Down
 last_text call DeskFailed = []
-
--- the tool ended because this line failed
-abbrev pub IsFaultOf : ℕ → Side → ToolEnd → Type 0
-IsFaultOf call side (tool.LineFault line) = (line.call ≡ call) × (line.side ≡ side)
-IsFaultOf call side result = ⊥
 
 -- the end of the tool is that of the followed downlink
 abbrev pub IsEndOf : ℕ → FollowEnd → ToolEnd → Type 0

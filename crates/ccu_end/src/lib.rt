@@ -3,7 +3,7 @@
 //! Finds the frames of a downlink, 40 octets a period of 20 ms, at any bit and through their shifts. A frame is reported in
 //! the period of its bit 315, since a shift of -2 leaves out the four time bits that follow. The station sends the speech
 //! back up, and asks for the time alignment that brings the frames to a wanted place. The command `follow` does this for the
-//! lines of a call (`trau_io`), and ends as the other tools do (`farm_tools`).
+//! lines of a call (`trau_io`), and ends as the other commands on lines do (`block_lines`).
 //!
 //! Above frames (`trau_frame`) and `frame_sync`, which has the bits of two periods; the law that the frames found are those
 //! that were made is over the framer (`down_framer`). Below the top function.

@@ -5,18 +5,17 @@ ghost use Rattle.call_number.specs.CallNumber.{IsCallNumber};
 ghost use Rattle.trau_io.specs.declared.line.Side.TheVariants.{Up, Down};
 ghost use Rattle.trau_io.specs.Lines.{OthersStay};
 ghost use Rattle.trau_io.specs.Transfer.{WritesAll};
-ghost use Rattle.farm_tools.specs.Runs.{AllButTwo};
-ghost use Rattle.farm_tools.specs.Tools.{status_of};
+ghost use Rattle.block_lines.specs.Command.{status_of};
 ghost use Rattle.ccu_end.specs.Heard.{frames_of};
 ghost use Rattle.ccu_end.specs.Told.{octets_saying};
-ghost use Rattle.ccu_end.specs.Follows.{Follows};
+ghost use Rattle.ccu_end.specs.Follows.{AllButTwo, Follows};
 ghost use Rattle.ccu_end.specs.FollowStep.{FollowsOn};
 ghost use Rattle.ccu_end.specs.Tool.{CleanFollow, FollowCauses, FollowRun, IsEndOf, TellsLast};
 
 use crate::finds::Heard;
 use crate::station::Ccu;
 use crate::text::{last_line, lines};
-use farm_tools::ToolEnd;
+use block_lines::ToolEnd;
 use trau_bits::pack;
 use trau_io::{Desk, Failed, Filled, Line, Side, Trunk, read_block, tell, write_all};
 

@@ -9,7 +9,7 @@ ghost use Rattle.ccu_end.specs.Tool.{last_text};
 use crate::finds::{Found, Heard};
 use crate::recording::FollowEnd;
 use arrayvec::ArrayString;
-use farm_tools::failed_line;
+use block_lines::failed_line;
 use itoa::Buffer;
 use trau_frame::DownFrame;
 use trau_io::Side;

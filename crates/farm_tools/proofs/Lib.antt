@@ -1,9 +1,3 @@
--- Lemmas on tools.
-mod Alone
-pub mod Causing
-pub mod Cleaning
-pub mod FramesEnds
-mod Limit
-mod Making
-mod Rounds
-mod Steps
+-- Lemmas on what the tools make.
+pub mod Machines
+pub mod Making

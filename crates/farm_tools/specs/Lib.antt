@@ -1,10 +1,3 @@
--- What tools do.
-pub mod Blocks
-pub mod Causes
-pub mod Clean
-pub mod Frames
+-- What the tools make of blocks.
+pub mod Machines
 pub mod Made
-pub mod Runs
-pub mod Step
-pub mod Tools
-pub mod Work

@@ -2,7 +2,7 @@
 ghost use Rattle.std.specs.Prelude.{◌≡◌, IsSome, IfSome, length, ◌↔◌};
 ghost use Rattle.trau_bits.specs.Bits.{bits_of, AreBits};
 ghost use Rattle.trau_frame.specs.Frame.{data_of};
-ghost use Rattle.farm_tools.specs.Blocks.{IsGoodBlock};
+ghost use Rattle.trau_frame.specs.Relay.{IsGoodSpeech};
 
 use trau_bits::unpack;
 use trau_frame::{Class, Kind, read_up, sync_matches};
@@ -10,7 +10,7 @@ use trau_frame::{Class, Kind, read_up, sync_matches};
 /// The bits D1 to D260 of a block of 40 octets; None if it isn't a good speech frame.
 pub fn good_data(block: &[u8]) -> Option<[u8; 260]>
     requires { length block.now ≡ 40 }
-    ensures good { IsSome result ↔ IsGoodBlock block.now }
+    ensures good { IsSome result ↔ IsGoodSpeech (bits_of block.now) }
     ensures data_bits { IfSome result (λ d. d ≡ data_of (bits_of block.now)) }
     ensures are_bits { IfSome result (λ d. AreBits d) }
 {

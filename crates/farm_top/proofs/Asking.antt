@@ -3,8 +3,11 @@ use Rattle.std.proofs.Common.{inl, inr, ℕ, ◌≤◌, List, Option, Some, None
 use Rattle.trau_io.specs.declared.line.Side.{Side}
 use Rattle.trau_io.specs.Lines.{LineState}
 use Rattle.trau_io.specs.Desks.{DeskState}
-use Rattle.farm_tools.specs.declared.end.Tool.{Tool}
-use Rattle.farm_tools.specs.declared.end.Tool.TheVariants as tool
+use Rattle.farm_tools.specs.declared.tool.Tool.{Tool}
+use Rattle.farm_tools.specs.declared.tool.Tool.TheVariants as tool
+use Rattle.farm_tools.specs.Machines.{machine_of}
+use Rattle.frame_listing.specs.Machine.{frames_machine}
+use Rattle.trau_submux.specs.Splits.{split_machine}
 use Rattle.command_words.specs.declared.asked.Asked.{Asked}
 use Rattle.command_words.specs.declared.asked.Asked.TheVariants.{Run, Save, Resume, Drill, Live, Relay, Frames, Encode, Decode, Follow, Split, Merge}
 use Rattle.command_words.specs.declared.asked.Settings.{Settings}
@@ -20,8 +23,8 @@ use Rattle.farm_top.specs.Follow.{FollowEnds}
 use Rattle.farm_top.specs.Live.{CarriesLive}
 use Rattle.farm_top.specs.Resume.{ResumesFarm}
 use Rattle.farm_top.specs.Save.{SavesFarm}
-use Rattle.farm_top.specs.Slots.{MergeEnds, SplitEnds}
-use Rattle.farm_top.specs.Top.{Carries, CarriesAsked, CarriesFrames, IsInRange}
+use Rattle.farm_top.specs.Lines.{CommandEnds, MergeEnds}
+use Rattle.farm_top.specs.Top.{CarriesAsked, IsInRange}
 use Rattle.farm_top.specs.Words.{AreCommand, AsksFor, AsksForDrill, AsksForFollow, AsksForFrames, AsksForLive, AsksForMerge, AsksForResume, AsksForRun}
 use Rattle.farm_top.specs.Words.{AsksForSave, AsksForSplit, TakeOptions}
 
@@ -130,17 +133,19 @@ in_range words (Split c) asks = ((asks.low, omega (arith, asks.high)), (omega ar
 in_range words (Merge c) asks = ((asks.low, omega (arith, asks.high)), (omega arith, omega (arith, asks.high)))
 
 module _ (words : List (List ℕ)) (a : Asked) (meant : Asks words a) (before now : ℕ → Side → LineState) (desk desk' : DeskState) (status : ℕ) where
-  carries_tool : (t : Tool) (c : ℕ) → CarriesAsked (asked_of t c) before now desk desk' status → Carries t before now desk desk' c status
+  carries_tool : (t : Tool) (c : ℕ) → CarriesAsked (asked_of t c) before now desk desk' status → CommandEnds (machine_of t) before now desk desk' c status
   carries_tool tool.Relay c done = done
   carries_tool tool.Decode c done = done
   carries_tool tool.Encode c done = done
 
   -- what was asked for and carried out is what the words ask for
-  pub tool_carried : CarriesAsked a before now desk desk' status → (t : Tool) (c : ℕ) → AsksFor words t c → Carries t before now desk desk' c status
+  pub tool_carried : CarriesAsked a before now desk desk' status → (t : Tool) (c : ℕ) → AsksFor words t c →
+      CommandEnds (machine_of t) before now desk desk' c status
   tool_carried done t c asks =
       carries_tool t c (subst (λ b. CarriesAsked b before now desk desk' status) (one_asked words a (asked_of t c) meant (asks_tool words t c asks)) done)
 
-  pub listing_carried : CarriesAsked a before now desk desk' status → (c : ℕ) → AsksForFrames words c → CarriesFrames before now desk desk' c status
+  pub listing_carried : CarriesAsked a before now desk desk' status → (c : ℕ) → AsksForFrames words c →
+      CommandEnds frames_machine before now desk desk' c status
   listing_carried done c asks = subst (λ b. CarriesAsked b before now desk desk' status) (one_asked words a (Frames c) meant asks) done
 
   pub run_carried : CarriesAsked a before now desk desk' status → (s : Settings) → AsksForRun words s → RunsFarm s before now desk desk' status
@@ -156,14 +161,16 @@ module _ (words : List (List ℕ)) (a : Asked) (meant : Asks words a) (before no
       AllStay before now × CarriesDrill seed calls s.periods desk desk' status
   drill_carried done seed calls s asks = subst (λ b. CarriesAsked b before now desk desk' status) (one_asked words a (Drill seed calls s) meant asks) done
 
-  pub follow_carried : CarriesAsked a before now desk desk' status → (c want : ℕ) → AsksForFollow words c want → FollowEnds before now desk desk' c want status
+  pub follow_carried : CarriesAsked a before now desk desk' status → (c want : ℕ) → AsksForFollow words c want →
+      FollowEnds before now desk desk' c want status
   follow_carried done c want asks = subst (λ b. CarriesAsked b before now desk desk' status) (one_asked words a (Follow c want) meant asks) done
 
   pub live_carried : CarriesAsked a before now desk desk' status → (s : LiveSettings) → AsksForLive words s →
       AllStay before now × CarriesLive s desk desk' status
   live_carried done s asks = subst (λ b. CarriesAsked b before now desk desk' status) (one_asked words a (Live s) meant asks) done
 
-  pub split_carried : CarriesAsked a before now desk desk' status → (c : ℕ) → AsksForSplit words c → SplitEnds before now desk desk' c status
+  pub split_carried : CarriesAsked a before now desk desk' status → (c : ℕ) → AsksForSplit words c →
+      CommandEnds split_machine before now desk desk' c status
   split_carried done c asks = subst (λ b. CarriesAsked b before now desk desk' status) (one_asked words a (Split c) meant asks) done
 
   pub merge_carried : CarriesAsked a before now desk desk' status → (c : ℕ) → AsksForMerge words c → MergeEnds before now desk desk' c status

@@ -6,7 +6,7 @@ use Rattle.trau_io.specs.Lines.{LineState, Rose}
 use Rattle.trau_io.specs.Desks.{DeskState}
 use Rattle.drill_run.specs.Drilled.{IsDrilled, drilled_run}
 use Rattle.farm_run.specs.Runs.{none_fails}
-use Rattle.farm_tools.specs.Causes.{IsCalm}
+use Rattle.block_lines.specs.Command.{IsCalm}
 use Rattle.farm_top.specs.Drill.{CarriesDrill, DrillEnds, HasDrilled, TellsDrill, TellsWhole}
 use Rattle.farm_top.specs.Farm.{AllStay, LacksMemory}
 use Rattle.farm_top.specs.FarmEnded.{GainsFront}

@@ -5,11 +5,9 @@ use Rattle.trau_io.specs.Lines.{LineState}
 use Rattle.trau_io.specs.Desks.{DeskState}
 use Rattle.trau_orders.specs.Text.{GoodOrBad}
 use Rattle.farm_checkpoint.specs.Text.{HasOneMark, NotGoodAndBad}
-use Rattle.farm_tools.specs.declared.end.Tool.TheVariants as tool
 use Rattle.command_words.specs.declared.asked.Asked.{Asked}
 use Rattle.command_words.specs.declared.asked.Asked.TheVariants.{Run, Save, Resume, Drill, Live, Relay, Frames, Encode, Decode, Follow, Split, Merge}
 use Rattle.farm_top.specs.Top.{CarriesAsked}
-use Rattle.farm_top.proofs.Carrying.{causes, listing_causes}
 use Rattle.farm_top.proofs.Drilling.{drill_ends}
 use Rattle.farm_top.proofs.FarmCausing.{run_causes, save_causes}
 use Rattle.farm_top.proofs.Living.{live_ends}
@@ -23,10 +21,10 @@ module _ (good : GoodOrBad) (mark_good : NotGoodAndBad) (one_mark : HasOneMark) 
       omega (arith, one, known)
   not_usage (Drill seed calls s) done one = let known = (drill_ends seed calls s.periods before now desk desk' status done).known in omega (arith, one, known)
   not_usage (Live s) done one = let known = (live_ends s before now desk desk' status done).known in omega (arith, one, known)
-  not_usage (Relay c) done one = let known = (causes before now desk desk' c status tool.Relay done).known in omega (arith, one, known)
-  not_usage (Frames c) done one = let known = (listing_causes before now desk desk' c status done).known in omega (arith, one, known)
-  not_usage (Encode c) done one = let known = (causes before now desk desk' c status tool.Encode done).known in omega (arith, one, known)
-  not_usage (Decode c) done one = let known = (causes before now desk desk' c status tool.Decode done).known in omega (arith, one, known)
+  not_usage (Relay c) done one = let known = done.causes.known in omega (arith, one, known)
+  not_usage (Frames c) done one = let known = done.causes.known in omega (arith, one, known)
+  not_usage (Encode c) done one = let known = done.causes.known in omega (arith, one, known)
+  not_usage (Decode c) done one = let known = done.causes.known in omega (arith, one, known)
   not_usage (Follow c want) done one = let known = done.causes.known in omega (arith, one, known)
   not_usage (Split c) done one = let known = done.causes.known in omega (arith, one, known)
   not_usage (Merge c) done one = let known = done.causes.known in omega (arith, one, known)

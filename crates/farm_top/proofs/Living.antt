@@ -3,7 +3,7 @@ use Rattle.std.proofs.Common.{inl, inr, ℕ, arith}
 use Rattle.trau_io.specs.declared.line.Side.{Side}
 use Rattle.trau_io.specs.Lines.{LineState, Rose}
 use Rattle.trau_io.specs.Desks.{DeskState}
-use Rattle.farm_tools.specs.Causes.{IsCalm}
+use Rattle.block_lines.specs.Command.{IsCalm}
 use Rattle.command_words.specs.declared.live.LiveSettings.{LiveSettings}
 use Rattle.live_run.specs.Text.{live_text}
 use Rattle.farm_top.specs.Drill.{TellsWhole}

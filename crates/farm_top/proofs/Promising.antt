@@ -1,5 +1,5 @@
 -- From what a command does to all that is promised of it.
-use Rattle.std.proofs.Common.{◌≡◌, ◌⊎◌, inl, inr, ℕ, ◌≤◌, List}
+use Rattle.std.proofs.Common.{◌≡◌, ◌≢◌, ◌⊎◌, inl, inr, ⊎_elim, ℕ, ◌≤◌, List}
 use Rattle.trau_io.specs.declared.line.Side.{Side}
 use Rattle.trau_io.specs.Lines.{LineState}
 use Rattle.trau_io.specs.Desks.{DeskState}
@@ -8,7 +8,13 @@ use Rattle.trau_orders.specs.Text.{GoodOrBad, SpellsOneList}
 use Rattle.farm_checkpoint.specs.Text.{HasOneMark, NotGoodAndBad}
 use Rattle.run_spec.specs.Run.{Run as TheRun}
 use Rattle.run_spec.specs.Mark.{Joins}
-use Rattle.farm_tools.specs.declared.end.Tool.{Tool}
+use Rattle.farm_tools.specs.declared.tool.Tool.{Tool}
+use Rattle.farm_tools.specs.declared.tool.Tool.TheVariants.{Encode}
+use Rattle.farm_tools.specs.Machines.{machine_of}
+use Rattle.frame_listing.specs.Machine.{frames_machine}
+use Rattle.trau_submux.specs.Splits.{split_machine}
+use Rattle.block_lines.specs.Machines.{Machine, RefusesNone}
+use Rattle.block_lines.proofs.Ending.{never_refused}
 use Rattle.command_words.specs.declared.asked.Asked.{Asked}
 use Rattle.command_words.specs.declared.asked.Asked.TheVariants.{Follow, Frames, Merge, Split}
 use Rattle.command_words.specs.declared.asked.Settings.{Settings}
@@ -16,6 +22,7 @@ use Rattle.command_words.specs.declared.live.LiveSettings.{LiveSettings}
 use Rattle.command_words.specs.Asking.{Asks}
 use Rattle.farm_top.specs.Drill.{CarriesDrill}
 use Rattle.farm_top.specs.Farm.{AllStay, CarriesRun}
+use Rattle.farm_top.specs.Lines.{CommandEnds}
 use Rattle.farm_top.specs.Live.{CarriesLive}
 use Rattle.farm_top.specs.Promises.{DrillPromise, LinePromise, LivePromise, ResumePromise, RunPromise, SavePromise}
 use Rattle.farm_top.specs.Resume.{CarriesResume}
@@ -24,7 +31,6 @@ use Rattle.farm_top.specs.Top.{CarriesAsked}
 use Rattle.farm_top.specs.Words.{AsksFor, AsksForFollow, AsksForFrames, AsksForMerge, AsksForSplit, TakeOptions}
 use Rattle.farm_top.proofs.Asking.{asked_of, asks_tool, follow_carried, listing_carried, merge_carried, no_following, no_listing, no_merge, no_split}
 use Rattle.farm_top.proofs.Asking.{no_tool, split_carried, tool_carried}
-use Rattle.farm_top.proofs.Carrying.{causes, clean, listing_causes, listing_clean}
 use Rattle.farm_top.proofs.Drilling.{drill_ends, not_six}
 use Rattle.farm_top.proofs.FarmCausing.{run_causes, save_causes}
 use Rattle.farm_top.proofs.FarmCleaning.{run_clean, run_complete, run_cut_short, run_ended, run_headline, run_leaves, save_clean, save_complete, save_cut_short}
@@ -91,35 +97,37 @@ pub live_promise : (s : LiveSettings) (before now : ℕ → Side → LineState) 
 live_promise s before now desk desk' status carried = record { live = live_ends s before now desk desk' status carried }
 
 module _ (words : List (List ℕ)) (before now : ℕ → Side → LineState) (desk desk' : DeskState) (status : ℕ) where
+  -- a machine that refuses nothing
+  takes_all : (M : Machine) (c : ℕ) → RefusesNone M → CommandEnds M before now desk desk' c status → status ≢ 8
+  takes_all M c none ends = never_refused M _ _ status none ends.causes
+
   -- words that were carried out
   pub line_promise : (a : Asked) → Asks words a → CarriesAsked a before now desk desk' status → LinePromise words before now desk desk' status
-  line_promise a meant done =
-      let command = tool_carried words a meant before now desk desk' status done in
-      let frames = listing_carried words a meant before now desk desk' status done in record {
-        command = command;
-        causes = λ t c asks. causes before now desk desk' c status t (command t c asks);
-        clean = λ t c asks. clean before now desk desk' c status t (command t c asks);
-        frames = frames;
-        frames_causes = λ c asks. listing_causes before now desk desk' c status (frames c asks);
-        frames_clean = λ c asks. listing_clean before now desk desk' c status (frames c asks);
-        split = split_carried words a meant before now desk desk' status done;
-        merge = merge_carried words a meant before now desk desk' status done;
-        follow = follow_carried words a meant before now desk desk' status done;
-      }
+  line_promise a meant done = record {
+    command = tool_carried words a meant before now desk desk' status done;
+    frames = listing_carried words a meant before now desk desk' status done;
+    split = split_carried words a meant before now desk desk' status done;
+    merge = merge_carried words a meant before now desk desk' status done;
+    follow = follow_carried words a meant before now desk desk' status done;
+    never_refused = λ c. ⊎_elim
+        (λ encode. takes_all (machine_of Encode) c (record { takes = λ block whole. tt; left = λ rest less. tt })
+        (tool_carried words a meant before now desk desk' status done Encode c encode))
+        (⊎_elim (λ listing. takes_all frames_machine c (record { takes = λ block whole. tt; left = λ rest less. tt })
+        (listing_carried words a meant before now desk desk' status done c listing))
+        (λ split. takes_all split_machine c (record { takes = λ block whole. tt; left = λ rest less. tt })
+        (split_carried words a meant before now desk desk' status done c split)));
+  }
 
   -- words that ask for no command on lines
   none_promised : ((t : Tool) (c : ℕ) → AsksFor words t c → ⊥) → ((c : ℕ) → AsksForFrames words c → ⊥) → ((c : ℕ) → AsksForSplit words c → ⊥) →
       ((c : ℕ) → AsksForMerge words c → ⊥) → ((c want : ℕ) → AsksForFollow words c want → ⊥) → LinePromise words before now desk desk' status
   none_promised tool frames split merge follow = record {
     command = λ t c asks. absurd (tool t c asks);
-    causes = λ t c asks. absurd (tool t c asks);
-    clean = λ t c asks. absurd (tool t c asks);
     frames = λ c asks. absurd (frames c asks);
-    frames_causes = λ c asks. absurd (frames c asks);
-    frames_clean = λ c asks. absurd (frames c asks);
     split = λ c asks. absurd (split c asks);
     merge = λ c asks. absurd (merge c asks);
     follow = λ c want asks. absurd (follow c want asks);
+    never_refused = λ c asks. absurd (⊎_elim (tool Encode c) (⊎_elim (frames c) (split c)) asks);
   }
 
   pub no_command_promised : ((a : Asked) → Asks words a → ⊥) → LinePromise words before now desk desk' status

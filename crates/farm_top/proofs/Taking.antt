@@ -14,7 +14,7 @@ use Rattle.farm_orders.specs.Reading.{AnswersTold, ReadsOrders}
 use Rattle.run_spec.specs.Run.{Run}
 use Rattle.farm_run.specs.Runs.{NoneRose, OnlyOpenedFail, TellsFailed, is_listed}
 use Rattle.farm_run.proofs.Listed.Tests.{listed_head}
-use Rattle.farm_tools.specs.Causes.{IsCalm}
+use Rattle.block_lines.specs.Command.{IsCalm}
 use Rattle.farm_top.specs.Farm.{AllStay, FollowsReading, LacksMemory, ReadsAndFollows, TellsRun, status_of_run}
 use Rattle.farm_top.specs.FarmClean.{TellsOrders}
 use Rattle.farm_top.specs.FarmEnded.{GainsFront}

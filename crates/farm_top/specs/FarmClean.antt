@@ -11,7 +11,7 @@ use Rattle.run_spec.specs.Run.{Run}
 use Rattle.run_spec.specs.Facts.{report_of}
 use Rattle.farm_report.specs.Lines.{report_text}
 use Rattle.farm_run.specs.Runs.{NoneRose, Leaves, none_fails}
-use Rattle.farm_tools.specs.Causes.{IsCalm}
+use Rattle.block_lines.specs.Command.{IsCalm}
 
 -- the desk tells a text within the limits, whose lines are those of these orders
 pub record TellsOrders (orders : List Order) (desk : DeskState) : Type 0 where

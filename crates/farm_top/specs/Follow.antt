@@ -3,8 +3,8 @@ use Rattle.std.specs.Prelude.{◌≡◌, ℕ}
 use Rattle.trau_io.specs.declared.line.Side.{Side}
 use Rattle.trau_io.specs.Lines.{LineState}
 use Rattle.trau_io.specs.Desks.{DeskState}
-use Rattle.farm_tools.specs.declared.end.ToolEnd.{ToolEnd}
-use Rattle.farm_tools.specs.Tools.{status_of}
+use Rattle.block_lines.specs.declared.end.ToolEnd.{ToolEnd}
+use Rattle.block_lines.specs.Command.{status_of}
 use Rattle.ccu_end.specs.Tool.{CleanFollow, FollowCauses, FollowRun}
 
 -- A whole command `follow`: what it did, whatever fails, why its status is what it is, and what it leaves if nothing fails.

@@ -6,12 +6,12 @@ pub mod FarmEnded
 pub mod Follow
 pub mod FarmClean
 pub mod Headline
+pub mod Lines
 pub mod Live
 pub mod Promises
 pub mod Resume
 pub mod ResumeCauses
 pub mod ResumeEnded
 pub mod Save
-pub mod Slots
 pub mod Top
 pub mod Words

@@ -1,7 +1,6 @@
 -- What the top call promises of each command (this project's profile).
 use Rattle.std.specs.Prelude.{◌≡◌, ◌≢◌, ◌⊎◌, ℕ, max, List}
 use Rattle.trau_io.specs.declared.line.Side.{Side}
-use Rattle.trau_io.specs.declared.line.Side.TheVariants.{Up}
 use Rattle.trau_io.specs.Lines.{LineState}
 use Rattle.trau_io.specs.Desks.{DeskState}
 use Rattle.trau_orders.specs.declared.order.Order.{Order}
@@ -12,10 +11,11 @@ use Rattle.run_spec.specs.Mark.{marked_calls}
 use Rattle.farm_run.specs.Runs.{IsRunOver, Leaves, NoneRose, none_fails}
 use Rattle.farm_run.specs.Fronts.{IsCutShort}
 use Rattle.farm_run.specs.Resuming.{IsResumeCutShort}
-use Rattle.farm_tools.specs.declared.end.Tool.{Tool}
-use Rattle.farm_tools.specs.Causes.{Causes}
-use Rattle.farm_tools.specs.Clean.{CleanRun}
-use Rattle.farm_tools.specs.Frames.{CleanFrames, FramesCauses}
+use Rattle.farm_tools.specs.declared.tool.Tool.{Tool}
+use Rattle.farm_tools.specs.declared.tool.Tool.TheVariants.{Encode}
+use Rattle.farm_tools.specs.Machines.{machine_of}
+use Rattle.frame_listing.specs.Machine.{frames_machine}
+use Rattle.trau_submux.specs.Splits.{split_machine}
 use Rattle.command_words.specs.declared.asked.Settings.{Settings}
 use Rattle.command_words.specs.declared.live.LiveSettings.{LiveSettings}
 use Rattle.farm_top.specs.Drill.{DrillEnds}
@@ -25,13 +25,12 @@ use Rattle.farm_top.specs.FarmClean.{CleanFarm, IsCalmRun, TellsOrders}
 use Rattle.farm_top.specs.FarmEnded.{RunEnded}
 use Rattle.farm_top.specs.Follow.{FollowEnds}
 use Rattle.farm_top.specs.Headline.{Headline}
+use Rattle.farm_top.specs.Lines.{CommandEnds, MergeEnds}
 use Rattle.farm_top.specs.Live.{LiveEnds}
 use Rattle.farm_top.specs.Resume.{CarriesResume}
 use Rattle.farm_top.specs.ResumeCauses.{ResumeCauses}
 use Rattle.farm_top.specs.ResumeEnded.{JoinsMarked, ResumeDiffers, ResumeEnded}
 use Rattle.farm_top.specs.Save.{CarriesSave, CleanSave, SaveEnded}
-use Rattle.farm_top.specs.Slots.{MergeEnds, SplitEnds}
-use Rattle.farm_top.specs.Top.{Carries, CarriesFrames}
 use Rattle.farm_top.specs.Words.{AsksFor, AsksForFollow, AsksForFrames, AsksForMerge, AsksForSplit}
 
 -- `run` with these settings. `orders` are those that the desk tells. If it doesn't tell its orders, the field `run` says what is
@@ -114,17 +113,13 @@ pub record LivePromise (s : LiveSettings) (before now : ℕ → Side → LineSta
 
 -- The commands on lines that these words ask for.
 pub record LinePromise (words : List (List ℕ)) (before now : ℕ → Side → LineState) (desk desk' : DeskState) (status : ℕ) : Type 0 where
-  -- `relay`, `decode` and `encode` of a call: what they do, whatever fails, and why the status is what it is. If nothing fails and the
-  -- contents of desk and lines are known, the outgoing line has gained exactly what is made of the incoming line's blocks up to the
-  -- first refused one, and the desk exactly the text.
-  pub command : (t : Tool) (c : ℕ) → AsksFor words t c → Carries t before now desk desk' c status
-  pub causes : (t : Tool) (c : ℕ) → AsksFor words t c → Causes t c before now desk desk' status
-  pub clean : (t : Tool) (c : ℕ) → AsksFor words t c → CleanRun t c before now desk desk' status
-  -- `frames`, the same
-  pub frames : (c : ℕ) → AsksForFrames words c → CarriesFrames before now desk desk' c status
-  pub frames_causes : (c : ℕ) → AsksForFrames words c → FramesCauses (before c Up) (now c Up) desk desk' status
-  pub frames_clean : (c : ℕ) → AsksForFrames words c → CleanFrames c (before c Up) (now c Up) desk desk' status
-  -- the commands on time slots and the base station's end: the same, in one record each
-  pub split : (c : ℕ) → AsksForSplit words c → SplitEnds before now desk desk' c status
+  -- What each does, whatever fails, and why the status is what it is. If nothing fails and the contents of desk and lines are known,
+  -- `relay`, `decode`, `encode`, `frames` and `split` have left exactly what their block machine makes of the incoming line's blocks, up
+  -- to the first refused one, and of the octets left at its end, and `merge` and `follow` what their definitions say.
+  pub command : (t : Tool) (c : ℕ) → AsksFor words t c → CommandEnds (machine_of t) before now desk desk' c status
+  pub frames : (c : ℕ) → AsksForFrames words c → CommandEnds frames_machine before now desk desk' c status
+  pub split : (c : ℕ) → AsksForSplit words c → CommandEnds split_machine before now desk desk' c status
+  -- `encode`, `frames` and `split` refuse no block
+  pub never_refused : (c : ℕ) → AsksFor words Encode c ⊎ AsksForFrames words c ⊎ AsksForSplit words c → status ≢ 8
   pub merge : (c : ℕ) → AsksForMerge words c → MergeEnds before now desk desk' c status
   pub follow : (c want : ℕ) → AsksForFollow words c want → FollowEnds before now desk desk' c want status

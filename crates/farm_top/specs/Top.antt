@@ -1,15 +1,12 @@
 -- What the top call does with a command.
-use Rattle.std.specs.Prelude.{◌≡◌, ◌≢◌, ℕ, ◌+◌, ◌≤◌, ◌%◌, codes}
+use Rattle.std.specs.Prelude.{◌≡◌, ℕ, ◌+◌, ◌≤◌, ◌%◌}
 use Rattle.call_number.specs.CallNumber.{IsCallNumber}
 use Rattle.trau_io.specs.declared.line.Side.{Side}
 use Rattle.trau_io.specs.Lines.{LineState}
 use Rattle.trau_io.specs.Desks.{DeskState}
-use Rattle.farm_tools.specs.declared.end.Tool.{Tool}
-use Rattle.farm_tools.specs.declared.end.ToolEnd.{ToolEnd}
-use Rattle.farm_tools.specs.declared.end.ToolEnd.TheVariants.{Memory}
-use Rattle.farm_tools.specs.Frames.{FramesRun}
-use Rattle.farm_tools.specs.declared.end.Tool.TheVariants as tool
-use Rattle.farm_tools.specs.Tools.{ToolRuns, status_of}
+use Rattle.frame_listing.specs.Machine.{frames_machine}
+use Rattle.farm_tools.specs.Machines.{decode_machine, encode_machine, relay_machine}
+use Rattle.trau_submux.specs.Splits.{split_machine}
 use Rattle.farm_run.specs.Pace.{IsPace}
 use Rattle.command_words.specs.declared.asked.Asked.{Asked}
 use Rattle.command_words.specs.declared.asked.Asked.TheVariants.{Run, Save, Resume, Drill, Live, Relay, Frames, Encode, Decode, Follow, Split, Merge}
@@ -17,30 +14,10 @@ use Rattle.farm_top.specs.Drill.{CarriesDrill}
 use Rattle.farm_top.specs.Follow.{FollowEnds}
 use Rattle.live_run.specs.Size.{IsLiveDrill}
 use Rattle.farm_top.specs.Live.{CarriesLive, live_of}
-use Rattle.farm_top.specs.Slots.{MergeEnds, SplitEnds}
-use Rattle.farm_top.specs.Farm.{AllStay, RunsFarm, TextOut, pace_of}
+use Rattle.farm_top.specs.Lines.{CommandEnds, MergeEnds}
+use Rattle.farm_top.specs.Farm.{AllStay, RunsFarm, pace_of}
 use Rattle.farm_top.specs.Resume.{ResumesFarm}
 use Rattle.farm_top.specs.Save.{SavesFarm}
-
--- after a command with this end, which left the desk as `left`: the status is that of the end, and if memory ran out, a text says so
-pub record Answers (end : ToolEnd) (left desk' : DeskState) (status : ℕ) : Type 0 where
-  pub status_is : status ≡ status_of end
-  pub no_memory : end ≡ Memory → TextOut left desk' (codes "no memory\n")
-  pub no_more : end ≢ Memory → desk' ≡ left
-
--- a command is its tool, whatever fails
-pub record Carries (tool : Tool) (before now : ℕ → Side → LineState) (desk desk' : DeskState) (call status : ℕ) : Type 0 where
-  pub end : ToolEnd
-  pub left : DeskState
-  pub runs : ToolRuns tool before now desk left call end
-  pub answers : Answers end left desk' status
-
--- the command `frames` is its listing, whatever fails
-pub record CarriesFrames (before now : ℕ → Side → LineState) (desk desk' : DeskState) (call status : ℕ) : Type 0 where
-  pub end : ToolEnd
-  pub left : DeskState
-  pub runs : FramesRun before now desk left call end
-  pub answers : Answers end left desk' status
 
 -- what is asked for is in its ranges: a run's pace; a drill's calls and periods; a live drill's numbers; the call of a tool; the
 -- call and the wanted place of `follow`; the first and the last call of a slot
@@ -65,10 +42,10 @@ CarriesAsked (Save s) before now desk desk' status = SavesFarm s before now desk
 CarriesAsked (Resume s) before now desk desk' status = ResumesFarm s before now desk desk' status
 CarriesAsked (Drill seed calls s) before now desk desk' status = AllStay before now × CarriesDrill seed calls s.periods desk desk' status
 CarriesAsked (Live s) before now desk desk' status = AllStay before now × CarriesLive s desk desk' status
-CarriesAsked (Relay c) before now desk desk' status = Carries tool.Relay before now desk desk' c status
-CarriesAsked (Frames c) before now desk desk' status = CarriesFrames before now desk desk' c status
-CarriesAsked (Encode c) before now desk desk' status = Carries tool.Encode before now desk desk' c status
-CarriesAsked (Decode c) before now desk desk' status = Carries tool.Decode before now desk desk' c status
+CarriesAsked (Relay c) before now desk desk' status = CommandEnds relay_machine before now desk desk' c status
+CarriesAsked (Frames c) before now desk desk' status = CommandEnds frames_machine before now desk desk' c status
+CarriesAsked (Encode c) before now desk desk' status = CommandEnds encode_machine before now desk desk' c status
+CarriesAsked (Decode c) before now desk desk' status = CommandEnds decode_machine before now desk desk' c status
 CarriesAsked (Follow c want) before now desk desk' status = FollowEnds before now desk desk' c want status
-CarriesAsked (Split c) before now desk desk' status = SplitEnds before now desk desk' c status
+CarriesAsked (Split c) before now desk desk' status = CommandEnds split_machine before now desk desk' c status
 CarriesAsked (Merge c) before now desk desk' status = MergeEnds before now desk desk' c status

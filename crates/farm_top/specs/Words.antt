@@ -1,7 +1,7 @@
 -- The words of the command line, by what they ask for (this project's profile).
 use Rattle.std.specs.Prelude.{◌⊎◌, ℕ, String, string_bytes, List, map, codes}
-use Rattle.farm_tools.specs.declared.end.Tool.{Tool}
-use Rattle.farm_tools.specs.Made.{name_of}
+use Rattle.farm_tools.specs.declared.tool.Tool.{Tool}
+use Rattle.farm_tools.specs.Machines.{name_of}
 use Rattle.command_words.specs.declared.asked.Settings.{Settings}
 use Rattle.command_words.specs.Drill.{AsksDrill}
 use Rattle.command_words.specs.Follow.{NamesFollow}

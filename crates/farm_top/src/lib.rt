@@ -7,7 +7,7 @@
 //! (`drill_run`); or a live drill (`live_run`).
 //!
 //! `top` has the top call, `farm` the command `run`, `save`, `resume`, `drill`, `live` and `follow` the commands of these names,
-//! `slots` the commands on time slots, `status` the statuses, `laws` the law that `resume` accepts a mark of `save`.
+//! `lines` the other commands on lines, `status` the statuses, `laws` the law that `resume` accepts a mark of `save`.
 //!
 //! The commands, their texts and the statuses are this project's profile.
 //! Definitions: `specs/Promises.antt` (all that is promised of each command), `specs/Words.antt` (which words ask for what),
@@ -15,19 +15,20 @@
 //! `specs/FarmEnded.antt` (what it leaves, whatever fails), `specs/FarmClean.antt` (what it leaves if nothing fails),
 //! `specs/Headline.antt` (its outgoing lines, by whole calls), `specs/Save.antt` (a whole run to a mark), `specs/Resume.antt`,
 //! `specs/ResumeCauses.antt` and `specs/ResumeEnded.antt` (a whole run from a mark on, why its status is what it is, and what it
-//! leaves), `specs/Drill.antt` (a whole drill), `specs/Live.antt` (a whole live drill), `specs/Slots.antt` (a whole command on a
-//! time slot), `specs/Follow.antt` (a whole `follow`). What a run does to the lines is defined in `farm_run`, the text of a drill
-//! in `drill_run` and `live_run`, and what a tool does and why it ends in `farm_tools`, `trau_submux` and `ccu_end`.
+//! leaves), `specs/Drill.antt` (a whole drill), `specs/Live.antt` (a whole live drill), `specs/Lines.antt` (a whole
+//! command on lines), `specs/Follow.antt` (a whole `follow`). What a run does to the lines is defined in `farm_run`, the text of a
+//! drill in `drill_run` and `live_run`, and what a command on lines does and why it ends in `block_lines`, `frame_listing`,
+//! `farm_tools`, `trau_submux` and `ccu_end`.
 #![tactic(auto)]
 
 mod drill;
 mod farm;
 mod follow;
 mod laws;
+mod lines;
 mod live;
 mod resume;
 mod save;
-mod slots;
 mod status;
 mod top;
 

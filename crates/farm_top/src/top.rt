@@ -1,26 +1,25 @@
 //! The top call: the words in, the octets and the text out, and the status.
 
 ghost use Rattle.std.specs.Prelude.{◌≡◌, ◌≢◌, ◌⊎◌, ℕ, codes};
-ghost use Rattle.call_number.specs.CallNumber.{IsCallNumber};
-ghost use Rattle.farm_tools.specs.Tools.{ToolRuns, status_of};
+ghost use Rattle.block_lines.specs.Command.{status_of};
 ghost use Rattle.command_words.specs.declared.asked.Settings.{Settings};
 ghost use Rattle.command_words.specs.declared.live.LiveSettings.{LiveSettings};
 ghost use Rattle.farm_top.specs.Farm.{AllStay, LacksMemory, TextOut};
 ghost use Rattle.farm_top.specs.Promises.{DrillPromise, LinePromise, LivePromise, ResumePromise, RunPromise, SavePromise};
-ghost use Rattle.farm_top.specs.Top.{Answers, Carries, CarriesAsked, IsInRange};
+ghost use Rattle.farm_top.specs.Top.{CarriesAsked, IsInRange};
 ghost use Rattle.farm_top.specs.Words.{AreCommand, AsksForDrill, AsksForLive, AsksForResume, AsksForRun, AsksForSave, TakeOptions, spelled};
 
 use crate::drill::drill_farm;
 use crate::farm::{no_memory, run_farm};
 use crate::follow::carry_follow;
+use crate::lines::{carry_frames, carry_merge, carry_split, carry_tool};
 use crate::live::live_farm;
 use crate::resume::resume_farm;
 use crate::save::save_farm;
-use crate::slots::{carry_merge, carry_split};
 use crate::status::{DESK_WRITE_FAULT, DONE, FRAME_REFUSED, LINE_FAILED, NO_MEMORY, USAGE};
 use command_words::{Asked, WordsFault, read_words};
 use farm_checkpoint::one_answer as one_mark;
-use farm_tools::{Tool, ToolEnd, decode, encode, frames, relay};
+use farm_tools::{Tool, ToolEnd};
 use pool_run::Gate;
 use run_spec::laws::a_run_is_joined_of_two;
 use std::alloc::Global;
@@ -40,50 +39,6 @@ pub(crate) fn status_of_end(end: ToolEnd) -> u8
         ToolEnd::Refused(_) => FRAME_REFUSED,
         ToolEnd::Memory => NO_MEMORY,
     }
-}
-
-// Runs a tool.
-fn work<T: Trunk, D: Desk>(
-    alloc: Global,
-    tool: Tool,
-    call: u32,
-    trunk: &mut T,
-    desk: &mut D,
-) -> ToolEnd
-    requires { IsCallNumber call }
-    ensures { ToolRuns tool (T.lines trunk.old) (T.lines trunk.new) (D.desk desk.old) (D.desk desk.new) call result }
-{
-    match tool {
-        Tool::Relay => relay(alloc, call, trunk, desk),
-        Tool::Decode => decode(alloc, call, trunk, desk),
-        Tool::Encode => encode(alloc, call, trunk, desk),
-    }
-}
-
-// Returns the status of a command's end. If memory ran out, prints that first.
-fn answer<D: Desk>(end: ToolEnd, desk: &mut D) -> u8
-    ensures { Answers end (D.desk desk.old) (D.desk desk.new) result }
-{
-    if let ToolEnd::Memory = end {
-        let _ = tell(desk, b"no memory\n");
-        return NO_MEMORY;
-    }
-    status_of_end(end)
-}
-
-// Runs a tool, and returns the status of its end.
-fn carry_tool<T: Trunk, D: Desk>(
-    alloc: Global,
-    tool: Tool,
-    call: u32,
-    trunk: &mut T,
-    desk: &mut D,
-) -> u8
-    requires { IsCallNumber call }
-    ensures { Carries tool (T.lines trunk.old) (T.lines trunk.new) (D.desk desk.old) (D.desk desk.new) call result }
-{
-    let end = work(alloc, tool, call, trunk, desk);
-    answer(end, desk)
 }
 
 // Runs the command that is asked for.
@@ -111,10 +66,7 @@ fn carry_out<R: Threads + Wait + Sync, T: Trunk, D: Desk, G: Gate + Sync>(
         Asked::Relay(call) => carry_tool(alloc, Tool::Relay, call, trunk, desk),
         Asked::Decode(call) => carry_tool(alloc, Tool::Decode, call, trunk, desk),
         Asked::Encode(call) => carry_tool(alloc, Tool::Encode, call, trunk, desk),
-        Asked::Frames(call) => {
-            let end = frames(alloc, call, trunk, desk);
-            answer(end, desk)
-        }
+        Asked::Frames(call) => carry_frames(alloc, call, trunk, desk),
         Asked::Follow { call, want } => carry_follow(call, want, trunk, desk),
         Asked::Split(call) => carry_split(call, trunk, desk),
         Asked::Merge(call) => carry_merge(call, trunk, desk),
@@ -132,12 +84,12 @@ fn carry_out<R: Threads + Wait + Sync, T: Trunk, D: Desk, G: Gate + Sync>(
 ///
 /// `split C` cuts the time slot on call C's Pcm line, 64 kbit/s, into its four channels of 16 kbit/s, on the Down lines of the
 /// calls C to C + 3. `merge C` joins the channels on the Up lines of these calls into the slot on C's Out line. C is 1 to 4,093.
-/// Neither takes memory, and their status is never 5.
 ///
 /// `follow C W` is the base station's end. It takes call C's Up line as a recorded downlink, finds its frames at any bit, and
 /// prints a line of text for each. To Down it writes what a base station that wants frames at places W modulo 320 would send up:
-/// the speech that it heard, and the alignment that it asks for. W is 0 to 316 and a multiple of 4. It takes no memory, and its
-/// status is never 5.
+/// the speech that it heard, and the alignment that it asks for. W is 0 to 316 and a multiple of 4.
+///
+/// These seven commands take no memory, and their status is never 5.
 ///
 /// `run` reads orders from the desk, runs them over the lines of all calls, 1 to 4,096, and prints the report, which names the
 /// lines that failed. Workers steal calls half done from one another, and each slice of a call passes the gate.
@@ -165,7 +117,7 @@ fn carry_out<R: Threads + Wait + Sync, T: Trunk, D: Desk, G: Gate + Sync>(
 /// | 2 | a line of the orders isn't in their grammar, N being the first, which `resume` counts from the first line after the mark; of `resume` also a line of the mark, N being the first | `orders line N`; `save line N` |
 /// | 3 | the desk failed while the orders were read, or the mark before them | `orders unread` |
 /// | 4 | the desk failed while the command's text went out | a proper prefix of the command's text |
-/// | 5 | out of memory | `no memory`; of `frames` after the lines of text that it had printed |
+/// | 5 | out of memory; never of a command on lines | `no memory` |
 /// | 6 | a fault of a line of the command was counted | `line C up failed`, with the line's side, after the lines of text that `frames` or `follow` had printed; the report; of `save` only its lines for the lines that failed |
 /// | 7 | the orders have more than 1,048,576 octets or more than 65,536 lines; of `resume` also the whole text more than 1,310,720 octets | `orders too long` |
 /// | 8 | only of `relay` and `decode`: a block of the uplink isn't a good speech frame, or the line ended inside it | `relay refused N`, `decode refused N`, N being the number of blocks before it |

@@ -1,3 +1,2 @@
--- Lemmas on listings, and on blocks of a line.
-pub mod Blocks
-mod Rounds
+-- Lemmas on listings.
+pub mod Periods

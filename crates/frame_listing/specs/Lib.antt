@@ -1,4 +1,3 @@
--- What a listing prints, reads and writes.
-pub mod Lists
-pub mod Step
+-- What a listing prints.
+pub mod Machine
 pub mod Texts

@@ -49,7 +49,7 @@ fn place(found: &Yield) -> u64
 
 /// The line of text of a yield, as `325 good`: its place in bits from the line's start, and what was found there.
 #[tactic(auto, unfolding(crate::specs::Texts::line_of))]
-pub(crate) fn line(found: &Yield) -> ArrayString<32>
+pub(crate) fn line(found: &Yield) -> ArrayString<64>
     requires { CarriesFrame found.now }
     ensures { result.bytes ≡ line_of found.now }
 {

@@ -1,40 +1,21 @@
--- Why the commands end as they do, and what they leave where nothing fails.
-use Rattle.std.proofs.Common.{◌≡◌, inl, inr, ⊎_elim, ◌⊎◌, ℕ, ◌+◌, ◌%◌, ◌<◌, ◌≤◌, List, [], ◌++◌, length, take, drop, Some, Ok, sym, ◌∙◌, ap, arith}
-use Rattle.std.proofs.lemmas.List.{append-nil, append_cancel_left, take_at, take_all, take-append-drop}
+-- Why `merge` ends as it does, and what it leaves if nothing fails.
+use Rattle.std.proofs.Common.{◌≡◌, inl, inr, ◌⊎◌, ℕ, ◌+◌, ◌<◌, List, ◌++◌, length, drop, Some, Ok, sym, ◌∙◌, ap, arith}
 use Rattle.std.proofs.Math.Seq.{drop-append_seam}
 use Rattle.trau_io.specs.declared.line.Line.{Line}
 use Rattle.trau_io.specs.declared.line.Side.{Side}
-use Rattle.trau_io.specs.declared.line.Side.TheVariants.{Up, Pcm, Down, Out}
+use Rattle.trau_io.specs.declared.line.Side.TheVariants.{Up, Out}
 use Rattle.trau_io.specs.Lines.{LineState, Rose}
 use Rattle.trau_io.specs.Desks.{DeskState}
 use Rattle.trau_io.specs.Transfer.{Tells}
-use Rattle.farm_tools.specs.declared.end.ToolEnd.{ToolEnd}
-use Rattle.farm_tools.specs.declared.end.ToolEnd.TheVariants as tool
-use Rattle.farm_tools.specs.Causes.{IsCalm}
-use Rattle.farm_tools.specs.Tools.{status_of}
-use Rattle.farm_tools.proofs.Cleaning.{appended, at_end, consumed}
-use Rattle.trau_submux.specs.declared.cut.SplitEnd.{SplitEnd}
-use Rattle.trau_submux.specs.declared.cut.SplitEnd.TheVariants as split
+use Rattle.block_lines.specs.declared.end.ToolEnd.{ToolEnd}
+use Rattle.block_lines.specs.declared.end.ToolEnd.TheVariants as tool
+use Rattle.block_lines.specs.Command.{IsCalm, status_of}
+use Rattle.block_lines.proofs.Alone.{appended, consumed}
 use Rattle.trau_submux.specs.declared.join.MergeEnd.{MergeEnd}
 use Rattle.trau_submux.specs.declared.join.MergeEnd.TheVariants as merge
-use Rattle.trau_submux.specs.Channels.{channel}
-use Rattle.trau_submux.specs.Lines.{channel_lines, most_octets}
+use Rattle.trau_submux.specs.Lines.{channel_lines}
 use Rattle.trau_submux.specs.Merges.{MergeEndsAs, Merges}
-use Rattle.trau_submux.specs.Splits.{SplitEndsAs, Splits, whole_groups}
-use Rattle.trau_submux.specs.Tools.{AreCalm, CleanMerge, CleanSplit, LeavesMerge, LeavesSplit, MergeCauses, MergeRun, SlotCauses, SplitCauses, SplitRun}
-use Rattle.trau_submux.specs.Tools.{TellsText, merge_end, merge_text, split_end, split_text}
-
--- the most octets that are taken of a line are those that were given
-all_of_it : (given rest octets : List ℕ) → length given ≤ most_octets → octets ≡ given ++ rest → (rest ≡ []) ⊎ (length given ≡ most_octets) →
-    take most_octets octets ≡ given
-all_of_it given rest octets few is (inl none) = ap (take most_octets) (is ∙ ap (λ l. given ++ l) none ∙ append-nil given) ∙ take_all most_octets given few
-all_of_it given rest octets few is (inr all) = ap (take most_octets) is ∙ take_at given rest most_octets all
-
-rest_of_it : (given rest octets : List ℕ) → length given ≤ most_octets → octets ≡ given ++ rest → (rest ≡ []) ⊎ (length given ≡ most_octets) →
-    rest ≡ drop most_octets octets
-rest_of_it given rest octets few is stopped =
-    append_cancel_left given rest (drop most_octets octets)
-    (sym is ∙ sym (take-append-drop most_octets octets) ∙ ap (λ l. l ++ drop most_octets octets) (all_of_it given rest octets few is stopped))
+use Rattle.trau_submux.specs.Tools.{AreCalm, CleanMerge, LeavesMerge, MergeCauses, MergeRun, SlotCauses, TellsText, merge_end, merge_text}
 
 -- no line failed, or one did
 Quiet : (slot slot' : LineState) (channels channels' : ℕ → LineState) → Type 0
@@ -104,55 +85,6 @@ module _ (s s' : LineState) (cs cs' : ℕ → LineState) (k k' : DeskState) (tex
   spoken end calm (inr fault) = let rose = fault.1.cause.failed in absurd (omega (arith, calm.0, calm.1, rose))
 
 module _ (before now : ℕ → Side → LineState) (k k' : DeskState) (call : ℕ) (result : ToolEnd) where
-  -- a split that ends by a line has a fault
-  split_failing : (blocks last : List ℕ) (line : Line) →
-      SplitEndsAs (before call Pcm) (now call Pcm) (channel_lines before call Down) (channel_lines now call Down) call blocks last (split.LineFailed line) →
-      Failing (before call Pcm) (now call Pcm) (channel_lines before call Down) (channel_lines now call Down)
-  unfolding Failing
-  split_failing blocks last line (inl read) = inl read.rose
-  split_failing blocks last line (inr write) = inr (write.failed, write.one, write.here.rose)
-
-  -- the causes of a split
-  pub split_causes : SplitRun before now k k' call result → SplitCauses before now k k' call (status_of result)
-  unfolding Quiet
-  split_causes ran = by ran.end ran.splits ran.tells
-    where
-      by : (end : SplitEnd) → Splits (before call Pcm) (now call Pcm) (channel_lines before call Down) (channel_lines now call Down) call end →
-          TellsText (split_text end) (split_end end) k k' result → SplitCauses before now k k' call (status_of result)
-      by (split.Done octets left) splits tells = causes_done _ _ _ _ k k' _ result (splits.ends.calm, λ j below. (splits.ends.gained j below).calm) tells
-      by (split.LineFailed line) splits tells = causes_failed _ _ _ _ k k' _ result line (split_failing splits.blocks splits.last line splits.ends) tells
-
-  -- what a split leaves
-  pub split_clean : SplitRun before now k k' call result → CleanSplit before now k k' call (status_of result)
-  split_clean ran = λ calm octets text held p_is d_is k_is. by calm octets text held p_is d_is k_is ran.end ran.splits ran.tells
-    where
-      by : AreCalm (before call Pcm) (now call Pcm) (channel_lines before call Down) (channel_lines now call Down) k k' →
-          (octets text : List ℕ) (held : ℕ → List ℕ) → (before call Pcm).to_come ≡ Some octets →
-          ((j : ℕ) → j < 4 → (before (call + j) Down).written ≡ Some (held j)) → k.written ≡ Some text →
-          (end : SplitEnd) → Splits (before call Pcm) (now call Pcm) (channel_lines before call Down) (channel_lines now call Down) call end →
-          TellsText (split_text end) (split_end end) k k' result →
-          LeavesSplit (now call Pcm) (channel_lines now call Down) k' octets held text (status_of result)
-      by calm octets text held p_is d_is k_is (split.LineFailed line) splits tells =
-          absurd (not_failing _ _ _ _ k k' (split_text (split.LineFailed line)) result calm (split_failing splits.blocks splits.last line splits.ends))
-      by calm octets text held p_is d_is k_is (split.Done n left) splits tells =
-          let told = spoken (before call Pcm) (now call Pcm) (channel_lines before call Down) (channel_lines now call Down) k k'
-          (split_text (split.Done n left)) result tool.Done calm.desk_calm tells in
-          let given = splits.blocks ++ splits.last in
-          let took = consumed _ _ octets given p_is splits.gives.read in
-          let whole : take most_octets octets ≡ given =
-          all_of_it given took.0 octets splits.few took.2 (⊎_elim (λ e. inl (at_end _ took.0 took.1 e)) (λ e. inr e) splits.ends.at_end) in
-          record {
-            slot_holds = took.1 ∙ ap Some
-                (rest_of_it given took.0 octets splits.few took.2 (⊎_elim (λ e. inl (at_end _ took.0 took.1 e)) (λ e. inr e) splits.ends.at_end));
-            channels_hold = λ j below. appended _ _ (held j) _ (d_is j below) (splits.ends.gained j below).written
-                ∙ ap (λ l. Some (held j ++ channel j (whole_groups l))) (sym whole);
-            desk_holds = appended _ _ text _ k_is told.1.ok
-                ∙ ap (λ m. Some (text ++ split_text (split.Done m left))) splits.ends.octets_are
-                ∙ ap (λ m. Some (text ++ split_text (split.Done (length (whole_groups given)) m))) splits.ends.left_is
-                ∙ ap (λ l. Some (text ++ split_text (split.Done (length (whole_groups l)) (length l % 4)))) (sym whole);
-            done = ap status_of told.0;
-          }
-
   -- a merge that ends by a line has a fault
   merge_failing : (given : ℕ → List ℕ) (line : Line) →
       MergeEndsAs (channel_lines before call Up) (channel_lines now call Up) (before call Out) (now call Out) call given (merge.LineFailed line) →

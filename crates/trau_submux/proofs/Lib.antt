@@ -1,7 +1,7 @@
 -- Lemmas on channels.
 pub mod Channels
-pub mod Blocks
 pub mod Ending
+pub mod Gaining
 pub mod Groups
 pub mod Merged
 mod Pieces
@@ -13,4 +13,3 @@ pub mod Splitting
 pub mod Taking
 mod Lanewise
 pub mod Vectors
-pub mod Writing

@@ -17,7 +17,7 @@ use Rattle.trau_submux.specs.Channels.{IsMerged}
 use Rattle.trau_submux.specs.Lines.{Gains, GainsFront}
 use Rattle.trau_submux.specs.Merges.{BlockEndsAs, FailsAt, Merges, Takes}
 use Rattle.trau_submux.proofs.Merged.{merged-append}
-use Rattle.trau_submux.proofs.Splitting.{front_on, gains_on, gives_on}
+use Rattle.trau_submux.proofs.Gaining.{front_on, gains_on, gives_on}
 use Rattle.trau_submux.proofs.Pieces.{MergeSoFar, Piece, PieceHolds, length-merged}
 
 module _ (u0 u1 u2 : ℕ → LineState) (o0 o1 o2 : LineState) (call n octets : ℕ) (so_far : MergeSoFar u0 u1 o0 o1 n octets) where
@@ -133,6 +133,7 @@ module _ (u0 u1 u2 : ℕ → LineState) (o0 o1 o2 : LineState) (call n octets : 
           proper = omega (arith, here.proper, length-append so_far.sent t.octets);
           written = front_on o0 o1 o2 so_far.sent t.octets (so_far.sent ++ t.octets) here.count refl so_far.gained here.written;
           to_come = here.to_come ∙ so_far.gained.to_come;
+          later = subst (λ m. m ≤ o2.faults) so_far.gained.calm here.later;
           rose = subst (λ m. Rose m o2.faults) so_far.gained.calm here.rose;
         };
         reached = omega (arith, length-merged so_far.sent so_far.given (40 * n) (so_far.whole 0 (omega arith)) so_far.merged);

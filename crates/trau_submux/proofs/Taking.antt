@@ -96,5 +96,5 @@ module _ (before middle after : ℕ → Side → LineState) (call : ℕ) (subs :
     refl,
     refl,
     subst (λ l. GainsFront l (after call Out) (take (4 * used) slot)) out_stays
-        (record { count = writes.err.0; proper = writes.err.1; written = writes.err.2; to_come = writes.to_come; rose = writes.cause.failed }),
+        (record { count = writes.err.0; proper = writes.err.1; written = writes.err.2; to_come = writes.to_come; later = writes.cause.later; rose = writes.cause.failed }),
   )

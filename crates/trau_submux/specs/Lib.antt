@@ -6,4 +6,3 @@ pub mod Pairs
 pub mod Squares
 pub mod Splits
 pub mod Tools
-pub mod Writing

@@ -1,12 +1,8 @@
 -- The lines of a slot and of its four channels, which are lines of four consecutive calls (this project's profile).
-use Rattle.std.specs.Prelude.{◌≡◌, ℕ, ◌+◌, ◌*◌, ◌-◌, ◌^◌, ◌<◌, List, take, length}
+use Rattle.std.specs.Prelude.{◌≡◌, ◌≤◌, ℕ, ◌+◌, ◌<◌, List, take, length}
 use Rattle.std.specs.Io.KnownBytes.{Appends}
 use Rattle.trau_io.specs.declared.line.Side.{Side}
 use Rattle.trau_io.specs.Lines.{LineState, Rose}
-
--- the most octets of a slot that a command takes: 4,294,967,295 blocks of 160
-abbrev pub most_octets : ℕ
-most_octets = 160 * (2 ^ 32 - 1)
 
 -- the lines of the channels of a slot, by channel: channel j has the line of call C + j
 abbrev pub channel_lines : (ℕ → Side → LineState) → ℕ → Side → ℕ → LineState
@@ -33,4 +29,5 @@ pub record GainsFront (out out' : LineState) (sent : List ℕ) : Type 0 where
   pub proper : count < length sent
   pub written : Appends out.written out'.written (take count sent)
   pub to_come : out'.to_come ≡ out.to_come
+  pub later : out.faults ≤ out'.faults
   pub rose : Rose out.faults out'.faults

@@ -1,28 +1,19 @@
--- The commands `split` and `merge`: their texts, their ends and the causes of these, and the result if nothing fails (this project's
--- profile).
-use Rattle.std.specs.Prelude.{◌≡◌, ◌⊎◌, ℕ, ◌+◌, ◌*◌, ◌-◌, ◌%◌, ◌<◌, List, ◌++◌, length, take, drop, slice_index, codes, decimal, Some, Ok, Err}
+-- The command `merge`: its text, its end and the cause of that, and the result if nothing fails (this project's profile).
+use Rattle.std.specs.Prelude.{◌≡◌, ◌⊎◌, ℕ, ◌+◌, ◌*◌, ◌-◌, ◌<◌, List, ◌++◌, length, take, slice_index, codes, decimal, Some, Ok, Err}
 use Rattle.trau_io.specs.declared.line.Side.{Side}
-use Rattle.trau_io.specs.declared.line.Side.TheVariants.{Up, Pcm, Down, Out}
+use Rattle.trau_io.specs.declared.line.Side.TheVariants.{Up, Out}
 use Rattle.trau_io.specs.Lines.{LineState, Rose}
 use Rattle.trau_io.specs.Desks.{DeskState}
 use Rattle.trau_io.specs.Texts.{failed_text}
 use Rattle.trau_io.specs.Transfer.{Tells}
-use Rattle.farm_tools.specs.declared.end.ToolEnd.{ToolEnd}
-use Rattle.farm_tools.specs.declared.end.ToolEnd.TheVariants as tool
-use Rattle.farm_tools.specs.Causes.{IsCalm}
-use Rattle.trau_submux.specs.declared.cut.SplitEnd.{SplitEnd}
-use Rattle.trau_submux.specs.declared.cut.SplitEnd.TheVariants as split
+use Rattle.block_lines.specs.declared.end.ToolEnd.{ToolEnd}
+use Rattle.block_lines.specs.declared.end.ToolEnd.TheVariants as tool
+use Rattle.block_lines.specs.Command.{IsCalm}
 use Rattle.trau_submux.specs.declared.join.MergeEnd.{MergeEnd}
 use Rattle.trau_submux.specs.declared.join.MergeEnd.TheVariants as merge
-use Rattle.trau_submux.specs.Channels.{IsMerged, channel}
-use Rattle.trau_submux.specs.Lines.{AllButFive, channel_lines, most_octets}
+use Rattle.trau_submux.specs.Channels.{IsMerged}
+use Rattle.trau_submux.specs.Lines.{AllButFive, channel_lines}
 use Rattle.trau_submux.specs.Merges.{AreRead, Merges}
-use Rattle.trau_submux.specs.Splits.{Splits, whole_groups}
-
--- the text of a split's end: how many octets of the slot were cut, and how many are left after the last whole group of four
-abbrev pub split_text : SplitEnd → List ℕ
-split_text (split.Done octets left) = codes "split octets " ++ (decimal octets ++ (codes " left " ++ (decimal left ++ codes "\n")))
-split_text (split.LineFailed line) = failed_text line.call line.side
 
 -- two numbers, each after a space
 abbrev pub two_text : ℕ → ℕ → List ℕ
@@ -35,11 +26,7 @@ merge_text (merge.Done octets left) =
     ++ (two_text (slice_index left 0) (slice_index left 1) ++ (two_text (slice_index left 2) (slice_index left 3) ++ codes "\n"))))
 merge_text (merge.LineFailed line) = failed_text line.call line.side
 
--- the end of the tool, by that of its split
-abbrev pub split_end : SplitEnd → ToolEnd
-split_end (split.Done octets left) = tool.Done
-split_end (split.LineFailed line) = tool.LineFault line
-
+-- the end of the command, by that of its merge
 abbrev pub merge_end : MergeEnd → ToolEnd
 merge_end (merge.Done octets left) = tool.Done
 merge_end (merge.LineFailed line) = tool.LineFault line
@@ -48,13 +35,6 @@ merge_end (merge.LineFailed line) = tool.LineFault line
 abbrev pub TellsText : List ℕ → ToolEnd → DeskState → DeskState → ToolEnd → Type 0
 TellsText text end desk desk' result =
     ((result ≡ end) × Tells desk desk' (Ok tt) text) ⊎ ((result ≡ tool.DeskFault) × Tells desk desk' (Err (record {})) text)
-
--- the whole command `split`, whatever fails
-pub record SplitRun (before now : ℕ → Side → LineState) (desk desk' : DeskState) (call : ℕ) (result : ToolEnd) : Type 0 where
-  pub end : SplitEnd
-  pub splits : Splits (before call Pcm) (now call Pcm) (channel_lines before call Down) (channel_lines now call Down) call end
-  pub others : AllButFive before now call Pcm Down
-  pub tells : TellsText (split_text end) (split_end end) desk desk' result
 
 -- the whole command `merge`, whatever fails
 pub record MergeRun (before now : ℕ → Side → LineState) (desk desk' : DeskState) (call : ℕ) (result : ToolEnd) : Type 0 where
@@ -73,10 +53,6 @@ pub record SlotCauses (slot slot' : LineState) (channels channels' : ℕ → Lin
   pub slot_rose : slot.faults < slot'.faults → (status ≡ 4) ⊎ (status ≡ 6)
   pub channel_rose : (j : ℕ) → j < 4 → (channels j).faults < (channels' j).faults → (status ≡ 4) ⊎ (status ≡ 6)
 
-abbrev pub SplitCauses : (ℕ → Side → LineState) → (ℕ → Side → LineState) → DeskState → DeskState → ℕ → ℕ → Type 0
-SplitCauses before now desk desk' call status =
-    SlotCauses (before call Pcm) (now call Pcm) (channel_lines before call Down) (channel_lines now call Down) desk desk' status
-
 abbrev pub MergeCauses : (ℕ → Side → LineState) → (ℕ → Side → LineState) → DeskState → DeskState → ℕ → ℕ → Type 0
 MergeCauses before now desk desk' call status =
     SlotCauses (before call Out) (now call Out) (channel_lines before call Up) (channel_lines now call Up) desk desk' status
@@ -86,24 +62,6 @@ pub record AreCalm (slot slot' : LineState) (channels channels' : ℕ → LineSt
   pub slot_calm : IsCalm slot.faults slot'.faults
   pub channels_calm : (j : ℕ) → j < 4 → IsCalm (channels j).faults (channels' j).faults
   pub desk_calm : IsCalm desk.write_faults desk'.write_faults
-
--- the result of `split` if the slot's line had `octets` to come: each channel's line gained its channel of the whole groups of four, and
--- the desk the text
-pub record LeavesSplit (pcm' : LineState) (downs' : ℕ → LineState) (desk' : DeskState) (octets : List ℕ) (held : ℕ → List ℕ) (text : List ℕ)
-    (status : ℕ) : Type 0 where
-  pub slot_holds : pcm'.to_come ≡ Some (drop most_octets octets)
-  pub channels_hold : (j : ℕ) → j < 4 → (downs' j).written ≡ Some (held j ++ channel j (whole_groups (take most_octets octets)))
-  pub desk_holds : desk'.written
-      ≡ Some (text ++ split_text (split.Done (length (whole_groups (take most_octets octets))) (length (take most_octets octets) % 4)))
-  pub done : status ≡ 0
-
--- the command if nothing failed, and the content of its lines and of the desk is known
-abbrev pub CleanSplit : (ℕ → Side → LineState) → (ℕ → Side → LineState) → DeskState → DeskState → ℕ → ℕ → Type 0
-CleanSplit before now desk desk' call status =
-    AreCalm (before call Pcm) (now call Pcm) (channel_lines before call Down) (channel_lines now call Down) desk desk' →
-    (octets text : List ℕ) (held : ℕ → List ℕ) → (before call Pcm).to_come ≡ Some octets →
-    ((j : ℕ) → j < 4 → (before (call + j) Down).written ≡ Some (held j)) → desk.written ≡ Some text →
-    LeavesSplit (now call Pcm) (channel_lines now call Down) desk' octets held text status
 
 -- the result of `merge` if the four lines had `lists` to come: the slot gained what the first `used` octets of each make, as many as
 -- the shortest has, and the desk the text

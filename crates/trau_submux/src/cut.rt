@@ -1,124 +1,114 @@
-//! Cutting a slot into its channels, block by block.
-ghost use Rattle.std.specs.Prelude.{◌≡◌, ◌+◌, ◌*◌, ◌<◌, ◌≤◌, ℕ, [], length, take, slice_index_or};
-ghost use Rattle.trau_io.specs.declared.line.Side.TheVariants.{Pcm, Down};
+//! The command `split`: a slot cut into its channels, as a block machine.
+ghost use Rattle.std.specs.Prelude.{◌≡◌, ◌≢◌, ◌+◌, ◌*◌, ◌/◌, ◌<◌, ◌≤◌, ◌++◌, ℕ, length, take};
+ghost use Rattle.block_lines.specs.Command.{Causes, CommandRuns, Leaves, status_of};
+ghost use Rattle.block_lines.specs.Step.{part_for};
 ghost use Rattle.trau_submux.specs.Channels.{channel};
-ghost use Rattle.trau_submux.specs.Lines.{AllButFive, AllButFour, channel_lines};
-ghost use Rattle.trau_submux.specs.Splits.{Splits, SplitsBlock, whole_groups};
-ghost use Rattle.trau_submux.specs.Writing.{WritesFour};
+ghost use Rattle.trau_submux.specs.Splits.{split_machine, split_text, whole_groups};
 
 use crate::four::split4;
-use trau_io::{Filled, Line, Side, Trunk, read_block, write_all};
+use arrayvec::ArrayString;
+use block_lines::{BlockMachine, Made, Shape, ToolEnd, run_command};
+use itoa::Buffer;
+use trau_io::{Desk, Side, Trunk};
 
-/// How one block of a slot ended.
-#[derive(Clone, Copy)]
-pub(crate) enum BlockEnd {
-    /// It was read, and its channels were written.
-    Whole,
-    /// The slot's line ended after this many octets of the block. The channels of their whole groups of four were written.
-    Ended(u32),
-    /// This line failed.
-    Failed(Line),
-}
+/// The block machine of `split`. It keeps nothing from block to block.
+#[derive(Drop)]
+pub struct Splitting;
 
-/// How the cutting of a slot ended.
-#[derive(Clone, Copy)]
-pub(crate) enum SplitEnd {
-    /// The numbers of octets in whole groups of four, and of those left after the last group.
-    Done(u64, u32),
-    /// This line failed.
-    LineFailed(Line),
-}
-
-// Writes the first `count` octets of each channel to its line, one line after the other, up to the first that fails.
-fn write_channels<T: Trunk>(
-    call: u32,
-    subs: &[[u8; 40]; 4],
-    count: usize,
-    trunk: &mut T,
-) -> Result<(), Line>
-    requires low { 1 ≤ call }
-    requires high { call ≤ 4093 }
-    requires within { count ≤ 40 }
-    ensures four { WritesFour (channel_lines (T.lines trunk.old) call Down) (channel_lines (T.lines trunk.new) call Down) call
-        (λ j. take count (slice_index_or subs.now j [])) result }
-    ensures others { AllButFour (T.lines trunk.old) (T.lines trunk.new) call Down }
+// The block, with zeros after it if it is short.
+fn filled(block: &[u8]) -> [u8; 160]
+    requires { length block.now ≤ 160 }
+    ensures { take (length block.now) result ≡ block.now }
 {
-    for j in 0..4 {
-        let line = Line {
-            call: call + j,
-            side: Side::Down,
-        };
-        match write_all(trunk, line, &subs[j as usize][..count]) {
-            Ok(()) => {}
-            Err(_) => return Err(line),
-        }
-    }
-    Ok(())
-}
-
-// Writes the channels of the first octets of a block, for whole groups of four.
-fn write_block<T: Trunk>(
-    call: u32,
-    slot: &[u8; 160],
-    count: usize,
-    trunk: &mut T,
-) -> Result<(), Line>
-    requires low { 1 ≤ call }
-    requires high { call ≤ 4093 }
-    requires within { count ≤ 160 }
-    ensures four { WritesFour (channel_lines (T.lines trunk.old) call Down) (channel_lines (T.lines trunk.new) call Down) call
-        (λ j. channel j (whole_groups (take count slot.now))) result }
-    ensures others { AllButFour (T.lines trunk.old) (T.lines trunk.new) call Down }
-{
-    let mut subs = [[0; 40]; 4];
-    split4(slot, &mut subs);
-    write_channels(call, &subs, count / 4, trunk)
-}
-
-// Reads one block of a slot, and writes its channels.
-fn split_block<T: Trunk>(call: u32, trunk: &mut T) -> BlockEnd
-    requires low { 1 ≤ call }
-    requires high { call ≤ 4093 }
-    ensures block { SplitsBlock (T.lines trunk.old call Pcm) (T.lines trunk.new call Pcm) (channel_lines (T.lines trunk.old) call Down)
-        (channel_lines (T.lines trunk.new) call Down) call result }
-    ensures others { AllButFive (T.lines trunk.old) (T.lines trunk.new) call Pcm Down }
-{
-    let line = Line {
-        call,
-        side: Side::Pcm,
-    };
     let mut slot = [0; 160];
-    match read_block(trunk, line, &mut slot) {
-        Filled::Whole => match write_block(call, &slot, 160, trunk) {
-            Ok(()) => BlockEnd::Whole,
-            Err(failed) => BlockEnd::Failed(failed),
-        },
-        Filled::Ended(count) => match write_block(call, &slot, count, trunk) {
-            Ok(()) => BlockEnd::Ended(count as u32),
-            Err(failed) => BlockEnd::Failed(failed),
-        },
-        Filled::Failed(_) => BlockEnd::Failed(line),
+    slot[..block.len()].copy_from_slice(block);
+    slot
+}
+
+// Writes the octets of a channel to their place.
+fn put(sent: &mut [u8; 160], start: usize, octets: &[u8; 40])
+    requires { start + 40 ≤ 160 }
+    ensures { take (start + 40) sent.new ≡ take start sent.old ++ octets.now }
+{
+    sent[start..start + 40].copy_from_slice(octets);
+}
+
+// The channels of a block's whole groups of four, those of channel j from place 40 j on.
+fn cut_block(block: &[u8], sent: &mut [u8; 160])
+    requires { length block.now ≤ 160 }
+    ensures { (j : ℕ) → j < 4 → part_for j sent.new (length block.now / 4) ≡ channel j (whole_groups block.now) }
+{
+    let slot = filled(block);
+    let mut subs = [[0; 40]; 4];
+    split4(&slot, &mut subs);
+    put(sent, 0, &subs[0]);
+    put(sent, 40, &subs[1]);
+    put(sent, 80, &subs[2]);
+    put(sent, 120, &subs[3]);
+}
+
+// The last line of text.
+fn text_of(octets: u64, left: u32) -> ArrayString<64>
+    ensures { result.bytes ≡ split_text octets left }
+{
+    let mut digits = Buffer::new();
+    let mut text = ArrayString::new();
+    text.push_str("split octets ");
+    text.push_str(digits.format(octets));
+    text.push_str(" left ");
+    text.push_str(digits.format(left));
+    text.push_str("\n");
+    text
+}
+
+impl BlockMachine for Splitting {
+    ghost use Rattle.std.specs.Prelude.{◌≡◌, All, length};
+    ghost use Rattle.trau_submux.specs.Splits.{split_machine};
+
+    ghost about = { split_machine };
+
+    ghost stands = { λ _ blocks. All (λ block. length block ≡ 160) blocks };
+
+    fn shape(&self) -> Shape {
+        Shape {
+            octets: 160,
+            from: Side::Pcm,
+            lines: 4,
+            to: Side::Down,
+        }
+    }
+
+    fn make(&mut self, block: &[u8], sent: &mut [u8; 160]) -> Option<Made> {
+        cut_block(block, sent);
+        Some(Made {
+            count: block.len() / 4,
+            text: ArrayString::new(),
+        })
+    }
+
+    fn done_text(&self, blocks: u32, left: u32) -> ArrayString<64> {
+        text_of(160 * blocks as u64 + (left / 4 * 4) as u64, left % 4)
+    }
+
+    // No block is refused.
+    fn refused_text(&self, _blocks: u32) -> ArrayString<64> {
+        ArrayString::new()
     }
 }
 
-/// Cuts the slot on a call's Pcm line into its channels, for the Down lines of this call and the next three, up to the end
-/// of the slot, but at most 4,294,967,295 blocks of 160 octets.
-pub(crate) fn split_slot<T: Trunk>(call: u32, trunk: &mut T) -> SplitEnd
+/// Cuts the time slot on a call's Pcm line into its four channels of 16 kbit/s. Channel j goes to the Down line of call
+/// `call + j`.
+///
+/// It cuts whole groups of four octets, up to the end of the slot, but at most 4,294,967,295 blocks of 160 octets. Then it prints
+/// `split octets N left R`, N octets being cut and R left, or `line C SIDE failed`. If a channel's line fails, the lines before
+/// it have also gained their part of the current block. It doesn't allocate, and never ends with `Refused` or `Memory`.
+pub fn split<T: Trunk, D: Desk>(call: u32, trunk: &mut T, desk: &mut D) -> ToolEnd
     requires low { 1 ≤ call }
     requires high { call ≤ 4093 }
-    ensures splits { Splits (T.lines trunk.old call Pcm) (T.lines trunk.new call Pcm) (channel_lines (T.lines trunk.old) call Down)
-        (channel_lines (T.lines trunk.new) call Down) call result }
-    ensures others { AllButFive (T.lines trunk.old) (T.lines trunk.new) call Pcm Down }
+    ensures runs { CommandRuns split_machine (T.lines trunk.old) (T.lines trunk.new) (D.desk desk.old) (D.desk desk.new) call result }
+    ensures causes { Causes split_machine (T.lines trunk.old) (T.lines trunk.new) (D.desk desk.old) (D.desk desk.new) call (status_of result) }
+    ensures clean { Leaves split_machine (T.lines trunk.old) (T.lines trunk.new) (D.desk desk.old) (D.desk desk.new) call (status_of result) }
+    ensures never_refused { status_of result ≢ 8 }
 {
-    let mut octets = 0;
-    for _block in 0..u32::MAX {
-        match split_block(call, trunk) {
-            BlockEnd::Whole => octets += 160,
-            BlockEnd::Ended(count) => {
-                return SplitEnd::Done(octets + (count / 4 * 4) as u64, count % 4);
-            }
-            BlockEnd::Failed(line) => return SplitEnd::LineFailed(line),
-        }
-    }
-    SplitEnd::Done(octets, 0)
+    run_command(&mut Splitting, call, trunk, desk)
 }

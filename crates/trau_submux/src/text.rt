@@ -1,31 +1,11 @@
-//! The texts of the commands.
+//! The text of `merge`.
 ghost use Rattle.std.specs.Prelude.{◌≡◌, ◌≤◌, length};
-ghost use Rattle.trau_submux.specs.Tools.{merge_text, split_text, two_text};
+ghost use Rattle.trau_submux.specs.Tools.{merge_text, two_text};
 
-use crate::cut::SplitEnd;
 use crate::join::MergeEnd;
 use arrayvec::ArrayString;
-use farm_tools::failed_line;
+use block_lines::failed_line;
 use itoa::Buffer;
-
-/// The text of a split's end, one line.
-pub(crate) fn text_of_split(end: SplitEnd) -> ArrayString<64>
-    ensures { result.bytes ≡ split_text end }
-{
-    match end {
-        SplitEnd::Done(octets, left) => {
-            let mut digits = Buffer::new();
-            let mut text = ArrayString::new();
-            text.push_str("split octets ");
-            text.push_str(digits.format(octets));
-            text.push_str(" left ");
-            text.push_str(digits.format(left));
-            text.push_str("\n");
-            text
-        }
-        SplitEnd::LineFailed(line) => failed_line(line.call, line.side),
-    }
-}
 
 // Two numbers, each after a space.
 fn two_numbers(first: u32, second: u32) -> ArrayString<32>

@@ -1,12 +1,11 @@
-//! The commands.
+//! The command `merge`.
 ghost use Rattle.std.specs.Prelude.{◌≡◌, ◌≤◌};
-ghost use Rattle.farm_tools.specs.Tools.{status_of};
-ghost use Rattle.trau_submux.specs.Tools.{CleanMerge, CleanSplit, MergeCauses, MergeRun, SplitCauses, SplitRun, TellsText, merge_end, split_end};
+ghost use Rattle.block_lines.specs.Command.{status_of};
+ghost use Rattle.trau_submux.specs.Tools.{CleanMerge, MergeCauses, MergeRun, TellsText, merge_end};
 
-use crate::cut::{SplitEnd, split_slot};
 use crate::join::{MergeEnd, merge_slot};
-use crate::text::{text_of_merge, text_of_split};
-use farm_tools::ToolEnd;
+use crate::text::text_of_merge;
+use block_lines::ToolEnd;
 use trau_io::{Desk, Trunk, tell};
 
 // Prints the text of an end.
@@ -19,15 +18,6 @@ fn tell_end<D: Desk>(text: &[u8], end: ToolEnd, desk: &mut D) -> ToolEnd
     }
 }
 
-fn end_of_split(end: SplitEnd) -> ToolEnd
-    ensures { result ≡ split_end end }
-{
-    match end {
-        SplitEnd::Done(..) => ToolEnd::Done,
-        SplitEnd::LineFailed(line) => ToolEnd::LineFault(line),
-    }
-}
-
 fn end_of_merge(end: MergeEnd) -> ToolEnd
     ensures { result ≡ merge_end end }
 {
@@ -35,23 +25,6 @@ fn end_of_merge(end: MergeEnd) -> ToolEnd
         MergeEnd::Done(..) => ToolEnd::Done,
         MergeEnd::LineFailed(line) => ToolEnd::LineFault(line),
     }
-}
-
-/// Cuts the time slot on a call's Pcm line into its four channels of 16 kbit/s. Channel j goes to the Down line of call
-/// `call + j`.
-///
-/// It cuts whole groups of four octets, up to the end of the slot, but at most 4,294,967,295 blocks of 160 octets. Then it prints
-/// `split octets N left R`, N octets being cut and R left, or `line C SIDE failed`. If a channel's line fails, the lines before
-/// it have also gained their part of the current block. It doesn't allocate, and never ends with `Refused` or `Memory`.
-pub fn split<T: Trunk, D: Desk>(call: u32, trunk: &mut T, desk: &mut D) -> ToolEnd
-    requires low { 1 ≤ call }
-    requires high { call ≤ 4093 }
-    ensures runs { SplitRun (T.lines trunk.old) (T.lines trunk.new) (D.desk desk.old) (D.desk desk.new) call result }
-    ensures causes { SplitCauses (T.lines trunk.old) (T.lines trunk.new) (D.desk desk.old) (D.desk desk.new) call (status_of result) }
-    ensures clean { CleanSplit (T.lines trunk.old) (T.lines trunk.new) (D.desk desk.old) (D.desk desk.new) call (status_of result) }
-{
-    let end = split_slot(call, trunk);
-    tell_end(text_of_split(end).as_bytes(), end_of_split(end), desk)
 }
 
 /// Puts the four channels of 16 kbit/s on the Up lines of a call and the next three together to a time slot, on the call's

@@ -1,5 +1,5 @@
 use Rattle.trau_io.specs.declared.line.Side.TheVariants.{Up, Down}
-use Rattle.farm_tools.specs.Runs.{AllButTwo}
+use Rattle.ccu_end.specs.Follows.{AllButTwo}
 use Rattle.ccu_end.proofs.SoFar.{SoFar}
 use Rattle.ccu_end.proofs.recording.follow_line.Given as goal
 

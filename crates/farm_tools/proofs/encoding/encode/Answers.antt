@@ -1,0 +1,4 @@
+use Rattle.farm_tools.proofs.encoding.encode.Goals as goal
+
+pub returns-clause-never_refused : goal.returns-clause-never_refused
+returns-clause-never_refused g c = c.run_command.ensures.never_refused (record { takes = λ block whole. tt; left = λ rest less. tt })

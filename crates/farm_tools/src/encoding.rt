@@ -1,0 +1,101 @@
+//! The command `encode`.
+ghost use Rattle.std.specs.Prelude.{◌≡◌, ◌≢◌, ◌∷◌, ◌≤◌, ℕ, ℤ, List, length, take};
+ghost use Rattle.call_number.specs.CallNumber.{IsCallNumber};
+ghost use Rattle.fr_encoder.specs.Encoded.{encoding_of};
+ghost use Rattle.fr_encoder.specs.Stands.{Stands};
+ghost use Rattle.block_lines.specs.Command.{Causes, CommandRuns, Leaves, status_of};
+ghost use Rattle.farm_tools.specs.Made.{block_samples, frame_of_encoded};
+ghost use Rattle.farm_tools.specs.Machines.{encode_machine};
+
+use crate::downlink::downlink_frame;
+use arrayvec::ArrayString;
+use block_lines::{BlockMachine, Made, Shape, ToolEnd, run_command};
+use fr_encoder::Encoder;
+use itoa::Buffer;
+use std::alloc::Global;
+use trau_alaw::{Law, expand_all};
+use trau_io::{Desk, Side, Trunk};
+
+/// The block machine of `encode`: the encoder after all periods so far.
+#[derive(Drop)]
+pub struct Encoding {
+    encoder: Encoder,
+}
+
+impl BlockMachine for Encoding {
+    ghost use Rattle.farm_tools.specs.Machines.{encode_machine, EncodingStands};
+
+    ghost about = { encode_machine };
+
+    ghost stands = { EncodingStands };
+
+    fn shape(&self) -> Shape {
+        Shape {
+            octets: 160,
+            from: Side::Pcm,
+            lines: 1,
+            to: Side::Down,
+        }
+    }
+
+    fn make(&mut self, block: &[u8], sent: &mut [u8; 160]) -> Option<Made> {
+        if block.len() < 160 {
+            return Some(Made {
+                count: 0,
+                text: ArrayString::new(),
+            });
+        }
+        let count = encoded_octets(&mut self.encoder, block, sent);
+        Some(Made {
+            count,
+            text: ArrayString::new(),
+        })
+    }
+
+    fn done_text(&self, blocks: u32, left: u32) -> ArrayString<64> {
+        let mut digits = Buffer::new();
+        let mut text = ArrayString::new();
+        text.push_str("encode frames ");
+        text.push_str(digits.format(blocks));
+        text.push_str(" left ");
+        text.push_str(digits.format(left));
+        text.push_str("\n");
+        text
+    }
+
+    // No block is refused.
+    fn refused_text(&self, _blocks: u32) -> ArrayString<64> {
+        ArrayString::new()
+    }
+}
+
+// The downlink frame of the next 160 A-law octets.
+fn encoded_octets(encoder: &mut Encoder, block: &[u8], octets: &mut [u8; 160]) -> usize
+    requires { length block.now ≡ 160 }
+    ensures length { result ≡ 40 }
+    ensures history { (past : List (List ℤ)) → Stands past encoder.old →
+        Stands (block_samples block.now ∷ past) encoder.new × (take 40 octets.new ≡ frame_of_encoded (encoding_of (block_samples block.now) past)) }
+{
+    let period = block.as_array().unwrap();
+    let (params, _, _) = encoder.encode(&expand_all(Law::A, period));
+    let mut d = [0; 260];
+    params.to_bits(&mut d);
+    downlink_frame(&d, octets)
+}
+
+/// Encodes a call's Pcm line to its downlink: for each block of 160 A-law octets (G.711) the downlink speech frame
+/// of their samples, encoded from the reset state over all blocks so far (GSM 06.10), with SP 1. No block is refused.
+/// It prints `encode frames N left R`, R being the octets after the last whole block, or `line C SIDE failed`. It doesn't
+/// allocate, and never ends with `Refused` or `Memory`.
+pub fn encode<T: Trunk, D: Desk>(_alloc: Global, call: u32, trunk: &mut T, desk: &mut D) -> ToolEnd
+    requires { IsCallNumber call }
+    ensures runs { CommandRuns encode_machine (T.lines trunk.old) (T.lines trunk.new) (D.desk desk.old) (D.desk desk.new) call result }
+    ensures causes { Causes encode_machine (T.lines trunk.old) (T.lines trunk.new) (D.desk desk.old) (D.desk desk.new) call (status_of result) }
+    ensures clean { Leaves encode_machine (T.lines trunk.old) (T.lines trunk.new) (D.desk desk.old) (D.desk desk.new) call (status_of result) }
+    ensures never_refused { status_of result ≢ 8 }
+{
+    let mut machine = Encoding {
+        encoder: Encoder::home(),
+    };
+    run_command(&mut machine, call, trunk, desk)
+}

@@ -1,0 +1,74 @@
+//! The command `relay`.
+ghost use Rattle.std.specs.Prelude.{◌≡◌, ◌≤◌};
+ghost use Rattle.call_number.specs.CallNumber.{IsCallNumber};
+ghost use Rattle.block_lines.specs.Command.{Causes, CommandRuns, Leaves, status_of};
+ghost use Rattle.farm_tools.specs.Machines.{relay_machine};
+
+use crate::downlink::downlink_frame;
+use crate::text::{refusal_text, taken_text};
+use crate::uplink::good_data;
+use arrayvec::ArrayString;
+use block_lines::{BlockMachine, Made, Shape, ToolEnd, run_command};
+use std::alloc::Global;
+use trau_io::{Desk, Side, Trunk};
+
+/// The block machine of `relay`. It keeps nothing from block to block.
+#[derive(Drop)]
+pub struct Relaying;
+
+impl BlockMachine for Relaying {
+    ghost use Rattle.std.specs.Prelude.{◌≡◌};
+    ghost use Rattle.farm_tools.specs.Machines.{relay_machine};
+
+    ghost about = { relay_machine };
+
+    ghost stands = { λ _ _. Unit {0} };
+
+    fn shape(&self) -> Shape {
+        Shape {
+            octets: 40,
+            from: Side::Up,
+            lines: 1,
+            to: Side::Down,
+        }
+    }
+
+    fn make(&mut self, block: &[u8], sent: &mut [u8; 160]) -> Option<Made> {
+        if block.is_empty() {
+            return Some(Made {
+                count: 0,
+                text: ArrayString::new(),
+            });
+        }
+        if block.len() < 40 {
+            return None;
+        }
+        let d = good_data(block)?;
+        let count = downlink_frame(&d, sent);
+        Some(Made {
+            count,
+            text: ArrayString::new(),
+        })
+    }
+
+    fn done_text(&self, blocks: u32, _left: u32) -> ArrayString<64> {
+        taken_text("relay", blocks)
+    }
+
+    fn refused_text(&self, blocks: u32) -> ArrayString<64> {
+        refusal_text("relay", blocks)
+    }
+}
+
+/// Copies the good speech frames of a call's uplink, bits unchanged, to its downlink: for each block of 40 octets
+/// the downlink speech frame with the same data bits and SP 1. It stops at the first block that isn't a good speech
+/// frame or in which the line ends. At the end it prints one line of text: `relay frames N`, `relay refused N` or
+/// `line C SIDE failed`. It doesn't allocate, and never ends with `Memory`.
+pub fn relay<T: Trunk, D: Desk>(_alloc: Global, call: u32, trunk: &mut T, desk: &mut D) -> ToolEnd
+    requires { IsCallNumber call }
+    ensures runs { CommandRuns relay_machine (T.lines trunk.old) (T.lines trunk.new) (D.desk desk.old) (D.desk desk.new) call result }
+    ensures causes { Causes relay_machine (T.lines trunk.old) (T.lines trunk.new) (D.desk desk.old) (D.desk desk.new) call (status_of result) }
+    ensures clean { Leaves relay_machine (T.lines trunk.old) (T.lines trunk.new) (D.desk desk.old) (D.desk desk.new) call (status_of result) }
+{
+    run_command(&mut Relaying, call, trunk, desk)
+}

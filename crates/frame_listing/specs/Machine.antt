@@ -1,0 +1,32 @@
+-- The listing of the frames on an uplink as a block machine, and what it keeps (this project's profile).
+use Rattle.std.specs.Prelude.{◌≡◌, ℕ, ◌≤◌, List, [], ◌++◌, length, reverse, codes, decimal}
+use Rattle.trau_io.specs.declared.line.Side.TheVariants.{Up, Down}
+use Rattle.frame_sync.specs.Periods.{all_yields}
+use Rattle.frame_sync.specs.Memory.{SyncMemory}
+use Rattle.frame_sync.specs.Stands.{Stands}
+use Rattle.block_lines.specs.Machines.{Machine}
+use Rattle.frame_listing.specs.declared.listing.Listing.{Listing}
+use Rattle.frame_listing.specs.Texts.{listed}
+
+-- It takes every period of 40 octets, and less than a period may be left. It writes no line (so the side of its lines means nothing),
+-- and prints a line of text for each yield;
+-- at the end how many these are and how many octets are left.
+abbrev pub frames_machine : Machine
+frames_machine = record {
+  shape = record { octets = 40; from = Up; lines = 0; to = Down };
+  takes = λ block. Unit {0};
+  may_be_left = λ rest. Unit {0};
+  made = λ j blocks rest. [];
+  printed = λ blocks rest. listed blocks;
+  done_text = λ blocks rest. codes "frames " ++ (decimal (length (all_yields blocks)) ++ (codes " left " ++ (decimal (length rest) ++ codes "\n")));
+  refused_text = λ n. [];
+}
+
+-- the search after these periods, and the number of their yields, at most one a period
+pub record Lists (sync : SyncMemory) (yields : ℕ) (periods : List (List ℕ)) : Type 0 where
+  pub search : Stands (reverse periods) sync
+  pub yields_are : yields ≡ length (all_yields periods)
+  pub at_most : yields ≤ length periods
+
+abbrev pub ListingStands : Listing → List (List ℕ) → Type 0
+ListingStands l periods = Lists l.sync l.yields periods

@@ -1,0 +1,84 @@
+//! The listing as a block machine.
+ghost use Rattle.frame_listing.specs.Machine.{ListingStands};
+
+use crate::text::line;
+use arrayvec::ArrayString;
+use block_lines::{BlockMachine, Made, Shape};
+use frame_sync::FrameSync;
+use itoa::Buffer;
+use trau_io::Side;
+
+/// The block machine of `frames`: the search after all periods so far, and the number of its yields.
+#[derive(Drop)]
+pub struct Listing {
+    sync: FrameSync,
+    yields: u32,
+}
+
+impl Listing {
+    ghost use Rattle.std.specs.Prelude.{[]};
+
+    /// A listing before the first period.
+    pub fn new() -> Listing
+        ensures { ListingStands result [] }
+    {
+        Listing {
+            sync: FrameSync::new(),
+            yields: 0,
+        }
+    }
+}
+
+impl BlockMachine for Listing {
+    ghost use Rattle.frame_listing.specs.Machine.{frames_machine, ListingStands};
+
+    ghost about = { frames_machine };
+
+    ghost stands = { ListingStands };
+
+    fn shape(&self) -> Shape {
+        Shape {
+            octets: 40,
+            from: Side::Up,
+            lines: 0,
+            to: Side::Down,
+        }
+    }
+
+    fn make(&mut self, block: &[u8], _sent: &mut [u8; 160]) -> Option<Made> {
+        if block.len() < 40 {
+            return Some(Made {
+                count: 0,
+                text: ArrayString::new(),
+            });
+        }
+        let period = block.as_array().unwrap();
+        let Some(found) = self.sync.feed(period) else {
+            return Some(Made {
+                count: 0,
+                text: ArrayString::new(),
+            });
+        };
+        self.yields += 1;
+        Some(Made {
+            count: 0,
+            text: line(&found),
+        })
+    }
+
+    fn done_text(&self, _blocks: u32, left: u32) -> ArrayString<64> {
+        let mut digits = Buffer::new();
+        let mut text = ArrayString::new();
+        text.push_str("frames ");
+        text.push_str(digits.format(self.yields));
+        text.push_str(" left ");
+        text.push_str(digits.format(left));
+        text.push_str("\n");
+        text
+    }
+
+    // No period is refused.
+    fn refused_text(&self, _blocks: u32) -> ArrayString<64> {
+        ArrayString::new()
+    }
+}
