@@ -311,7 +311,7 @@ def head_of(path: Path, octets: int = HEAD_OCTETS) -> Tuple[bytes, int]:
 
 def command_for(found: Look, name: Path) -> str:
     """The command that takes this file, in words that follow what the file is."""
-    return f"; {found.command}".replace("{}", shlex.quote(str(name))) if found.command else ""
+    return f"; {trau_frames.as_started(found.command)}".replace("{}", shlex.quote(str(name))) if found.command else ""
 
 
 def said_beside(found: Look, name: Path, not_this: str) -> str:

@@ -49,7 +49,7 @@ def grouped(number: int) -> str:
 
 
 COMMENT = "#"
-STRIPS = "orders.py strip leaves out comments and empty lines"
+STRIPS = trau_frames.as_started("orders.py strip leaves out comments and empty lines")
 
 
 def fault_of_number(what: str, word: str, least: int, most: int) -> Optional[str]:

@@ -209,7 +209,7 @@ class Cut:
                 raise ValueError
             return Cut(folder, Path(noted["farm"]), noted["copied"], noted["periods"], orders, parts)
         except (ValueError, KeyError, TypeError):
-            raise Refusal(f"{name}: isn't what shard.py split writes") from None
+            raise Refusal(f"{name}: isn't what {trau_frames.as_started('shard.py split')} writes") from None
 
     def part(self, number: int) -> Path:
         """The folder of a part."""

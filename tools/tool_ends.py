@@ -13,7 +13,7 @@ import sys
 from pathlib import Path
 from typing import Callable, Iterator, Sequence
 
-from trau_frames import Refusal
+from trau_frames import Refusal, as_started
 
 FAILED = 2
 INTERRUPTED = 130
@@ -35,7 +35,7 @@ def naming(path: Path) -> Iterator[None]:
 def complain(name: str, what: str) -> None:
     """Prints the one line on standard error, if anybody can read it."""
     try:
-        print(f"{name}: {what}", file=sys.stderr, flush=True)
+        print(f"{as_started(name)}: {what}", file=sys.stderr, flush=True)
     except OSError:
         pass
 

@@ -402,12 +402,24 @@ def replace_file(path: Path, content: bytes, inputs: Iterable[Path]) -> None:
             raise
 
 
+# A tool in a text: the name of its file, with words after it or alone.
+TOOL_IN_TEXT = re.compile(r"(?<![\w./-])(lines|orders|report|shard|timeline|watch)\.py(?= |$)")
+INSTALLED = "trau-"
+
+
+def as_started(text: str) -> str:
+    """A text with the names that tools have where they are installed, as `trau-lines` for lines.py, if this one was started by such a
+    name. Else the text as it is."""
+    is_installed = Path(sys.argv[0]).name.startswith(INSTALLED)
+    return TOOL_IN_TEXT.sub(rf"{INSTALLED}\1", text) if is_installed else text
+
+
 class Words(argparse.ArgumentParser):
     """The words of a command line; bad ones get one line on standard error and status 2."""
 
     def print_help(self, file: Optional[TextIO] = None) -> None:
         """Prints the help; argparse's own function does as if that never failed."""
-        print(self.format_help(), end="", file=file)
+        print(as_started(self.format_help()), end="", file=file)
 
     def error(self, message: str) -> NoReturn:
         self.exit(2, f"{self.prog}: {message}\n")

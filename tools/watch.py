@@ -19,7 +19,7 @@ from typing import Any, Dict, List, NamedTuple, Optional, Sequence, Union
 import run_texts
 import trau_frames
 from run_texts import MOST_PERIODS, Order
-from tool_ends import tool
+from tool_ends import complain, tool
 from trau_frames import FRAME_OCTETS, PCM_OCTETS, Refusal
 
 
@@ -223,7 +223,7 @@ def watch(words: argparse.Namespace) -> int:
         shown.close()
     ends = text_of_ends(runs) if progress.ended else []
     for line in ends:
-        print(f"watch.py: {line}", file=sys.stderr)
+        complain("watch.py", line)
     return 1 if ends else 0
 
 
@@ -270,7 +270,7 @@ def main(words: Sequence[str]) -> int:
     try:
         return watch(asked)
     except NoRun as why:
-        print(f"watch.py: {why}", file=sys.stderr)
+        complain("watch.py", str(why))
         return 1
 
 

@@ -9,7 +9,7 @@ from array import array
 from dataclasses import dataclass
 from pathlib import Path
 
-from trau_frames import Law, Refusal
+from trau_frames import Law, Refusal, as_started
 
 SAMPLES_A_SECOND = 8000
 
@@ -66,7 +66,8 @@ def octets_of_wav(name: Path, content: bytes, law: Law, partial: bool = False) -
     wav = read_wav(name, content, partial)
     kind = (wav.tag, wav.sample_bits)
     if wav.tag == WAV_GSM:
-        raise Refusal(f"{name}: has GSM frames and no samples; lines.py uplink makes an uplink of it, without transcoding")
+        command = as_started("lines.py uplink")
+        raise Refusal(f"{name}: has GSM frames and no samples; {command} makes an uplink of it, without transcoding")
     if (wav.channels, wav.samples_a_second) != (1, SAMPLES_A_SECOND) or kind not in SAMPLE_KINDS:
         raise Refusal(
             f"{name}: has {wav.samples_a_second} Hz, channels {wav.channels}, bits {wav.sample_bits}, format {wav.tag}; needed"

@@ -3,6 +3,7 @@
 import os
 import resource
 import shlex
+import shutil
 import signal
 import subprocess
 import sys
@@ -131,6 +132,28 @@ class Ends(InFolder):
                 [sys.executable, TOOLS / "lines.py", "look", name], capture_output=True, env={**os.environ, **streams}
             )
             self.assertEqual((ended.returncode, ended.stderr), (0, b""))
+
+    def installed(self, tool, *words):
+        """The status, standard output and standard error of a tool that is started by the name that it is installed with."""
+        name = self.folder / f"trau-{Path(tool).stem}"
+        name.symlink_to(TOOLS / tool)
+        ended = subprocess.run([name, *words], input="# a call\n", capture_output=True, text=True, cwd=self.folder)
+        name.unlink()
+        return ended.returncode, ended.stdout, ended.stderr
+
+    def test_names_that_tools_are_installed_with(self):
+        shutil.copy(DATA / "speech.gsm", self.path("lines.py"))
+        said = "lines.py: 40 frames of libgsm; trau-lines uplink lines.py NEW.up\n"
+        self.assertEqual(self.installed("lines.py", "look", "lines.py"), (0, said, ""))
+        said = "trau-lines: 1.up: is an uplink; trau relay first, which makes a downlink of it\n"
+        self.assertEqual(self.installed("lines.py", "gsm", "1.up", "1.gsm"), (2, "", said))
+        said = "trau-lines: lines.py: is 40 frames of libgsm, and no A-law; trau-lines uplink lines.py NEW.up\n"
+        self.assertEqual(self.installed("lines.py", "pcm", "lines.py", "7.pcm", "--raw"), (2, "", said))
+        status, said, _ = self.installed("orders.py", "check", "-")
+        self.assertEqual((status, said.split("\n")[0]), (1, "line 1: a comment; trau-orders strip leaves out comments and empty lines"))
+        self.assertIn("\nexample: trau-report text report.txt --json\n", self.installed("report.py", "--help")[1])
+        said = "trau-watch: none: no run in this folder: there is no orders.txt\n"
+        self.assertEqual(self.installed("watch.py", "none"), (1, "", said))
 
     def test_an_interrupt(self):
         self.path("report.txt", b"")
