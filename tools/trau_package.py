@@ -53,6 +53,8 @@ BESIDE_TOOLS = (
     *("help.txt", "pages.txt", "grammar.txt"),
 )
 EXAMPLES = re.compile(r"README\.md|7\.up|farm/(\d+\.(up|pcm)|orders\.txt|wanted/[\w.]+)")
+# Recordings that the commands in the documents take.
+DATA = "tools/tests/data"
 
 
 class Member(NamedTuple):
@@ -183,6 +185,8 @@ def members(state: State) -> Dict[str, Member]:
     for name, path in files_below(TOP / "examples").items():
         if EXAMPLES.fullmatch(name):
             found[f"examples/{name}"] = Member(trau_frames.read_file(path))
+    for name, path in files_below(TOP / DATA).items():
+        found[f"{DATA}/{name}"] = Member(trau_frames.read_file(path))
     for name, path in documents().items():
         found.setdefault(name, Member(trau_frames.read_file(path)))
     sums = [f"{hashlib.sha256(member.content).hexdigest()}  {name}\n" for name, member in sorted(found.items())]

@@ -111,6 +111,17 @@ class Package(InFolder):
         self.assertEqual((status, err), (0, ""))
         self.assertEqual(out, "listen samples 16000 found speech 91 silence 8 idle 0 other 0 outside 324\n")
 
+    def test_the_commands_of_its_readme(self):
+        package = self.unpack(self.make())
+        text = (package / "README.md").read_text().split("## With recordings of your own")[1]
+        block = re.search(r"(?:^    .*\n)+", text, re.M)[0]
+        lines = [line[4:] for line in block.splitlines()]
+        commands = [line[2:] for line in lines if line.startswith("$ ")]
+        wanted = [line for line in lines if not line.startswith("$ ")]
+        self.assertEqual((len(commands), len(wanted)), (5, 7))
+        ended = self.said("sh", "-ec", "\n".join(commands), folder=package)
+        self.assertEqual(ended, (0, "\n".join(wanted) + "\n", ""))
+
     def test_links_of_its_documents_lead_to_files(self):
         package = self.unpack(self.make())
         documents = list(package.rglob("*.md"))
