@@ -14,6 +14,7 @@ from pathlib import Path
 from typing import Dict, NamedTuple, NoReturn, Optional, Tuple
 
 import readings
+import recordings
 import slots
 import trau_frames
 import wav_files
@@ -30,7 +31,7 @@ class Kind(enum.Enum):
     SOUND = "a sound file"
     GSM = "frames of libgsm"
     CAPTURE = "a capture"
-    PACKED = "packed by gzip"
+    PACKED = "packed"
     TEXT = "a text"
     UPLINK = "an uplink"
     DOWNLINK = "a downlink"
@@ -55,6 +56,9 @@ class Look:
 # By the head
 
 SOX = "sox {} -r 8000 -c 1 -b 16 -e signed-integer NEW.wav"
+FFMPEG = "ffmpeg -i {} -ar 8000 -ac 1 NEW.wav"
+# Programs that don't unpack what they read.
+OTHERS = ("sox ", "ffmpeg ")
 MAGICS = (
     (b"RIFX", Kind.SOUND, "a WAV file of big-endian samples", SOX),
     (b"RF64", Kind.SOUND, "a WAV file of 64 bits", SOX),
@@ -62,20 +66,33 @@ MAGICS = (
     (b"fLaC", Kind.SOUND, "a FLAC file", SOX),
     (b"OggS", Kind.SOUND, "an Ogg file", SOX),
     (b"ID3", Kind.SOUND, "an MP3 file", SOX),
-    (b"#!AMR", Kind.SOUND, "an AMR file", "ffmpeg -i {} -ar 8000 -ac 1 NEW.wav"),
+    (b"FORM", Kind.SOUND, "an AIFF file", SOX),
+    (b"Creative Voice File", Kind.SOUND, "a VOC file", SOX),
+    (b"NIST_1A", Kind.SOUND, "a SPHERE file", SOX),
+    (b"#!AMR", Kind.SOUND, "an AMR file", FFMPEG),
+    (b"caff", Kind.SOUND, "a CAF file", FFMPEG),
+    (b"\x1a\x45\xdf\xa3", Kind.SOUND, "a Matroska or WebM file", FFMPEG),
     (b"\xa1\xb2\xc3\xd4", Kind.CAPTURE, "a pcap capture", "lines.py pcap {} NEW"),
     (b"\xd4\xc3\xb2\xa1", Kind.CAPTURE, "a pcap capture", "lines.py pcap {} NEW"),
     (b"\xa1\xb2\x3c\x4d", Kind.CAPTURE, "a pcap capture", "lines.py pcap {} NEW"),
     (b"\x4d\x3c\xb2\xa1", Kind.CAPTURE, "a pcap capture", "lines.py pcap {} NEW"),
     (b"\x0a\x0d\x0d\x0a", Kind.CAPTURE, "a pcapng capture", "lines.py pcap {} NEW"),
     (b"\x1f\x8b\x08", Kind.PACKED, "packed by gzip", "lines.py reads such files where their names end with .gz"),
+    (b"BZh", Kind.PACKED, "packed by bzip2", "bunzip2 -k {}"),
+    (b"\xfd7zXZ\0", Kind.PACKED, "packed by xz", "unxz -k {}"),
+    (b"PK\3\4", Kind.PACKED, "a zip archive", "unzip {}"),
+)
+# Magics that don't begin their files: their places come first. The head of a tar archive has the sync bits of a frame by its digits.
+MAGICS_WITHIN = (
+    (4, b"ftyp", Kind.SOUND, "an MP4 or QuickTime file", FFMPEG),
+    (257, b"ustar", Kind.PACKED, "a tar archive", "tar xf {}"),
 )
 
 
 def by_magic(head: bytes, size: int) -> Optional[Look]:
     """A file whose first octets show its kind."""
-    for magic, kind, said, command in MAGICS:
-        if head.startswith(magic):
+    for place, magic, kind, said, command in (*((0, *magic) for magic in MAGICS), *MAGICS_WITHIN):
+        if head.startswith(magic, place):
             return Look(kind, said, command)
     return None
 
@@ -311,6 +328,8 @@ def head_of(path: Path, octets: int = HEAD_OCTETS) -> Tuple[bytes, int]:
 
 def command_for(found: Look, name: Path) -> str:
     """The command that takes this file, in words that follow what the file is."""
+    if found.command.startswith(OTHERS):
+        return f"; {recordings.command_of_others(found.command, name)}"
     return f"; {trau_frames.as_started(found.command)}".replace("{}", shlex.quote(str(name))) if found.command else ""
 
 

@@ -2,7 +2,6 @@
 
 from __future__ import annotations
 
-import shlex
 from collections import Counter
 from pathlib import Path
 from typing import List, Mapping, NamedTuple, Optional, Tuple
@@ -12,6 +11,7 @@ import trau_frames
 import wav_files
 from code_word import Marker
 from file_kinds import Kind
+from recordings import command_of_others
 from trau_frames import Parameters, Refusal
 
 # To an uplink
@@ -51,7 +51,7 @@ def data_of_wav(name: Path, given: bytes, partial: bool) -> Found:
     if wav.tag != wav_files.WAV_GSM:
         raise Refusal(
             f"{name}: is a WAV file of samples and not of GSM frames; sox makes frames of libgsm of it:"
-            f" sox {shlex.quote(str(name))} -r {wav_files.SAMPLES_A_SECOND} -c 1 NEW.gsm"
+            f" {command_of_others('sox {} -r 8000 -c 1 NEW.gsm', name)}"
         )
     size = trau_frames.WAV_BLOCK_OCTETS
     # sox counts the octet that makes an odd number of octets even.

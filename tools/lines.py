@@ -93,6 +93,8 @@ def pcm(words: argparse.Namespace, given: bytes) -> Made:
     if words.raw:
         octets = raw_octets(words, given)
     else:
+        if not wav_files.is_wav(given):
+            file_kinds.refuse_other(words.given, given, "no plain WAV file", Kind.LAW)
         octets = wav_files.octets_of_wav(words.given, given, words.law, words.partial)
     if not octets:
         raise Refusal(f"{words.given}: holds no samples")

@@ -3,6 +3,7 @@
 from __future__ import annotations
 
 import contextlib
+import shlex
 import sys
 import zlib
 from pathlib import Path
@@ -18,6 +19,13 @@ GZIP_WINDOW = 31  # zlib's word for its greatest window, with the head and tail 
 def name_within(path: Path) -> Path:
     """The name of what a packed file holds; of another file its own name."""
     return path.with_suffix("") if path.suffix == PACKED else path
+
+
+def command_of_others(command: str, path: Path) -> str:
+    """A command of another program, in which {} stands for the file. If gzip packed the file, it is unpacked first."""
+    within = name_within(path)
+    said = command.replace("{}", shlex.quote(str(within)))
+    return said if within == path else f"gunzip -k {shlex.quote(str(path))}; {said}"
 
 
 @contextlib.contextmanager

@@ -2,13 +2,13 @@
 
 from __future__ import annotations
 
-import shlex
 import struct
 import sys
 from array import array
 from dataclasses import dataclass
 from pathlib import Path
 
+from recordings import command_of_others
 from trau_frames import Law, Refusal, as_started
 
 SAMPLES_A_SECOND = 8000
@@ -72,7 +72,7 @@ def octets_of_wav(name: Path, content: bytes, law: Law, partial: bool = False) -
         raise Refusal(
             f"{name}: has {wav.samples_a_second} Hz, channels {wav.channels}, bits {wav.sample_bits}, format {wav.tag}; needed"
             f" is {SAMPLES_A_SECOND} Hz mono of 16 bits linear, A-law or mu-law; sox makes it:"
-            f" sox {shlex.quote(str(name))} -r {SAMPLES_A_SECOND} -c 1 -b 16 -e signed-integer NEW.wav"
+            f" {command_of_others('sox {} -r 8000 -c 1 -b 16 -e signed-integer NEW.wav', name)}"
         )
     if wav.tag in LAWS_BY_TAG:
         return wav.data.translate(LAWS_BY_TAG[wav.tag].table_to(law))

@@ -1,9 +1,11 @@
 """Tests of file_kinds.py: what `lines.py look` says of files, and what other commands refuse by it."""
 
 import gzip
+import io
 import math
 import random
 import struct
+import tarfile
 import unittest
 
 from support import CODEC, DATA, EXAMPLES, InFolder
@@ -52,6 +54,16 @@ def linear(octets):
     return struct.pack(f"<{len(octets)}h", *map(Law.A.expand, octets))
 
 
+def archive():
+    """A tar archive, whose head has the sync bits of a frame."""
+    packed = io.BytesIO()
+    with tarfile.open(fileobj=packed, mode="w") as tar:
+        info = tarfile.TarInfo("7.up")
+        info.size = len(UP)
+        tar.addfile(info, io.BytesIO(UP))
+    return packed.getvalue()
+
+
 class Look(InFolder):
     def look(self, content, name="file"):
         """What is said of a file, without its name."""
@@ -75,6 +87,16 @@ class Look(InFolder):
             (b".snd\0\0\0\x18\0\0\0\x20\0\0\0\x1b" + bytes(20), f"an .au file{sox}"),
             (b"fLaC\0\0\0\x22" + bytes(34), f"a FLAC file{sox}"),
             (b"OggS" + bytes(30), f"an Ogg file{sox}"),
+            (b"FORM\0\0\0\x40AIFF" + bytes(60), f"an AIFF file{sox}"),
+            (b"Creative Voice File\x1a" + bytes(30), f"a VOC file{sox}"),
+            (b"NIST_1A\n   1024\n" + bytes(30), f"a SPHERE file{sox}"),
+            (b"caff\0\1" + bytes(30), "a CAF file; ffmpeg -i FILE -ar 8000 -ac 1 NEW.wav"),
+            (b"\x1a\x45\xdf\xa3" + bytes(30), "a Matroska or WebM file; ffmpeg -i FILE -ar 8000 -ac 1 NEW.wav"),
+            (b"\0\0\0\x14ftypqt  " + bytes(30), "an MP4 or QuickTime file; ffmpeg -i FILE -ar 8000 -ac 1 NEW.wav"),
+            (b"BZh91AY&SY" + bytes(30), "packed by bzip2; bunzip2 -k FILE"),
+            (b"\xfd7zXZ\0\0\4" + bytes(30), "packed by xz; unxz -k FILE"),
+            (b"PK\3\4" + bytes(30), "a zip archive; unzip FILE"),
+            (archive(), "a tar archive; tar xf FILE"),
             (speech, "40 frames of libgsm; lines.py uplink FILE NEW.up"),
             (speech[:-7], "39 frames of libgsm, and 26 octets of one that was cut; lines.py uplink FILE NEW.up --partial"),
             ((DATA / "gsm.pcap").read_bytes(), "a pcap capture; lines.py pcap FILE NEW"),
@@ -152,6 +174,23 @@ class Look(InFolder):
 
 
 class Refused(InFolder):
+    def test_what_is_no_plain_wav_file(self):
+        for name, content, said in (
+            ("7.au", b".snd" + bytes(30), "is an .au file, and no plain WAV file; sox 7.au -r 8000 "),
+            ("7.wav", b"RF64" + bytes(30), "is a WAV file of 64 bits, and no plain WAV file; sox 7.wav "),
+            ("7.gsm", (DATA / "speech.gsm").read_bytes(), "is 40 frames of libgsm, and no plain WAV file; lines.py uplink 7.gsm "),
+            ("7.up", UP, "is an uplink, its first frame at bit 0, and no plain WAV file; trau run takes it"),
+            ("7.au.gz", gzip.compress(b".snd" + bytes(30)), "; gunzip -k 7.au.gz; sox 7.au -r 8000 "),
+            ("7.wav.gz", gzip.compress(wav(rate=16000)), "; sox makes it: gunzip -k 7.wav.gz; sox 7.wav -r 8000 "),
+        ):
+            path = self.path(name, content)
+            words = ["pcm", path, self.folder / "7.pcm"]
+            self.assert_refused(lines.main, words, "lines.py: ")
+            _, _, err = self.run_tool(lines.main, *words)
+            self.assertIn(said, err.replace(f"{self.folder}/", ""))
+        words = ["uplink", self.path("7.wav.gz", gzip.compress(wav())), self.folder / "7.up"]
+        self.assertIn("of it: gunzip -k ", self.run_tool(lines.main, *words)[2])
+
     def test_raw(self):
         spoken, new = SPOKEN[0].read_bytes(), self.path("new")
         for words, content, part in (

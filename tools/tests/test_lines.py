@@ -325,7 +325,7 @@ class Sound(InFolder):
             (wav(data=b""), "holds no samples"),
             (wav(size=9), "ends too early, in its part 'data'"),
             (wav()[:40], "no format with data"),
-            (b"RIFX" + wav()[4:], "isn't a WAV file"),
+            (b"RIFX" + wav()[4:], "is a WAV file of big-endian samples, and no plain WAV file"),
             (b"", "isn't a WAV file"),
             (8000 * b"\xd5", "raw octets of a law are taken with --raw"),
         ):
