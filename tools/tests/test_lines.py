@@ -491,7 +491,9 @@ class TheFileThatIsWritten(InFolder):
 
     def test_only_a_file(self):
         self.assert_refused(lines.main, ["uplink", DATA / "speech.gsm", self.folder], "isn't a file")
-        self.assert_refused(lines.main, ["uplink", DATA / "speech.gsm", "/dev/null"], "isn't a file")
+        # A pipe of its own, and not /dev/null, which root's test would replace if it were a file.
+        os.mkfifo(self.folder / "pipe")
+        self.assert_refused(lines.main, ["uplink", DATA / "speech.gsm", self.folder / "pipe"], "isn't a file")
 
     def test_replaces_an_older_one(self):
         new = self.path("7.up", b"old")
