@@ -16,7 +16,7 @@ from typing import Dict, List, NamedTuple, Optional, Sequence, Tuple
 
 import file_kinds
 import trau_frames
-from file_kinds import Look
+from file_kinds import Kind, Look
 from run_texts import (
     FORMS,
     MOST_CALLS,
@@ -52,14 +52,24 @@ COMMENT = "#"
 STRIPS = trau_frames.as_started("orders.py strip leaves out comments and empty lines")
 
 
+MOST_SHOWN = 40
+
+
+def shown(word: str) -> str:
+    """A word of octets as it is printed: text of UTF-8 as such, all else that doesn't print escaped, and of a long word the beginning."""
+    text = word.encode("latin-1").decode("utf-8", "backslashreplace")
+    text = "".join(letter if letter.isprintable() else letter.encode("unicode_escape").decode() for letter in text)
+    return text if len(text) <= MOST_SHOWN else f"{text[:MOST_SHOWN]}.."
+
+
 def fault_of_number(what: str, word: str, least: int, most: int) -> Optional[str]:
     """What is wrong with a word that is to be a number of a range, if anything."""
     if not re.fullmatch(r"\d+", word, re.ASCII):
-        return f"{what} '{word}': decimal digits alone make a number"
+        return f"{what} '{shown(word)}': decimal digits alone make a number"
     if len(word) > 1 and word[0] == "0":
-        return f"{what} {word}: a leading zero"
+        return f"{what} {shown(word)}: a leading zero"
     if not least <= int(word[:12]) <= most:
-        return f"{what} {word}: {grouped(least)} to {grouped(most)}"
+        return f"{what} {shown(word)}: {grouped(least)} to {grouped(most)}"
     return None
 
 
@@ -97,7 +107,7 @@ def faults_of_words(words: Sequence[str]) -> List[str]:
     name, *given = others
     if name not in FORMS:
         small = f"; write {name.lower()}" if name.lower() in FORMS else f"; the orders are {', '.join(FORMS)}"
-        return [each for each in faults if each] + [f"no order '{name}'{small}"]
+        return [each for each in faults if each] + [f"no order '{shown(name)}'{small}"]
     sizes = [len(form) for form in FORMS[name]]
     if len(given) not in sizes:
         faults.append(f"too {'few' if len(given) < min(sizes) else 'many'} words: S {name} {SHOWN.get(name, 'C')}")
@@ -107,7 +117,7 @@ def faults_of_words(words: Sequence[str]) -> List[str]:
         elif kind == "level":
             faults.append(fault_of_number("level", word, 0, MOST_LEVEL))
         elif word not in NAMES[kind]:
-            faults.append(f"'{word}': {FEW_NAMES[kind]}")
+            faults.append(f"'{shown(word)}': {FEW_NAMES[kind]}")
     return [each for each in faults if each]
 
 
@@ -251,9 +261,9 @@ def other_kind(name: Path, side: str, order: Order) -> Optional[Look]:
     found = file_kinds.known_kind(head, size)
     if side == "pcm" and not found:
         return file_kinds.other_than_law(head, order.law())
-    if not found or found.kind is file_kinds.Kind.EMPTY:
+    if not found or found.kind is Kind.EMPTY:
         return None
-    return None if side == "up" and found.kind is file_kinds.Kind.UPLINK and not found.turned else found
+    return None if side == "up" and found.kind is Kind.UPLINK and not found.turned else found
 
 
 def warning_of_line(folder: Path, order: Order, side: str) -> Optional[str]:
@@ -309,6 +319,7 @@ def check(words: argparse.Namespace) -> int:
     if words.lines is not None and not words.lines.is_dir():
         raise Refusal(f"{words.lines}: isn't a folder")
     octets = trau_frames.read_file(words.orders)
+    file_kinds.refuse_other(words.orders, octets, "no orders", Kind.TEXT)
     text = Text.read(octets)
     said = [(line, "; ".join(faults)) for line, faults in text.faults.items()]
     remarks = remarks_on(text.orders, words.lines)

@@ -91,6 +91,22 @@ class Orders(InFolder):
             ],
         )
 
+    def test_words_as_they_are_printed(self):
+        for word, wanted in (
+            ("öffnen".encode(), "öffnen"),
+            (b"\xf6ffnen", "\\xf6ffnen"),
+            (b"open\0\x1b[2J", "open\\x00\\x1b[2J"),
+            (50 * b"x", f"{40 * 'x'}.."),
+        ):
+            status, said = self.check(b"0 " + word + b" 1\n")
+            self.assertEqual((status, len(said)), (1, 2))
+            self.assertIn(f"no order '{wanted}'; ", said[0])
+
+    def test_what_is_no_text(self):
+        up = (EXAMPLES / "7.up").read_bytes()
+        said = "7.up: is an uplink, its first frame at bit 0, and no orders; trau run takes it"
+        self.assert_refused(orders.main, ["check", self.path("7.up", up)], said)
+
     def test_too_long(self):
         status, said = self.check(b"0 open 1\n" * 65537)
         self.assertEqual(status, 1)
