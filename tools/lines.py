@@ -10,6 +10,8 @@ nothing.
 
 from __future__ import annotations
 
+import tool_start  # first, for what comes after it
+
 import argparse
 import re
 import sys

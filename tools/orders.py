@@ -7,6 +7,8 @@ It warns of orders that are in the grammar but that the run will refuse, and of 
 
 from __future__ import annotations
 
+import tool_start  # first, for what comes after it
+
 import argparse
 import re
 import sys

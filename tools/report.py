@@ -8,6 +8,8 @@ uplink.
 
 from __future__ import annotations
 
+import tool_start  # first, for what comes after it
+
 import argparse
 import csv
 import io

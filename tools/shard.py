@@ -8,6 +8,8 @@ are those of one run, octet for octet.
 
 from __future__ import annotations
 
+import tool_start  # first, for what comes after it
+
 import argparse
 import json
 import os

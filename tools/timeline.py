@@ -8,6 +8,8 @@ of the report, or a file isn't what it should be, it prints one line on standard
 
 from __future__ import annotations
 
+import tool_start  # first, for what comes after it
+
 import argparse
 import sys
 from pathlib import Path

@@ -8,6 +8,8 @@ report, or its lines have stopped growing.
 
 from __future__ import annotations
 
+import tool_start  # first, for what comes after it
+
 import argparse
 import importlib
 import sys

@@ -155,6 +155,23 @@ class Ends(InFolder):
         said = "trau-watch: none: no run in this folder: there is no orders.txt\n"
         self.assertEqual(self.installed("watch.py", "none"), (1, "", said))
 
+    def test_an_interrupt_while_a_tool_loads(self):
+        # A module of the tool that takes long to load, in place of the standard library's.
+        late = self.path("late")
+        late.mkdir()
+        (late / "argparse.py").write_text("import time\nprint('loads', flush=True)\ntime.sleep(60)\n")
+        for tool in ("lines.py", "orders.py", "report.py", "shard.py", "timeline.py", "watch.py"):
+            loading = subprocess.Popen(
+                [sys.executable, TOOLS / tool, "--help"],
+                env={**os.environ, "PYTHONPATH": str(late)},
+                stdout=subprocess.PIPE,
+                stderr=subprocess.PIPE,
+                preexec_fn=lambda: signal.signal(signal.SIGINT, signal.SIG_DFL),
+            )
+            self.assertEqual(loading.stdout.readline(), b"loads\n")
+            loading.send_signal(signal.SIGINT)
+            self.assertEqual((loading.communicate()[1], loading.returncode), (b"", -signal.SIGINT), tool)
+
     def test_an_interrupt(self):
         self.path("report.txt", b"")
         # A shell without job control starts what it puts into the background with interrupts left aside.
