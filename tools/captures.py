@@ -36,6 +36,11 @@ class Counts:
     late: int = 0
     doubled: int = 0
     others: int = 0
+    over: int = 0  # units that overlapped with those before
+
+    def said_of_over(self) -> str:
+        """The units that were left out, if any."""
+        return f" over {self.over}" if self.over else ""
 
 
 class Lost(NamedTuple):
@@ -92,7 +97,8 @@ def gap(name: Path, missing: int, units: int, size: int, packet: Packet) -> Iter
     """The stretches between two packets: first what the missing packets held, if they were like the one before."""
     if units * size > LONGEST_GAP:
         raise Refusal(
-            f"{name}: the time stamp of packet {packet.number} is {units * size / SAMPLES_A_SECOND:.0f} s behind"
+            f"{name}: the time stamp of packet {packet.number} is {units * size / SAMPLES_A_SECOND:.0f} s after the packet before;"
+            f" at most {LONGEST_GAP // SAMPLES_A_SECOND} s are taken"
         )
     lost = max(0, min(units, missing))
     if lost:
@@ -118,8 +124,10 @@ def stretches(name: Path, packets: Sequence[Packet], kind: int, counts: Counts) 
             first, missing = packet.stamp, 0
         begin = round((packet.stamp - first) / size)
         yield from gap(name, missing * length, begin - place, size, packet)
-        if begin + len(units) > place:
-            yield units[max(0, place - begin) :]
+        over = min(len(units), max(0, place - begin))
+        counts.over += over
+        if over < len(units):
+            yield units[over:]
         place, length, missing = max(place, begin + len(units)), len(units), 0
 
 
@@ -195,6 +203,7 @@ def line_of(name: Path, content: bytes, asked: Asked, marker: Marker) -> Tuple[b
     if kind != GSM:
         padded = -len(line) % PCM_OCTETS
         line, said = line + padded * bytes([asked.law.idle()]), f"{said} padded {padded}"
+    said += counts.said_of_over()
     return line, f"{said} cut {streams.cut}" if asked.partial else said
 
 

@@ -397,8 +397,9 @@ def add_pcap(commands: argparse._SubParsersAction) -> None:
         "Pcm line from PCMA (8) or PCMU (0). Missing packets become unusable frames or idle octets. Time in which nothing was sent\n"
         "becomes idle frames or idle octets; in a pause that a silence descriptor began, it becomes unusable frames. Prints `pcap gsm\n"
         "packets N late A doubled B others C frames D sid S invalid I lost E paused F lead G`, or `octets D lost E .. padded H`:\n"
-        "A packets came after later ones, B came again, C have no speech; G periods precede the first one. With --partial it also\n"
-        "prints `cut K`: packets that weren't captured whole. Needs the library dpkt.",
+        "A packets came after later ones, B came again, C have no speech; G periods precede the first one. If time stamps go back,\n"
+        "it also prints `over N`: frames or octets that overlap with those before, and are left out. With --partial it also prints\n"
+        "`cut K`: packets that weren't captured whole. Needs the library dpkt.",
         "call.pcapng 7.up",
     )
     added.add_argument(

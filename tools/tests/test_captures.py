@@ -173,6 +173,30 @@ class Captures(InFolder):
         self.assertEqual(said, "pcap gsm packets 30 late 0 doubled 0 others 2 frames 28 sid 0 invalid 0 lost 0 paused 2 lead 0\n")
         self.assertEqual(self.sorts(line)[9:13], ["good", "idle", "idle", "good"])
 
+    def test_time_stamps_that_go_back(self):
+        def earlier(rtp):
+            rtp.ts = (rtp.ts - 15 * 160) % 4294967296
+
+        # Packet 10 and those after it begin 15 frames earlier: the first 15 of these 20 frames overlap with what came before.
+        said, line = self.changed(
+            lambda packets: packets[:10] + [self.rewritten(octets, earlier) for octets in packets[10:]]
+        )
+        self.assertEqual(
+            said, "pcap gsm packets 30 late 0 doubled 0 others 0 frames 15 sid 0 invalid 0 lost 0 paused 0 lead 0 over 15\n"
+        )
+        self.assertEqual(len(line), 15 * 40)
+
+        def later(rtp):
+            rtp.ts = (rtp.ts + 3601 * 8000) % 4294967296
+
+        link, packets = self.packets()
+        file = io.BytesIO()
+        writer = captures.library("pcap").Writer(file, linktype=link)
+        for place, octets in enumerate([*packets[:5], self.rewritten(packets[5], later)]):
+            writer.writepkt(octets, ts=place / 50)
+        words = ["pcap", self.path("jump.pcap", file.getvalue()), self.folder / "7.up"]
+        self.assert_refused(lines.main, words, "of packet 6 is 3601 s after the packet before; at most 3600 s are taken")
+
     def test_silence_descriptors(self):
         # The 11th frame is a descriptor, the 12th a damaged one, and then nothing is sent for five periods.
         descriptor = trau_frames.silence_descriptor(trau_frames.SILENCE)
