@@ -612,6 +612,9 @@ class WrongWords(Started):
         "run --work 2": "--work: no option of run; trau help run tells them",
         "run --seed 2": "--seed: no option of run; trau help run tells them",
         "run orders.txt": "orders.txt: a word too many",
+        "run -- --periods 5": "--periods: a word too many",
+        "drill --seed 2 -- --": "--: a word too many",
+        "save --": "save: --periods is missing, the period of the mark",
         "drill --calls 257": "--calls 257: 1 to 256",
         "live --inbox --seed 3": "--inbox --seed: 1 to 1024",
         "save": "save: --periods is missing, the period of the mark",
@@ -628,7 +631,10 @@ class WrongWords(Started):
         "-x": "-x: no command; trau help tells them",
         "no such/thing": "no: no command; trau help tells them",
     }
-    RIGHT = ("run --workers 64 --batch=1", "save --periods 4294967295", "live --seed 0", "split 4093", "follow 7 316", "frames 1")
+    RIGHT = (
+        *("run --workers 64 --batch=1", "save --periods 4294967295", "live --seed 0", "split 4093", "follow 7 316", "frames 1"),
+        *("run --", "save --periods 5 --", "drill --seed=2 --"),
+    )
 
     def test_what_is_wrong_is_said_before_any_proof(self):
         for words, wrong in self.WRONG.items():
@@ -703,6 +709,9 @@ class TwoRuns(Started):
                 self.assertEqual(self.trau(*words), (125, "", said))
             self.assertEqual(self.trau("frames", "7"), (0, "the program: frames 7\n", ""))
             self.assertEqual(self.trau("drill"), (0, "the program: drill\n", ""))
+            # A command with `--` is as right as without.
+            for words in (["run", "--"], ["run", "--periods", "5", "--"]):
+                self.assertEqual(self.trau(*words)[0], 125, words)
             self.assertEqual(self.trau("--no-lock", "run"), (0, "the program: run\n", ""))
             self.rest(run, b"")
         self.assertEqual(self.trau("run"), (0, "the program: run\n", ""))
