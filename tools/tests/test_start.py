@@ -594,6 +594,9 @@ class Help(Started):
             self.assertEqual(self.at_terminal(*words), (0, f"{note}the program: {' '.join(words)}\n"))
         self.assertEqual(self.at_terminal("encode", "8"), (0, "the program: encode 8\n"))
         self.assertEqual(self.trau("encode", "7"), (0, "the program: encode 7\n", ""))
+        os.mkfifo(self.folder / "7.out")
+        more = "trau: 7.out is a pipe; where its call is opened, it is waited for until someone opens it for reading\n"
+        self.assertEqual(self.at_terminal("resume"), (0, f"{note}{more}the program: resume\n"))
 
 
 class WrongWords(Started):
