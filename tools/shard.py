@@ -157,7 +157,10 @@ def split(words: argparse.Namespace) -> int:
     opened = {order.calls[0] for order in orders if order.verb == "open"}
     pieces = [(sum(periods_of(words.folder, call) for call in calls & opened), calls) for calls in components(orders)]
     parts = parts_of(pieces, words.parts)
-    place = Path(tempfile.mkdtemp(dir=words.cut.absolute().parent, prefix=f".{words.cut.name}."))
+    try:
+        place = Path(tempfile.mkdtemp(dir=words.cut.absolute().parent, prefix=f".{words.cut.name}."))
+    except OSError as failure:
+        raise Refusal(f"{words.cut}: {failure.strerror}") from None
     try:
         lay_cut(place, words, orders, parts)
         place.chmod(0o777 & ~current_mask())

@@ -202,6 +202,9 @@ class Farms(InFolder):
         (farm / "4.out").mkdir()
         refused("4.out: isn't a file; only links", farm, cut, "--parts", 2, "--copy")
         self.assert_refused(shard.main, ["split", farm, farm, "--parts", 2], "is there already")
+        # The folder's own name, and not that of the one that is laid out before.
+        cut = self.folder / "none" / "cut"
+        self.assert_refused(shard.main, ["split", farm, cut, "--parts", 2], f"shard.py: {cut}: No such file or directory\n")
         self.assert_refused(shard.main, ["merge", farm], "cut.json: No such file")
         (farm / "cut.json").write_text('{"orders_of_parts": [[1]]}')
         self.assert_refused(shard.main, ["merge", farm], "isn't what shard.py split writes")
