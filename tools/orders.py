@@ -271,6 +271,8 @@ def other_kind(name: Path, side: str, order: Order) -> Optional[Look]:
 def warning_of_line(folder: Path, order: Order, side: str) -> Optional[str]:
     """What is wrong with an incoming line of a call that is opened, if anything."""
     name = line_name(order, side)
+    if (folder / name).is_dir():
+        return f"{name} is a folder: the line will fail"
     if not (folder / name).is_file():
         return f"there is no {name}: the line will fail"
     found = other_kind(folder / name, side, order)
@@ -281,11 +283,14 @@ def warning_of_line(folder: Path, order: Order, side: str) -> Optional[str]:
 
 
 def note_on_periods(folder: Path, order: Order) -> Optional[str]:
-    """How many periods of the longer incoming line won't be used, if any."""
+    """How many periods of the longer incoming line won't be used, if any; or which line has no period, so that the call has none."""
     periods = periods_of_lines(folder, order.calls[0])
     shorter, longer = sorted(periods, key=periods.__getitem__)
     unused = periods[longer] - periods[shorter]
-    if not periods[shorter] or not unused:
+    if not periods[shorter]:
+        is_there = (folder / line_name(order, shorter)).is_file()
+        return f"{line_name(order, shorter)} has no whole period, so the call has none" if is_there else None
+    if not unused:
         return None
     what = f"the last {unused} periods" if unused > 1 else "the last period"
     return f"{what} of {line_name(order, longer)} won't be used: {line_name(order, shorter)} has {periods[shorter]}"

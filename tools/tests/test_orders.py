@@ -147,13 +147,20 @@ class Orders(InFolder):
         self.assertEqual(self.check(b"0 open 4\n76 close 4\n")[1], ["orders 2 bad 0 warnings 0"])
         self.assertIn("(2): call 4 has ended", self.check(b"0 open 4\n76 close 4\n", "--lines", self.folder)[1][1])
 
+    def test_a_folder_for_a_line(self):
+        self.path("3.up").mkdir()
+        self.path("3.pcm", bytes(1600))
+        status, said = self.check(b"0 open 3\n", "--lines", self.folder)
+        self.assertEqual((status, said), (0, ["line 1: warning: 3.up is a folder: the line will fail", "orders 1 bad 0 warnings 1"]))
+
     def test_periods_that_wont_be_used(self):
         for up, pcm, note in (
             (400, 1600, None),
             (439, 1759, None),
             (440, 1600, "the last period of 1.up won't be used: 1.pcm has 10"),
             (400, 3200, "the last 10 periods of 1.pcm won't be used: 1.up has 10"),
-            (0, 3200, None),
+            (0, 3200, "1.up has no whole period, so the call has none"),
+            (400, 159, "1.pcm has no whole period, so the call has none"),
         ):
             self.path("1.up", bytes(up))
             self.path("1.pcm", bytes(pcm))
