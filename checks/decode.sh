@@ -1,12 +1,9 @@
 #!/bin/sh
 # `trau decode` on recorded uplinks: its Out lines against those of libgsm (crates/codec_vectors/README.md).
 set -eu
-top=$(cd "$(dirname "$0")/.." && pwd)
 # shellcheck source=checks/program
-. "$top/checks/program"
+. "$(dirname "$0")/program"
 data=$top/crates/codec_vectors/data
-work=$(mktemp -d)
-trap 'rm -rf "$work"' EXIT
 cd "$work"
 # shellcheck source=checks/expect
 . "$top/checks/expect"
@@ -16,7 +13,7 @@ for name in speech-en-m3 speech-loud-m7 harsh; do
     rm -f 7.out
     trau decode 7
     expect "decode of $name" 0 "decode frames $(($(wc -c <7.up) / 40))"
-    cmp 7.out "$data/$name.out" || failed=$((failed + 1))
+    cmp 7.out "$data/$name.out" || failed=1
 done
 
 # A block that isn't a good speech frame: all frames before it are written.
@@ -24,6 +21,6 @@ head -c 80 "$data/harsh.up" >8.up
 head -c 40 /dev/zero >>8.up
 trau decode 8
 expect "a refused block" 8 "decode refused 2"
-head -c 320 "$data/harsh.out" | cmp - 8.out || failed=$((failed + 1))
+head -c 320 "$data/harsh.out" | cmp - 8.out || failed=1
 
-[ "$failed" = 0 ]
+exit "$failed"

@@ -2,19 +2,10 @@
 # `trau drill`: its texts against those of another program (checks/drill/README.md); the default drill with several workers,
 # slices and batches; that it uses no file; and its statuses if the system fails.
 set -eu
-top=$(cd "$(dirname "$0")/.." && pwd)
 # shellcheck source=checks/program
-. "$top/checks/program"
-work=$(mktemp -d)
-trap 'rm -rf "$work"' EXIT
+. "$(dirname "$0")/program"
 mkdir "$work/empty"
 cd "$work/empty"
-failed=0
-
-fail() {
-    echo "FAILED $1"
-    failed=1
-}
 
 # drill WORDS..: the text and the status of a drill; orders on standard input aren't read
 drill() {

@@ -1,12 +1,9 @@
 #!/bin/sh
 # `trau encode` on recorded Pcm lines: its downlinks against those of libgsm (crates/codec_vectors/README.md).
 set -eu
-top=$(cd "$(dirname "$0")/.." && pwd)
 # shellcheck source=checks/program
-. "$top/checks/program"
+. "$(dirname "$0")/program"
 data=$top/crates/codec_vectors/data
-work=$(mktemp -d)
-trap 'rm -rf "$work"' EXIT
 cd "$work"
 # shellcheck source=checks/expect
 . "$top/checks/expect"
@@ -16,18 +13,18 @@ for name in speech-en-m3 speech-loud-m7 harsh; do
     rm -f 7.down
     trau encode 7
     expect "encode of $name" 0 "encode frames $(($(wc -c <7.pcm) / 160)) left 0"
-    cmp 7.down "$data/$name.down" || failed=$((failed + 1))
+    cmp 7.down "$data/$name.down" || failed=1
 done
 
 # Octets that make no whole period are left, and a line of such octets alone gives nothing.
 head -c 330 "$data/harsh.pcm" >8.pcm
 trau encode 8
 expect "a rest of ten octets" 0 "encode frames 2 left 10"
-head -c 80 "$data/harsh.down" | cmp - 8.down || failed=$((failed + 1))
+head -c 80 "$data/harsh.down" | cmp - 8.down || failed=1
 head -c 159 "$data/harsh.pcm" >9.pcm
 trau encode 9
 expect "a rest alone" 0 "encode frames 0 left 159"
-[ ! -e 9.down ] || { echo "FAILED: 9.down was made"; failed=$((failed + 1)); }
+[ ! -e 9.down ] || fail "9.down was made"
 
 trau encode 10
 expect "a missing line" 6 "line 10 pcm failed"
@@ -36,4 +33,4 @@ mkdir 11.down
 trau encode 11
 expect "a downlink that can't be written" 6 "line 11 down failed"
 
-[ "$failed" = 0 ]
+exit "$failed"

@@ -2,12 +2,8 @@
 # `trau run` on four recorded farms (checks/farms/README.md), with each of the command lines of checks/farms/words.txt: each outgoing
 # line and the report, octet for octet, and that the incoming lines are unchanged.
 set -eu
-top=$(cd "$(dirname "$0")/.." && pwd)
 # shellcheck source=checks/program
-. "$top/checks/program"
-work=$(mktemp -d)
-trap 'rm -rf "$work"' EXIT
-failed=0
+. "$(dirname "$0")/program"
 
 # lay NAME: puts the farm's incoming lines and orders into $work/given, and these with the expected results into $work/wanted
 lay() {
@@ -45,9 +41,8 @@ compare() {
     if [ "$status" = 0 ] && diff -r "$work/wanted" "$work/run" >"$work/differences"; then
         echo "ok $name: $*"
     else
-        echo "FAILED $name: $*, status $status"
+        fail "$name: $*, status $status"
         cat "$work/differences"
-        failed=1
     fi
 }
 

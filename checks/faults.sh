@@ -4,10 +4,8 @@
 # and the report names exactly those that aren't whole. Then lines that share a file through links: the line that comes second fails,
 # and nothing that was recorded is lost. Last, the reasons on standard error.
 set -eu
-top=$(cd "$(dirname "$0")/.." && pwd)
 # shellcheck source=checks/program
-. "$top/checks/program"
-work=$(mktemp -d)
+. "$(dirname "$0")/program"
 mounted=
 # A device that somebody looks into just now is unmounted once nobody does.
 unmount() {
@@ -19,12 +17,6 @@ finish() {
     rm -rf "$work"
 }
 trap finish EXIT
-failed=0
-
-fail() {
-    echo "FAILED $1"
-    failed=1
-}
 
 # recorded NAME: each line, the report and the status
 recorded() {
@@ -307,4 +299,4 @@ else
     cat said
 fi
 cd "$top"
-[ "$failed" = 0 ]
+exit "$failed"

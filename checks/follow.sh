@@ -2,13 +2,10 @@
 # `trau follow` on recorded downlinks: what it prints and sends up against the answers of another program; lines that fail; and
 # words that no command takes.
 set -eu
-top=$(cd "$(dirname "$0")/.." && pwd)
 # shellcheck source=checks/program
-. "$top/checks/program"
+. "$(dirname "$0")/program"
 data=$top/checks/follow
 vectors=$top/crates/codec_vectors/data
-work=$(mktemp -d)
-trap 'rm -rf "$work"' EXIT
 cd "$work"
 # shellcheck source=checks/expect
 . "$top/checks/expect"
@@ -19,7 +16,7 @@ followed() {
     rm -f 7.down
     trau follow 7 "$2"
     expect "$(basename "$3")" 0 "$(cat "$3")"
-    cmp 7.down "$4" || failed=$((failed + 1))
+    cmp 7.down "$4" || failed=1
 }
 
 followed "$data/harsh-1-0.up" 0 "$data/harsh-1-0.txt" "$data/harsh-1-0.down"
@@ -32,14 +29,14 @@ head -c 119 "$data/harsh-1-0.up" >7.up
 trau follow 7 0
 expect "a rest of 39 octets" 0 "320 speech
 follow frames 1 left 39"
-head -c 80 "$data/harsh-1-0.down" | cmp - 7.down || failed=$((failed + 1))
+head -c 80 "$data/harsh-1-0.down" | cmp - 7.down || failed=1
 
 # No frame, no line of text.
 rm 7.down
 : >7.up
 trau follow 7 0
 expect "an empty line" 0 "follow frames 0 left 0"
-[ ! -e 7.down ] || failed=$((failed + 1))
+[ ! -e 7.down ] || failed=1
 
 trau follow 8 0
 expect "a missing line" 6 "line 8 up failed"
@@ -54,7 +51,7 @@ status=0
 text=
 "$top/trau" follow 10 0 >/dev/full </dev/null || status=$?
 expect "a full standard output" 4 ""
-head -c 80 "$data/harsh-1-0.down" | cmp - 10.down || failed=$((failed + 1))
+head -c 80 "$data/harsh-1-0.down" | cmp - 10.down || failed=1
 
 trau follow 4096 0
 expect "the last call" 6 "line 4096 up failed"
@@ -64,4 +61,4 @@ for words in "7" "7 0 0" "4097 0" "0 0" "7 6" "7 320" "7 04" "07 4" "7 x"; do
     expect "follow $words" 1 "usage"
 done
 
-[ "$failed" -eq 0 ] || exit 1
+exit "$failed"

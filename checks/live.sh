@@ -2,19 +2,10 @@
 # `trau live`: its texts against those of another program (checks/live/README.md); the default live drill with several callers
 # and inboxes; that it uses no file; and its statuses if the system fails.
 set -eu
-top=$(cd "$(dirname "$0")/.." && pwd)
 # shellcheck source=checks/program
-. "$top/checks/program"
-work=$(mktemp -d)
-trap 'rm -rf "$work"' EXIT
+. "$(dirname "$0")/program"
 mkdir "$work/empty"
 cd "$work/empty"
-failed=0
-
-fail() {
-    echo "FAILED $1"
-    failed=1
-}
 
 # live WORDS..: the text and the status of a live drill; nothing is read of standard input
 echo 'no orders' >"$work/in"

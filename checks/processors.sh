@@ -2,14 +2,10 @@
 # The program for x86-64-v3, which the script `trau` starts on such a processor. It is proved and built over what the gate has just
 # proved, and compared with all recordings by the scripts that compare the program for x86-64-v2.
 set -eu
-top=$(cd "$(dirname "$0")/.." && pwd)
 # shellcheck source=checks/program
-. "$top/checks/program"
+. "$(dirname "$0")/program"
 kind=x86-64-v3
 program=$top/crates/trau_program/out/trau_program.$kind
-work=$(mktemp -d)
-trap 'rm -rf "$work"' EXIT
-failed=0
 unset TRAU_CPU
 
 if ! TRAU_IS_BUILT=$kind "$top/trau"; then

@@ -1,11 +1,8 @@
 #!/bin/sh
 # `trau relay` on files: the octets that it writes, and its texts and statuses if the system fails.
 set -eu
-top=$(cd "$(dirname "$0")/.." && pwd)
 # shellcheck source=checks/program
-. "$top/checks/program"
-work=$(mktemp -d)
-trap 'rm -rf "$work"' EXIT
+. "$(dirname "$0")/program"
 cd "$work"
 # shellcheck source=checks/expect
 . "$top/checks/expect"
@@ -13,7 +10,7 @@ cd "$work"
 cp "$top/examples/7.up" 7.up
 trau relay 7
 expect "speech of 312 frames" 0 "relay frames 312"
-python3 "$top/checks/relay.py" 7.up 7.down || failed=$((failed + 1))
+python3 "$top/checks/relay.py" 7.up 7.down || failed=1
 
 # The downlink frame of silence, made by hand from the tables, and the uplink frame with the same data bits. Decoded from the
 # reset state, it begins with the samples 8, 0, 0, 8, 8, 8, 16.
@@ -26,31 +23,31 @@ silence=$top/crates/codec_vectors/data/silence.down
 cat 1.up 1.up >2.up
 trau relay 2
 expect "silence" 0 "relay frames 2"
-cat "$silence" "$silence" | cmp - 2.down || failed=$((failed + 1))
+cat "$silence" "$silence" | cmp - 2.down || failed=1
 head -c 79 2.up >3.up
 trau relay 3
 expect "a frame without its last octet" 8 "relay refused 1"
-cmp "$silence" 3.down || failed=$((failed + 1))
+cmp "$silence" 3.down || failed=1
 trau decode 1
 expect "silence decoded" 0 "decode frames 1"
-[ "$(wc -c <1.out)" -eq 160 ] || { echo "FAILED: 1.out"; failed=$((failed + 1)); }
+[ "$(wc -c <1.out)" -eq 160 ] || fail "1.out"
 printf '\325\325\325\325\325\325\324' >front
-head -c 7 1.out | cmp - front || failed=$((failed + 1))
+head -c 7 1.out | cmp - front || failed=1
 
 trau relay 8
 expect "a missing line" 6 "line 8 up failed"
-[ ! -e 8.down ] || { echo "FAILED: 8.down was made"; failed=$((failed + 1)); }
+[ ! -e 8.down ] || fail "8.down was made"
 
 : >9.up
 echo old >9.down
 trau relay 9
 expect "an empty line" 0 "relay frames 0"
-[ "$(cat 9.down)" = old ] || { echo "FAILED: 9.down was written"; failed=$((failed + 1)); }
+[ "$(cat 9.down)" = old ] || fail "9.down was written"
 
 head -c 119 7.up >10.up
 trau relay 10
 expect "a line that ends inside a block" 8 "relay refused 2"
-head -c 80 7.down | cmp - 10.down || failed=$((failed + 1))
+head -c 80 7.down | cmp - 10.down || failed=1
 
 cp 7.up 11.up
 mkdir 11.down
@@ -76,7 +73,7 @@ broken() {
     printf '%b' "$3" | dd of=12.up bs=1 seek="$2" conv=notrunc 2>/dev/null
     trau relay 12
     expect "$1" 8 "relay refused 1"
-    head -c 40 7.down | cmp - 12.down || failed=$((failed + 1))
+    head -c 40 7.down | cmp - 12.down || failed=1
 }
 broken "no sync pattern" 42 '\010'
 broken "a bad frame" 43 '\010'
@@ -113,8 +110,7 @@ while [ $limit -gt 2000 ]; do
     esac
 done
 if [ "$met" -gt 0 ]; then echo "ok out of memory ($met limits)"; else
-    echo "FAILED out of memory: no limit gave status 5"
-    failed=$((failed + 1))
+    fail "out of memory: no limit gave status 5"
 fi
 
-[ "$failed" = 0 ]
+exit "$failed"

@@ -1,18 +1,9 @@
 #!/bin/sh
 # `trau run` at the limits of the system and of its orders: texts, statuses, and what the lines hold.
 set -eu
-top=$(cd "$(dirname "$0")/.." && pwd)
 # shellcheck source=checks/program
-. "$top/checks/program"
-work=$(mktemp -d)
-trap 'rm -rf "$work"' EXIT
+. "$(dirname "$0")/program"
 cd "$work"
-failed=0
-
-fail() {
-    echo "FAILED $1"
-    failed=$((failed + 1))
-}
 
 # run ORDERS WORDS..: runs the orders (printf's escapes) over the lines of this folder
 run() {
@@ -433,4 +424,4 @@ assert out == out[:2] * 2048 and down == down[:2] * 2048
 END
 cd ..
 
-[ "$failed" = 0 ]
+exit "$failed"

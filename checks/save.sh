@@ -2,18 +2,9 @@
 # `trau save` and `trau resume`: a recorded farm in two parts (checks/save/README.md), each outgoing line, mark and report octet
 # for octet, with several command lines; and one call whose mark is another, isn't a mark, or can't be printed.
 set -eu
-top=$(cd "$(dirname "$0")/.." && pwd)
 # shellcheck source=checks/program
-. "$top/checks/program"
-work=$(mktemp -d)
-trap 'rm -rf "$work"' EXIT
+. "$(dirname "$0")/program"
 cd "$work"
-failed=0
-
-fail() {
-    echo "FAILED $1"
-    failed=$((failed + 1))
-}
 
 # same NAME WANTED FILE
 same() {
@@ -187,4 +178,4 @@ head -c 160 1.pcm | cmp - 1.out || fail "the fourth period: Out"
     printf '\000\000\270\017'
     head -c 36 /dev/zero | tr '\0' '\377'
 } | cmp - 1.down || fail "the fourth period: Down"
-[ "$failed" = 0 ]
+exit "$failed"

@@ -3,13 +3,8 @@
 # report and status are those of one run, octet for octet. Then the same with fewer periods, lines that fail, copies of the
 # lines, and parts that fail or are run with other words.
 set -eu
-top=$(cd "$(dirname "$0")/.." && pwd)
 # shellcheck source=checks/program
-. "$top/checks/program"
-work=$(mktemp -d)
-trap 'rm -rf "$work"' EXIT
-export PYTHONDONTWRITEBYTECODE=1
-failed=0
+. "$(dirname "$0")/program"
 
 shard() {
     python3 "$top/tools/shard.py" "$@"
@@ -58,9 +53,8 @@ same() {
     if cmp "$1.report" "$3.report" && cmp "$1.status" "$3.status" && diff -r "$1" "$2" >"$work/differences"; then
         echo "ok $4: status $(cat "$3.status"), $(tail -n 1 "$3.report")"
     else
-        echo "FAILED $4"
+        fail "$4"
         cat "$3.said" "$work/differences" || true
-        failed=1
     fi
 }
 
@@ -100,8 +94,7 @@ trouble() {
 }
 compare clean 9 ""
 grep -q '^order 10 refused 3 call 1 partner 2$' "$work/cut.report" || {
-    echo "FAILED: no refusal for a bridged call"
-    failed=1
+    fail "no refusal for a bridged call"
 }
 
 # Lines that fail: a missing one, a folder instead of an outgoing one; an older outgoing line, and orders without a last LF.
@@ -126,9 +119,8 @@ expect() {
     if [ "$(cat "$work/cut.status")" = "$1" ] && grep -q "$2" "$work/cut.said"; then
         echo "ok told: $2"
     else
-        echo "FAILED: wanted status $1 and '$2'"
+        fail "wanted status $1 and '$2'"
         cat "$work/cut.status" "$work/cut.said"
-        failed=1
     fi
 }
 
@@ -137,8 +129,7 @@ expect() {
 status=0
 TRAU=$work/none sh "$work/cut/1/run.sh" 2>/dev/null || status=$?
 [ "$status" = 127 ] || {
-    echo "FAILED: a part without a program ended with $status"
-    failed=1
+    fail "a part without a program ended with $status"
 }
 expect 2 "no whole report of part 1; run again: sh '*$work/cut/1/run.sh"
 (cd "$work/cut/1" && "$top/trau" run --periods 90 <orders.txt >report.txt) || true
@@ -163,8 +154,7 @@ while read -r orders; do
     case $told in
     *"$wanted"*) ;;
     *)
-        echo "FAILED: of '$orders' the program says '$said', and shard.py '$told'"
-        failed=1
+        fail "of '$orders' the program says '$said', and shard.py '$told'"
         ;;
     esac
 done <<'END'

@@ -2,12 +2,8 @@
 # `trau run` of eight calls by 500 periods, with speech, silence, losses, slips, DTX and three bridges: whatever the batch, the
 # workers and the slices, each line and the report are the same, octet for octet.
 set -eu
-top=$(cd "$(dirname "$0")/.." && pwd)
 # shellcheck source=checks/program
-. "$top/checks/program"
-work=$(mktemp -d)
-trap 'rm -rf "$work"' EXIT
-failed=0
+. "$(dirname "$0")/program"
 
 mkdir "$work/given"
 cd "$work/given"
@@ -50,8 +46,7 @@ compare() {
     if [ "$status" = 0 ] && [ ! -e "$work/first" ]; then
         mv "$work/run" "$work/first"
     elif [ "$status" != 0 ] || ! diff -r "$work/first" "$work/run" >/dev/null; then
-        echo "FAILED $*: status $status, or other lines"
-        failed=1
+        fail "$*: status $status, or other lines"
     fi
 }
 
