@@ -1,5 +1,5 @@
 #!/bin/sh
-# `trau drill`: its texts against those of another program (checks/drill/README.md); the default drill with several workers,
+# `trau drill`: its texts against those of another program (checks/README.md); the default drill with several workers,
 # slices and batches; that it uses no file; and its statuses if the system fails.
 set -eu
 # shellcheck source=checks/program

@@ -1,5 +1,5 @@
 #!/bin/sh
-# `trau run` on four recorded farms (checks/farms/README.md), with each of the command lines of checks/farms/words.txt: each outgoing
+# `trau run` on four recorded farms (checks/README.md), with each of the command lines of checks/farms/words.txt: each outgoing
 # line and the report, octet for octet, and that the incoming lines are unchanged.
 set -eu
 # shellcheck source=checks/program

@@ -1,5 +1,5 @@
 #!/bin/sh
-# `trau run` if lines fail: first with some recorded lines missing (checks/faults/README.md); then, with the lines of examples/farm,
+# `trau run` if lines fail: first with some recorded lines missing (checks/README.md); then, with the lines of examples/farm,
 # if outgoing files may not grow past a size or the device is full. There each outgoing line has to be a prefix of the expected one,
 # and the report names exactly those that aren't whole. Then lines that share a file through links: the line that comes second fails,
 # and nothing that was recorded is lost. Last, the reasons on standard error.

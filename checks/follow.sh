@@ -5,6 +5,7 @@ set -eu
 # shellcheck source=checks/program
 . "$(dirname "$0")/program"
 data=$top/checks/follow
+harsh=$top/checks/farms/harsh/1.down
 vectors=$top/crates/codec_vectors/data
 cd "$work"
 # shellcheck source=checks/expect
@@ -19,13 +20,13 @@ followed() {
     cmp 7.down "$4" || failed=1
 }
 
-followed "$data/harsh-1-0.up" 0 "$data/harsh-1-0.txt" "$data/harsh-1-0.down"
-followed "$data/mixed-1-316.up" 316 "$data/mixed-1-316.txt" "$data/mixed-1-316.down"
+followed "$harsh" 0 "$data/harsh-1-0.txt" "$data/harsh-1-0.down"
+followed "$top/examples/farm/wanted/1.down" 316 "$data/mixed-1-316.txt" "$data/mixed-1-316.down"
 followed "$vectors/follow-100.down" 100 "$data/harsh-3-100.txt" "$vectors/follow-100.up"
 followed "$vectors/follow-4.down" 4 "$data/mixed-2-4.txt" "$vectors/follow-4.up"
 
 # Octets that make no whole period are left.
-head -c 119 "$data/harsh-1-0.up" >7.up
+head -c 119 "$harsh" >7.up
 trau follow 7 0
 expect "a rest of 39 octets" 0 "320 speech
 follow frames 1 left 39"
@@ -40,13 +41,13 @@ expect "an empty line" 0 "follow frames 0 left 0"
 
 trau follow 8 0
 expect "a missing line" 6 "line 8 up failed"
-cp "$data/harsh-1-0.up" 9.up
+cp "$harsh" 9.up
 mkdir 9.down
 trau follow 9 0
 expect "answers that can't be written" 6 "line 9 down failed"
 
 # Standard output is full: the answer of the first period with a frame is the last that is sent up.
-cp "$data/harsh-1-0.up" 10.up
+cp "$harsh" 10.up
 status=0
 text=
 "$top/trau" follow 10 0 >/dev/full </dev/null || status=$?

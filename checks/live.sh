@@ -1,5 +1,5 @@
 #!/bin/sh
-# `trau live`: its texts against those of another program (checks/live/README.md); the default live drill with several callers
+# `trau live`: its texts against those of another program (checks/README.md); the default live drill with several callers
 # and inboxes; that it uses no file; and its statuses if the system fails.
 set -eu
 # shellcheck source=checks/program

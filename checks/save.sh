@@ -1,5 +1,5 @@
 #!/bin/sh
-# `trau save` and `trau resume`: a recorded farm in two parts (checks/save/README.md), each outgoing line, mark and report octet
+# `trau save` and `trau resume`: a recorded farm in two parts (checks/README.md), each outgoing line, mark and report octet
 # for octet, with several command lines; and one call whose mark is another, isn't a mark, or can't be printed.
 set -eu
 # shellcheck source=checks/program

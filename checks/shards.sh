@@ -1,5 +1,5 @@
 #!/bin/sh
-# Four recorded farms (checks/farms/README.md), each cut by tools/shard.py into parts that run apart: outgoing lines, joined
+# Four recorded farms (checks/README.md), each cut by tools/shard.py into parts that run apart: outgoing lines, joined
 # report and status are those of one run, octet for octet. Then the same with fewer periods, lines that fail, copies of the
 # lines, and parts that fail or are run with other words.
 set -eu

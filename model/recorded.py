@@ -161,15 +161,15 @@ def followed() -> Files:
     here = TOP / "checks/follow"
     files: Files = {}
     for down, want, text, heard, sent in (
-        (harsh["1.down"], "0", "harsh-1-0.txt", here / "harsh-1-0.up", here / "harsh-1-0.down"),
-        (mixed["1.down"], "316", "mixed-1-316.txt", here / "mixed-1-316.up", here / "mixed-1-316.down"),
+        (harsh["1.down"], "0", "harsh-1-0.txt", None, here / "harsh-1-0.down"),
+        (mixed["1.down"], "316", "mixed-1-316.txt", None, here / "mixed-1-316.down"),
         (harsh["3.down"], "100", "harsh-3-100.txt", VECTORS / "follow-100.down", VECTORS / "follow-100.up"),
         (mixed["2.down"], "4", "mixed-2-4.txt", VECTORS / "follow-4.down", VECTORS / "follow-4.up"),
     ):
         ran = run_command(["follow", "7", want], {"7.up": down})
-        files.update({heard: down, here / text: ran.text, sent: ran.lines["7.down"]})
-        if heard.parent == VECTORS:
-            files[heard.with_suffix(".txt")] = places_in(ran.text)
+        files.update({here / text: ran.text, sent: ran.lines["7.down"]})
+        if heard is not None:
+            files.update({heard: down, heard.with_suffix(".txt"): places_in(ran.text)})
     return files
 
 

@@ -174,7 +174,7 @@ class Follow(unittest.TestCase):
 
     def test_recorded(self) -> None:
         follow = CHECKS / "follow"
-        for up, name, wanted in ((CODEC / "follow-4.down", "mixed-2-4", 4), (follow / "harsh-1-0.up", "harsh-1-0", 0)):
+        for up, name, wanted in ((CODEC / "follow-4.down", "mixed-2-4", 4), (CHECKS / "farms/harsh/1.down", "harsh-1-0", 0)):
             status, text, written = run("follow 7 %d" % wanted, {(7, Side.UP): up.read_bytes()})
             self.assertEqual((status, text), (0, (follow / (name + ".txt")).read_text()))
         self.assertEqual(written[7, Side.DOWN], (follow / "harsh-1-0.down").read_bytes())
