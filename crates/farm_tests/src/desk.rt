@@ -3,7 +3,7 @@
 ghost use Rattle.std.specs.Prelude.{None};
 ghost use Rattle.trau_io.specs.Desks.{DeskState};
 
-use crate::lines::NONE;
+use crate::lines::{NONE, copied};
 use std::alloc::Global;
 use std::process::Abort;
 use trau_io::{Desk, Failed};
@@ -38,7 +38,7 @@ impl FailingDesk {
         write_fails: u32,
     ) -> FailingDesk {
         FailingDesk {
-            orders: orders.as_bytes().to_vec(alloc).expect(rt, "memory"),
+            orders: copied(rt, alloc, orders.as_bytes()),
             place: 0,
             text: Vec::new(alloc),
             reads: 0,

@@ -2,6 +2,7 @@
 
 use crate::desk::{FailingDesk, WRITTEN};
 use crate::lines::NONE;
+use crate::rows::assert_parts;
 use crate::two_calls::{ORDERS, Outcome, calm, carry, carry_calm, is_written};
 use std::alloc::Global;
 use std::process::Abort;
@@ -42,14 +43,14 @@ fn is_untold<R: Abort + Threads + Wait + Sync>(
 }
 
 // How many of the first ten reads and writes of the desk fail as they should, in turn.
-fn desk_fails<R: Abort + Threads + Wait + Sync>(rt: &R, alloc: Global) -> u32 {
+fn desk_fails<R: Abort + Threads + Wait + Sync>(rt: &R, alloc: Global) -> usize {
     let unused = calm(rt, alloc);
     let whole = carry_calm(rt, alloc, calm(rt, alloc));
-    for number in 0..10 {
+    for number in 0..10u32 {
         let read = is_unread(rt, alloc, number, &unused);
         let write = is_untold(rt, alloc, number, &whole);
         if !read || !write {
-            return number;
+            return number as usize;
         }
     }
     10
@@ -57,6 +58,5 @@ fn desk_fails<R: Abort + Threads + Wait + Sync>(rt: &R, alloc: Global) -> u32 {
 
 #[test]
 fn the_desk_fails_at_each_call(rt: HostRuntime) {
-    let number = desk_fails(&rt, rt.alloc());
-    assert!(rt; number == 10, "call {number}");
+    assert_parts(&rt, 1, desk_fails(&rt, rt.alloc()), 10);
 }

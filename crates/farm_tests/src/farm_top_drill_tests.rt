@@ -4,6 +4,7 @@ use crate::desk::{FailingDesk, WRITTEN};
 use crate::endless::Endless;
 use crate::farm_top_tests::{carry, status_of};
 use crate::lines::{Laid, NONE, line, put, trunk_of};
+use crate::rows::assert_row;
 use crate::two_calls::carry_out;
 use farm_drill::hostile;
 use pool_run::OpenGate;
@@ -141,8 +142,10 @@ fn tells<R: Abort + Threads + Wait + Sync>(
 
 #[test]
 fn drills_are_those_of_another_program(rt: HostRuntime) {
+    let mut row = 0usize;
     for (words, text) in &DRILLS {
-        assert!(rt; tells(&rt, rt.alloc(), words, text), "{text}");
+        assert_row(&rt, row, tells(&rt, rt.alloc(), words, text));
+        row = row.saturating_add(1);
     }
 }
 
@@ -161,7 +164,7 @@ fn is_told_in_part<R: Abort + Threads + Wait + Sync>(rt: &R, alloc: Global) -> b
 
 #[test]
 fn the_desk_fails_while_a_drill_is_told(rt: HostRuntime) {
-    assert!(rt; is_told_in_part(&rt, rt.alloc()));
+    assert_row(&rt, 1, is_told_in_part(&rt, rt.alloc()));
 }
 
 static LIMIT: &str = "order 1 ok
@@ -181,7 +184,7 @@ fn comes_to_the_limit<R: Abort + Threads + Wait + Sync>(rt: &R, alloc: Global) -
 
 #[test]
 fn lines_that_never_end_come_to_the_limit(rt: HostRuntime) {
-    assert!(rt; comes_to_the_limit(&rt, rt.alloc()));
+    assert_row(&rt, 1, comes_to_the_limit(&rt, rt.alloc()));
 }
 
 // A hostile uplink by its kind and periods, the text of a run over it, and the sums of Down and Out.
@@ -316,7 +319,7 @@ fn comes_of<R: Abort + Threads + Wait + Sync>(rt: &R, alloc: Global, row: &Hosti
 #[test]
 fn hostile_uplinks_as_another_program(rt: HostRuntime) {
     for row in &HOSTILE {
-        assert!(rt; comes_of(&rt, rt.alloc(), row), "kind {}", row.kind);
+        assert_row(&rt, usize::from(row.kind), comes_of(&rt, rt.alloc(), row));
     }
 }
 
@@ -341,5 +344,5 @@ fn lists_cut_frames<R: Abort + Threads + Wait + Sync>(rt: &R, alloc: Global) -> 
 
 #[test]
 fn cut_frames_are_found_again(rt: HostRuntime) {
-    assert!(rt; lists_cut_frames(&rt, rt.alloc()));
+    assert_row(&rt, 1, lists_cut_frames(&rt, rt.alloc()));
 }

@@ -1,7 +1,8 @@
 //! The base station's end of a downlink in memory: whole, in chunks, and with a line or the desk that fails.
 
 use crate::farm_top_tests::{Outcome, carry};
-use crate::lines::{NONE, UPLINK_FRAME, line, put};
+use crate::lines::{NONE, UPLINK_FRAME, line, put, trunk_of};
+use crate::rows::assert_row;
 use pool_run::OpenGate;
 use std::alloc::Global;
 use std::process::Abort;
@@ -57,7 +58,7 @@ fn follow<R: Abort + Threads + Wait + Sync>(
     faults: (u32, u32, u32),
 ) -> (Outcome, MemTrunk) {
     let (read, write, told) = faults;
-    let mut trunk = MemTrunk::new(alloc).expect(rt, "memory");
+    let mut trunk = trunk_of(rt, alloc, &[]);
     let octets = downlink(rt, alloc);
     put(rt, alloc, &mut trunk, line(7, Up), octets, cut, read);
     let none = Vec::new(alloc);
@@ -152,12 +153,9 @@ fn comes_of<R: Abort + Threads + Wait + Sync>(rt: &R, alloc: Global, row: &Row) 
 
 #[test]
 fn a_downlink_is_followed(rt: HostRuntime) {
+    let mut number = 0usize;
     for row in &ROWS {
-        assert!(rt;
-            comes_of(&rt, rt.alloc(), row),
-            "sent {}: {}",
-            row.sent,
-            row.text
-        );
+        assert_row(&rt, number, comes_of(&rt, rt.alloc(), row));
+        number = number.saturating_add(1);
     }
 }

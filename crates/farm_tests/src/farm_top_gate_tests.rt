@@ -1,9 +1,10 @@
 //! The workers of a run are several threads, and steal calls half done. No clause says so.
 
 use crate::farm_top_tests::carry;
-use crate::held::{Held, PAIRS};
+use crate::held::Held;
 use crate::lines::{Laid, NONE, trunk_of};
 use crate::paired::Paired;
+use crate::rows::assert_row;
 use std::alloc::Global;
 use std::process::Abort;
 use std::sync::Wait;
@@ -124,12 +125,9 @@ fn each_wait_is_answered<R: Abort + Threads + Wait + Sync>(
 // other call. So the other worker has to take it half done, and both have to be at work at once.
 #[test]
 fn calls_are_stolen_half_done(rt: HostRuntime) {
-    for (one, other) in &PAIRS {
-        assert!(rt;
-            each_wait_is_answered(&rt, rt.alloc(), *one, *other),
-            "calls {one} and {other}"
-        );
-    }
+    assert_row(&rt, 13, each_wait_is_answered(&rt, rt.alloc(), 1, 3));
+    assert_row(&rt, 12, each_wait_is_answered(&rt, rt.alloc(), 1, 2));
+    assert_row(&rt, 23, each_wait_is_answered(&rt, rt.alloc(), 2, 3));
 }
 
 // The lines of call 1, with three periods, and of call 2, with five.
@@ -203,6 +201,6 @@ fn run_paired<R: Abort + Threads + Wait + Sync>(rt: &R, alloc: Global, gate: &Pa
 #[test]
 fn each_call_passes_twice_a_period(rt: HostRuntime) {
     let gate = Paired::new();
-    assert!(rt; run_paired(&rt, rt.alloc(), &gate) == 0);
-    assert!(rt; gate.passed([6, 10, 0]));
+    assert_row(&rt, 1, run_paired(&rt, rt.alloc(), &gate) == 0);
+    assert_row(&rt, 2, gate.passed([6, 10, 0]));
 }

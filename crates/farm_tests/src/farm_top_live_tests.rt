@@ -7,6 +7,7 @@ use crate::farm_top_tests::carry;
 use crate::lines::{Laid, NONE, line, trunk_of};
 use crate::met::Met;
 use crate::paired::Paired;
+use crate::rows::assert_row;
 use crate::two_calls::carry_out;
 use pool_run::OpenGate;
 use std::alloc::Global;
@@ -64,30 +65,32 @@ fn are_unused(trunk: &MemTrunk) -> bool {
     true
 }
 
-// A drill of one period by these callers: whether it prints its text, uses no line and passes the gate once for each call; and
-// how many waits of the gate ended without their condition.
+// A drill of one period by these callers: whether it prints its text, uses no line and passes the gate once for each call, and
+// this many waits of the gate end without their condition.
 fn live_met<R: Abort + Threads + Wait + Sync>(
     rt: &R,
     alloc: Global,
     callers: &'static str,
     turns: u32,
-) -> (bool, u32) {
+    used_up: u32,
+) -> bool {
     let gate = Met::new(turns);
     let mut trunk = trunk_of(rt, alloc, &FAILING);
     let words = ["live", "--calls=2", callers, "--periods=1"];
     let outcome = carry(rt, alloc, &words, &mut trunk, "no orders", NONE, &gate);
-    (
-        outcome.is(0, ONE_PERIOD) && are_unused(&trunk) && gate.passed(1),
-        gate.used_up(),
-    )
+    outcome.is(0, ONE_PERIOD) && are_unused(&trunk) && gate.passed(1) && gate.used_up() == used_up
 }
 
 // Neither of two callers can post its period before the other has come to post its own. With a single caller, the first wait
 // ends without its condition, and the rest is done all the same.
 #[test]
 fn both_callers_are_at_work_at_once(rt: HostRuntime) {
-    assert!(rt; live_met(&rt, rt.alloc(), "--callers=2", 5_000_000) == (true, 0));
-    assert!(rt; live_met(&rt, rt.alloc(), "--callers=1", 1000) == (true, 1));
+    assert_row(
+        &rt,
+        2,
+        live_met(&rt, rt.alloc(), "--callers=2", 5_000_000, 0),
+    );
+    assert_row(&rt, 1, live_met(&rt, rt.alloc(), "--callers=1", 1000, 1));
 }
 
 // Two live drills of two periods by two callers, one of them with this gate: whether they print the same.
@@ -103,30 +106,29 @@ fn live_between<R: Abort + Threads + Wait + Sync>(rt: &R, alloc: Global, gate: &
 #[test]
 fn callers_meet_between_two_posts(rt: HostRuntime) {
     let gate = Between::new(5_000_000);
-    assert!(rt; live_between(&rt, rt.alloc(), &gate));
-    assert!(rt; gate.used_up() == 0);
+    assert_row(&rt, 1, live_between(&rt, rt.alloc(), &gate));
+    assert_row(&rt, 2, gate.used_up() == 0);
 }
 
-// A live drill of twenty periods by these callers, with inboxes for one post. Returns the status.
+// A live drill of twenty periods by these callers, with inboxes for one post: whether its status is 0, and each period passes the
+// gate once.
 fn live_paired<R: Abort + Threads + Wait + Sync>(
     rt: &R,
     alloc: Global,
     callers: &'static str,
-    gate: &Paired,
-) -> u8 {
+) -> bool {
+    let gate = Paired::new();
     let mut trunk = trunk_of(rt, alloc, &FAILING);
     let words = ["live", "--calls=2", callers, "--periods=20", "--inbox=1"];
-    carry(rt, alloc, &words, &mut trunk, "", NONE, gate).status
+    let status = carry(rt, alloc, &words, &mut trunk, "", NONE, &gate).status;
+    status == 0 && gate.passed([20, 20, 0])
 }
 
 // Each period passes the gate once, even if its post is tried again.
 #[test]
 fn each_period_passes_the_gate_once(rt: HostRuntime) {
-    for callers in ["--callers=2", "--callers=1"] {
-        let gate = Paired::new();
-        assert!(rt; live_paired(&rt, rt.alloc(), callers, &gate) == 0);
-        assert!(rt; gate.passed([20, 20, 0]));
-    }
+    assert_row(&rt, 2, live_paired(&rt, rt.alloc(), "--callers=2"));
+    assert_row(&rt, 1, live_paired(&rt, rt.alloc(), "--callers=1"));
 }
 
 // Whether a live drill whose desk fails at its second write ends with status 4 and the text of its first write.
@@ -146,5 +148,5 @@ fn is_told_in_part<R: Abort + Threads + Wait + Sync>(rt: &R, alloc: Global) -> b
 
 #[test]
 fn the_desk_fails_while_live_is_told(rt: HostRuntime) {
-    assert!(rt; is_told_in_part(&rt, rt.alloc()));
+    assert_row(&rt, 1, is_told_in_part(&rt, rt.alloc()));
 }

@@ -3,6 +3,7 @@
 use crate::farm_top_tests::carry;
 use crate::lines::{Laid, NONE, trunk_of};
 use crate::met::Met;
+use crate::rows::assert_row;
 use std::alloc::Global;
 use std::process::Abort;
 use std::sync::Wait;
@@ -71,19 +72,20 @@ static LINES: [Laid; 8] = [
 
 const ORDERS: &str = "0 open 1\n0 open 2\n0 bridge 1 2\n";
 
-// Runs both calls, bridged from the first period on, in slices of one period. Returns the status, how many waits of the gate
-// ended without their condition, and whether each call passed the gate for three slices of each phase.
+// Runs both calls, bridged from the first period on, in slices of one period: whether the status is 0, this many waits of the gate
+// end without their condition, and each call passes the gate for three slices of each phase.
 fn run_met<R: Abort + Threads + Wait + Sync>(
     rt: &R,
     alloc: Global,
     workers: &'static str,
     turns: u32,
-) -> (u8, u32, bool) {
+    used_up: u32,
+) -> bool {
     let gate = Met::new(turns);
     let mut trunk = trunk_of(rt, alloc, &LINES);
     let words = ["run", "--workers", workers, "--slice", "1"];
     let outcome = carry(rt, alloc, &words, &mut trunk, ORDERS, NONE, &gate);
-    (outcome.status, gate.used_up(), gate.passed(6))
+    outcome.status == 0 && gate.used_up() == used_up && gate.passed(6)
 }
 
 // Each call starts in a deque of its own, and neither of two workers can go on with the first slice of a phase before the other
@@ -91,6 +93,6 @@ fn run_met<R: Abort + Threads + Wait + Sync>(
 // the same.
 #[test]
 fn both_calls_of_a_bridge_are_at_work_at_once(rt: HostRuntime) {
-    assert!(rt; run_met(&rt, rt.alloc(), "2", 5_000_000) == (0, 0, true));
-    assert!(rt; run_met(&rt, rt.alloc(), "1", 1000) == (0, 2, true));
+    assert_row(&rt, 2, run_met(&rt, rt.alloc(), "2", 5_000_000, 0));
+    assert_row(&rt, 1, run_met(&rt, rt.alloc(), "1", 1000, 2));
 }

@@ -1,14 +1,15 @@
 //! The command `run` with a line that is short or fails, or a desk that fails. The values were calculated by hand from the rules.
 
-use crate::farm_top_tests::{Outcome, carry, carry_at};
-use crate::lines::{Laid, NONE, UPLINK_FRAME, line, put, quiet_lines, trunk_of};
+use crate::farm_top_tests::{Outcome, carry, carry_at, desk_of};
+use crate::lines::{Laid, NONE, UPLINK_FRAME, filled, lay, line, put, quiet_lines, trunk_of};
+use crate::rows::assert_row;
 use pool_run::OpenGate;
 use std::alloc::Global;
 use std::process::Abort;
 use std::sync::Wait;
 use std::thread::Threads;
 use trau_io::Side::{Down, Out, Pcm, Up};
-use trau_io::{Line, MemDesk, MemTrunk};
+use trau_io::{Line, MemTrunk};
 
 // A large chunk size.
 const ALL: u32 = 10_000;
@@ -105,13 +106,6 @@ end period 3 calls 1 left 0
     },
 ];
 
-// The desk of a row.
-fn desk_of(rt: &impl Abort, alloc: Global, row: &Row) -> MemDesk {
-    let orders = b"0 open 1\n".to_vec(alloc).expect(rt, "memory");
-    let fails = vec![in alloc; row.desk_fails; 1].expect(rt, "memory");
-    MemDesk::new(alloc, orders, fails, Vec::new(alloc), row.room).expect(rt, "memory")
-}
-
 // An octet of Down: one period of ones, followed by idle frames.
 fn down_at(place: usize) -> u8 {
     match place % 40 {
@@ -123,122 +117,156 @@ fn down_at(place: usize) -> u8 {
     }
 }
 
+// Whether these are the octets of Down.
+fn are_downs(octets: &[u8]) -> bool {
+    for (place, octet) in octets.iter().enumerate() {
+        if *octet != down_at(place) {
+            return false;
+        }
+    }
+    true
+}
+
+// Whether these are all octets of silence.
+fn are_silent(octets: &[u8]) -> bool {
+    for octet in octets {
+        if *octet != 0xD5 {
+            return false;
+        }
+    }
+    true
+}
+
 // Whether Down and Out got what their row says.
 fn is_written(trunk: &MemTrunk, row: &Row) -> bool {
     let down = trunk.written(line(1, Down));
     let out = trunk.written(line(1, Out));
-    let mut downs = down.iter().enumerate();
-    down.len() == row.down
-        && out.len() == row.out
-        && downs.all(|(place, octet)| *octet == down_at(place))
-        && out.iter().all(|octet| *octet == 0xD5)
+    down.len() == row.down && out.len() == row.out && are_downs(down) && are_silent(out)
 }
 
 // Whether a run gives what its row says.
 fn comes_of<R: Abort + Threads + Wait + Sync>(rt: &R, alloc: Global, row: &Row) -> bool {
     let fails = [NONE, NONE, NONE, row.out_fails];
     let mut trunk = quiet_lines(rt, alloc, row.up, row.pcm, fails);
-    let mut desk = desk_of(rt, alloc, row);
+    let mut desk = desk_of(rt, alloc, "0 open 1\n", row.desk_fails, NONE, row.room);
     let outcome = carry_at(rt, alloc, &["run"], &mut trunk, &mut desk, &OpenGate);
     outcome.is(row.status, row.text) && is_written(&trunk, row)
 }
 
 #[test]
 fn one_call_at_its_limits(rt: HostRuntime) {
+    let mut number = 0usize;
     for row in &ROWS {
-        assert!(rt; comes_of(&rt, rt.alloc(), row), "{}", row.text);
+        assert_row(&rt, number, comes_of(&rt, rt.alloc(), row));
+        number = number.saturating_add(1);
     }
 }
 
-// Three calls of 20 periods. The second read of Pcm of call 7 fails, after 400 octets, and the first write of Down of call 9.
-fn of_three(pcm_fails: u32, down_fails: u32) -> [Laid; 12] {
-    [
-        Laid {
-            call: 7,
-            side: Up,
-            octets: 20 * 40,
-            piece: ALL,
-            fails: NONE,
-        },
-        Laid {
-            call: 7,
-            side: Pcm,
-            octets: 20 * 160,
-            piece: 400,
-            fails: pcm_fails,
-        },
-        Laid {
-            call: 7,
-            side: Down,
-            octets: 0,
-            piece: ALL,
-            fails: NONE,
-        },
-        Laid {
-            call: 7,
-            side: Out,
-            octets: 0,
-            piece: ALL,
-            fails: NONE,
-        },
-        Laid {
-            call: 8,
-            side: Up,
-            octets: 20 * 40,
-            piece: ALL,
-            fails: NONE,
-        },
-        Laid {
-            call: 8,
-            side: Pcm,
-            octets: 20 * 160,
-            piece: ALL,
-            fails: NONE,
-        },
-        Laid {
-            call: 8,
-            side: Down,
-            octets: 0,
-            piece: ALL,
-            fails: NONE,
-        },
-        Laid {
-            call: 8,
-            side: Out,
-            octets: 0,
-            piece: ALL,
-            fails: NONE,
-        },
-        Laid {
-            call: 9,
-            side: Up,
-            octets: 20 * 40,
-            piece: ALL,
-            fails: NONE,
-        },
-        Laid {
-            call: 9,
-            side: Pcm,
-            octets: 20 * 160,
-            piece: ALL,
-            fails: NONE,
-        },
-        Laid {
-            call: 9,
-            side: Down,
-            octets: 0,
-            piece: ALL,
-            fails: down_fails,
-        },
-        Laid {
-            call: 9,
-            side: Out,
-            octets: 0,
-            piece: ALL,
-            fails: NONE,
-        },
-    ]
-}
+// Three calls of 20 periods. The second read of Pcm of call 7 is after 400 octets.
+static OF_THREE: [Laid; 12] = [
+    Laid {
+        call: 7,
+        side: Up,
+        octets: 20 * 40,
+        piece: ALL,
+        fails: NONE,
+    },
+    Laid {
+        call: 7,
+        side: Pcm,
+        octets: 20 * 160,
+        piece: 400,
+        fails: NONE,
+    },
+    Laid {
+        call: 7,
+        side: Down,
+        octets: 0,
+        piece: ALL,
+        fails: NONE,
+    },
+    Laid {
+        call: 7,
+        side: Out,
+        octets: 0,
+        piece: ALL,
+        fails: NONE,
+    },
+    Laid {
+        call: 8,
+        side: Up,
+        octets: 20 * 40,
+        piece: ALL,
+        fails: NONE,
+    },
+    Laid {
+        call: 8,
+        side: Pcm,
+        octets: 20 * 160,
+        piece: ALL,
+        fails: NONE,
+    },
+    Laid {
+        call: 8,
+        side: Down,
+        octets: 0,
+        piece: ALL,
+        fails: NONE,
+    },
+    Laid {
+        call: 8,
+        side: Out,
+        octets: 0,
+        piece: ALL,
+        fails: NONE,
+    },
+    Laid {
+        call: 9,
+        side: Up,
+        octets: 20 * 40,
+        piece: ALL,
+        fails: NONE,
+    },
+    Laid {
+        call: 9,
+        side: Pcm,
+        octets: 20 * 160,
+        piece: ALL,
+        fails: NONE,
+    },
+    Laid {
+        call: 9,
+        side: Down,
+        octets: 0,
+        piece: ALL,
+        fails: NONE,
+    },
+    Laid {
+        call: 9,
+        side: Out,
+        octets: 0,
+        piece: ALL,
+        fails: NONE,
+    },
+];
+
+// Two of these lines: the second read of Pcm of call 7 fails, and the first write of Down of call 9.
+static FAILING: [Laid; 2] = [
+    Laid {
+        call: 7,
+        side: Pcm,
+        octets: 20 * 160,
+        piece: 400,
+        fails: 1,
+    },
+    Laid {
+        call: 9,
+        side: Down,
+        octets: 0,
+        piece: ALL,
+        fails: 0,
+    },
+];
 
 const TEXT_OF_THREE: &str = "order 1 ok
 order 2 ok
@@ -254,14 +282,16 @@ line 9 down failed
 end period 20 calls 3 left 0
 ";
 
-// Runs the three calls. Returns the outcome, and the lines afterwards.
+// Runs the three calls; these lines take the place of their own. Returns the outcome, and the lines afterwards.
 fn carry_three<R: Abort + Threads + Wait + Sync>(
     rt: &R,
     alloc: Global,
-    pcm_fails: u32,
-    down_fails: u32,
+    lines: &[Laid],
 ) -> (Outcome, MemTrunk) {
-    let mut trunk = trunk_of(rt, alloc, &of_three(pcm_fails, down_fails));
+    let mut trunk = trunk_of(rt, alloc, &OF_THREE);
+    for laid in lines {
+        lay(rt, alloc, &mut trunk, laid);
+    }
     let orders = "0 open 7\n0 open 8\n0 open 9\n";
     let outcome = carry(rt, alloc, &["run"], &mut trunk, orders, NONE, &OpenGate);
     (outcome, trunk)
@@ -275,8 +305,8 @@ fn is_same(one: &MemTrunk, other: &MemTrunk, line: Line, count: usize) -> bool {
 
 // Whether two failing lines leave call 8, and Out of call 9, as they are if nothing fails.
 fn two_fail<R: Abort + Threads + Wait + Sync>(rt: &R, alloc: Global) -> bool {
-    let (_outcome, calm) = carry_three(rt, alloc, NONE, NONE);
-    let (outcome, trunk) = carry_three(rt, alloc, 1, 0);
+    let (_outcome, calm) = carry_three(rt, alloc, &[]);
+    let (outcome, trunk) = carry_three(rt, alloc, &FAILING);
     outcome.is(6, TEXT_OF_THREE)
         && is_same(&trunk, &calm, line(8, Down), 800)
         && is_same(&trunk, &calm, line(8, Out), 3200)
@@ -286,12 +316,12 @@ fn two_fail<R: Abort + Threads + Wait + Sync>(rt: &R, alloc: Global) -> bool {
 
 #[test]
 fn two_lines_of_three_calls_fail(rt: HostRuntime) {
-    assert!(rt; two_fail(&rt, rt.alloc()), "calls 7, 8 and 9");
+    assert_row(&rt, 1, two_fail(&rt, rt.alloc()));
 }
 
 // An uplink whose frames begin at bit 5: five bits 0, followed by good frames without a gap.
 fn shifted_frames(rt: &impl Abort, alloc: Global, octets: usize) -> Vec<u8> {
-    let mut shifted = vec![in alloc; 0; octets].expect(rt, "memory");
+    let mut shifted = filled(rt, alloc, 0, octets);
     let mut before = 0;
     for (place, octet) in shifted.iter_mut().enumerate() {
         let next = UPLINK_FRAME[place % 40];
@@ -308,38 +338,31 @@ counts 1 good 3 sid 0 invalid 0 bad 0 idle 0 other 0 miss 0 none 1 made 4
 end period 4 calls 1 left 0
 ";
 
+// The lines of call 1 with four periods of this uplink, in chunks of at most `cut` octets.
+fn shifted_lines(rt: &impl Abort, alloc: Global, cut: u32) -> MemTrunk {
+    let mut trunk = trunk_of(rt, alloc, &[]);
+    for (side, octets) in [(Pcm, 640), (Down, 0), (Out, 0)] {
+        let laid = Laid {
+            call: 1,
+            side,
+            octets,
+            piece: cut,
+            fails: NONE,
+        };
+        lay(rt, alloc, &mut trunk, &laid);
+    }
+    let up = shifted_frames(rt, alloc, 160);
+    put(rt, alloc, &mut trunk, line(1, Up), up, cut, NONE);
+    trunk
+}
+
 // Runs call 1 over four periods of this uplink, in chunks of at most `cut` octets. Returns the outcome, and the lines afterwards.
 fn carry_shifted<R: Abort + Threads + Wait + Sync>(
     rt: &R,
     alloc: Global,
     cut: u32,
 ) -> (Outcome, MemTrunk) {
-    let lines = [
-        Laid {
-            call: 1,
-            side: Pcm,
-            octets: 640,
-            piece: cut,
-            fails: NONE,
-        },
-        Laid {
-            call: 1,
-            side: Down,
-            octets: 0,
-            piece: cut,
-            fails: NONE,
-        },
-        Laid {
-            call: 1,
-            side: Out,
-            octets: 0,
-            piece: cut,
-            fails: NONE,
-        },
-    ];
-    let mut trunk = trunk_of(rt, alloc, &lines);
-    let up = shifted_frames(rt, alloc, 160);
-    put(rt, alloc, &mut trunk, line(1, Up), up, cut, NONE);
+    let mut trunk = shifted_lines(rt, alloc, cut);
     let outcome = carry(
         rt,
         alloc,
@@ -364,7 +387,7 @@ fn is_in_pieces<R: Abort + Threads + Wait + Sync>(rt: &R, alloc: Global, cut: u3
 
 #[test]
 fn shifted_frames_in_pieces(rt: HostRuntime) {
-    for cut in [1, 39, 41] {
-        assert!(rt; is_in_pieces(&rt, rt.alloc(), cut), "pieces of {cut}");
+    for cut in [1u32, 39, 41] {
+        assert_row(&rt, cut as usize, is_in_pieces(&rt, rt.alloc(), cut));
     }
 }

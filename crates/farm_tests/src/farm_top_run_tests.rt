@@ -2,6 +2,7 @@
 
 use crate::farm_top_tests::{Outcome, carry};
 use crate::lines::{Laid, NONE, line, trunk_of};
+use crate::rows::assert_row;
 use pool_run::OpenGate;
 use std::alloc::Global;
 use std::process::Abort;
@@ -474,12 +475,9 @@ fn comes_of<R: Abort + Threads + Wait + Sync>(rt: &R, alloc: Global, row: &Row) 
 
 #[test]
 fn runs_and_what_comes_of_them(rt: HostRuntime) {
+    let mut number = 0usize;
     for row in &ROWS {
-        assert!(rt;
-            comes_of(&rt, rt.alloc(), row),
-            "{} {}",
-            row.value,
-            row.text
-        );
+        assert_row(&rt, number, comes_of(&rt, rt.alloc(), row));
+        number = number.saturating_add(1);
     }
 }

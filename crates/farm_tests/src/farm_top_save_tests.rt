@@ -3,6 +3,7 @@
 
 use crate::farm_top_tests::carry;
 use crate::lines::{NONE, line, quiet_lines};
+use crate::rows::assert_parts;
 use pool_run::OpenGate;
 use std::alloc::Global;
 use std::process::Abort;
@@ -318,10 +319,10 @@ fn come<R: Abort + Threads + Wait + Sync>(rt: &R, alloc: Global, rows: &[Row]) -
 
 #[test]
 fn marks(rt: HostRuntime) {
-    assert!(rt; come(&rt, rt.alloc(), &SAVES) == 6);
+    assert_parts(&rt, 1, come(&rt, rt.alloc(), &SAVES), 6);
 }
 
 #[test]
 fn runs_from_a_mark_on(rt: HostRuntime) {
-    assert!(rt; come(&rt, rt.alloc(), &RESUMES) == 15);
+    assert_parts(&rt, 1, come(&rt, rt.alloc(), &RESUMES), 15);
 }

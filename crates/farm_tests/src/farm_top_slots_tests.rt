@@ -1,6 +1,7 @@
 //! The commands on time slots, with lines in memory: whole, in chunks, and with a line or the desk that fails.
 use crate::farm_top_tests::carry;
-use crate::lines::{NONE, line, put};
+use crate::lines::{NONE, copied, line, put, trunk_of};
+use crate::rows::assert_parts;
 use pool_run::OpenGate;
 use std::alloc::Global;
 use std::process::Abort;
@@ -122,9 +123,9 @@ static ROWS: [Row; 7] = [
 
 // These lines, in chunks of this size.
 fn lines_of(rt: &impl Abort, alloc: Global, row: &Row, cut: u32) -> MemTrunk {
-    let mut trunk = MemTrunk::new(alloc).expect(rt, "memory");
+    let mut trunk = trunk_of(rt, alloc, &[]);
     for (call, side, octets, fails) in row.lines {
-        let octets = octets.to_vec(alloc).expect(rt, "memory");
+        let octets = copied(rt, alloc, octets);
         put(
             rt,
             alloc,
@@ -156,15 +157,21 @@ fn comes_of<R: Abort + Threads + Wait + Sync>(rt: &R, alloc: Global, row: &Row, 
     outcome.is(row.status, row.text) && is_written(&trunk, row)
 }
 
+// How many rows are right in pieces of this size, from the first on.
+fn come<R: Abort + Threads + Wait + Sync>(rt: &R, alloc: Global, cut: u32) -> usize {
+    let mut come = 0usize;
+    for row in &ROWS {
+        if !comes_of(rt, alloc, row, cut) {
+            return come;
+        }
+        come = come.saturating_add(1);
+    }
+    come
+}
+
 #[test]
 fn slots_are_split_and_merged(rt: HostRuntime) {
-    for cut in [1, 3, 1000] {
-        for row in &ROWS {
-            assert!(rt;
-                comes_of(&rt, rt.alloc(), row, cut),
-                "pieces of {cut}: {}",
-                row.text
-            );
-        }
-    }
+    assert_parts(&rt, 1, come(&rt, rt.alloc(), 1), 7);
+    assert_parts(&rt, 3, come(&rt, rt.alloc(), 3), 7);
+    assert_parts(&rt, 1000, come(&rt, rt.alloc(), 1000), 7);
 }

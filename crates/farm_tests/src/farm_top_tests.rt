@@ -1,6 +1,7 @@
 //! The commands on one call, with its lines in memory. One operation fails.
 
-use crate::lines::{Laid, NONE, line, trunk_of};
+use crate::lines::{Laid, NONE, copied, lay, line, numbers, trunk_of};
+use crate::rows::{assert_parts, assert_row};
 use farm_top::farm_top;
 use pool_run::{Gate, OpenGate};
 use std::alloc::Global;
@@ -32,11 +33,19 @@ pub(crate) fn status_of<R: Abort + Threads + Wait + Sync, T: Trunk, D: Desk, G: 
     farm_top(rt, alloc, &words, trunk, desk, gate)
 }
 
-// A desk with these orders, and room enough. This one of its writes fails.
-fn desk_of(rt: &impl Abort, alloc: Global, orders: &str, fails: u32) -> MemDesk {
-    let orders = orders.as_bytes().to_vec(alloc).expect(rt, "memory");
-    let fails = vec![in alloc; fails; 1].expect(rt, "memory");
-    MemDesk::new(alloc, orders, Vec::new(alloc), fails, 10_000).expect(rt, "memory")
+// A desk with these orders, and room for this number of octets. This one of its reads and this one of its writes fail.
+pub(crate) fn desk_of(
+    rt: &impl Abort,
+    alloc: Global,
+    orders: &str,
+    read_fails: u32,
+    write_fails: u32,
+    room: u32,
+) -> MemDesk {
+    let orders = copied(rt, alloc, orders.as_bytes());
+    let reads = numbers(rt, alloc, read_fails, 1);
+    let writes = numbers(rt, alloc, write_fails, 1);
+    MemDesk::new(alloc, orders, reads, writes, room).expect(rt, "memory")
 }
 
 // The status and the text of a command.
@@ -70,7 +79,7 @@ pub(crate) fn carry<R: Abort + Threads + Wait + Sync, G: Gate + Sync>(
     fails: u32,
     gate: &G,
 ) -> Outcome {
-    let mut desk = desk_of(rt, alloc, orders, fails);
+    let mut desk = desk_of(rt, alloc, orders, NONE, fails, 10_000);
     carry_at(rt, alloc, texts, trunk, &mut desk, gate)
 }
 
@@ -84,7 +93,7 @@ pub(crate) fn carry_at<R: Abort + Threads + Wait + Sync, G: Gate + Sync>(
     gate: &G,
 ) -> Outcome {
     let status = status_of(rt, alloc, texts, trunk, desk, gate);
-    let text = desk.text().to_vec(alloc).expect(rt, "memory");
+    let text = copied(rt, alloc, desk.text());
     Outcome { status, text }
 }
 
@@ -94,37 +103,23 @@ type Faults = (u32, u32, u32);
 // The lines of call 7, in chunks: two good frames on Up, two periods and ten octets on Pcm. One operation fails on each incoming
 // line, and one on each outgoing line.
 fn lines(rt: &impl Abort, alloc: Global, cut: u32, incoming: u32, outgoing: u32) -> MemTrunk {
-    let lines = [
-        Laid {
+    let mut trunk = trunk_of(rt, alloc, &[]);
+    for (side, octets, fails) in [
+        (Up, 80, incoming),
+        (Pcm, 330, incoming),
+        (Down, 0, outgoing),
+        (Out, 0, outgoing),
+    ] {
+        let laid = Laid {
             call: 7,
-            side: Up,
-            octets: 80,
+            side,
+            octets,
             piece: cut,
-            fails: incoming,
-        },
-        Laid {
-            call: 7,
-            side: Pcm,
-            octets: 330,
-            piece: cut,
-            fails: incoming,
-        },
-        Laid {
-            call: 7,
-            side: Down,
-            octets: 0,
-            piece: cut,
-            fails: outgoing,
-        },
-        Laid {
-            call: 7,
-            side: Out,
-            octets: 0,
-            piece: cut,
-            fails: outgoing,
-        },
-    ];
-    trunk_of(rt, alloc, &lines)
+            fails,
+        };
+        lay(rt, alloc, &mut trunk, &laid);
+    }
+    trunk
 }
 
 // Runs a command on call 7. Returns the outcome, and the lines afterwards.
@@ -261,28 +256,25 @@ fn failed_as_due<R: Abort + Threads + Wait + Sync>(
     alloc: Global,
     row: &Row,
     turn: &Turn,
-) -> u32 {
+) -> usize {
     let (_outcome, calm) = carry_tool(rt, alloc, row.tool, turn.0, (NONE, NONE, NONE));
     let all = calm.written(line(7, row.outgoing));
     for number in 0..turn.1 {
         if !fails_as_due(rt, alloc, row, turn, number, all) {
-            return number;
+            return number as usize;
         }
     }
-    turn.1
+    turn.1 as usize
 }
 
 #[test]
 fn each_operation_fails_in_turn(rt: HostRuntime) {
+    let mut number = 0usize;
     for row in &ROWS {
         for turn in row.turns {
             let failed = failed_as_due(&rt, rt.alloc(), row, turn);
-            assert!(rt;
-                failed == turn.1,
-                "{} in pieces of {}, call {failed}",
-                row.tool,
-                turn.0
-            );
+            assert_parts(&rt, number, failed, turn.1 as usize);
+            number = number.saturating_add(1);
         }
     }
 }
@@ -312,13 +304,9 @@ fn is_listed<R: Abort + Threads + Wait + Sync>(rt: &R, alloc: Global, list: &Lis
 
 #[test]
 fn a_list_ends_where_a_call_fails(rt: HostRuntime) {
+    let mut number = 0usize;
     for list in &LISTS {
-        assert!(rt;
-            is_listed(&rt, rt.alloc(), list),
-            "pieces of {}, read {} or write {} fails",
-            list.0,
-            list.1,
-            list.2
-        );
+        assert_row(&rt, number, is_listed(&rt, rt.alloc(), list));
+        number = number.saturating_add(1);
     }
 }

@@ -8,9 +8,6 @@ use std::thread;
 // How often a wait checks its condition.
 const TURNS: u32 = 5_000_000;
 
-// The pairs of calls that are held against each other.
-pub(crate) static PAIRS: [(u32, u32); 3] = [(1, 3), (1, 2), (2, 3)];
-
 // Holds back the second slice of each of the calls 1, 2 and 3 until the first slices of all were run. Of a pair of calls, the one
 // that comes first to its second slice is held until the third slice of the other was run.
 #[derive(Drop)]

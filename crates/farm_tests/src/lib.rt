@@ -46,6 +46,8 @@ mod paired;
 #[cfg(test)]
 mod pool_run_tests;
 #[cfg(test)]
+mod rows;
+#[cfg(test)]
 mod two_calls;
 #[cfg(test)]
 mod watched;

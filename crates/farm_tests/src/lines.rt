@@ -31,9 +31,24 @@ pub(crate) static UPLINK_FRAME: [u8; 40] = [
     0x80, 0x02, 0xA4, 0x92, 0xA4, 0x92, 0xA6, 0xFF,
 ];
 
+// `count` times the same octet.
+pub(crate) fn filled(rt: &impl Abort, alloc: Global, octet: u8, count: usize) -> Vec<u8> {
+    vec![in alloc; octet; count].expect(rt, "memory")
+}
+
+// These octets.
+pub(crate) fn copied(rt: &impl Abort, alloc: Global, octets: &[u8]) -> Vec<u8> {
+    octets.to_vec(alloc).expect(rt, "memory")
+}
+
+// `count` times the same number.
+pub(crate) fn numbers(rt: &impl Abort, alloc: Global, number: u32, count: usize) -> Vec<u32> {
+    vec![in alloc; number; count].expect(rt, "memory")
+}
+
 // `count` octets: of good uplink frames for an Up line, of silence for any other.
 fn octets(rt: &impl Abort, alloc: Global, side: Side, count: usize) -> Vec<u8> {
-    let mut octets = vec![in alloc; 0xD5; count].expect(rt, "memory");
+    let mut octets = filled(rt, alloc, 0xD5, count);
     if side == Side::Up {
         for (place, octet) in octets.iter_mut().enumerate() {
             *octet = UPLINK_FRAME[place % 40];
@@ -72,14 +87,14 @@ pub(crate) fn put(
     cut: u32,
     fails: u32,
 ) {
-    let cuts = vec![in alloc; cut; 500].expect(rt, "memory");
-    let fails = vec![in alloc; fails; 1].expect(rt, "memory");
+    let cuts = numbers(rt, alloc, cut, 500);
+    let fails = numbers(rt, alloc, fails, 1);
     let set = trunk.set(alloc, line, octets, cuts, fails, 50_000);
     set.expect(rt, "memory");
 }
 
 // Sets a line.
-fn lay(rt: &impl Abort, alloc: Global, trunk: &mut MemTrunk, laid: &Laid) {
+pub(crate) fn lay(rt: &impl Abort, alloc: Global, trunk: &mut MemTrunk, laid: &Laid) {
     let octets = octets(rt, alloc, laid.side, laid.octets);
     let line = line(laid.call, laid.side);
     put(rt, alloc, trunk, line, octets, laid.piece, laid.fails);
@@ -103,7 +118,7 @@ pub(crate) fn quiet_lines(
     pcm: usize,
     fails: [u32; 4],
 ) -> MemTrunk {
-    let mut trunk = MemTrunk::new(alloc).expect(rt, "memory");
+    let mut trunk = trunk_of(rt, alloc, &[]);
     let [on_up, on_pcm, on_down, on_out] = fails;
     for (side, octet, count, fails) in [
         (Side::Up, 0, up, on_up),
@@ -111,7 +126,7 @@ pub(crate) fn quiet_lines(
         (Side::Down, 0, 0, on_down),
         (Side::Out, 0, 0, on_out),
     ] {
-        let octets = vec![in alloc; octet; count].expect(rt, "memory");
+        let octets = filled(rt, alloc, octet, count);
         put(rt, alloc, &mut trunk, line(1, side), octets, 10_000, fails);
     }
     trunk

@@ -2,7 +2,8 @@
 
 ghost use Rattle.std.specs.Prelude.{◌≡◌, ◌≤◌, length, vec_len};
 
-use crate::held::{Held, PAIRS};
+use crate::held::Held;
+use crate::rows::{assert_parts, assert_row};
 use crate::watched::{Told, Watched};
 use pool_run::{Gate, OpenGate, PoolRoom, Work, run_pool};
 use std::alloc::Global;
@@ -140,17 +141,31 @@ fn finish<R: Abort + Threads + Wait + Sync>(
     are_finished(&answer, written)
 }
 
-// Fewer workers than jobs, and more.
+// How many rows this number of workers finishes so, in slices of this number of places, before the first that it doesn't.
+fn finished<R: Abort + Threads + Wait + Sync>(
+    rt: &R,
+    alloc: Global,
+    workers: u32,
+    slice: u32,
+) -> usize {
+    let mut finished = 0usize;
+    for row in &ROWS {
+        if !finish(rt, alloc, row, workers, slice) {
+            return finished;
+        }
+        finished = finished.saturating_add(1);
+    }
+    finished
+}
+
+// Fewer workers than jobs, and more. The number of an assertion has the workers and the slice.
 #[test]
 fn each_job_is_finished_in_its_place(rt: HostRuntime) {
-    for row in &ROWS {
-        for (workers, slice) in [(1, 2), (2, 1), (2, 9), (5, 1), (64, 1)] {
-            assert!(rt;
-                finish(&rt, rt.alloc(), row, workers, slice),
-                "{workers} workers, slices of {slice}"
-            );
-        }
-    }
+    assert_parts(&rt, 12, finished(&rt, rt.alloc(), 1, 2), 3);
+    assert_parts(&rt, 21, finished(&rt, rt.alloc(), 2, 1), 3);
+    assert_parts(&rt, 29, finished(&rt, rt.alloc(), 2, 9), 3);
+    assert_parts(&rt, 51, finished(&rt, rt.alloc(), 5, 1), 3);
+    assert_parts(&rt, 641, finished(&rt, rt.alloc(), 64, 1), 3);
 }
 
 // Whether each job passed the gate three times and each wait of the gate met its condition, for three jobs of three places and
@@ -170,12 +185,9 @@ fn each_wait_is_answered<R: Abort + Threads + Wait + Sync>(
 // job. So the other worker has to take it half done, and both have to be at work at once.
 #[test]
 fn jobs_are_stolen_half_done(rt: HostRuntime) {
-    for (one, other) in &PAIRS {
-        assert!(rt;
-            each_wait_is_answered(&rt, rt.alloc(), *one, *other),
-            "jobs {one} and {other}"
-        );
-    }
+    assert_row(&rt, 13, each_wait_is_answered(&rt, rt.alloc(), 1, 3));
+    assert_row(&rt, 12, each_wait_is_answered(&rt, rt.alloc(), 1, 2));
+    assert_row(&rt, 23, each_wait_is_answered(&rt, rt.alloc(), 2, 3));
 }
 
 // Jobs of the calls 1, 2 and 3 with this many places.
@@ -215,10 +227,19 @@ fn each_slice_is_between<R: Abort + Threads + Wait + Sync>(
 // The jobs have 3, 5 and 4 places. Each slice is run after `before` and before `after`, which get its own call's number.
 #[test]
 fn each_slice_passes_the_gate(rt: HostRuntime) {
-    for (workers, slice, slices) in [(2, 1, [3, 5, 4]), (2, 2, [2, 3, 2]), (1, 1, [3, 5, 4])] {
-        assert!(rt;
-            each_slice_is_between(&rt, rt.alloc(), workers, slice, slices),
-            "{workers} workers, slices of {slice}"
-        );
-    }
+    assert_row(
+        &rt,
+        21,
+        each_slice_is_between(&rt, rt.alloc(), 2, 1, [3, 5, 4]),
+    );
+    assert_row(
+        &rt,
+        22,
+        each_slice_is_between(&rt, rt.alloc(), 2, 2, [2, 3, 2]),
+    );
+    assert_row(
+        &rt,
+        11,
+        each_slice_is_between(&rt, rt.alloc(), 1, 1, [3, 5, 4]),
+    );
 }

@@ -2,7 +2,7 @@
 
 use crate::desk::FailingDesk;
 use crate::farm_top_tests::status_of;
-use crate::lines::{NONE, line, numbered, put};
+use crate::lines::{NONE, line, numbered, put, trunk_of};
 use pool_run::OpenGate;
 use std::alloc::Global;
 use std::process::Abort;
@@ -45,7 +45,7 @@ pub(crate) fn lay(
 
 // The lines of both calls. No operation fails.
 pub(crate) fn calm(rt: &impl Abort, alloc: Global) -> MemTrunk {
-    let mut trunk = MemTrunk::new(alloc).expect(rt, "memory");
+    let mut trunk = trunk_of(rt, alloc, &[]);
     for call in &[7, 9] {
         lay(rt, alloc, &mut trunk, *call, Up, OF_40, NONE);
         lay(rt, alloc, &mut trunk, *call, Pcm, OF_160, NONE);
