@@ -3,9 +3,11 @@
 ghost use Rattle.std.specs.Prelude.{◌+◌, ◌≤◌, ◌≤ℤ◌, pos};
 ghost use Rattle.call_leg.specs.Memory.{periods_of_leg};
 
+use crate::rows::assert_row;
 use call_leg::Leg;
 use rx_handler::Effective;
 use std::alloc::{AllocError, Global};
+use std::process::Abort;
 use std::thread::{Threads, join_mut};
 use trau_alaw::Law;
 use trau_io::Counts;
@@ -36,7 +38,7 @@ pub(crate) struct Worked {
 }
 
 impl Worked {
-    pub(crate) fn new(alloc: Global, call: u32, law: Law) -> Result<Worked, AllocError> {
+    fn new(alloc: Global, call: u32, law: Law) -> Result<Worked, AllocError> {
         let leg = Leg::new(alloc, call.clamp(1, 4096), law)?;
         Ok(Worked { leg, left: 100 })
     }
@@ -101,6 +103,11 @@ impl Worked {
     }
 }
 
+// A leg before its first period.
+pub(crate) fn new_leg(rt: &impl Abort, alloc: Global, call: u32, law: Law) -> Worked {
+    Worked::new(alloc, call, law).expect(rt, "memory")
+}
+
 const IDLE: [u8; 40] = [
     0x00, 0x00, 0xB8, 0x0F, 0xFF, 0xFF, 0xFF, 0xFF, 0xFF, 0xFF, 0xFF, 0xFF, 0xFF, 0xFF, 0xFF, 0xFF,
     0xFF, 0xFF, 0xFF, 0xFF, 0xFF, 0xFF, 0xFF, 0xFF, 0xFF, 0xFF, 0xFF, 0xFF, 0xFF, 0xFF, 0xFF, 0xFF,
@@ -137,8 +144,8 @@ fn stays_quiet(leg: &mut Worked, silence: u8) -> bool {
 #[test]
 fn without_frames_the_call_is_quiet(rt: HostRuntime) {
     for (call, law, silence) in [(1, Law::A, 0xD5), (4096, Law::Mu, 0xFF)] {
-        let mut leg = Worked::new(rt.alloc(), call, law).expect(&rt, "memory");
-        assert!(rt; stays_quiet(&mut leg, silence));
+        let mut leg = new_leg(&rt, rt.alloc(), call, law);
+        assert_row(&rt, call as usize, stays_quiet(&mut leg, silence));
     }
 }
 
@@ -177,23 +184,28 @@ static SHIFTS: [Shift; 5] = [
     },
 ];
 
+// Whether a period has such Down octets.
+fn sends(leg: &mut Worked, shift: &Shift) -> bool {
+    let down = leg.period(&up(shift.field, 9)).1;
+    down.starts_with(shift.begin) && down.ends_with(shift.end)
+}
+
 // Whether each of these periods has such Down octets, and four frames are made in five periods of good speech.
 fn sends_all(leg: &mut Worked) -> bool {
     for shift in &SHIFTS {
-        let down = leg.period(&up(shift.field, 9)).1;
-        if !down.starts_with(shift.begin) || !down.ends_with(shift.end) {
+        if !sends(leg, shift) {
             return false;
         }
     }
     let counts = leg.counts();
-    (counts.made, counts.good) == (4, 5)
+    counts.made == 4 && counts.good == 5
 }
 
 // Field 39 in period 0, 63 in period 2, 40 in period 3: 312 ones follow frame 0, and frame 1 has 316 bits.
 #[test]
 fn shifts_move_the_frames(rt: HostRuntime) {
-    let mut leg = Worked::new(rt.alloc(), 7, Law::A).expect(&rt, "memory");
-    assert!(rt; sends_all(&mut leg));
+    let mut leg = new_leg(&rt, rt.alloc(), 7, Law::A);
+    assert_row(&rt, 1, sends_all(&mut leg));
 }
 
 // A period of two bridged legs: both uplink halves, the handing over, both downlink halves. Returns the Down octets
@@ -253,9 +265,9 @@ fn frames_go_out_in_order(a: &mut Worked, b: &mut Worked) -> bool {
 // go out one period late, the last of them after the end.
 #[test]
 fn handed_frames_go_out_in_order(rt: HostRuntime) {
-    let mut a = Worked::new(rt.alloc(), 7, Law::A).expect(&rt, "memory");
-    let mut b = Worked::new(rt.alloc(), 9, Law::A).expect(&rt, "memory");
-    assert!(rt; frames_go_out_in_order(&mut a, &mut b));
+    let mut a = new_leg(&rt, rt.alloc(), 7, Law::A);
+    let mut b = new_leg(&rt, rt.alloc(), 9, Law::A);
+    assert_row(&rt, 1, frames_go_out_in_order(&mut a, &mut b));
 }
 
 // A bridge of one period with this octet of the first leg, then a period of both alone. Whether the second leg has
@@ -280,9 +292,9 @@ fn hands_one_each(a: &mut Worked, b: &mut Worked) -> bool {
 // A bridge of one period hands over one frame, and so does the next one, two periods later.
 #[test]
 fn bridges_of_one_period(rt: HostRuntime) {
-    let mut a = Worked::new(rt.alloc(), 7, Law::A).expect(&rt, "memory");
-    let mut b = Worked::new(rt.alloc(), 9, Law::A).expect(&rt, "memory");
-    assert!(rt; hands_one_each(&mut a, &mut b));
+    let mut a = new_leg(&rt, rt.alloc(), 7, Law::A);
+    let mut b = new_leg(&rt, rt.alloc(), 9, Law::A);
+    assert_row(&rt, 1, hands_one_each(&mut a, &mut b));
 }
 
 // Two periods of good speech in which the exchange speaks. Returns the Out octets of the first, and the Down octets
@@ -305,8 +317,8 @@ fn goes_home(leg: &mut Worked) -> bool {
 // After a bridge without any period the codecs are in their reset state: the next frame is a first one.
 #[test]
 fn a_bridge_without_periods_goes_home(rt: HostRuntime) {
-    let mut leg = Worked::new(rt.alloc(), 5, Law::A).expect(&rt, "memory");
-    assert!(rt; goes_home(&mut leg));
+    let mut leg = new_leg(&rt, rt.alloc(), 5, Law::A);
+    assert_row(&rt, 1, goes_home(&mut leg));
 }
 
 // A period of good speech and a silent exchange: whether its frame has SP 1.
@@ -330,8 +342,8 @@ fn one_is_silence(leg: &mut Worked) -> bool {
 // silence.
 #[test]
 fn silence_by_level(rt: HostRuntime) {
-    let mut leg = Worked::new(rt.alloc(), 3, Law::A).expect(&rt, "memory");
-    assert!(rt; one_is_silence(&mut leg));
+    let mut leg = new_leg(&rt, rt.alloc(), 3, Law::A);
+    assert_row(&rt, 1, one_is_silence(&mut leg));
 }
 
 // A period of both legs, the first one in another thread: whether their octets are the same.
@@ -351,7 +363,7 @@ fn stay_alike(rt: &impl Threads, a: &mut Worked, b: &mut Worked) -> bool {
 // Legs that continue in other threads give the same octets.
 #[test]
 fn legs_go_to_other_threads(rt: HostRuntime) {
-    let mut a = Worked::new(rt.alloc(), 1, Law::A).expect(&rt, "memory");
-    let mut b = Worked::new(rt.alloc(), 1, Law::A).expect(&rt, "memory");
-    assert!(rt; stay_alike(&rt, &mut a, &mut b));
+    let mut a = new_leg(&rt, rt.alloc(), 1, Law::A);
+    let mut b = new_leg(&rt, rt.alloc(), 1, Law::A);
+    assert_row(&rt, 1, stay_alike(&rt, &mut a, &mut b));
 }

@@ -2,7 +2,8 @@
 
 ghost use Rattle.std.specs.Prelude.{◌≡◌, ◌<◌, ◌+◌};
 
-use crate::call_leg_tests::Worked;
+use crate::call_leg_tests::{Worked, new_leg};
+use crate::rows::assert_rows;
 use ccu_end::Ccu;
 use trau_alaw::Law;
 use trau_bits::pack;
@@ -22,11 +23,11 @@ fn follow(ccu: &mut Ccu, down: &[u8; 40]) -> (Option<u64>, [u8; 40])
 }
 
 // How many periods at the end, of eighty with a silent exchange, each found a frame at a place that is 100 modulo 320.
-fn periods_in_place(leg: &mut Worked, ccu: &mut Ccu) -> u32
+fn periods_in_place(leg: &mut Worked, ccu: &mut Ccu) -> usize
     requires { ccu.old.periods ≡ 0 }
 {
     let mut up = [0xFF; 40];
-    let mut count = 0u32;
+    let mut count = 0usize;
     for period in 0..80u32 {
         let down = leg.period_of(&up, 0xD5).1;
         let (place, answer) = follow(ccu, &down);
@@ -42,8 +43,8 @@ fn periods_in_place(leg: &mut Worked, ccu: &mut Ccu) -> u32
 // A loop of leg and base station settles at the wanted place, and stays there.
 #[test]
 fn the_loop_settles(rt: HostRuntime) {
-    let mut leg = Worked::new(rt.alloc(), 1, Law::A).expect(&rt, "memory");
+    let mut leg = new_leg(&rt, rt.alloc(), 1, Law::A);
     let mut ccu = Ccu::new(100);
     let count = periods_in_place(&mut leg, &mut ccu);
-    assert_eq!(rt; count, 72);
+    assert_rows(&rt, count, 72);
 }

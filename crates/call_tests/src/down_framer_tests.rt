@@ -3,8 +3,10 @@
 ghost use Rattle.std.specs.Prelude.{◌≤◌, ◌<◌};
 ghost use Rattle.down_framer.specs.Memory.{IsBetweenPeriods};
 
+use crate::rows::{assert_row, assert_rows};
 use down_framer::Framer;
 use std::alloc::{AllocError, Global};
+use std::process::Abort;
 use time_align::Align;
 
 // The result of a period: its downlink octets, the number of its frames, and for the last of them the octet of the
@@ -81,6 +83,11 @@ impl Line {
     }
 }
 
+// A line before its first period.
+fn new_line(rt: &impl Abort, alloc: Global) -> Line {
+    Line::new(alloc).expect(rt, "memory")
+}
+
 // Octets that are all the same except one.
 fn octets_with(same: u8, place: usize, other: u8) -> [u8; 40] {
     let mut octets = [same; 40];
@@ -119,12 +126,12 @@ fn are_framed(line: &mut Line) -> usize {
 // frame 1 has 316 bits.
 #[test]
 fn frames_at_their_places(rt: HostRuntime) {
-    let mut line = Line::new(rt.alloc()).expect(&rt, "memory");
-    assert_eq!(rt; are_framed(&mut line), 5);
+    let mut line = new_line(&rt, rt.alloc());
+    assert_rows(&rt, are_framed(&mut line), 5);
 }
 
 // How many frames 100 periods make that each ask for the shift of this field, and the last period that made two.
-fn frames_of(line: &mut Line, field: u8) -> (u32, u32) {
+fn frames_of(line: &mut Line, field: u8) -> [u32; 2] {
     let mut frames = 0u32;
     let mut two_at = 0;
     for k in 0..100 {
@@ -134,15 +141,22 @@ fn frames_of(line: &mut Line, field: u8) -> (u32, u32) {
             two_at = k;
         }
     }
-    (frames, two_at)
+    [frames, two_at]
 }
 
-// The longest shift, and the one that takes bits away.
+// The longest shift, and the one that takes bits away: the field, the number of frames, and the last period that made two.
+static SAME_SHIFTS: [(u8, u32, u32); 2] = [(39, 51, 0), (63, 101, 79)];
+
+// Whether 100 periods of a new line that each ask for a shift make what its row says.
+fn makes(rt: &impl Abort, alloc: Global, row: &(u8, u32, u32)) -> bool {
+    let mut line = new_line(rt, alloc);
+    frames_of(&mut line, row.0) == [row.1, row.2]
+}
+
 #[test]
 fn the_same_shift_in_each_period(rt: HostRuntime) {
-    for (field, frames) in [(39, (51, 0)), (63, (101, 79))] {
-        let mut line = Line::new(rt.alloc()).expect(&rt, "memory");
-        assert!(rt; frames_of(&mut line, field) == frames, "field {field}");
+    for row in &SAME_SHIFTS {
+        assert_row(&rt, usize::from(row.0), makes(&rt, rt.alloc(), row));
     }
 }
 
@@ -158,8 +172,8 @@ static ADVANCED: [(u32, u32, u32, i16); 5] = [
 ];
 
 // How many of them match.
-fn are_advanced(line: &mut Line) -> u32 {
-    let mut advanced = 0u32;
+fn are_advanced(line: &mut Line) -> usize {
+    let mut advanced = 0usize;
     for k in 0..100 {
         let made = line.period(63);
         for row in &ADVANCED {
@@ -173,6 +187,6 @@ fn are_advanced(line: &mut Line) -> u32 {
 
 #[test]
 fn an_advance_in_each_period(rt: HostRuntime) {
-    let mut line = Line::new(rt.alloc()).expect(&rt, "memory");
-    assert_eq!(rt; are_advanced(&mut line), 5);
+    let mut line = new_line(&rt, rt.alloc());
+    assert_rows(&rt, are_advanced(&mut line), 5);
 }

@@ -4,11 +4,11 @@ ghost use Rattle.std.specs.Prelude.{◌≤◌, length, IfOk};
 ghost use Rattle.farm_live.specs.Live.{IsSeated};
 ghost use Rattle.farm_live.specs.Closing.{AreAllSeated};
 
+use crate::rows::assert_row;
 use farm_live::{Caller, Live, Turn};
 use std::alloc::{AllocError, Global};
 use std::sync::Wait;
 use std::sync::atomic::{AtomicU32, Ordering};
-use std::test::Fail;
 use std::thread;
 use std::thread::Threads;
 
@@ -64,11 +64,10 @@ fn farm<R: Wait>(rt: &R, alloc: Global) -> Result<(Live, Vec<Caller>), AllocErro
 }
 
 #[test]
-fn a_call_is_busy(rt: HostRuntime) -> Result<(), Fail> {
+fn a_call_is_busy(rt: HostRuntime) {
     let alloc = rt.alloc();
-    let (live, mut callers) = farm(&rt, alloc)?;
+    let (live, mut callers) = farm(&rt, alloc).expect(&rt, "memory");
     let busy = AtomicU32::new(0);
     work_both(&rt, alloc, &live, callers.as_mut_slice(), &busy);
-    assert!(rt; busy.load(Ordering::SeqCst) > 0);
-    Ok(())
+    assert_row(&rt, 1, busy.load(Ordering::SeqCst) > 0);
 }

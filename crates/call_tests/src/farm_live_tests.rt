@@ -3,10 +3,10 @@
 ghost use Rattle.std.specs.Prelude.{◌≡◌, ◌≤◌, ◌<◌, ◌+◌, length, slice_index_or, IfOk};
 ghost use Rattle.farm_live.specs.Live.{view_of, IsSeated};
 
+use crate::rows::assert_row;
 use farm_live::{Caller, Closed, Live, Look, PostFault, Turn};
 use std::alloc::{AllocError, Global};
 use std::sync::Wait;
-use std::test::Fail;
 
 // A farm of one call, at which two posts may wait, and its only caller.
 #[derive(Drop)]
@@ -150,21 +150,19 @@ fn leaves_two(closed: &[Closed]) -> bool {
 }
 
 #[test]
-fn posts_are_worked_in_order(rt: HostRuntime) -> Result<(), Fail> {
+fn posts_are_worked_in_order(rt: HostRuntime) {
     let alloc = rt.alloc();
-    let mut alone = Alone::new(&rt, alloc)?;
-    assert!(rt; alone.fills(&rt, alloc));
-    assert!(rt; alone.reads_the_first(&rt));
-    assert!(rt; alone.empties(&rt, alloc));
-    Ok(())
+    let mut alone = Alone::new(&rt, alloc).expect(&rt, "memory");
+    assert_row(&rt, 1, alone.fills(&rt, alloc));
+    assert_row(&rt, 2, alone.reads_the_first(&rt));
+    assert_row(&rt, 3, alone.empties(&rt, alloc));
 }
 
 #[test]
-fn posts_that_wait_are_left(rt: HostRuntime) -> Result<(), Fail> {
+fn posts_that_wait_are_left(rt: HostRuntime) {
     let alloc = rt.alloc();
-    let mut alone = Alone::new(&rt, alloc)?;
-    assert!(rt; alone.fills(&rt, alloc));
-    let closed = alone.close(&rt, alloc)?;
-    assert!(rt; leaves_two(closed.as_slice()));
-    Ok(())
+    let mut alone = Alone::new(&rt, alloc).expect(&rt, "memory");
+    assert_row(&rt, 1, alone.fills(&rt, alloc));
+    let closed = alone.close(&rt, alloc).expect(&rt, "memory");
+    assert_row(&rt, 2, leaves_two(closed.as_slice()));
 }

@@ -1,5 +1,6 @@
 //! The receive side: what it makes of lost frames, unusable frames and silence descriptors.
 
+use crate::rows::{assert_row, assert_rows};
 use rx_handler::{Effective, Rx};
 use trau_frame::{Class, Kind, UpFrame};
 use trau_params::{Params, silence};
@@ -76,34 +77,33 @@ fn take(rx: &mut Rx, coming: Coming) -> Effective {
     }
 }
 
-// What is heard in a period: nothing, good speech or a made frame; the number is its first block maximum.
-#[derive(Clone, Copy, PartialEq)]
-enum Heard {
-    Quiet,
-    Good(u8),
-    Made(u8),
-}
+// What is heard in a period: nothing, good speech or a made frame; and its first block maximum.
+type Heard = [u8; 2];
 
-fn first(xmaxc: [u8; 4]) -> u8 {
-    xmaxc[0]
-}
+const QUIET: u8 = 0;
+
+const GOOD: u8 = 1;
+
+const MADE: u8 = 2;
 
 fn hear(rx: &mut Rx, coming: Coming) -> Heard {
     match take(rx, coming) {
-        Effective::Quiet => Heard::Quiet,
-        Effective::Speech(p) => Heard::Good(first(p.xmaxc)),
-        Effective::Made(p) => Heard::Made(first(p.xmaxc)),
+        Effective::Quiet => [QUIET, 0],
+        Effective::Speech(p) => [GOOD, p.xmaxc[0]],
+        Effective::Made(p) => [MADE, p.xmaxc[0]],
     }
 }
 
-// Whether these periods are heard like this, from the first on.
-fn are_heard(rx: &mut Rx, rows: &[(Coming, Heard)]) -> bool {
-    for (coming, heard) in rows {
-        if hear(rx, *coming) != *heard {
-            return false;
+// How many of these periods are heard like this, before the first that isn't.
+fn heard(rx: &mut Rx, rows: &[(Coming, Heard)]) -> usize {
+    let mut heard = 0usize;
+    for (coming, due) in rows {
+        if hear(rx, *coming) != *due {
+            return heard;
         }
+        heard = heard.saturating_add(1);
     }
-    true
+    heard
 }
 
 fn gives(rx: &mut Rx, coming: Coming, wanted: Effective) -> bool {
@@ -113,7 +113,7 @@ fn gives(rx: &mut Rx, coming: Coming, wanted: Effective) -> bool {
 // Whether the frames that are made when nothing comes have these first block maxima, and then two of them are silence.
 fn fades(rx: &mut Rx, maxima: &[u8]) -> bool {
     for maximum in maxima {
-        if hear(rx, Coming::Nothing) != Heard::Made(*maximum) {
+        if hear(rx, Coming::Nothing) != [MADE, *maximum] {
             return false;
         }
     }
@@ -136,43 +136,59 @@ fn second_fades(rx: &mut Rx) -> bool {
 #[test]
 fn lost_speech_fades(rt: HostRuntime) {
     let mut rx = Rx::new(7);
-    assert!(rt; gives(&mut rx, Coming::InvalidBetween, Effective::Quiet));
-    assert!(rt; gives(&mut rx, Coming::GoodBetween, Effective::Speech(loud())));
-    assert!(rt; gives(&mut rx, Coming::InvalidBetween, Effective::Made(loud())));
-    assert!(rt; second_fades(&mut rx));
-    assert!(rt; fades(&mut rx, &[12, 8, 4, 0, 0, 0, 0, 0, 0, 0, 0, 0, 0, 0]));
+    assert_row(
+        &rt,
+        1,
+        gives(&mut rx, Coming::InvalidBetween, Effective::Quiet),
+    );
+    assert_row(
+        &rt,
+        2,
+        gives(&mut rx, Coming::GoodBetween, Effective::Speech(loud())),
+    );
+    assert_row(
+        &rt,
+        3,
+        gives(&mut rx, Coming::InvalidBetween, Effective::Made(loud())),
+    );
+    assert_row(&rt, 4, second_fades(&mut rx));
+    assert_row(
+        &rt,
+        5,
+        fades(&mut rx, &[12, 8, 4, 0, 0, 0, 0, 0, 0, 0, 0, 0, 0, 0]),
+    );
 }
 
 // The table's cells for a call in which nothing was heard yet, for comfort noise, for speech, and for an idle frame
 // after noise and after speech.
 static CELLS: [(Coming, Heard); 22] = [
-    (Coming::Idle, Heard::Quiet),
-    (Coming::Invalid, Heard::Quiet),
-    (Coming::Missed, Heard::Quiet),
-    (Coming::Nothing, Heard::Quiet),
-    (Coming::Sid, Heard::Made(20)),
-    (Coming::Bad, Heard::Made(20)),
-    (Coming::Missed, Heard::Made(20)),
-    (Coming::Other, Heard::Made(20)),
-    (Coming::Invalid, Heard::Made(20)),
-    (Coming::Missed, Heard::Made(16)),
-    (Coming::Missed, Heard::Made(12)),
-    (Coming::Nothing, Heard::Made(8)),
-    (Coming::Sid, Heard::Made(20)),
-    (Coming::Good, Heard::Good(20)),
-    (Coming::Invalid, Heard::Made(20)),
-    (Coming::Missed, Heard::Made(16)),
-    (Coming::Other, Heard::Made(12)),
-    (Coming::Good, Heard::Good(20)),
-    (Coming::Sid, Heard::Made(20)),
-    (Coming::Idle, Heard::Quiet),
-    (Coming::Good, Heard::Good(20)),
-    (Coming::Idle, Heard::Quiet),
+    (Coming::Idle, [QUIET, 0]),
+    (Coming::Invalid, [QUIET, 0]),
+    (Coming::Missed, [QUIET, 0]),
+    (Coming::Nothing, [QUIET, 0]),
+    (Coming::Sid, [MADE, 20]),
+    (Coming::Bad, [MADE, 20]),
+    (Coming::Missed, [MADE, 20]),
+    (Coming::Other, [MADE, 20]),
+    (Coming::Invalid, [MADE, 20]),
+    (Coming::Missed, [MADE, 16]),
+    (Coming::Missed, [MADE, 12]),
+    (Coming::Nothing, [MADE, 8]),
+    (Coming::Sid, [MADE, 20]),
+    (Coming::Good, [GOOD, 20]),
+    (Coming::Invalid, [MADE, 20]),
+    (Coming::Missed, [MADE, 16]),
+    (Coming::Other, [MADE, 12]),
+    (Coming::Good, [GOOD, 20]),
+    (Coming::Sid, [MADE, 20]),
+    (Coming::Idle, [QUIET, 0]),
+    (Coming::Good, [GOOD, 20]),
+    (Coming::Idle, [QUIET, 0]),
 ];
 
 #[test]
 fn each_cell_of_the_table(rt: HostRuntime) {
-    assert!(rt; are_heard(&mut Rx::new(7), &CELLS));
+    assert_rows(&rt, heard(&mut Rx::new(7), &CELLS), 22);
 }
 
 // Whether the first noise has the first draws of the source as its first grid and first pulses.
@@ -187,76 +203,88 @@ fn starts_noise(rx: &mut Rx) -> bool {
 }
 
 static MISSED_TWICE: [(Coming, Heard); 3] = [
-    (Coming::Bad, Heard::Made(20)),
-    (Coming::Missed, Heard::Made(20)),
-    (Coming::Missed, Heard::Made(16)),
+    (Coming::Bad, [MADE, 20]),
+    (Coming::Missed, [MADE, 20]),
+    (Coming::Missed, [MADE, 16]),
 ];
 
 // The good frame right after noise at 16 is unchanged.
 #[test]
 fn good_speech_ends_noise_that_fell_once(rt: HostRuntime) {
     let mut rx = Rx::new(7);
-    assert!(rt; starts_noise(&mut rx));
-    assert!(rt; are_heard(&mut rx, &MISSED_TWICE));
-    assert!(rt; gives(&mut rx, Coming::GoodBetween, Effective::Speech(loud())));
+    assert_row(&rt, 1, starts_noise(&mut rx));
+    assert_rows(&rt, heard(&mut rx, &MISSED_TWICE), 3);
+    assert_row(
+        &rt,
+        2,
+        gives(&mut rx, Coming::GoodBetween, Effective::Speech(loud())),
+    );
 }
 
 static FALLING: [(Coming, Heard); 5] = [
-    (Coming::Bad, Heard::Made(20)),
-    (Coming::Missed, Heard::Made(20)),
-    (Coming::Missed, Heard::Made(16)),
-    (Coming::Bad, Heard::Made(12)),
-    (Coming::Missed, Heard::Made(8)),
+    (Coming::Bad, [MADE, 20]),
+    (Coming::Missed, [MADE, 20]),
+    (Coming::Missed, [MADE, 16]),
+    (Coming::Bad, [MADE, 12]),
+    (Coming::Missed, [MADE, 8]),
 ];
 
 #[test]
 fn noise_falls_from_the_second_missed_descriptor(rt: HostRuntime) {
     let mut rx = Rx::new(7);
-    assert!(rt; starts_noise(&mut rx));
-    assert!(rt; are_heard(&mut rx, &FALLING));
-    assert!(rt; fades(&mut rx, &[4, 0, 0, 0, 0, 0, 0, 0, 0, 0, 0, 0, 0]));
-    assert!(rt; gives(&mut rx, Coming::GoodBetween, Effective::Speech(loud())));
+    assert_row(&rt, 1, starts_noise(&mut rx));
+    assert_rows(&rt, heard(&mut rx, &FALLING), 5);
+    assert_row(
+        &rt,
+        2,
+        fades(&mut rx, &[4, 0, 0, 0, 0, 0, 0, 0, 0, 0, 0, 0, 0]),
+    );
+    assert_row(
+        &rt,
+        3,
+        gives(&mut rx, Coming::GoodBetween, Effective::Speech(loud())),
+    );
 }
 
 static DOWN: [(Coming, Heard); 10] = [
-    (Coming::Sid, Heard::Made(20)),
-    (Coming::LowSid, Heard::Made(18)),
-    (Coming::Nothing, Heard::Made(16)),
-    (Coming::Nothing, Heard::Made(14)),
-    (Coming::Nothing, Heard::Made(12)),
-    (Coming::Nothing, Heard::Made(10)),
-    (Coming::Nothing, Heard::Made(8)),
-    (Coming::Nothing, Heard::Made(6)),
-    (Coming::Nothing, Heard::Made(4)),
-    (Coming::Nothing, Heard::Made(4)),
+    (Coming::Sid, [MADE, 20]),
+    (Coming::LowSid, [MADE, 18]),
+    (Coming::Nothing, [MADE, 16]),
+    (Coming::Nothing, [MADE, 14]),
+    (Coming::Nothing, [MADE, 12]),
+    (Coming::Nothing, [MADE, 10]),
+    (Coming::Nothing, [MADE, 8]),
+    (Coming::Nothing, [MADE, 6]),
+    (Coming::Nothing, [MADE, 4]),
+    (Coming::Nothing, [MADE, 4]),
 ];
 
 static TURNED: [(Coming, Heard); 11] = [
-    (Coming::Sid, Heard::Made(20)),
-    (Coming::LowSid, Heard::Made(18)),
-    (Coming::Nothing, Heard::Made(16)),
-    (Coming::Sid, Heard::Made(16)),
-    (Coming::Nothing, Heard::Made(17)),
-    (Coming::Nothing, Heard::Made(17)),
-    (Coming::Nothing, Heard::Made(18)),
-    (Coming::Nothing, Heard::Made(18)),
-    (Coming::Nothing, Heard::Made(19)),
-    (Coming::Nothing, Heard::Made(19)),
-    (Coming::Nothing, Heard::Made(20)),
+    (Coming::Sid, [MADE, 20]),
+    (Coming::LowSid, [MADE, 18]),
+    (Coming::Nothing, [MADE, 16]),
+    (Coming::Sid, [MADE, 16]),
+    (Coming::Nothing, [MADE, 17]),
+    (Coming::Nothing, [MADE, 17]),
+    (Coming::Nothing, [MADE, 18]),
+    (Coming::Nothing, [MADE, 18]),
+    (Coming::Nothing, [MADE, 19]),
+    (Coming::Nothing, [MADE, 19]),
+    (Coming::Nothing, [MADE, 20]),
 ];
 
 static FALLEN: [(Coming, Heard); 5] = [
-    (Coming::Sid, Heard::Made(20)),
-    (Coming::Missed, Heard::Made(20)),
-    (Coming::Missed, Heard::Made(16)),
-    (Coming::LowSid, Heard::Made(4)),
-    (Coming::Sid, Heard::Made(6)),
+    (Coming::Sid, [MADE, 20]),
+    (Coming::Missed, [MADE, 20]),
+    (Coming::Missed, [MADE, 16]),
+    (Coming::LowSid, [MADE, 4]),
+    (Coming::Sid, [MADE, 6]),
 ];
 
 // A new descriptor is approached in eight steps from the present noise, or from itself once the level has fallen.
 #[test]
 fn noise_moves(rt: HostRuntime) {
-    assert!(rt; are_heard(&mut Rx::new(7), &DOWN));
-    assert!(rt; are_heard(&mut Rx::new(7), &TURNED));
-    assert!(rt; are_heard(&mut Rx::new(7), &FALLEN));
+    assert_rows(&rt, heard(&mut Rx::new(7), &DOWN), 10);
+    assert_rows(&rt, heard(&mut Rx::new(7), &TURNED), 11);
+    assert_rows(&rt, heard(&mut Rx::new(7), &FALLEN), 5);
 }

@@ -1,5 +1,6 @@
 //! Comfort noise that falls to silence, and a descriptor that is approached.
 
+use crate::rows::assert_row;
 use crate::rx_handler_tests::{loud, low};
 use rx_noise::{mix, noise_frame};
 use trau_num::Draw;
@@ -22,9 +23,11 @@ fn noise_falls_to_silence(rt: HostRuntime) {
     let sid = loud();
     let mut draw = Draw { r: 7 };
     let first = noise_frame(&sid, 0, &mut draw);
-    assert!(rt; has_values(&first) && has_draws(&first));
-    assert!(rt; noise_frame(&sid, 1, &mut draw).xmaxc == [16; 4]);
-    assert!(rt; noise_frame(&sid, 17, &mut draw) == silence());
+    assert_row(&rt, 1, has_values(&first) && has_draws(&first));
+    let second = noise_frame(&sid, 1, &mut draw);
+    assert_row(&rt, 2, second.xmaxc == [16; 4]);
+    let last = noise_frame(&sid, 17, &mut draw);
+    assert_row(&rt, 3, last == silence());
 }
 
 // A descriptor whose ratios, lags and maxima are all other ones.
@@ -40,17 +43,27 @@ fn other() -> Params {
     )
 }
 
+// Whether a descriptor has these ratios and maxima.
+fn has_codes(p: &Params, larc: [u8; 8], xmaxc: [u8; 4]) -> bool {
+    p.larc == larc && p.xmaxc == xmaxc
+}
+
 // Each ratio and each maximum is the floor of its mean, and the lags are the new ones'.
 #[test]
 fn a_descriptor_is_approached(rt: HostRuntime) {
     let first = mix(&loud(), &other(), 1);
-    assert!(rt;
-        first.larc == [2, 2, 2, 7, 5, 6, 6, 0]
-            && first.xmaxc == [17, 25, 20, 20]
-            && first.nc == [40; 4]
+    assert_row(
+        &rt,
+        1,
+        has_codes(&first, [2, 2, 2, 7, 5, 6, 6, 0], [17, 25, 20, 20]),
     );
+    assert_row(&rt, 2, first.nc == [40; 4]);
     let fifth = mix(&loud(), &other(), 5);
-    assert!(rt; fifth.larc == [6, 2, 1, 20, 9, 6, 2, 4] && fifth.xmaxc == [7, 46, 20, 20]);
-    assert!(rt; mix(&loud(), &other(), 8) == other());
-    assert!(rt; mix(&low(), &low(), 3) == low());
+    assert_row(
+        &rt,
+        3,
+        has_codes(&fifth, [6, 2, 1, 20, 9, 6, 2, 4], [7, 46, 20, 20]),
+    );
+    assert_row(&rt, 4, mix(&loud(), &other(), 8) == other());
+    assert_row(&rt, 5, mix(&low(), &low(), 3) == low());
 }

@@ -1,5 +1,6 @@
 //! The substitution of lost frames, which fades.
 
+use crate::rows::assert_row;
 use crate::rx_handler_tests::loud;
 use rx_subst::lost_frame;
 use trau_num::Draw;
@@ -14,9 +15,12 @@ fn is_second(p: &Params) -> bool {
 fn a_lost_frame_fades(rt: HostRuntime) {
     let good = loud();
     let mut draw = Draw { r: 7 };
-    assert!(rt; lost_frame(&good, 1, &mut draw) == good);
-    assert!(rt; draw.r == 7);
-    assert!(rt; is_second(&lost_frame(&good, 2, &mut draw)));
-    assert!(rt; lost_frame(&good, 6, &mut draw).xmaxc == [0; 4]);
-    assert!(rt; lost_frame(&good, 17, &mut draw) == silence());
+    assert_row(
+        &rt,
+        1,
+        lost_frame(&good, 1, &mut draw) == good && draw.r == 7,
+    );
+    assert_row(&rt, 2, is_second(&lost_frame(&good, 2, &mut draw)));
+    assert_row(&rt, 6, lost_frame(&good, 6, &mut draw).xmaxc == [0; 4]);
+    assert_row(&rt, 17, lost_frame(&good, 17, &mut draw) == silence());
 }

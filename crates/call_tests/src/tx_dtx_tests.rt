@@ -2,6 +2,7 @@
 
 ghost use Rattle.std.specs.Prelude.{◌≤◌, ◌≤ℤ◌, pos};
 
+use crate::rows::assert_row;
 use trau_params::{Params, Trace, silence};
 use tx_dtx::Tx;
 
@@ -23,30 +24,38 @@ fn spoken(tx: &mut Tx, frames: u32, active: bool) -> u32 {
 }
 
 // How many frames go out as speech of a first pause of 7, of a burst, and of a pause after it.
-fn spoken_in_turn(burst: u32, pause: u32) -> (u32, u32, u32) {
+fn spoken_in_turn(burst: u32, pause: u32) -> [u32; 3] {
     let mut tx = Tx::home();
     let first = spoken(&mut tx, 7, false);
     let second = spoken(&mut tx, burst, true);
-    (first, second, spoken(&mut tx, pause, false))
+    [first, second, spoken(&mut tx, pause, false)]
 }
 
-// A first pause, a burst and a pause. A pause has a hangover of four if it begins 24 frames or more after the last SID.
+// The first of the pauses of 1 to 30 frames behind a burst that doesn't go out as it should; 31 if all do.
+fn first_wrong(burst: u32) -> u32 {
+    for pause in 1..31u32 {
+        let hangover = if burst >= 23 { 4.min(pause) } else { 0 };
+        if spoken_in_turn(burst, pause) != [4, burst, hangover] {
+            return pause;
+        }
+    }
+    31
+}
+
+// A first pause, a burst and a pause. A pause has a hangover of four if it begins 24 frames or more after the last SID. Row 2307
+// has a burst of 23 and a pause of 7.
 #[test]
 fn pauses_between_bursts(rt: HostRuntime) {
-    for burst in 1..31 {
-        for pause in 1..31 {
-            let hangover = if burst >= 23 { 4.min(pause) } else { 0 };
-            assert!(rt;
-                spoken_in_turn(burst, pause) == (4, burst, hangover),
-                "burst {burst}, pause {pause}"
-            );
-        }
+    for burst in 1..31u32 {
+        let pause = first_wrong(burst);
+        let row = burst.wrapping_mul(100).wrapping_add(pause);
+        assert_row(&rt, row as usize, pause == 31);
     }
 }
 
 #[test]
 fn level_0_has_no_silence(rt: HostRuntime) {
-    assert!(rt; Tx::home().send(&silence(), &QUIET, 0, 0, true).1);
+    assert_row(&rt, 1, Tx::home().send(&silence(), &QUIET, 0, 0, true).1);
 }
 
 // Frames by ratios 1 and 2 and the maximum of block 4; all other ratios are 0 and all other maxima 511. The sum of
@@ -109,11 +118,15 @@ fn sends(tx: &mut Tx, level: i16, wanted: (Params, bool)) -> bool {
 #[test]
 fn a_sid_of_the_last_four_frames(rt: HostRuntime) {
     let mut tx = Tx::home();
-    assert!(rt; last_sent(&mut tx) == (descriptor(31, 37, 15), false));
-    assert!(rt; sends(&mut tx, 1, (descriptor(32, 36, 11), false)));
-    assert!(rt; sends(&mut tx, 1, (descriptor(32, 36, 7), false)));
-    assert!(rt; sends(&mut tx, 0, (silence(), true)));
-    assert!(rt; sends(&mut tx, 1, (descriptor(32, 36, 7), false)));
+    assert_row(
+        &rt,
+        5,
+        last_sent(&mut tx) == (descriptor(31, 37, 15), false),
+    );
+    assert_row(&rt, 6, sends(&mut tx, 1, (descriptor(32, 36, 11), false)));
+    assert_row(&rt, 7, sends(&mut tx, 1, (descriptor(32, 36, 7), false)));
+    assert_row(&rt, 8, sends(&mut tx, 0, (silence(), true)));
+    assert_row(&rt, 9, sends(&mut tx, 1, (descriptor(32, 36, 7), false)));
 }
 
 // The maxima of a first pause.
@@ -148,6 +161,6 @@ fn describes(burst: u32, hangover: u32, maximum: u8) -> bool {
 #[test]
 fn descriptors_behind_bursts(rt: HostRuntime) {
     for (burst, hangover, maximum) in &BURSTS {
-        assert!(rt; describes(*burst, *hangover, *maximum), "burst {burst}");
+        assert_row(&rt, *burst as usize, describes(*burst, *hangover, *maximum));
     }
 }
