@@ -1,6 +1,6 @@
 //! What words ask for, command by command, and words that ask for nothing.
 
-use crate::rows::assert_rows;
+use crate::rows::{assert_row, assert_rows};
 use command_words::{Asked, LiveSettings, Settings, WordsFault, read_words};
 use std::alloc::{AllocError, Global};
 
@@ -153,11 +153,21 @@ fn is_live(alloc: Global, line: &str, made_of: [u32; 5]) -> bool {
     is_answered(alloc, line, Ok(Asked::Live(settings)))
 }
 
+// How many rows of `LIVES` hold before the first that doesn't.
+fn lives_asked(alloc: Global) -> usize {
+    let mut asked = 0usize;
+    for (line, made_of) in &LIVES {
+        if !is_live(alloc, line, *made_of) {
+            return asked;
+        }
+        asked = asked.saturating_add(1);
+    }
+    asked
+}
+
 #[test]
 fn options_of_live_drills(rt: HostRuntime) {
-    for (line, made_of) in &LIVES {
-        assert!(rt; is_live(rt.alloc(), line, *made_of), "{line}");
-    }
+    assert_rows(&rt, lives_asked(rt.alloc()), 5);
 }
 
 static TOOLS: [(&str, Asked); 8] = [
@@ -303,5 +313,9 @@ fn usages(alloc: Global) -> usize {
 #[test]
 fn other_words_are_usage(rt: HostRuntime) {
     assert_rows(&rt, usages(rt.alloc()), 92);
-    assert!(rt; read_words(rt.alloc(), &[]) == Err(WordsFault::Usage));
+    assert_row(
+        &rt,
+        92,
+        read_words(rt.alloc(), &[]) == Err(WordsFault::Usage),
+    );
 }

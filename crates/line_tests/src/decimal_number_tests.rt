@@ -1,6 +1,6 @@
 //! Spellings of numbers, and texts that aren't numbers.
 
-use crate::rows::assert_rows;
+use crate::rows::{assert_row, assert_rows};
 use decimal_number::{number_of_octets, number_of_text};
 
 // A text, the ends of a range, and the number in that range that the text spells.
@@ -51,5 +51,5 @@ fn spellings(rt: HostRuntime) {
 
 #[test]
 fn no_text_is_no_number(rt: HostRuntime) {
-    assert!(rt; number_of_octets(&[b'7', 0xff], 0, 9).is_none());
+    assert_row(&rt, 1, number_of_octets(&[b'7', 0xff], 0, 9).is_none());
 }

@@ -1,4 +1,5 @@
 //! Sums of drilled lines, as other programs made them from the same rules.
+use crate::rows::assert_row;
 use farm_drill::{Generator, drill, hostile, pcm};
 use std::alloc::{AllocError, Global};
 use trau_io::{Filled, Line, MemTrunk, Side, Trunk, read_block};
@@ -68,7 +69,7 @@ fn has_sums(alloc: Global, row: &Row) -> Result<bool, AllocError> {
 #[test]
 fn drills_as_another_program(rt: HostRuntime) {
     for row in &SUMS {
-        assert!(rt; has_sums(rt.alloc(), row) == Ok(true), "call {}", row.3);
+        assert_row(&rt, row.3 as usize, has_sums(rt.alloc(), row) == Ok(true));
     }
 }
 
@@ -76,7 +77,7 @@ fn drills_as_another_program(rt: HostRuntime) {
 fn orders_as_another_program(rt: HostRuntime) {
     let (_trunk, text) = drilled(rt.alloc(), 7, 3, 30).expect(&rt, "memory");
     let orders = "0 open 1\n0 open 2\n0 open 3\n7 bridge 1 2\n15 unbridge 1\n";
-    assert!(rt; text.as_slice() == orders.as_bytes());
+    assert_row(&rt, 1, text.as_slice() == orders.as_bytes());
 }
 
 // By kind, the periods and the sum of the line.
@@ -98,9 +99,10 @@ fn hostile_sum(alloc: Global, kind: u8, periods: u32) -> Result<u32, AllocError>
 #[test]
 fn is_hostile_as_another_program(rt: HostRuntime) {
     for (kind, periods, wanted) in &HOSTILE_SUMS {
-        assert!(rt;
+        assert_row(
+            &rt,
+            usize::from(*kind),
             hostile_sum(rt.alloc(), *kind, *periods) == Ok(*wanted),
-            "kind {kind}"
         );
     }
 }
@@ -112,5 +114,6 @@ fn first_draw(call: u32) -> u8 {
 
 #[test]
 fn first_draws_of_two_calls(rt: HostRuntime) {
-    assert!(rt; [first_draw(1), first_draw(2)] == [210, 211]);
+    assert_row(&rt, 1, first_draw(1) == 210);
+    assert_row(&rt, 2, first_draw(2) == 211);
 }

@@ -1,5 +1,6 @@
 //! Reports: each reply, each cause, and the highest numbers.
 
+use crate::rows::assert_row;
 use farm_report::{CallLine, Report, SpanLine, write_report};
 use std::alloc::{AllocError, Global};
 use switchboard::{Act, Refusal, Reply, Span};
@@ -268,7 +269,7 @@ fn each_reply_and_each_cause(rt: HostRuntime) {
         1,
         EACH_TEXT,
     );
-    assert!(rt; all == Ok(true));
+    assert_row(&rt, 1, all == Ok(true));
 }
 
 #[test]
@@ -282,5 +283,5 @@ fn the_greatest_numbers(rt: HostRuntime) {
         LAST,
         GREATEST_TEXT,
     );
-    assert!(rt; all == Ok(true));
+    assert_row(&rt, 1, all == Ok(true));
 }

@@ -2,7 +2,7 @@
 
 ghost use Rattle.std.specs.Prelude.{◌≡◌, ◌<◌, ◌+◌};
 
-use crate::rows::assert_rows;
+use crate::rows::{assert_row, assert_rows};
 use frame_sync::{FrameSync, Yield};
 use std::process::Abort;
 
@@ -33,7 +33,7 @@ fn late(before: u8) -> [u8; 40] {
 }
 
 // A yield by its place alone.
-#[derive(Clone, Copy, Debug, PartialEq)]
+#[derive(Clone, Copy, PartialEq)]
 enum Found {
     Frame(u64),
     Miss(u64),
@@ -63,7 +63,9 @@ fn assert_fed(rt: &impl Abort, periods: &[[u8; 40]; 3], wanted: [Option<Found>; 
     let first = fed(&mut sync, &periods[0]);
     let second = fed(&mut sync, &periods[1]);
     let third = fed(&mut sync, &periods[2]);
-    assert_eq!(rt; [first, second, third], wanted);
+    assert_row(rt, 0, first == wanted[0]);
+    assert_row(rt, 1, second == wanted[1]);
+    assert_row(rt, 2, third == wanted[2]);
 }
 
 // Five bits 0, then frames without gaps: the first ends in period 1.

@@ -2,9 +2,8 @@
 
 ghost use Rattle.std.specs.Prelude.{◌≡◌, ◌<◌, length};
 
-use crate::rows::assert_rows;
+use crate::rows::{assert_row, assert_rows};
 use pool_core::{NotLegal, Pool, PoolStep};
-use std::alloc::AllocError;
 use std::process::Abort;
 
 // The steps until the first job has two of its periods, and whether each is legal ..
@@ -81,15 +80,14 @@ fn assert_stolen(rt: &impl Abort, pool: &mut Pool)
     requires { 0 < length pool.old.lens }
 {
     assert_rows(rt, stepped(pool, &FIRST_STEPS), 2);
-    assert!(rt; pool.place(0) == 2);
+    assert_rows(rt, pool.place(0) as usize, 2);
     assert_rows(rt, stepped(pool, &STEPS), 8);
-    assert!(rt; pool.all_done());
+    assert_row(rt, 8, pool.all_done());
 }
 
 // Two workers, and jobs of 3 periods and of 1. The first job is stolen with one period left.
 #[test]
-fn a_job_is_stolen(rt: HostRuntime) -> Result<(), AllocError> {
-    let mut pool = Pool::new(rt.alloc(), 2, &[3, 1])?;
+fn a_job_is_stolen(rt: HostRuntime) {
+    let mut pool = Pool::new(rt.alloc(), 2, &[3, 1]).expect(&rt, "memory");
     assert_stolen(&rt, &mut pool);
-    Ok(())
 }

@@ -1,22 +1,21 @@
 //! Orders to the board that are accepted or refused, and ends of calls.
 
-ghost use Rattle.std.specs.Prelude.{◌≡◌, ◌<◌, ◌≤◌, ℕ, IfOk, IsTrue};
+ghost use Rattle.std.specs.Prelude.{◌≡◌, ◌<◌, ◌≤◌, ℕ, IsTrue};
 ghost use Rattle.switchboard.specs.State.{EndBefore, last_stamp};
 
-use crate::rows::assert_rows;
+use crate::rows::{assert_row, assert_rows};
 use std::alloc::Global;
 use std::process::Abort;
-use std::test::Fail;
 use switchboard::{Act, Board, Refusal, Reply, Span};
 use trau_alaw::Law;
 use trau_io::{CallEnd, Cause};
 use trau_orders::{DtxMode, Orders};
 
-fn board_of(alloc: Global, orders: &[u8]) -> Result<Board, Fail>
-    ensures { IfOk result (λ b. (t : ℕ) → EndBefore t b) }
+fn board_of(rt: &impl Abort, alloc: Global, orders: &[u8]) -> Board
+    ensures { (t : ℕ) → EndBefore t result }
 {
-    let orders = Orders::parse(alloc, orders)?;
-    Ok(Board::new(alloc, orders)?)
+    let orders = Orders::parse(alloc, orders).expect(rt, "orders");
+    Board::new(alloc, orders).expect(rt, "memory")
 }
 
 // Executes the next order at its stamp; no call's lines end.
@@ -48,16 +47,10 @@ fn replied(board: &mut Board, results: &[Result<Act, Refusal>]) -> usize
 }
 
 // Asserts that all these orders have these replies, and that no order is left.
-fn assert_replied(
-    rt: &impl Abort,
-    alloc: Global,
-    orders: &[u8],
-    results: &[Result<Act, Refusal>],
-) -> Result<(), Fail> {
-    let mut board = board_of(alloc, orders)?;
+fn assert_replied(rt: &impl Abort, alloc: Global, orders: &[u8], results: &[Result<Act, Refusal>]) {
+    let mut board = board_of(rt, alloc, orders);
     assert_rows(rt, replied(&mut board, results), results.len());
-    assert!(rt; board.next_stamp() == None);
-    Ok(())
+    assert_row(rt, results.len(), board.next_stamp() == None);
 }
 
 static TWO_PERIODS: &[u8] =
@@ -100,8 +93,8 @@ static TWO_RESULTS: [Result<Act, Refusal>; 13] = [
 
 // Orders of two periods, with each refusal once.
 #[test]
-fn orders_are_accepted_or_refused(rt: HostRuntime) -> Result<(), Fail> {
-    assert_replied(&rt, rt.alloc(), TWO_PERIODS, &TWO_RESULTS)
+fn orders_are_accepted_or_refused(rt: HostRuntime) {
+    assert_replied(&rt, rt.alloc(), TWO_PERIODS, &TWO_RESULTS);
 }
 
 static THREE_PERIODS: &[u8] =
@@ -181,8 +174,8 @@ static THREE_RESULTS: [Result<Act, Refusal>; 27] = [
 
 // If several refusals apply, the first of them is the reply.
 #[test]
-fn tests_of_an_order_go_in_their_order(rt: HostRuntime) -> Result<(), Fail> {
-    assert_replied(&rt, rt.alloc(), THREE_PERIODS, &THREE_RESULTS)
+fn tests_of_an_order_go_in_their_order(rt: HostRuntime) {
+    assert_replied(&rt, rt.alloc(), THREE_PERIODS, &THREE_RESULTS);
 }
 
 // Whether an order of period 0 is executed.
@@ -262,9 +255,8 @@ static REFUSED: Reply = Reply {
 
 // The ends of a round are reported in call-number order, so an end that is reported later may be earlier.
 #[test]
-fn ends_lower_a_span(rt: HostRuntime) -> Result<(), Fail> {
+fn ends_lower_a_span(rt: HostRuntime) {
     let orders = b"0 open 7\n0 open 9\n0 bridge 7 9\n40 unbridge 9\n";
-    let mut board = board_of(rt.alloc(), orders)?;
-    assert!(rt; reply_after_both(&mut board) == Some(REFUSED));
-    Ok(())
+    let mut board = board_of(&rt, rt.alloc(), orders);
+    assert_row(&rt, 4, reply_after_both(&mut board) == Some(REFUSED));
 }

@@ -1,5 +1,6 @@
 //! Bits of octets, by values that were computed by hand.
 
+use crate::rows::assert_row;
 use trau_bits::{get_bit, pack, put_bit, unpack};
 
 // 0x88 is 1000 1000 and 0x06 is 0000 0110, the most significant bit first.
@@ -9,10 +10,11 @@ static BITS: [u8; 16] = [1, 0, 0, 0, 1, 0, 0, 0, 0, 0, 0, 0, 0, 1, 1, 0];
 fn most_significant_bit_first(rt: HostRuntime) {
     let mut bits = [0; 16];
     unpack(&[0x88, 0x06], &mut bits);
-    assert!(rt; bits == BITS);
+    assert_row(&rt, 1, bits == BITS);
     let mut bytes = [0xFF; 2];
     pack(&bits, &mut bytes);
-    assert!(rt; bytes == [0x88, 0x06] && get_bit(&bytes, 13) == 1);
+    assert_row(&rt, 2, bytes == [0x88, 0x06]);
+    assert_row(&rt, 3, get_bit(&bytes, 13) == 1);
 }
 
 #[test]
@@ -21,5 +23,5 @@ fn bits_are_put(rt: HostRuntime) {
     put_bit(&mut bytes, 13, 0);
     put_bit(&mut bytes, 0, 0);
     put_bit(&mut bytes, 15, 1);
-    assert!(rt; bytes == [0x08, 0x03]);
+    assert_row(&rt, 1, bytes == [0x08, 0x03]);
 }

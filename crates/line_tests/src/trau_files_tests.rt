@@ -1,6 +1,6 @@
 //! What no proof sees: the system's files and streams.
 
-use crate::rows::assert_rows;
+use crate::rows::{assert_row, assert_rows};
 use std::io::{ErrorKind, Read, Write};
 use std::{fs, io};
 use trau_files::{FileTrunk, StdDesk};
@@ -174,7 +174,7 @@ fn held(rt: &HostRuntime, octets: &[u8]) -> usize {
 fn many_lines_are_written_in_turn(rt: HostRuntime) {
     let mut trunk = FileTrunk::new(rt.alloc(), &rt).expect(&rt, "memory");
     for octet in 1..=3u8 {
-        assert!(rt; are_written(&mut trunk, octet));
+        assert_row(&rt, usize::from(octet), are_written(&mut trunk, octet));
     }
     assert_rows(&rt, held(&rt, &[1, 2, 3]), 300);
 }
@@ -251,7 +251,7 @@ fn a_desk_is_a_reader_and_a_writer(rt: HostRuntime) {
     let mut text = Vec::new(rt.alloc());
     let orders = Interrupted::new([5, 6, 7].as_slice());
     let mut desk = StdDesk::new(orders, Interrupted::new(&mut text));
-    assert!(rt; is_heard(&mut desk));
-    assert!(rt; is_told(&mut desk, &[1, 2]));
-    assert!(rt; text.as_slice() == [1, 2].as_slice());
+    assert_row(&rt, 1, is_heard(&mut desk));
+    assert_row(&rt, 2, is_told(&mut desk, &[1, 2]));
+    assert_row(&rt, 3, text.as_slice() == [1, 2].as_slice());
 }

@@ -1,6 +1,6 @@
 //! Frames made by hand from the tables: what is read from them, and what is written.
 
-use crate::rows::assert_rows;
+use crate::rows::{assert_row, assert_rows};
 use trau_bits::{pack, unpack};
 use trau_frame::{Class, DownFrame, Kind, UpFrame, read_up, sync_matches, write_down, write_up};
 
@@ -69,11 +69,11 @@ fn is_good(frame: &UpFrame) -> bool {
 #[test]
 fn good_speech_is_read_and_relayed(rt: HostRuntime) {
     let frame = read(&UP).expect(&rt, "it is in sync");
-    assert!(rt; is_good(&frame));
-    assert!(rt; up_octets(&frame) == UP);
-    assert!(rt; down_octets(&frame, true) == DOWN);
+    assert_row(&rt, 1, is_good(&frame));
+    assert_row(&rt, 2, up_octets(&frame) == UP);
+    assert_row(&rt, 3, down_octets(&frame, true) == DOWN);
     // SP is the second bit from the end of octet 38.
-    assert!(rt; down_octets(&frame, false)[38] == 0xA5);
+    assert_row(&rt, 4, down_octets(&frame, false)[38] == 0xA5);
 }
 
 #[test]
@@ -87,7 +87,7 @@ fn an_idle_frame_is_written(rt: HostRuntime) {
     want[1] = 0x00;
     want[2] = 0xB8;
     want[3] = 0x0F;
-    assert!(rt; octets == want);
+    assert_row(&rt, 1, octets == want);
 }
 
 // Whether a speech frame with this octet at place 3 is of this class.
@@ -145,9 +145,10 @@ fn reads_alignment() -> bool {
 
 #[test]
 fn control_bits_are_read(rt: HostRuntime) {
-    assert!(rt; reads_alignment());
+    assert_row(&rt, 1, reads_alignment());
     // The patterns 10000 and 11111.
-    assert!(rt; is_of_kind(0xC0, Kind::Idle) && is_of_kind(0xFC, Kind::Other));
+    assert_row(&rt, 2, is_of_kind(0xC0, Kind::Idle));
+    assert_row(&rt, 3, is_of_kind(0xFC, Kind::Other));
     // The last sync bit is missing.
-    assert!(rt; with_control(0x88, 0x00, 0x26).is_none());
+    assert_row(&rt, 4, with_control(0x88, 0x00, 0x26).is_none());
 }

@@ -1,5 +1,6 @@
 //! The trunk and the desk in memory: what they give and take, with which chunk sizes, and where they fail.
 
+use crate::rows::assert_row;
 use std::alloc::{AllocError, Global};
 use trau_io::{
     Desk, Failed, Filled, Line, MemDesk, MemTrunk, Side, Trunk, read_block, tell, write_all,
@@ -83,8 +84,8 @@ fn is_closed(trunk: &mut MemTrunk) -> bool {
 #[test]
 fn a_line_is_read_in_its_cuts(rt: HostRuntime) {
     let mut trunk = three_lines(rt.alloc()).expect(&rt, "memory");
-    assert!(rt; is_read_in_cuts(&mut trunk));
-    assert!(rt; is_closed(&mut trunk));
+    assert_row(&rt, 1, is_read_in_cuts(&mut trunk));
+    assert_row(&rt, 2, is_closed(&mut trunk));
 }
 
 // Whether filling a block of six octets from Pcm has this result.
@@ -112,7 +113,7 @@ fn fills_down(trunk: &mut MemTrunk) -> bool {
 #[test]
 fn a_whole_transfer_goes_on_over_cuts(rt: HostRuntime) {
     let mut trunk = three_lines(rt.alloc()).expect(&rt, "memory");
-    assert!(rt; fills_down(&mut trunk));
+    assert_row(&rt, 1, fills_down(&mut trunk));
 }
 
 // A desk with eight octets and room for nine, whose first read and second write fail.
@@ -151,6 +152,6 @@ fn is_told_once(desk: &mut MemDesk) -> bool {
 #[test]
 fn a_desk_gives_and_takes_as_it_was_told(rt: HostRuntime) {
     let mut desk = desk(rt.alloc()).expect(&rt, "memory");
-    assert!(rt; is_heard(&mut desk));
-    assert!(rt; is_told_once(&mut desk));
+    assert_row(&rt, 1, is_heard(&mut desk));
+    assert_row(&rt, 2, is_told_once(&mut desk));
 }

@@ -1,6 +1,6 @@
 //! Texts of orders that are counted or refused, some at the limits.
 
-use crate::rows::assert_rows;
+use crate::rows::{assert_row, assert_rows};
 use std::alloc::{AllocError, Global};
 use trau_alaw::Law;
 use trau_orders::{DtxMode, Order, OrderFault, Orders, What};
@@ -80,7 +80,11 @@ static LIMITS: [(u8, usize, OrderFault); 4] = [
 #[test]
 fn limits(rt: HostRuntime) {
     for (octet, length, fault) in &LIMITS {
-        assert!(rt; is_limit(rt.alloc(), *octet, *length, *fault) == Ok(true));
+        assert_row(
+            &rt,
+            *length,
+            is_limit(rt.alloc(), *octet, *length, *fault) == Ok(true),
+        );
     }
 }
 
@@ -161,5 +165,5 @@ static ORDERS: [(u32, What); 17] = [
 
 #[test]
 fn lines_and_their_orders(rt: HostRuntime) {
-    assert!(rt; spells(rt.alloc(), LINES, &ORDERS));
+    assert_row(&rt, 1, spells(rt.alloc(), LINES, &ORDERS));
 }
