@@ -2,6 +2,7 @@
 
 ghost use Rattle.std.specs.Prelude.{◌≤◌};
 
+use crate::rows::assert_row;
 use fr_decoder::Decoder;
 use trau_params::Params;
 
@@ -26,13 +27,17 @@ fn silent_start(nc: u8) -> [i16; 160]
 // The first samples were computed by hand from the standard's formulas.
 #[test]
 fn decodes_a_first_frame(rt: HostRuntime) {
-    assert!(rt; silent_start(40).starts_with(&[8, 0, 0, 8, 8, 8, 16]));
+    assert_row(
+        &rt,
+        1,
+        silent_start(40).starts_with(&[8, 0, 0, 8, 8, 8, 16]),
+    );
 }
 
 // In the home state the last used lag is 40. It replaces a lag that no encoder sends.
 #[test]
 fn a_first_lag_out_of_range_is_40(rt: HostRuntime) {
-    assert!(rt; silent_start(127) == silent_start(40));
+    assert_row(&rt, 1, silent_start(127) == silent_start(40));
 }
 
 // The fields of a frame whose 260 bits are all 1, with this lag in place of 127.
@@ -68,5 +73,5 @@ fn decode_as_lag_40() -> bool {
 // On a hostile line of frames whose data bits are all 1, no frame has a lag that can be used.
 #[test]
 fn every_lag_of_ones_is_40(rt: HostRuntime) {
-    assert!(rt; decode_as_lag_40());
+    assert_row(&rt, 1, decode_as_lag_40());
 }

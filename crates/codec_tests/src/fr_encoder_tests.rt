@@ -1,5 +1,6 @@
 //! The encoder from the home state: a silent start.
 
+use crate::rows::assert_row;
 use fr_encoder::Encoder;
 use trau_params::{Params, Trace};
 
@@ -23,5 +24,7 @@ fn is_silent(trace: &Trace) -> bool {
 #[test]
 fn encodes_a_silent_start(rt: HostRuntime) {
     let (params, trace, peak) = Encoder::home().encode(&[0; 160]);
-    assert!(rt; params == silent_start() && is_silent(&trace) && peak == 0);
+    assert_row(&rt, 1, params == silent_start());
+    assert_row(&rt, 2, is_silent(&trace));
+    assert_row(&rt, 3, peak == 0);
 }

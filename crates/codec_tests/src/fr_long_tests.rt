@@ -3,6 +3,7 @@
 ghost use Rattle.std.specs.Prelude.{◌<◌};
 ghost use Rattle.fr_long.specs.Scaling.{AreScaled};
 
+use crate::rows::assert_row;
 use fr_long::{Ltp, LtpDecoder, LtpHistory, correlate};
 
 // A block whose first sample is 1000, with zeros after it.
@@ -17,7 +18,7 @@ fn starts_with_lag_40(rt: HostRuntime) {
     let mut decoder = LtpDecoder::home();
     let first = decoder.synth(127, 3, &pulse());
     let second = decoder.synth(39, 0, &[0; 40]);
-    assert!(rt; [first[0], second[0], second[1]] == [1000, 100, 0]);
+    assert_row(&rt, 1, [first[0], second[0], second[1]] == [1000, 100, 0]);
 }
 
 #[test]
@@ -26,7 +27,11 @@ fn keeps_the_last_used_lag(rt: HostRuntime) {
     decoder.synth(40, 0, &pulse());
     let second = decoder.synth(50, 3, &[0; 40]);
     let third = decoder.synth(10, 1, &[-1; 40]);
-    assert!(rt; [second[10], third[10], third[20]] == [1000, -1, 349]);
+    assert_row(
+        &rt,
+        1,
+        [second[10], third[10], third[20]] == [1000, -1, 349],
+    );
 }
 
 // Whether a prediction has this lag and this code of a gain.
@@ -56,7 +61,8 @@ fn pulses_before() -> LtpHistory {
 #[test]
 fn takes_the_least_of_equal_lags(rt: HostRuntime) {
     let ltp = pulses_before().predict(&pulse());
-    assert!(rt; has_codes(&ltp, 50, 3) && ltp.e[0] == 0);
+    assert_row(&rt, 1, has_codes(&ltp, 50, 3));
+    assert_row(&rt, 2, ltp.e[0] == 0);
 }
 
 // The history of three blocks whose samples are all below 0.
@@ -72,7 +78,8 @@ fn negative_before() -> LtpHistory {
 fn takes_lag_40_where_no_correlation_is_positive(rt: HostRuntime) {
     let history = negative_before();
     let ltp = history.predict(&pulse());
-    assert!(rt; has_codes(&ltp, 40, 0) && has_samples(&ltp, 0, -1, 0, 1001));
+    assert_row(&rt, 1, has_codes(&ltp, 40, 0));
+    assert_row(&rt, 2, has_samples(&ltp, 0, -1, 0, 1001));
 }
 
 // A block with these samples at these places; all others are 0.
@@ -102,13 +109,19 @@ fn predicts_two_blocks_in_turn(rt: HostRuntime) {
     let first = history.predict(&block(&[(0, 1200), (14, -700), (26, 500)]));
     history.update(&first.dpp, &block(&[(1, 300), (26, -100)]));
     let second = history.predict(&block(&[(1, -400), (15, 900)]));
-    assert!(rt; has_codes(&first, 117, 2) && has_samples(&first, 14, -975, 26, 45));
-    assert!(rt; has_codes(&second, 55, 1) && has_samples(&second, 16, 105, 29, 341));
+    assert_row(&rt, 1, has_codes(&first, 117, 2));
+    assert_row(&rt, 2, has_samples(&first, 14, -975, 26, 45));
+    assert_row(&rt, 3, has_codes(&second, 55, 1));
+    assert_row(&rt, 4, has_samples(&second, 16, 105, 29, 341));
 }
 
 #[test]
 fn correlates_the_loudest_block(rt: HostRuntime) {
-    assert!(rt; correlate(&[-512; 40], &[-32768; 120]) == [1342177280; 81]);
+    assert_row(
+        &rt,
+        1,
+        correlate(&[-512; 40], &[-32768; 120]) == [1342177280; 81],
+    );
 }
 
 // A block whose first sample is 1, with zeros after it.
@@ -128,5 +141,5 @@ fn correlates_with_the_residual_a_lag_before(rt: HostRuntime) {
         past[k] = k as i16;
     }
     let correlations = correlate(&unit(), &past);
-    assert!(rt; [correlations[0], correlations[80]] == [160, 0]);
+    assert_row(&rt, 1, [correlations[0], correlations[80]] == [160, 0]);
 }

@@ -1,5 +1,6 @@
 //! Preprocessing: silence, steps, and the state between frames.
 
+use crate::rows::assert_row;
 use fr_pre::PreState;
 
 // The first three samples of a frame and its last, preprocessed.
@@ -19,7 +20,8 @@ fn silence_stays_silent(rt: HostRuntime) {
     let mut state = PreState::home();
     let mut s = [7; 160];
     state.preprocess(&[0; 160], &mut s);
-    assert!(rt; s == [0; 160] && state == PreState::home());
+    assert_row(&rt, 1, s == [0; 160]);
+    assert_row(&rt, 2, state == PreState::home());
 }
 
 // The numbers were computed independently of this crate, from the text of GSM 06.10.
@@ -28,8 +30,12 @@ fn a_constant_fades(rt: HostRuntime) {
     let mut state = PreState::home();
     let first = preprocess(&mut state, &[8000; 160]);
     let second = preprocess(&mut state, &[8000; 160]);
-    assert!(rt; [first, second] == [[4000, 556, 555, 475], [473, 474, 473, 403]]);
-    assert!(rt; has_words(&state, 4000, 95042714, 2900));
+    assert_row(
+        &rt,
+        1,
+        [first, second] == [[4000, 556, 555, 475], [473, 474, 473, 403]],
+    );
+    assert_row(&rt, 2, has_words(&state, 4000, 95042714, 2900));
 }
 
 // The greatest and the least sample in turn.
@@ -45,6 +51,10 @@ fn ends() -> [i16; 160] {
 #[test]
 fn meets_the_ends(rt: HostRuntime) {
     let mut state = PreState::home();
-    assert!(rt; preprocess(&mut state, &ends()) == [16380, -30483, 30480, -30482]);
-    assert!(rt; has_words(&state, -16380, -537240629, -16395));
+    assert_row(
+        &rt,
+        1,
+        preprocess(&mut state, &ends()) == [16380, -30483, 30480, -30482],
+    );
+    assert_row(&rt, 2, has_words(&state, -16380, -537240629, -16395));
 }

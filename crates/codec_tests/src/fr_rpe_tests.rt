@@ -1,17 +1,22 @@
 //! Pulse coding of both sides, at the ends of its ranges.
 
+use crate::rows::assert_row;
 use fr_rpe::{Rpe, decode_block, encode_block, quantise_max};
 
 #[test]
 fn decodes_a_block_of_silence(rt: HostRuntime) {
     let ep = decode_block(0, 0, &[4; 13]);
-    assert!(rt; [ep[0], ep[1], ep[36], ep[39]] == [4, 0, 4, 0]);
+    assert_row(&rt, 1, [ep[0], ep[1], ep[36], ep[39]] == [4, 0, 4, 0]);
 }
 
 #[test]
 fn decodes_the_loudest_pulses(rt: HostRuntime) {
     let ep = decode_block(3, 63, &[7, 0, 7, 0, 7, 0, 7, 0, 7, 0, 7, 0, 7]);
-    assert!(rt; [ep[2], ep[3], ep[6], ep[39]] == [0, 28671, -28671, 28671]);
+    assert_row(
+        &rt,
+        1,
+        [ep[2], ep[3], ep[6], ep[39]] == [0, 28671, -28671, 28671],
+    );
 }
 
 #[test]
@@ -22,7 +27,7 @@ fn codes_the_ends_of_the_maxima(rt: HostRuntime) {
         quantise_max(512),
         quantise_max(32767),
     ];
-    assert!(rt; maxima == [0, 15, 16, 63]);
+    assert_row(&rt, 1, maxima == [0, 15, 16, 63]);
 }
 
 // A few pulses with silence between them.
@@ -50,6 +55,7 @@ fn has_codes(rpe: &Rpe, codes: [u8; 3]) -> bool {
 #[test]
 fn encodes_a_block(rt: HostRuntime) {
     let rpe = encode_block(&pulses());
-    assert!(rt; is_at(&rpe, 2, 3000, 35) && has_codes(&rpe, [4, 0, 3]));
-    assert!(rt; [rpe.ep[14], rpe.ep[15]] == [-2688, 0]);
+    assert_row(&rt, 1, is_at(&rpe, 2, 3000, 35));
+    assert_row(&rt, 2, has_codes(&rpe, [4, 0, 3]));
+    assert_row(&rt, 3, [rpe.ep[14], rpe.ep[15]] == [-2688, 0]);
 }

@@ -4,6 +4,7 @@ ghost use Rattle.std.specs.Prelude.{◌<◌};
 ghost use Rattle.trau_params.specs.Widths.{FitLarc};
 
 use crate::plain_filters::{PlainFilter, deemphasised};
+use crate::rows::assert_row;
 use fr_short::{ShortState, decode_larc};
 use trau_num::Draw;
 
@@ -16,7 +17,7 @@ use trau_num::Draw;
 #[test]
 fn decodes_ratios(rt: HostRuntime) {
     let ratios = decode_larc(&[32, 32, 20, 11, 8, 5, 3, 2]);
-    assert!(rt; ratios == [0, 0, 0, 0, -220, 546, -656, 436]);
+    assert_row(&rt, 1, ratios == [0, 0, 0, 0, -220, 546, -656, 436]);
 }
 
 #[test]
@@ -24,7 +25,7 @@ fn silence_stays_silent(rt: HostRuntime) {
     let mut state = ShortState::home();
     let mut s = [7; 160];
     state.synthesise_frame(&[42, 39, 21, 10, 9, 4, 3, 2], &[0; 160], &mut s);
-    assert!(rt; s == [0; 160]);
+    assert_row(&rt, 1, s == [0; 160]);
 }
 
 // A frame with one sample at its beginning, and zeros after it.
@@ -43,7 +44,8 @@ fn filters_two_frames(rt: HostRuntime) {
     let first = [s[12], s[13], s[14]];
     state.synthesise_frame(&[42, 39, 21, 10, 9, 4, 3, 2], &pulse(1000), &mut s);
     let second = [s[0], s[1], s[2], s[3]];
-    assert!(rt; first == [117, -59, 123] && second == [1005, -410, 343, -352]);
+    assert_row(&rt, 1, first == [117, -59, 123]);
+    assert_row(&rt, 2, second == [1005, -410, 343, -352]);
 }
 
 // Whether these are a frame's samples at the edges of the parts.
@@ -64,13 +66,13 @@ fn analyses_two_frames(rt: HostRuntime) {
     let mut s = [1000; 160];
     state.analyse_frame(&[50, 20, 25, 10, 12, 6, 5, 2], &mut s);
     let samples = [1000, 1265, 1533, 1484, 1727, 1605, 1696, 1473];
-    assert!(rt; has_edges(&s, samples));
+    assert_row(&rt, 1, has_edges(&s, samples));
     s = [-32768; 160];
     state.analyse_frame(&[42, 39, 21, 10, 9, 4, 3, 2], &mut s);
     let samples = [
         -32113, -21501, -25998, -23634, -28525, -32768, -31236, -31217,
     ];
-    assert!(rt; has_ends(&s, samples));
+    assert_row(&rt, 2, has_ends(&s, samples));
 }
 
 // The level of a frame of random samples: shifted down by this number of places, or each sample the greatest or the
@@ -176,8 +178,8 @@ fn analyses_plainly(level: Level, frames: u32) -> bool {
 #[test]
 fn lattices_are_those_of_the_standard(rt: HostRuntime) {
     for level in &LEVELS {
-        assert!(rt; synthesises_plainly(*level, 200));
-        assert!(rt; synthesises_deemphasised_plainly(*level, 200));
-        assert!(rt; analyses_plainly(*level, 200));
+        assert_row(&rt, 1, synthesises_plainly(*level, 200));
+        assert_row(&rt, 2, synthesises_deemphasised_plainly(*level, 200));
+        assert_row(&rt, 3, analyses_plainly(*level, 200));
     }
 }

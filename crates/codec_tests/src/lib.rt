@@ -21,6 +21,8 @@ mod fr_short_tests;
 #[cfg(test)]
 mod plain_filters;
 #[cfg(test)]
+mod rows;
+#[cfg(test)]
 mod trau_alaw_tests;
 #[cfg(test)]
 mod trau_num_tests;

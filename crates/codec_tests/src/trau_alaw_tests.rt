@@ -1,5 +1,6 @@
 //! A-law and mu-law: the ends of their ranges, and octets that are expanded and compressed again.
 
+use crate::rows::assert_row;
 use trau_alaw::{
     Law, compress, compress_law, expand, expand_law, idle_octet, recompress, recompress_law,
 };
@@ -7,14 +8,15 @@ use trau_alaw::{
 #[test]
 fn expands_the_ends(rt: HostRuntime) {
     let samples = [expand(0xD5), expand(0x55), expand(0xAA), expand(0x2A)];
-    assert!(rt; samples == [8, -8, 32256, -32256]);
+    assert_row(&rt, 1, samples == [8, -8, 32256, -32256]);
 }
 
 #[test]
 fn compresses_the_ends(rt: HostRuntime) {
     let least = [compress(0), compress(-1), compress(16)];
     let greatest = [compress(32767), compress(-32768)];
-    assert!(rt; least == [0xD5, 0x55, 0xD4] && greatest == [0xAA, 0x2A]);
+    assert_row(&rt, 1, least == [0xD5, 0x55, 0xD4]);
+    assert_row(&rt, 2, greatest == [0xAA, 0x2A]);
 }
 
 // The first octet that expanding and compressing changes.
@@ -29,7 +31,8 @@ fn first_changed() -> Option<u8> {
 
 #[test]
 fn gives_all_octets_back(rt: HostRuntime) {
-    assert_eq!(rt; first_changed(), None);
+    let changed = first_changed();
+    assert_row(&rt, usize::from(changed.unwrap_or(0)), changed.is_none());
 }
 
 // The octet of a sample, by the greatest segment that begins at its magnitude or below (G.711, table 1a).
@@ -57,7 +60,9 @@ fn first_apart() -> Option<i16> {
 
 #[test]
 fn compresses_all_samples_plainly(rt: HostRuntime) {
-    assert_eq!(rt; first_apart(), None);
+    let apart = first_apart();
+    let row = apart.unwrap_or(0).cast_unsigned();
+    assert_row(&rt, usize::from(row), apart.is_none());
 }
 
 // Whether expanding and compressing changes 0x7F of mu-law, and no other octet.
@@ -82,7 +87,7 @@ fn to_mulaw(x: i16) -> u8 {
 #[test]
 fn mulaw_at_its_ends(rt: HostRuntime) {
     let samples = [mulaw(0xFF), mulaw(0x7F), mulaw(0xFE), mulaw(0x80), mulaw(0)];
-    assert!(rt; samples == [0, 0, 8, 32124, -32124]);
+    assert_row(&rt, 1, samples == [0, 0, 8, 32124, -32124]);
     let least = [
         to_mulaw(0),
         to_mulaw(3),
@@ -91,7 +96,12 @@ fn mulaw_at_its_ends(rt: HostRuntime) {
         to_mulaw(-5),
     ];
     let greatest = [to_mulaw(32767), to_mulaw(-32768)];
-    assert!(rt; least == [0xFF, 0xFF, 0xFE, 0x7F, 0x7E] && greatest == [0x80, 0x00]);
-    assert!(rt; all_but_one_come_back());
-    assert!(rt; [idle_octet(Law::A), idle_octet(Law::Mu)] == [0xD5, 0xFF]);
+    assert_row(&rt, 2, least == [0xFF, 0xFF, 0xFE, 0x7F, 0x7E]);
+    assert_row(&rt, 3, greatest == [0x80, 0x00]);
+    assert_row(&rt, 4, all_but_one_come_back());
+    assert_row(
+        &rt,
+        5,
+        [idle_octet(Law::A), idle_octet(Law::Mu)] == [0xD5, 0xFF],
+    );
 }

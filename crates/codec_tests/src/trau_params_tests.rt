@@ -1,5 +1,6 @@
 //! A frame of parameters and its 260 bits.
 
+use crate::rows::assert_row;
 use trau_params::{Params, rewritten, silence};
 
 // Whether each of the 260 bits of parameters is `bit`.
@@ -26,16 +27,18 @@ fn the_greatest_fields_are_ones(rt: HostRuntime) {
         [63; 4],
         [[7; 13]; 4],
     );
-    assert!(rt; are_bits(&greatest, 1) && come_back(&greatest));
+    assert_row(&rt, 1, are_bits(&greatest, 1));
+    assert_row(&rt, 2, come_back(&greatest));
 }
 
 #[test]
 fn fields_of_zero_are_zeros(rt: HostRuntime) {
     let least = Params::new([0; 8], [0; 4], [0; 4], [0; 4], [0; 4], [[0; 13]; 4]);
-    assert!(rt; are_bits(&least, 0) && come_back(&least));
+    assert_row(&rt, 1, are_bits(&least, 0));
+    assert_row(&rt, 2, come_back(&least));
 }
 
 #[test]
 fn silence_comes_back(rt: HostRuntime) {
-    assert!(rt; rewritten(&silence()) == silence());
+    assert_row(&rt, 1, rewritten(&silence()) == silence());
 }
