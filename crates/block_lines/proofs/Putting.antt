@@ -11,7 +11,7 @@ use Rattle.block_lines.specs.declared.end.RunEnd.{RunEnd}
 use Rattle.block_lines.specs.declared.end.RunEnd.TheVariants.{Done, Refused, ReadFailed, WriteFailed, DeskFailed}
 use Rattle.block_lines.specs.Machines.{IsLawful, Machine, with_next}
 use Rattle.block_lines.specs.Runs.{All_of_it, None_of_it, Output, OthersStay as MachineOthersStay, around, line_stage, out_of}
-use Rattle.block_lines.specs.Step.{Adds, BlockEnds, Goes, LineGains, LinesStay, Makes, PutEnds, Puts, part_for}
+use Rattle.block_lines.specs.Step.{Adds, BlockEnds, Goes, LineGains, LinesStay, Makes, PutEnds, Puts}
 
 -- nothing goes out
 adds_none : (o : Output) (before all : List ℕ) → Adds None_of_it o o before all
@@ -26,24 +26,24 @@ module _ (M : Machine) (before after : List (List ℕ) → Type 0) (next : List 
     desk = λ blocks now. adds_none _ _ _;
   }
 
-  module _ (sent text : List ℕ) (count : ℕ) (makes : Makes M before after next sent text count) where
+  module _ (holds : ℕ → List ℕ) (text : List ℕ) (count : ℕ) (makes : Makes M before after next holds text count) where
     pub write_failed : (k : ℕ) → ((j : ℕ) → j < M.shape.lines →
-        LineGains (line_stage (WriteFailed k) j) (lines (call + j) M.shape.to) (lines' (call + j) M.shape.to) (part_for j sent count)) →
+        LineGains (line_stage (WriteFailed k) j) (lines (call + j) M.shape.to) (lines' (call + j) M.shape.to) (take count (holds j))) →
         Puts M before after next (around M lines desk call) (around M lines' desk call) (WriteFailed k)
     write_failed k gained = record {
       stays = record { outs = λ j below. (gained j below).1; desk = refl; read_faults = refl };
       stands = λ blocks now. tt;
-      lines = λ blocks now j below. (part_for j sent count, (gained j below).0, inl (makes.made blocks now j below));
+      lines = λ blocks now j below. (take count (holds j), (gained j below).0, inl (makes.made blocks now j below));
       desk = λ blocks now. adds_none _ _ _;
     }
 
     module _ (desk' : DeskState) (gained : (j : ℕ) → j < M.shape.lines →
-        LineGains All_of_it (lines (call + j) M.shape.to) (lines' (call + j) M.shape.to) (part_for j sent count)) where
+        LineGains All_of_it (lines (call + j) M.shape.to) (lines' (call + j) M.shape.to) (take count (holds j))) where
       pub done : (n left : ℕ) → Tells desk desk' (Ok tt) text → Puts M before after next (around M lines desk call) (around M lines' desk' call) (Done n left)
       done n left tells = record {
         stays = record { outs = λ j below. (gained j below).1; desk = tells.to_come; read_faults = tells.read_faults };
         stands = makes.stands;
-        lines = λ blocks now j below. (part_for j sent count, (gained j below).0, inl (makes.made blocks now j below));
+        lines = λ blocks now j below. (take count (holds j), (gained j below).0, inl (makes.made blocks now j below));
         desk = λ blocks now. (text, (tells.ok, tells.cause.ok), inl (makes.printed blocks now));
       }
 
@@ -51,7 +51,7 @@ module _ (M : Machine) (before after : List (List ℕ) → Type 0) (next : List 
       desk_failed tells = record {
         stays = record { outs = λ j below. (gained j below).1; desk = tells.to_come; read_faults = tells.read_faults };
         stands = λ blocks now. tt;
-        lines = λ blocks now j below. (part_for j sent count, (gained j below).0, inl (makes.made blocks now j below));
+        lines = λ blocks now j below. (take count (holds j), (gained j below).0, inl (makes.made blocks now j below));
         desk = λ blocks now. (text, (tells.err.0, tells.err.1, tells.err.2, tells.cause.later, tells.cause.failed), inl (makes.printed blocks now));
       }
 

@@ -1,5 +1,5 @@
 -- One block of a run, after any blocks that the machine has taken (`stands`).
-use Rattle.std.specs.Prelude.{◌≡◌, ◌⊎◌, ℕ, ◌+◌, ◌*◌, ◌-◌, ◌^◌, ◌<◌, ◌≤◌, List, [], ◌++◌, length, take, slice_range, Result, Ok, Err}
+use Rattle.std.specs.Prelude.{◌≡◌, ◌⊎◌, ℕ, ◌+◌, ◌*◌, ◌-◌, ◌^◌, ◌<◌, ◌≤◌, List, [], ◌++◌, length, take, Result, Ok, Err}
 use Rattle.std.specs.Io.KnownBytes.{Appends, IsAtEnd}
 use Rattle.trau_io.specs.declared.line.Side.{Side}
 use Rattle.trau_io.specs.Lines.{LineState, Rose}
@@ -16,18 +16,14 @@ pub record HasRoom (stands : List (List ℕ) → Type 0) : Type 0 where
   pub now : stands blocks
   pub fewer : length blocks < 2 ^ 32 - 1
 
--- the octets of line j: `count` of them, from place 40 j on
-abbrev pub part_for : ℕ → List ℕ → ℕ → List ℕ
-part_for j sent count = slice_range sent (40 * j) (40 * j + count)
-
--- what a machine makes of one more block, or of the octets left: `before` says of a list that these are the blocks that it has taken so
--- far, and `after` that it has taken them then
-pub record Makes (M : Machine) (before after : List (List ℕ) → Type 0) (next sent text : List ℕ) (count : ℕ) : Type 0 where
-  pub bound : (j : ℕ) → j < M.shape.lines → 40 * j + count ≤ 160
+-- what a machine makes of one more block, or of the octets left: this text, and for line j `count` of the octets that it then holds for
+-- it; `before` says of a list that these are the blocks that it has taken so far, and `after` that it has taken them then
+pub record Makes (M : Machine) (before after : List (List ℕ) → Type 0) (next : List ℕ) (holds : ℕ → List ℕ) (text : List ℕ) (count : ℕ) : Type 0 where
+  pub bound : (j : ℕ) → j < M.shape.lines → count ≤ length (holds j)
   pub is : IsNext M next
   pub stands : (blocks : List (List ℕ)) → before blocks → after (blocks_with M blocks next)
   pub made : (blocks : List (List ℕ)) → before blocks → (j : ℕ) → j < M.shape.lines →
-      with_next M (M.made j) blocks next ≡ M.made j blocks [] ++ part_for j sent count
+      with_next M (M.made j) blocks next ≡ M.made j blocks [] ++ take count (holds j)
   pub printed : (blocks : List (List ℕ)) → before blocks → with_next M M.printed blocks next ≡ M.printed blocks [] ++ text
 
 -- an output gained as much of these octets as its stage says

@@ -37,7 +37,7 @@ fn end_text<M: BlockMachine>(machine: &M, call: u32, end: RunEnd) -> ArrayString
         result.bytes ≡ last_text M.about call blocks last end }
 {
     match end {
-        RunEnd::Done(blocks, left) => machine.done_text(blocks, left),
+        RunEnd::Done { blocks, left } => machine.done_text(blocks, left),
         RunEnd::Refused(blocks) => machine.refused_text(blocks),
         RunEnd::ReadFailed => failed_line(call, machine.shape().from),
         RunEnd::WriteFailed(failed) => failed_line(call + failed, machine.shape().to),
@@ -53,7 +53,7 @@ fn tool_end(shape: Shape, call: u32, end: RunEnd) -> ToolEnd
     ensures { IsEndOf shape call end result }
 {
     match end {
-        RunEnd::Done(..) => ToolEnd::Done,
+        RunEnd::Done { .. } => ToolEnd::Done,
         RunEnd::Refused(blocks) => ToolEnd::Refused(blocks),
         RunEnd::ReadFailed => ToolEnd::LineFault(Line {
             call,

@@ -5,7 +5,7 @@ use trau_io::Line;
 #[derive(Clone, Copy)]
 pub enum RunEnd {
     /// At the end of the line, or after 4,294,967,295 blocks. The numbers of blocks, and of octets left after the last of them.
-    Done(u32, u32),
+    Done { blocks: u32, left: u32 },
     /// At a block that is refused. How many blocks preceded it.
     Refused(u32),
     /// The incoming line failed.

@@ -18,4 +18,4 @@ mod run;
 
 pub use command::{failed_line, run_command};
 pub use end::{RunEnd, ToolEnd};
-pub use machine::{BlockMachine, Made, Shape};
+pub use machine::{BlockMachine, Shape};

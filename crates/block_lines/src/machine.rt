@@ -1,5 +1,5 @@
 //! What a block machine is.
-ghost use Rattle.std.specs.Prelude.{◌≡◌, ◌≤◌, ℕ, List, [], length, IfSome, IsNone};
+ghost use Rattle.std.specs.Prelude.{◌≡◌, ◌<◌, ◌≤◌, ℕ, List, [], length, IfSome, IsNone};
 ghost use Rattle.block_lines.specs.Machines.{IsLawful, IsNext, Machine};
 ghost use Rattle.block_lines.specs.Step.{HasRoom, Makes};
 
@@ -19,13 +19,6 @@ pub struct Shape {
     pub to: Side,
 }
 
-/// What a machine made of a block: how many octets for each of its lines, and text.
-#[derive(Drop)]
-pub struct Made {
-    pub count: usize,
-    pub text: ArrayString<64>,
-}
-
 /// A command that processes the blocks of a line one by one.
 pub trait BlockMachine {
     /// What it makes of all blocks.
@@ -34,18 +27,33 @@ pub trait BlockMachine {
     /// It has taken these blocks.
     ghost stands: { Self → List (List ℕ) → Type 0 };
 
+    /// The octets that it holds for line j.
+    ghost holds: { Self → ℕ → List ℕ };
+
+    /// The text for what it took last.
+    ghost says: { Self → List ℕ };
+
     /// Its lines and the length of its blocks.
     fn shape(&self) -> Shape
         ensures value { result ≡ about.shape }
         ensures law { IsLawful about };
 
-    /// Takes the next block, or the octets left at the line's end, and makes what goes out for that: the octets of line j are in
-    /// `sent` from place 40 j on. None if the block is refused.
-    fn make(&mut self, block: &[u8], sent: &mut [u8; 160]) -> Option<Made>
+    /// Takes the next block, or the octets left at the line's end, and makes what goes out for that: a text, and for each line as many
+    /// of the octets that it then holds for the line as the number returned says. None if the block is refused.
+    fn make(&mut self, block: &[u8]) -> Option<usize>
         requires bound { length block.now ≤ about.shape.octets }
         requires room { HasRoom (stands self.old) }
-        ensures makes { IfSome result (λ made. Makes about (stands self.old) (stands self.new) block.now sent.new made.text.bytes made.count) }
+        ensures makes { IfSome result (λ count. Makes about (stands self.old) (stands self.new) block.now (holds self.new) (says self.new) count) }
         ensures refuses { IsNone result → IsNext about block.now → ⊥ };
+
+    /// The octets that it holds for one of its lines, counted from 0.
+    fn octets(&self, line: u32) -> &[u8]
+        requires { line < about.shape.lines }
+        ensures { result.now ≡ holds self.now line };
+
+    /// The text for what it took last.
+    fn text(&self) -> &str
+        ensures { result.now ≡ says self.now };
 
     /// The last text at the line's end, after this number of blocks and with this number of octets left.
     fn done_text(&self, blocks: u32, left: u32) -> ArrayString<64>

@@ -1,26 +1,27 @@
 //! The run of a block machine over its lines.
-ghost use Rattle.std.specs.Prelude.{◌≡◌, ◌+◌, ◌*◌, ◌<◌, ◌≤◌, ℕ, List, [], length, IfErr, IsTrue, ◌↔◌};
+ghost use Rattle.std.specs.Prelude.{◌≡◌, ◌+◌, ◌<◌, ◌≤◌, ℕ, List, [], length, take, IfErr, IsTrue, ◌↔◌};
 ghost use Rattle.call_number.specs.CallNumber.{IsCallNumber};
 ghost use Rattle.block_lines.specs.Runs.{OthersStay, around, out_of};
-ghost use Rattle.block_lines.specs.Step.{Goes, HasRoom, IsTaken, LineGains, LinesStay, PutEnds, Puts, RunsTo, part_for, write_stage};
+ghost use Rattle.block_lines.specs.Step.{Goes, HasRoom, IsTaken, LineGains, LinesStay, PutEnds, Puts, RunsTo, write_stage};
 
 use crate::end::RunEnd;
 use crate::machine::{BlockMachine, Shape};
 use trau_io::{Desk, Filled, Line, Trunk, read_block, tell, write_all};
 
-// Writes the octets of each line, one line after the other, up to the first that fails.
-fn write_lines<T: Trunk>(
-    call: u32,
+// Writes to each line what the machine has made for it, one line after the other, up to the first that fails.
+fn write_lines<M: BlockMachine, T: Trunk>(
+    machine: &M,
     shape: Shape,
-    sent: &[u8; 160],
+    call: u32,
     count: usize,
     trunk: &mut T,
 ) -> Result<(), u32>
+    requires shape { shape ≡ M.about.shape }
     requires low { 1 ≤ call }
     requires high { call + shape.lines ≤ 4097 }
-    requires within { (j : ℕ) → j < shape.lines → 40 * j + count ≤ 160 }
+    requires within { (j : ℕ) → j < shape.lines → count ≤ length (M.holds machine.now j) }
     ensures lines { (j : ℕ) → j < shape.lines →
-        LineGains (write_stage result j) (T.lines trunk.old (call + j) shape.to) (T.lines trunk.new (call + j) shape.to) (part_for j sent.now count) }
+        LineGains (write_stage result j) (T.lines trunk.old (call + j) shape.to) (T.lines trunk.new (call + j) shape.to) (take count (M.holds machine.now j)) }
     ensures failed { IfErr result (λ k. k < shape.lines) }
     ensures others { LinesStay shape (T.lines trunk.old) (T.lines trunk.new) call }
 {
@@ -29,8 +30,7 @@ fn write_lines<T: Trunk>(
             call: call + j,
             side: shape.to,
         };
-        let at = 40 * j as usize;
-        match write_all(trunk, line, &sent[at..at + count]) {
+        match write_all(trunk, line, &machine.octets(j)[..count]) {
             Ok(()) => {}
             Err(_) => return Err(j),
         }
@@ -38,7 +38,9 @@ fn write_lines<T: Trunk>(
     Ok(())
 }
 
-// Writes and prints what the machine makes of the next block, or of the octets left at the line's end.
+// Writes and prints what the machine makes of the next block, or of the octets left at the line's end. It is compiled once for each of
+// the two, so that a whole block isn't tested for its length.
+#[inline(always)]
 fn put<M: BlockMachine, T: Trunk, D: Desk>(
     machine: &mut M,
     blocks: u32,
@@ -56,15 +58,17 @@ fn put<M: BlockMachine, T: Trunk, D: Desk>(
     ensures ends { PutEnds M.about blocks next.now result }
     ensures others { LinesStay M.about.shape (T.lines trunk.old) (T.lines trunk.new) call }
 {
-    let mut sent = [0; 160];
-    let Some(made) = machine.make(next, &mut sent) else {
+    let Some(count) = machine.make(next) else {
         return RunEnd::Refused(blocks);
     };
-    if let Err(failed) = write_lines(call, machine.shape(), &sent, made.count, trunk) {
+    if let Err(failed) = write_lines(machine, machine.shape(), call, count, trunk) {
         return RunEnd::WriteFailed(failed);
     }
-    match tell(desk, made.text.as_bytes()) {
-        Ok(()) => RunEnd::Done(blocks, next.len() as u32),
+    match tell(desk, machine.text().as_bytes()) {
+        Ok(()) => RunEnd::Done {
+            blocks,
+            left: next.len() as u32,
+        },
         Err(_) => RunEnd::DeskFailed,
     }
 }
@@ -74,6 +78,7 @@ fn run_block<M: BlockMachine, T: Trunk, D: Desk>(
     machine: &mut M,
     blocks: u32,
     call: u32,
+    room: &mut [u8; 160],
     trunk: &mut T,
     desk: &mut D,
 ) -> RunEnd
@@ -89,7 +94,6 @@ fn run_block<M: BlockMachine, T: Trunk, D: Desk>(
         call,
         side: shape.from,
     };
-    let mut room = [0; 160];
     let block = &mut room[..shape.octets];
     match read_block(trunk, line, block) {
         Filled::Whole => put(machine, blocks, call, block, trunk, desk),
@@ -103,7 +107,7 @@ fn is_taken(end: RunEnd, octets: usize) -> bool
     ensures { IsTrue result ↔ IsTaken end octets }
 {
     match end {
-        RunEnd::Done(_, left) => left as usize == octets,
+        RunEnd::Done { left, .. } => left as usize == octets,
         _ => false,
     }
 }
@@ -124,11 +128,15 @@ pub fn run_machine<M: BlockMachine, T: Trunk, D: Desk>(
     ensures others { OthersStay M.about (T.lines trunk.old) (T.lines trunk.new) call }
 {
     let octets = machine.shape().octets;
+    let mut room = [0; 160];
     for blocks in 0..u32::MAX {
-        let end = run_block(machine, blocks, call, trunk, desk);
+        let end = run_block(machine, blocks, call, &mut room, trunk, desk);
         if !is_taken(end, octets) {
             return end;
         }
     }
-    RunEnd::Done(u32::MAX, 0)
+    RunEnd::Done {
+        blocks: u32::MAX,
+        left: 0,
+    }
 }

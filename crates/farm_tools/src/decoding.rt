@@ -1,5 +1,5 @@
 //! The command `decode`.
-ghost use Rattle.std.specs.Prelude.{◌≡◌, ◌∷◌, ◌≤◌, List, map};
+ghost use Rattle.std.specs.Prelude.{◌≡◌, ◌∷◌, ◌≤◌, List, length, map};
 ghost use Rattle.call_number.specs.CallNumber.{IsCallNumber};
 ghost use Rattle.trau_alaw.specs.Alaw.{alaw};
 ghost use Rattle.trau_alaw.specs.Companding.{octet_of};
@@ -13,25 +13,31 @@ ghost use Rattle.farm_tools.specs.Machines.{decode_machine};
 use crate::text::{refusal_text, taken_text};
 use crate::uplink::good_data;
 use arrayvec::ArrayString;
-use block_lines::{BlockMachine, Made, Shape, ToolEnd, run_command};
+use block_lines::{BlockMachine, Shape, ToolEnd, run_command};
 use fr_decoder::Decoder;
 use std::alloc::Global;
 use trau_alaw::{Law, compress_all};
 use trau_io::{Desk, Side, Trunk};
 use trau_params::Params;
 
-/// The block machine of `decode`: the decoder after all frames so far.
+/// The block machine of `decode`: the decoder after all frames so far, and the octets of the last.
 #[derive(Drop)]
 pub struct Decoding {
     decoder: Decoder,
+    octets: [u8; 160],
 }
 
 impl BlockMachine for Decoding {
+    ghost use Rattle.std.specs.Prelude.{[]};
     ghost use Rattle.farm_tools.specs.Machines.{decode_machine, DecodingStands};
 
     ghost about = { decode_machine };
 
     ghost stands = { DecodingStands };
+
+    ghost holds = { λ decoding _. decoding.octets };
+
+    ghost says = { λ _. [] };
 
     fn shape(&self) -> Shape {
         Shape {
@@ -42,22 +48,25 @@ impl BlockMachine for Decoding {
         }
     }
 
-    fn make(&mut self, block: &[u8], sent: &mut [u8; 160]) -> Option<Made> {
+    fn make(&mut self, block: &[u8]) -> Option<usize> {
         if block.is_empty() {
-            return Some(Made {
-                count: 0,
-                text: ArrayString::new(),
-            });
+            return Some(0);
         }
         if block.len() < 40 {
             return None;
         }
         let d = good_data(block)?;
-        let count = decoded_octets(&mut self.decoder, &d, sent);
-        Some(Made {
-            count,
-            text: ArrayString::new(),
-        })
+        decode_octets(&mut self.decoder, &d, &mut self.octets);
+        Some(160)
+    }
+
+    fn octets(&self, _line: u32) -> &[u8] {
+        &self.octets
+    }
+
+    // Nothing is printed for a block.
+    fn text(&self) -> &str {
+        ""
     }
 
     fn done_text(&self, blocks: u32, _left: u32) -> ArrayString<64> {
@@ -69,17 +78,16 @@ impl BlockMachine for Decoding {
     }
 }
 
-// The 160 A-law octets of the next frame, which has these data bits.
-fn decoded_octets(decoder: &mut Decoder, d: &[u8; 260], octets: &mut [u8; 160]) -> usize
+// Makes the 160 A-law octets of the next frame, which has these data bits.
+fn decode_octets(decoder: &mut Decoder, d: &[u8; 260], octets: &mut [u8; 160])
     requires { AreBits d.now }
-    ensures length { result ≡ 160 }
+    ensures long { length octets.new ≡ 160 }
     ensures history { (past : List Fields) → Stands past decoder.old →
         Stands (fields_in d.now ∷ past) decoder.new × (octets.new ≡ map (octet_of alaw) (samples_of (fields_in d.now) past)) }
 {
     let mut x = [0; 160];
     decoder.decode(&Params::from_bits(d), &mut x);
     compress_all(Law::A, &x, octets);
-    160
 }
 
 /// Decodes the good speech frames of a call's uplink to its Out line: for each block of 40 octets the 160 A-law
@@ -94,6 +102,7 @@ pub fn decode<T: Trunk, D: Desk>(_alloc: Global, call: u32, trunk: &mut T, desk:
 {
     let mut machine = Decoding {
         decoder: Decoder::home(),
+        octets: [0; 160],
     };
     run_command(&mut machine, call, trunk, desk)
 }

@@ -1,5 +1,5 @@
 //! The command `encode`.
-ghost use Rattle.std.specs.Prelude.{◌≡◌, ◌≢◌, ◌∷◌, ◌≤◌, ℕ, ℤ, List, length, take};
+ghost use Rattle.std.specs.Prelude.{◌≡◌, ◌≢◌, ◌∷◌, ◌≤◌, ℕ, ℤ, List, length};
 ghost use Rattle.call_number.specs.CallNumber.{IsCallNumber};
 ghost use Rattle.fr_encoder.specs.Encoded.{encoding_of};
 ghost use Rattle.fr_encoder.specs.Stands.{Stands};
@@ -9,25 +9,31 @@ ghost use Rattle.farm_tools.specs.Machines.{encode_machine};
 
 use crate::downlink::downlink_frame;
 use arrayvec::ArrayString;
-use block_lines::{BlockMachine, Made, Shape, ToolEnd, run_command};
+use block_lines::{BlockMachine, Shape, ToolEnd, run_command};
 use fr_encoder::Encoder;
 use itoa::Buffer;
 use std::alloc::Global;
 use trau_alaw::{Law, expand_all};
 use trau_io::{Desk, Side, Trunk};
 
-/// The block machine of `encode`: the encoder after all periods so far.
+/// The block machine of `encode`: the encoder after all periods so far, and the frame of the last.
 #[derive(Drop)]
 pub struct Encoding {
     encoder: Encoder,
+    frame: [u8; 40],
 }
 
 impl BlockMachine for Encoding {
+    ghost use Rattle.std.specs.Prelude.{[]};
     ghost use Rattle.farm_tools.specs.Machines.{encode_machine, EncodingStands};
 
     ghost about = { encode_machine };
 
     ghost stands = { EncodingStands };
+
+    ghost holds = { λ encoding _. encoding.frame };
+
+    ghost says = { λ _. [] };
 
     fn shape(&self) -> Shape {
         Shape {
@@ -38,18 +44,21 @@ impl BlockMachine for Encoding {
         }
     }
 
-    fn make(&mut self, block: &[u8], sent: &mut [u8; 160]) -> Option<Made> {
+    fn make(&mut self, block: &[u8]) -> Option<usize> {
         if block.len() < 160 {
-            return Some(Made {
-                count: 0,
-                text: ArrayString::new(),
-            });
+            return Some(0);
         }
-        let count = encoded_octets(&mut self.encoder, block, sent);
-        Some(Made {
-            count,
-            text: ArrayString::new(),
-        })
+        encode_frame(&mut self.encoder, block, &mut self.frame);
+        Some(40)
+    }
+
+    fn octets(&self, _line: u32) -> &[u8] {
+        &self.frame
+    }
+
+    // Nothing is printed for a block.
+    fn text(&self) -> &str {
+        ""
     }
 
     fn done_text(&self, blocks: u32, left: u32) -> ArrayString<64> {
@@ -69,18 +78,18 @@ impl BlockMachine for Encoding {
     }
 }
 
-// The downlink frame of the next 160 A-law octets.
-fn encoded_octets(encoder: &mut Encoder, block: &[u8], octets: &mut [u8; 160]) -> usize
+// Makes the downlink frame of the next 160 A-law octets.
+fn encode_frame(encoder: &mut Encoder, block: &[u8], frame: &mut [u8; 40])
     requires { length block.now ≡ 160 }
-    ensures length { result ≡ 40 }
+    ensures long { length frame.new ≡ 40 }
     ensures history { (past : List (List ℤ)) → Stands past encoder.old →
-        Stands (block_samples block.now ∷ past) encoder.new × (take 40 octets.new ≡ frame_of_encoded (encoding_of (block_samples block.now) past)) }
+        Stands (block_samples block.now ∷ past) encoder.new × (frame.new ≡ frame_of_encoded (encoding_of (block_samples block.now) past)) }
 {
     let period = block.as_array().unwrap();
     let (params, _, _) = encoder.encode(&expand_all(Law::A, period));
     let mut d = [0; 260];
     params.to_bits(&mut d);
-    downlink_frame(&d, octets)
+    downlink_frame(&d, frame);
 }
 
 /// Encodes a call's Pcm line to its downlink: for each block of 160 A-law octets (G.711) the downlink speech frame
@@ -96,6 +105,7 @@ pub fn encode<T: Trunk, D: Desk>(_alloc: Global, call: u32, trunk: &mut T, desk:
 {
     let mut machine = Encoding {
         encoder: Encoder::home(),
+        frame: [0; 40],
     };
     run_command(&mut machine, call, trunk, desk)
 }

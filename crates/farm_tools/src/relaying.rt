@@ -8,21 +8,27 @@ use crate::downlink::downlink_frame;
 use crate::text::{refusal_text, taken_text};
 use crate::uplink::good_data;
 use arrayvec::ArrayString;
-use block_lines::{BlockMachine, Made, Shape, ToolEnd, run_command};
+use block_lines::{BlockMachine, Shape, ToolEnd, run_command};
 use std::alloc::Global;
 use trau_io::{Desk, Side, Trunk};
 
-/// The block machine of `relay`. It keeps nothing from block to block.
+/// The block machine of `relay`: the frame that it made last. It keeps nothing else from block to block.
 #[derive(Drop)]
-pub struct Relaying;
+pub struct Relaying {
+    frame: [u8; 40],
+}
 
 impl BlockMachine for Relaying {
-    ghost use Rattle.std.specs.Prelude.{◌≡◌};
+    ghost use Rattle.std.specs.Prelude.{◌≡◌, []};
     ghost use Rattle.farm_tools.specs.Machines.{relay_machine};
 
     ghost about = { relay_machine };
 
     ghost stands = { λ _ _. Unit {0} };
+
+    ghost holds = { λ relaying _. relaying.frame };
+
+    ghost says = { λ _. [] };
 
     fn shape(&self) -> Shape {
         Shape {
@@ -33,22 +39,25 @@ impl BlockMachine for Relaying {
         }
     }
 
-    fn make(&mut self, block: &[u8], sent: &mut [u8; 160]) -> Option<Made> {
+    fn make(&mut self, block: &[u8]) -> Option<usize> {
         if block.is_empty() {
-            return Some(Made {
-                count: 0,
-                text: ArrayString::new(),
-            });
+            return Some(0);
         }
         if block.len() < 40 {
             return None;
         }
         let d = good_data(block)?;
-        let count = downlink_frame(&d, sent);
-        Some(Made {
-            count,
-            text: ArrayString::new(),
-        })
+        downlink_frame(&d, &mut self.frame);
+        Some(40)
+    }
+
+    fn octets(&self, _line: u32) -> &[u8] {
+        &self.frame
+    }
+
+    // Nothing is printed for a block.
+    fn text(&self) -> &str {
+        ""
     }
 
     fn done_text(&self, blocks: u32, _left: u32) -> ArrayString<64> {
@@ -70,5 +79,6 @@ pub fn relay<T: Trunk, D: Desk>(_alloc: Global, call: u32, trunk: &mut T, desk: 
     ensures causes { Causes relay_machine (T.lines trunk.old) (T.lines trunk.new) (D.desk desk.old) (D.desk desk.new) call (status_of result) }
     ensures clean { Leaves relay_machine (T.lines trunk.old) (T.lines trunk.new) (D.desk desk.old) (D.desk desk.new) call (status_of result) }
 {
-    run_command(&mut Relaying, call, trunk, desk)
+    let mut machine = Relaying { frame: [0; 40] };
+    run_command(&mut machine, call, trunk, desk)
 }

@@ -59,7 +59,7 @@ room_for_period sync yields room =
 pub room_for_yield : (sync : SyncMemory) (yields : ℕ) → HasRoom (Lists sync yields) → yields < 2 ^ 32 - 1
 room_for_yield sync yields room = omega (arith, room.now.at_most, room.fewer)
 
-module _ (sync sync' : SyncMemory) (yields yields' more : ℕ) (sum : yields' ≡ yields + more) (next sent text : List ℕ) (found : Option Yield)
+module _ (sync sync' : SyncMemory) (yields yields' more : ℕ) (sum : yields' ≡ yields + more) (next : List ℕ) (holds : ℕ → List ℕ) (text : List ℕ) (found : Option Yield)
     (history : (past : List (List ℕ)) → Stands past sync → Stands (next ∷ past) sync' × (found ≡ yield_of next past))
     (number : more ≡ length (option_to_list found)) (few : more ≤ 1) where
   -- one period more was searched
@@ -76,7 +76,7 @@ module _ (sync sync' : SyncMemory) (yields yields' more : ℕ) (sum : yields' �
 
   -- and its yield, if it has one, was listed
   pub one_period : length next ≡ 40 → text ≡ flat_map line_of (option_to_list found) →
-      Makes frames_machine (Lists sync yields) (Lists sync' yields') next sent text 0
+      Makes frames_machine (Lists sync yields) (Lists sync' yields') next holds text 0
   one_period whole is = record {
     bound = λ j below. absurd (omega (arith, below));
     is = inl (record { whole = whole; good = tt });

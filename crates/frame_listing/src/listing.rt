@@ -1,18 +1,19 @@
 //! The listing as a block machine.
 ghost use Rattle.frame_listing.specs.Machine.{ListingStands};
 
-use crate::text::line;
+use crate::text::write_line;
 use arrayvec::ArrayString;
-use block_lines::{BlockMachine, Made, Shape};
+use block_lines::{BlockMachine, Shape};
 use frame_sync::FrameSync;
 use itoa::Buffer;
 use trau_io::Side;
 
-/// The block machine of `frames`: the search after all periods so far, and the number of its yields.
+/// The block machine of `frames`: the search after all periods so far, the number of its yields, and the text for the last period.
 #[derive(Drop)]
 pub struct Listing {
     sync: FrameSync,
     yields: u32,
+    text: ArrayString<64>,
 }
 
 impl Listing {
@@ -25,16 +26,22 @@ impl Listing {
         Listing {
             sync: FrameSync::new(),
             yields: 0,
+            text: ArrayString::new(),
         }
     }
 }
 
 impl BlockMachine for Listing {
+    ghost use Rattle.std.specs.Prelude.{[]};
     ghost use Rattle.frame_listing.specs.Machine.{frames_machine, ListingStands};
 
     ghost about = { frames_machine };
 
     ghost stands = { ListingStands };
+
+    ghost holds = { λ _ _. [] };
+
+    ghost says = { λ listing. listing.text.bytes };
 
     fn shape(&self) -> Shape {
         Shape {
@@ -45,25 +52,27 @@ impl BlockMachine for Listing {
         }
     }
 
-    fn make(&mut self, block: &[u8], _sent: &mut [u8; 160]) -> Option<Made> {
+    fn make(&mut self, block: &[u8]) -> Option<usize> {
+        self.text.clear();
         if block.len() < 40 {
-            return Some(Made {
-                count: 0,
-                text: ArrayString::new(),
-            });
+            return Some(0);
         }
         let period = block.as_array().unwrap();
         let Some(found) = self.sync.feed(period) else {
-            return Some(Made {
-                count: 0,
-                text: ArrayString::new(),
-            });
+            return Some(0);
         };
         self.yields += 1;
-        Some(Made {
-            count: 0,
-            text: line(&found),
-        })
+        write_line(&found, &mut self.text);
+        Some(0)
+    }
+
+    // It writes to no line.
+    fn octets(&self, _line: u32) -> &[u8] {
+        &[]
+    }
+
+    fn text(&self) -> &str {
+        self.text.as_str()
     }
 
     fn done_text(&self, _blocks: u32, left: u32) -> ArrayString<64> {

@@ -1,5 +1,5 @@
 //! The texts of yields.
-ghost use Rattle.std.specs.Prelude.{◌≡◌, ◌≤◌, ◌<◌, ◌^◌, length};
+ghost use Rattle.std.specs.Prelude.{◌≡◌, ◌≤◌, ◌<◌, ◌^◌, [], length};
 ghost use Rattle.frame_sync.specs.Yields.{place_of};
 ghost use Rattle.frame_sync.specs.Periods.{CarriesFrame};
 ghost use Rattle.frame_listing.specs.Texts.{line_of, word_by, word_of};
@@ -47,17 +47,16 @@ fn place(found: &Yield) -> u64
     }
 }
 
-/// The line of text of a yield, as `325 good`: its place in bits from the line's start, and what was found there.
+/// Writes the line of text of a yield, as `325 good`: its place in bits from the line's start, and what was found there.
 #[tactic(auto, unfolding(crate::specs::Texts::line_of))]
-pub(crate) fn line(found: &Yield) -> ArrayString<64>
-    requires { CarriesFrame found.now }
-    ensures { result.bytes ≡ line_of found.now }
+pub(crate) fn write_line(found: &Yield, text: &mut ArrayString<64>)
+    requires frame { CarriesFrame found.now }
+    requires empty { text.old.bytes ≡ [] }
+    ensures { text.new.bytes ≡ line_of found.now }
 {
     let mut digits = Buffer::new();
-    let mut text = ArrayString::new();
     text.push_str(digits.format(place(found)));
     text.push_str(" ");
     text.push_str(word(found));
     text.push_str("\n");
-    text
 }

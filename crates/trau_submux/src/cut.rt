@@ -1,19 +1,20 @@
 //! The command `split`: a slot cut into its channels, as a block machine.
-ghost use Rattle.std.specs.Prelude.{◌≡◌, ◌≢◌, ◌+◌, ◌*◌, ◌/◌, ◌<◌, ◌≤◌, ◌++◌, ℕ, length, take};
+ghost use Rattle.std.specs.Prelude.{◌≡◌, ◌≢◌, ◌/◌, ◌<◌, ◌≤◌, ℕ, [], length, slice_index_or, take};
 ghost use Rattle.block_lines.specs.Command.{Causes, CommandRuns, Leaves, status_of};
-ghost use Rattle.block_lines.specs.Step.{part_for};
 ghost use Rattle.trau_submux.specs.Channels.{channel};
 ghost use Rattle.trau_submux.specs.Splits.{split_machine, split_text, whole_groups};
 
 use crate::four::split4;
 use arrayvec::ArrayString;
-use block_lines::{BlockMachine, Made, Shape, ToolEnd, run_command};
+use block_lines::{BlockMachine, Shape, ToolEnd, run_command};
 use itoa::Buffer;
 use trau_io::{Desk, Side, Trunk};
 
-/// The block machine of `split`. It keeps nothing from block to block.
+/// The block machine of `split`: the channels of the last block. It keeps nothing else from block to block.
 #[derive(Drop)]
-pub struct Splitting;
+pub struct Splitting {
+    subs: [[u8; 40]; 4],
+}
 
 // The block, with zeros after it if it is short.
 fn filled(block: &[u8]) -> [u8; 160]
@@ -25,26 +26,16 @@ fn filled(block: &[u8]) -> [u8; 160]
     slot
 }
 
-// Writes the octets of a channel to their place.
-fn put(sent: &mut [u8; 160], start: usize, octets: &[u8; 40])
-    requires { start + 40 ≤ 160 }
-    ensures { take (start + 40) sent.new ≡ take start sent.old ++ octets.now }
-{
-    sent[start..start + 40].copy_from_slice(octets);
-}
-
-// The channels of a block's whole groups of four, those of channel j from place 40 j on.
-fn cut_block(block: &[u8], sent: &mut [u8; 160])
+// The channels of a block's whole groups of four, at the start of each array.
+fn cut_block(block: &[u8], subs: &mut [[u8; 40]; 4])
     requires { length block.now ≤ 160 }
-    ensures { (j : ℕ) → j < 4 → part_for j sent.new (length block.now / 4) ≡ channel j (whole_groups block.now) }
+    ensures long { (j : ℕ) → j < 4 → length (slice_index_or subs.new j []) ≡ 40 }
+    ensures channels { (j : ℕ) → j < 4 → take (length block.now / 4) (slice_index_or subs.new j []) ≡ channel j (whole_groups block.now) }
 {
-    let slot = filled(block);
-    let mut subs = [[0; 40]; 4];
-    split4(&slot, &mut subs);
-    put(sent, 0, &subs[0]);
-    put(sent, 40, &subs[1]);
-    put(sent, 80, &subs[2]);
-    put(sent, 120, &subs[3]);
+    match block.as_array() {
+        Some(slot) => split4(slot, subs),
+        None => split4(&filled(block), subs),
+    }
 }
 
 // The last line of text.
@@ -62,12 +53,16 @@ fn text_of(octets: u64, left: u32) -> ArrayString<64>
 }
 
 impl BlockMachine for Splitting {
-    ghost use Rattle.std.specs.Prelude.{◌≡◌, All, length};
+    ghost use Rattle.std.specs.Prelude.{◌≡◌, [], All, length, slice_index_or};
     ghost use Rattle.trau_submux.specs.Splits.{split_machine};
 
     ghost about = { split_machine };
 
     ghost stands = { λ _ blocks. All (λ block. length block ≡ 160) blocks };
+
+    ghost holds = { λ splitting j. slice_index_or splitting.subs j [] };
+
+    ghost says = { λ _. [] };
 
     fn shape(&self) -> Shape {
         Shape {
@@ -78,12 +73,18 @@ impl BlockMachine for Splitting {
         }
     }
 
-    fn make(&mut self, block: &[u8], sent: &mut [u8; 160]) -> Option<Made> {
-        cut_block(block, sent);
-        Some(Made {
-            count: block.len() / 4,
-            text: ArrayString::new(),
-        })
+    fn make(&mut self, block: &[u8]) -> Option<usize> {
+        cut_block(block, &mut self.subs);
+        Some(block.len() / 4)
+    }
+
+    fn octets(&self, line: u32) -> &[u8] {
+        &self.subs[line as usize]
+    }
+
+    // Nothing is printed for a block.
+    fn text(&self) -> &str {
+        ""
     }
 
     fn done_text(&self, blocks: u32, left: u32) -> ArrayString<64> {
@@ -110,5 +111,6 @@ pub fn split<T: Trunk, D: Desk>(call: u32, trunk: &mut T, desk: &mut D) -> ToolE
     ensures clean { Leaves split_machine (T.lines trunk.old) (T.lines trunk.new) (D.desk desk.old) (D.desk desk.new) call (status_of result) }
     ensures never_refused { status_of result ≢ 8 }
 {
-    run_command(&mut Splitting, call, trunk, desk)
+    let mut machine = Splitting { subs: [[0; 40]; 4] };
+    run_command(&mut machine, call, trunk, desk)
 }

@@ -1,4 +1,4 @@
-use Rattle.std.proofs.Common.{◌≡◌, ◌≢◌, ◌∷◌, ◌∙◌, ℕ, List, Some, None, length, refl, sym, subst, arith, append-nil}
+use Rattle.std.proofs.Common.{◌≡◌, ◌≢◌, ◌∷◌, ◌∙◌, ℕ, List, [], Some, None, length, refl, sym, subst, arith, append-nil}
 use Rattle.std.specs.Array.{IsWholeChunk}
 use Rattle.std.proofs.lemmas.Option.{MatchOption-at_some}
 use Rattle.frame_sync.specs.Periods.{yield_of}
@@ -17,7 +17,7 @@ overflow_add-self c = let few = room_for_yield c.args.self.now.sync c.args.self.
 
 pub returns-then-block-lt40-clause-makes : goal.returns-then-block-lt40-clause-makes
 returns-then-block-lt40-clause-makes c =
-    nothing_left frames_machine _ c.args.block.now c.args._sent.now c.new.result.bytes c.new.ensures (λ periods. refl) (λ j periods. refl) (omega arith)
+    nothing_left frames_machine _ c.args.block.now (λ j. []) c.clear.new.self.bytes c.clear.ensures (λ periods. refl) (λ j periods. refl)
     (record { less = c.if-block-lt40.true; good = tt })
 
 pub returns-in_default-clause-makes : goal.returns-in_default-clause-makes
@@ -25,15 +25,15 @@ returns-in_default-clause-makes c =
     let whole : length c.args.block.now ≡ 40 = omega (arith, c.requires.bound, c.if-block-lt40.false) in
     let period = (MatchOption-at_some (length c.args.block.now ≢ 40) (λ y. IsWholeChunk c.args.block.now y.now 40) c.unwrap-period.result
     c.unwrap-period.ensures c.as_array.ensures.cases).same in
-    one_period c.args.self.now.sync c.feed.new.self c.args.self.now.yields _ 0 (omega arith) c.args.block.now c.args._sent.now c.new-in_default.result.bytes None
+    one_period c.args.self.now.sync c.feed.new.self c.args.self.now.yields _ 0 (omega arith) c.args.block.now (λ j. []) c.clear.new.self.bytes None
     (subst (λ o. (past : List (List ℕ)) → Stands past c.args.self.now.sync → Stands (o ∷ past) c.feed.new.self × (None ≡ yield_of o past)) period
-    c.in_default.ensures.history) refl (omega arith) whole c.new-in_default.ensures
+    c.in_default.ensures.history) refl (omega arith) whole c.clear.ensures
 
 pub returns-clause-makes : goal.returns-clause-makes
 returns-clause-makes c =
     let whole : length c.args.block.now ≡ 40 = omega (arith, c.requires.bound, c.if-block-lt40.false) in
     let period = (MatchOption-at_some (length c.args.block.now ≢ 40) (λ y. IsWholeChunk c.args.block.now y.now 40) c.unwrap-period.result
     c.unwrap-period.ensures c.as_array.ensures.cases).same in
-    one_period c.args.self.now.sync c.feed.new.self c.args.self.now.yields _ 1 refl c.args.block.now c.args._sent.now c.line.result.bytes (Some c.in-Some.found)
+    one_period c.args.self.now.sync c.feed.new.self c.args.self.now.yields _ 1 refl c.args.block.now (λ j. []) c.write_line.new.text.bytes (Some c.in-Some.found)
     (subst (λ o. (past : List (List ℕ)) → Stands past c.args.self.now.sync → Stands (o ∷ past) c.feed.new.self × (Some c.in-Some.found ≡ yield_of o past)) period
-    c.in-Some.ensures.history) refl (omega arith) whole (c.line.ensures ∙ sym (append-nil (line_of c.in-Some.found)))
+    c.in-Some.ensures.history) refl (omega arith) whole (c.write_line.ensures ∙ sym (append-nil (line_of c.in-Some.found)))

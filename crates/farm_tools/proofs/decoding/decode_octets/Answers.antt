@@ -4,7 +4,7 @@ use Rattle.trau_alaw.specs.Companding.{octet_of}
 use Rattle.fr_decoder.specs.Decoded.{samples_of}
 use Rattle.fr_decoder.specs.Stands.{Stands}
 use Rattle.farm_tools.proofs.Making.{compressed-alaw}
-use Rattle.farm_tools.proofs.decoding.decoded_octets.Goals as goal
+use Rattle.farm_tools.proofs.decoding.decode_octets.Goals as goal
 
 pub returns-clause-history : goal.returns-clause-history
 returns-clause-history c = λ past stands.
