@@ -1,5 +1,5 @@
 -- One block of a run, after any blocks that the machine has taken (`stands`).
-use Rattle.std.specs.Prelude.{◌≡◌, ◌⊎◌, ℕ, ◌+◌, ◌*◌, ◌-◌, ◌^◌, ◌<◌, ◌≤◌, List, [], ◌++◌, length, take, Result, Ok, Err}
+use Rattle.std.specs.Prelude.{◌≡◌, ◌⊎◌, ℕ, ◌+◌, ◌-◌, ◌^◌, ◌<◌, ◌≤◌, List, [], ◌++◌, length, take, Result, Ok, Err}
 use Rattle.std.specs.Io.KnownBytes.{Appends, IsAtEnd}
 use Rattle.trau_io.specs.declared.line.Side.{Side}
 use Rattle.trau_io.specs.Lines.{LineState, Rose}
@@ -16,9 +16,10 @@ pub record HasRoom (stands : List (List ℕ) → Type 0) : Type 0 where
   pub now : stands blocks
   pub fewer : length blocks < 2 ^ 32 - 1
 
--- what a machine makes of one more block, or of the octets left: this text, and for line j `count` of the octets that it then holds for
--- it; `before` says of a list that these are the blocks that it has taken so far, and `after` that it has taken them then
-pub record Makes (M : Machine) (before after : List (List ℕ) → Type 0) (next : List ℕ) (holds : ℕ → List ℕ) (text : List ℕ) (count : ℕ) : Type 0 where
+-- what a machine makes of one more block, or of the octets left: this text, and for line j the first `count` of the octets that it then
+-- holds for it; `before` says of a list that these are the blocks that it has taken so far, and `after` that it has taken them then
+pub record Makes (M : Machine) (before after : List (List ℕ) → Type 0) (next : List ℕ) (holds : ℕ → List ℕ) (text : List ℕ)
+    (count : ℕ) : Type 0 where
   pub bound : (j : ℕ) → j < M.shape.lines → count ≤ length (holds j)
   pub is : IsNext M next
   pub stands : (blocks : List (List ℕ)) → before blocks → after (blocks_with M blocks next)

@@ -13,7 +13,7 @@ pub struct Shape {
     pub octets: usize,
     /// The side of the call's line that it reads.
     pub from: Side,
-    /// How many lines it writes, at most 4: those of its call and of the next ones.
+    /// How many lines it writes: those of its call and of the next ones.
     pub lines: u32,
     /// Their side, not that of the line that it reads.
     pub to: Side,
@@ -38,8 +38,8 @@ pub trait BlockMachine {
         ensures value { result ≡ about.shape }
         ensures law { IsLawful about };
 
-    /// Takes the next block, or the octets left at the line's end, and makes what goes out for that: a text, and for each line as many
-    /// of the octets that it then holds for the line as the number returned says. None if the block is refused.
+    /// Takes the next block, or the octets left at the line's end, and makes what goes out for that: the text, and for each line the
+    /// first of the octets that it then holds for it, as many as the number returned. None if the block is refused.
     fn make(&mut self, block: &[u8]) -> Option<usize>
         requires bound { length block.now ≤ about.shape.octets }
         requires room { HasRoom (stands self.old) }
@@ -47,7 +47,7 @@ pub trait BlockMachine {
         ensures refuses { IsNone result → IsNext about block.now → ⊥ };
 
     /// The octets that it holds for one of its lines, counted from 0.
-    fn octets(&self, line: u32) -> &[u8]
+    fn held(&self, line: u32) -> &[u8]
         requires { line < about.shape.lines }
         ensures { result.now ≡ holds self.now line };
 

@@ -30,7 +30,7 @@ fn write_lines<M: BlockMachine, T: Trunk>(
             call: call + j,
             side: shape.to,
         };
-        match write_all(trunk, line, &machine.octets(j)[..count]) {
+        match write_all(trunk, line, &machine.held(j)[..count]) {
             Ok(()) => {}
             Err(_) => return Err(j),
         }
@@ -78,7 +78,7 @@ fn run_block<M: BlockMachine, T: Trunk, D: Desk>(
     machine: &mut M,
     blocks: u32,
     call: u32,
-    room: &mut [u8; 160],
+    buffer: &mut [u8; 160],
     trunk: &mut T,
     desk: &mut D,
 ) -> RunEnd
@@ -94,7 +94,7 @@ fn run_block<M: BlockMachine, T: Trunk, D: Desk>(
         call,
         side: shape.from,
     };
-    let block = &mut room[..shape.octets];
+    let block = &mut buffer[..shape.octets];
     match read_block(trunk, line, block) {
         Filled::Whole => put(machine, blocks, call, block, trunk, desk),
         Filled::Ended(count) => put(machine, blocks, call, &block[..count], trunk, desk),
@@ -128,9 +128,9 @@ pub fn run_machine<M: BlockMachine, T: Trunk, D: Desk>(
     ensures others { OthersStay M.about (T.lines trunk.old) (T.lines trunk.new) call }
 {
     let octets = machine.shape().octets;
-    let mut room = [0; 160];
+    let mut buffer = [0; 160];
     for blocks in 0..u32::MAX {
-        let end = run_block(machine, blocks, call, &mut room, trunk, desk);
+        let end = run_block(machine, blocks, call, &mut buffer, trunk, desk);
         if !is_taken(end, octets) {
             return end;
         }

@@ -11,7 +11,6 @@ pub relay_lawful : IsLawful relay_machine
 relay_lawful = record {
   some = omega arith;
   most = omega arith;
-  few = omega arith;
   apart = λ e. cc;
   nothing_made = λ j. refl;
   nothing_printed = refl;
@@ -22,7 +21,6 @@ pub decode_lawful : IsLawful decode_machine
 decode_lawful = record {
   some = omega arith;
   most = omega arith;
-  few = omega arith;
   apart = λ e. cc;
   nothing_made = decode_nothing;
   nothing_printed = refl;
@@ -33,7 +31,6 @@ pub encode_lawful : IsLawful encode_machine
 encode_lawful = record {
   some = omega arith;
   most = omega arith;
-  few = omega arith;
   apart = λ e. cc;
   nothing_made = encode_nothing;
   nothing_printed = refl;

@@ -60,7 +60,7 @@ impl BlockMachine for Decoding {
         Some(160)
     }
 
-    fn octets(&self, _line: u32) -> &[u8] {
+    fn held(&self, _line: u32) -> &[u8] {
         &self.octets
     }
 

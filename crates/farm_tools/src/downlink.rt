@@ -8,7 +8,7 @@ use trau_bits::pack;
 use trau_frame::{DownFrame, write_down};
 
 /// Makes the downlink speech frame with these data bits and SP 1.
-// It is inlined so that a caller's data bits are copied once less.
+// Inlined, so that a caller's data bits are copied once less.
 #[inline(always)]
 pub fn downlink_frame(d: &[u8; 260], frame: &mut [u8; 40])
     requires { AreBits d.now }

@@ -51,7 +51,7 @@ impl BlockMachine for Relaying {
         Some(40)
     }
 
-    fn octets(&self, _line: u32) -> &[u8] {
+    fn held(&self, _line: u32) -> &[u8] {
         &self.frame
     }
 

@@ -67,7 +67,7 @@ impl BlockMachine for Listing {
     }
 
     // It writes to no line.
-    fn octets(&self, _line: u32) -> &[u8] {
+    fn held(&self, _line: u32) -> &[u8] {
         &[]
     }
 

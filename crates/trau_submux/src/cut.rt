@@ -78,7 +78,7 @@ impl BlockMachine for Splitting {
         Some(block.len() / 4)
     }
 
-    fn octets(&self, line: u32) -> &[u8] {
+    fn held(&self, line: u32) -> &[u8] {
         &self.subs[line as usize]
     }
 
