@@ -1,6 +1,7 @@
 -- Which line has which file on a disk, so that no line is written to the file of another (this project's profile).
 use Rattle.std.specs.Prelude.{◌≡◌, ◌≢◌, ◌⊎◌, ℕ, List, Option, None, Some, slice_index_or}
 use Rattle.trau_files.specs.declared.trunk.claims.Claim.{Claim}
+use Rattle.trau_files.specs.declared.trunk.seats.Access.{Access}
 use Rattle.trau_files.specs.declared.trunk.seats.Access.TheVariants.{Reading, Writing}
 
 -- the file that the line at this place was last opened with, if that is a file on a disk
@@ -23,6 +24,15 @@ MayHave claims p c = (k : ℕ) (b : Claim) → claim_at claims k ≡ Some b → 
 abbrev pub Has : Option Claim → Claim → Type 0
 Has None c = ⊥
 Has (Some held) c = (held.file ≡ c.file) × (c.access ≡ Writing → held.access ≡ Writing)
+
+-- the line has some file, and has it for writing if it is opened for that
+abbrev pub HasFor : Option Claim → Access → Type 0
+HasFor None access = ⊥
+HasFor (Some held) access = access ≡ Writing → held.access ≡ Writing
+
+-- the files of all lines but the one at this place are as before
+abbrev pub OthersKeep : List (Option Claim) → List (Option Claim) → ℕ → Type 0
+OthersKeep old new p = (k : ℕ) → k ≢ p → claim_at new k ≡ claim_at old k
 
 -- another line has this file, and one of the two is written
 pub record IsTaken (claims : List (Option Claim)) (p : ℕ) (c : Claim) (other : ℕ) : Type 0 where

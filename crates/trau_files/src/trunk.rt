@@ -4,7 +4,7 @@ ghost use Rattle.std.specs.Prelude.{◌≡◌, ◌<◌, None, All, vec_len, leng
 ghost use Rattle.trau_io.specs.Lines.{Reads, Writes, OthersStay};
 ghost use Rattle.trau_io.specs.Indices.{index_of_line};
 ghost use Rattle.trau_io.specs.declared.line_table.TheConstants.{LINE_INDICES};
-ghost use Rattle.trau_files.specs.Claims.{AreApart};
+ghost use Rattle.trau_files.specs.Claims.{AreApart, OthersKeep};
 ghost use Rattle.trau_files.specs.Files.{TrunkFiles, TrunkReads, TrunkWrites, states_of};
 
 mod claims;
@@ -80,6 +80,7 @@ impl<'a, R: Files + Eprint> Trunk for FileTrunk<'a, R> {
         ensures others { OthersStay (states_of self.old.lines) (states_of self.new.lines) line.call line.side }
         ensures after { IfSome (slice_get self.old.lines (index_of_line line.call line.side)) (λ l. TrunkReads self.old self.new line.call line.side l result) }
         ensures apart { AreApart self.new.claims }
+        ensures kept { OthersKeep self.old.claims self.new.claims (index_of_line line.call line.side) }
     {
         self.lines[line_index(line)].read(&mut self.files, line, buf)
     }
@@ -90,6 +91,7 @@ impl<'a, R: Files + Eprint> Trunk for FileTrunk<'a, R> {
         ensures others { OthersStay (states_of self.old.lines) (states_of self.new.lines) line.call line.side }
         ensures after { IfSome (slice_get self.old.lines (index_of_line line.call line.side)) (λ l. TrunkWrites self.old self.new line.call line.side l result) }
         ensures apart { AreApart self.new.claims }
+        ensures kept { OthersKeep self.old.claims self.new.claims (index_of_line line.call line.side) }
     {
         self.lines[line_index(line)].write(&mut self.files, line, bytes)
     }

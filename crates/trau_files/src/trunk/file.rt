@@ -3,7 +3,8 @@
 ghost use Rattle.std.specs.Prelude.{◌≡◌, ◌≤◌};
 ghost use Rattle.trau_io.specs.Lines.{Reads, Writes};
 ghost use Rattle.trau_files.specs.declared.trunk.seats.Access.TheVariants.{Reading, Writing};
-ghost use Rattle.trau_files.specs.Claims.{AreApart};
+ghost use Rattle.trau_io.specs.Indices.{index_of_line};
+ghost use Rattle.trau_files.specs.Claims.{AreApart, OthersKeep};
 ghost use Rattle.trau_files.specs.Files.{FileLine, OpenAfter, raised, after_read, after_write, file_after, state_of};
 
 use super::fault::Fault;
@@ -49,6 +50,7 @@ impl LineFile {
         ensures after { self.new ≡ after_read self.old result }
         ensures place { OpenAfter files.old.seats files.new.seats line.call line.side (file_after line.call line.side Reading self.old.read result) }
         ensures apart { AreApart files.new.claims }
+        ensures others { OthersKeep files.old.claims files.new.claims (index_of_line line.call line.side) }
     {
         match files.read_at(line, self.read, buf) {
             Ok(count) => {
@@ -70,6 +72,7 @@ impl LineFile {
         ensures after { self.new ≡ after_write self.old result }
         ensures place { OpenAfter files.old.seats files.new.seats line.call line.side (file_after line.call line.side Writing self.old.written result) }
         ensures apart { AreApart files.new.claims }
+        ensures others { OthersKeep files.old.claims files.new.claims (index_of_line line.call line.side) }
     {
         match files.write_at(line, self.written, bytes) {
             Ok(count) => {

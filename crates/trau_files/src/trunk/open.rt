@@ -4,7 +4,9 @@ ghost use Rattle.std.specs.Prelude.{◌≡◌, ◌<◌, ◌↔◌, ◌⊎◌, le
 ghost use Rattle.std.specs.IoError.{raw_os_error};
 ghost use Rattle.std.specs.Io.{ReadsAtMost, WritesAtMost};
 ghost use Rattle.trau_files.specs.declared.trunk.seats.Access.TheVariants.{Reading, Writing};
-ghost use Rattle.trau_files.specs.Claims.{AreApart};
+ghost use Rattle.trau_io.specs.Indices.{index_of_line};
+ghost use Rattle.std.specs.Fs.{IsFile, file_type};
+ghost use Rattle.trau_files.specs.Claims.{AreApart, HasFor, OthersKeep, claim_at};
 ghost use Rattle.trau_files.specs.Files.{IsOpenAt, IsFileOf, OpenAfter, in_seat, file_after, opened, options_for};
 
 use super::claims::{Claim, Claims, FileIdentity};
@@ -73,6 +75,7 @@ impl<'a, R: Files> LineFiles<'a, R> {
         ensures bound { ReadsAtMost result buf.new }
         ensures open { OpenAfter self.old.seats self.new.seats line.call line.side (file_after line.call line.side Reading at result) }
         ensures apart { AreApart self.new.claims }
+        ensures others { OthersKeep self.old.claims self.new.claims (index_of_line line.call line.side) }
     {
         let seat = self.seat(line, Access::Reading, at)?;
         self.seats.read(seat, buf)
@@ -84,6 +87,7 @@ impl<'a, R: Files> LineFiles<'a, R> {
         ensures bound { WritesAtMost result bytes.now }
         ensures open { OpenAfter self.old.seats self.new.seats line.call line.side (file_after line.call line.side Writing at result) }
         ensures apart { AreApart self.new.claims }
+        ensures others { OthersKeep self.old.claims self.new.claims (index_of_line line.call line.side) }
     {
         let seat = self.seat(line, Access::Writing, at)?;
         self.seats.write(seat, bytes)
@@ -94,6 +98,7 @@ impl<'a, R: Files> LineFiles<'a, R> {
         ensures stands { IfOk result (λ seat. IsOpenAt (in_seat self.new.seats seat) line.call line.side access at) }
         ensures open { OpenAfter self.old.seats self.new.seats line.call line.side (opened line.call line.side access at result) }
         ensures apart { AreApart self.new.claims }
+        ensures others { OthersKeep self.old.claims self.new.claims (index_of_line line.call line.side) }
     {
         match self.seats.find(line, access, at) {
             Some(seat) => Ok(seat),
@@ -110,6 +115,7 @@ impl<'a, R: Files> LineFiles<'a, R> {
         ensures stands { IfOk result (λ seat. IsOpenAt (in_seat self.new.seats seat) line.call line.side access at) }
         ensures open { OpenAfter self.old.seats self.new.seats line.call line.side (opened line.call line.side access at result) }
         ensures apart { AreApart self.new.claims }
+        ensures others { OthersKeep self.old.claims self.new.claims (index_of_line line.call line.side) }
     {
         self.seats.free_next();
         let file = match self.open_at(line, access, at) {
@@ -133,9 +139,11 @@ impl<'a, R: Files> LineFiles<'a, R> {
     fn open_at(&mut self, line: Line, access: Access, at: u64) -> Result<R::File, Fault>
         ensures seats { self.new.seats ≡ self.old.seats }
         ensures apart { AreApart self.new.claims }
+        ensures others { OthersKeep self.old.claims self.new.claims (index_of_line line.call line.side) }
     {
         let mut file = options_for(access, at).open(self.files, name_of(line).as_str())?;
-        self.take(line, access, at, &file)?;
+        let metadata = file.metadata()?;
+        self.take(line, access, at, &file, &metadata)?;
         if at > 0 {
             file.seek(SeekFrom::Start(at))?;
         }
@@ -144,17 +152,25 @@ impl<'a, R: Files> LineFiles<'a, R> {
 
     // Gives an opened file to the line, unless it is another line's. Only then is a file emptied, if it is opened for writing and
     // nothing has been written yet. A pipe or a device keeps nothing that could be lost; any number of lines may have it.
-    fn take(&mut self, line: Line, access: Access, at: u64, file: &R::File) -> Result<(), Fault>
+    fn take(
+        &mut self,
+        line: Line,
+        access: Access,
+        at: u64,
+        file: &R::File,
+        metadata: &Metadata,
+    ) -> Result<(), Fault>
         ensures seats { self.new.seats ≡ self.old.seats }
+        ensures has { IfOk result (λ _. IsFile (file_type metadata.now) → HasFor (claim_at self.new.claims (index_of_line line.call line.side)) access) }
         ensures apart { AreApart self.new.claims }
+        ensures others { OthersKeep self.old.claims self.new.claims (index_of_line line.call line.side) }
     {
         // For the prover only: reading the field brings in the invariant that the lines' files are apart.
         let _ = &self.claims;
-        let metadata = file.metadata()?;
         if !metadata.is_file() {
             return Ok(());
         }
-        self.claim(line, access, &metadata)?;
+        self.claim(line, access, metadata)?;
         match access {
             Access::Writing if at == 0 => Ok(file.set_len(0)?),
             _ => Ok(()),
@@ -165,7 +181,9 @@ impl<'a, R: Files> LineFiles<'a, R> {
     // under several names mustn't be that of any incoming line either, opened or not.
     fn claim(&mut self, line: Line, access: Access, metadata: &Metadata) -> Result<(), Fault>
         ensures seats { self.new.seats ≡ self.old.seats }
+        ensures has { IfOk result (λ _. HasFor (claim_at self.new.claims (index_of_line line.call line.side)) access) }
         ensures apart { AreApart self.new.claims }
+        ensures others { OthersKeep self.old.claims self.new.claims (index_of_line line.call line.side) }
     {
         let file = FileIdentity::of(metadata);
         if access == Access::Writing && is_linked(self.files, line, metadata) {

@@ -1,5 +1,8 @@
 use Rattle.std.proofs.Common.{sym, subst, List, Option, ◌∙◌, ap, slice_set}
 use Rattle.trau_io.proofs.Tables.{replaced}
+use Rattle.trau_io.specs.Indices.{index_of_line}
+use Rattle.trau_files.specs.declared.trunk.claims.Claim.{Claim}
+use Rattle.trau_files.specs.Claims.{OthersKeep}
 use Rattle.trau_files.specs.declared.trunk.seats.Access.TheVariants.{Writing}
 use Rattle.trau_files.specs.Files.{OpenAfter, OpenLine, TrunkFiles, known_line, file_after}
 use Rattle.trau_files.proofs.trunk.FileTrunkTrunk.write.Goals as goal
@@ -8,14 +11,18 @@ pub returns : goal.returns
 returns g c =
     let lines_seen = ap (λ (t : TrunkFiles). t.lines) c.self.view_is in
     let files_seen = ap (λ (t : TrunkFiles). t.files) c.self.view_is in
+    let claims_seen = ap (λ (t : TrunkFiles). t.claims) c.self.view_is in
     let line = replaced known_line _ _ _ _ _ _ c.write.new.self lines_seen
     (sym c.self.inside.lines.ok.0 ∙ c.self.invariant.0) c.line_index.ensures.value c.line_index.ensures.within c.index_mut.ensures.value in
     let lines = line.put ∙ ap (slice_set _ _) c.write.ensures.after in
     let files = subst (λ (fs : List (Option OpenLine)). OpenAfter fs c.write.new.files.seats c.args.line.call c.args.line.side
     (file_after c.args.line.call c.args.line.side Writing c.index_mut.result.now.written c.write.result)) files_seen c.write.ensures.place in
+    let kept = subst (λ (cs : List (Option Claim)). OthersKeep cs c.write.new.files.claims
+    (index_of_line c.args.line.call c.args.line.side)) claims_seen c.write.ensures.others in
     record {
       this = rw (line.was, line.is) c.write.ensures.writes;
       others = line.others;
       after = rw line.found (record { lines = lines; files = files });
       apart = c.write.ensures.apart;
+      kept = kept;
     }
