@@ -237,10 +237,10 @@ def check_all_were_run(cut: Cut) -> None:
         if status_of(cut.part(number)) not in STATUSES_WITH_A_REPORT
     ]
     if lacking:
-        said = " ".join(str(number) for number in lacking)
+        said = ("part " if len(lacking) == 1 else "parts ") + ",".join(str(number) for number in lacking)
         again = "; ".join(f"sh {shlex.quote(str(cut.part(number) / SCRIPT))}" for number in lacking[:4])
         more = "; .." if len(lacking) > 4 else ""
-        raise Refusal(f"{cut.folder}: no whole report of part {said}; run again: {again}{more}")
+        raise Refusal(f"{cut.folder}: no whole report of {said}; run again: {again}{more}")
 
 
 def report_of_part(cut: Cut, number: int) -> Report:

@@ -154,7 +154,7 @@ class Farms(InFolder):
         farm = self.lay("harsh")
         report = run_texts.read_report(farm / "report.txt")
         cut = self.split(farm, 3)
-        self.assert_refused(shard.main, ["merge", cut], "no whole report of part 0 1 2; run again: sh ")
+        self.assert_refused(shard.main, ["merge", cut], "no whole report of parts 0,1,2; run again: sh ")
         self.give_reports(cut, report)
         (cut / "1" / "status").write_text("137\n")
         self.assert_refused(shard.main, ["merge", cut], f"no whole report of part 1; run again: sh {script(cut, 1)}")
