@@ -486,7 +486,7 @@ class TwoPrograms(Started):
         program = str(self.out / "trau_program")
         self.assertEqual(said(TRAU_PROGRAM=program), f"program: {program}, which TRAU_PROGRAM names")
         (self.out / "trau_program.x86-64-v3").unlink()
-        self.assertEqual(said(), "program: for x86-64-v2; for x86-64-v3, which this machine's processor is, none is built")
+        self.assertEqual(said(), "program: for x86-64-v2; this machine's processor could run one for x86-64-v3, which isn't built")
         (self.out / "trau_program").unlink()
         self.assertEqual(said(), "program: not built")
 
@@ -718,6 +718,16 @@ class TwoRuns(Started):
             self.assertEqual(self.trau("--no-lock", "run"), (0, "the program: run\n", ""))
             self.rest(run, b"")
         self.assertEqual(self.trau("run"), (0, "the program: run\n", ""))
+
+    def test_words_that_are_wrong(self):
+        # The script finds them wrong, and the stand-in takes them all the same. It isn't asked while another run has the folder.
+        words = ["run", "--workers", "65"]
+        with self.lasting(*words) as run:
+            self.assertEqual(self.trau("relay", "7")[0], 125)
+            self.assertEqual(self.trau(*words), (1, "usage\n", "trau: --workers 65: 1 to 64\n"))
+            self.assertEqual(self.trau("--no-lock", *words), (0, "the program: run --workers 65\n", ""))
+            self.rest(run, b"")
+        self.assertEqual(self.trau(*words), (0, "the program: run --workers 65\n", ""))
 
     def test_where_there_is_no_lock(self):
         with self.lasting("frames", "7") as run:
