@@ -172,6 +172,40 @@ class Package(InFolder):
         self.assertEqual([str(path.relative_to(prefix)) for path in prefix.rglob("*") if path.is_file()], ["bin/other"])
         self.assertEqual(list((prefix / "bin").iterdir()), [prefix / "bin" / "other"])
 
+    def test_where_nothing_can_be_written(self):
+        package, prefix = self.unpack(self.make()), self.folder / "prefix"
+        install = package / "install"
+        # One line, and only of the first failure.
+        prefix.write_text("a file")
+        status, out, err = self.said(install, "--prefix", prefix)
+        self.assertEqual((status, out, err.count("\n")), (2, "", 1))
+        self.assertIn(f"install: no way to write below {prefix}: mkdir: ", err)
+        prefix.unlink()
+        # Where the disk is full, here by a limit on the size of files, an earlier package stays as it was.
+        self.assertEqual(self.said(install, "--prefix", prefix)[0], 0)
+        before = {path: path.lstat().st_ino for path in prefix.rglob("*")}
+        status, out, err = self.said("sh", "-c", 'trap "" XFSZ; ulimit -f 8; exec "$0" --prefix "$1"', install, prefix)
+        self.assertEqual((status, out, err.count("\n")), (2, "", 1))
+        self.assertIn("File too large", err)
+        self.assertEqual({path: path.lstat().st_ino for path in prefix.rglob("*")}, before)
+
+    def test_what_is_in_the_way(self):
+        package, prefix = self.unpack(self.make()), self.folder / "prefix"
+        install, link, home = package / "install", prefix / "bin" / "trau", prefix / "lib" / "trau"
+        for other in (link, home):
+            other.parent.mkdir(parents=True)
+            other.write_text("of somebody else")
+            said = f"install: {other} is there already, and no package made it; remove it first\n"
+            self.assertEqual(self.said(install, "--prefix", prefix), (2, "", said))
+            self.assertEqual([path for path in prefix.rglob("*") if path.is_file()], [other])
+            shutil.rmtree(prefix)
+        # A link that was made anew after the installation stays.
+        self.assertEqual(self.said(install, "--prefix", prefix)[0], 0)
+        link.unlink()
+        link.symlink_to(package / "trau")
+        self.assertEqual(self.said(install, "--remove", "--prefix", prefix)[0], 0)
+        self.assertEqual([path for path in prefix.rglob("*") if not path.is_dir()], [link])
+
     def test_below_a_folder_of_a_packager(self):
         package = self.unpack(self.make())
         status, out, _ = self.said(package / "install", "--prefix", "/usr", DESTDIR=str(self.folder / "root"))
