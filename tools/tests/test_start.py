@@ -763,6 +763,29 @@ class Demo(Started):
         # Nothing is built by it, and nothing is called trau.
         self.assertFalse((self.top / "crates" / "trau_program" / "out").exists())
 
+    def test_leaves_no_folder_where_it_fails(self):
+        self.built()
+        # A limit on the size of files, as a full disk.
+        script = 'trap "" XFSZ; ulimit -f 4; exec "$0" "$@"'
+        for words in ([], [self.folder / "new"]):
+            ended = subprocess.run(
+                ["sh", "-c", script, self.top / "demo", *words], capture_output=True, text=True, env=self.surroundings, cwd=self.folder
+            )
+            self.assertEqual((ended.returncode, ended.stdout, ended.stderr.count("\n")), (2, "", 1), ended.stderr)
+            self.assertRegex(ended.stderr, "^demo: the example lines can't be copied to .*: File too large\n$")
+        program = self.path("fails", b"#!/bin/sh\necho line 1 out failed\nexit 6\n")
+        program.chmod(0o755)
+        status, out, err = self.trau(name="demo", TRAU_PROGRAM=str(program))
+        self.assertEqual((status, out), (6, "line 1 out failed\n"))
+        self.assertRegex(err, "^demo: the run in .* ended with status 6; the folder is removed again\n$")
+        status, out, err = self.trau(name="demo", TMPDIR=str(self.folder / "gone"))
+        self.assertEqual((status, out, err.count("\n")), (2, "", 1))
+        # Broken off, as by control-C.
+        program.write_text("#!/bin/sh\necho begun >&2\nexec sleep 7200\n")
+        status, said = self.at_terminal(name="demo", stops_at=b"begun", TRAU_PROGRAM=str(program))
+        self.assertEqual(status, 130, said)
+        self.assertEqual([path for path in self.folder.iterdir() if path.name.startswith(("trau-demo", "new"))], [])
+
     def test_refused(self):
         for words in (["--unproved", "x"], ["--what"], ["a", "b"]):
             status, out, err = self.trau(*words, name="demo")
