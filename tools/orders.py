@@ -10,15 +10,16 @@ from __future__ import annotations
 import tool_start  # first, for what comes after it
 
 import argparse
-import re
 import sys
 from dataclasses import dataclass, field
 from pathlib import Path
 from typing import Dict, List, NamedTuple, Optional, Sequence, Tuple
 
 import file_kinds
+import marks
 import trau_frames
 from file_kinds import Kind, Look
+from outgoing import said_of_outgoing
 from run_texts import (
     FORMS,
     MOST_CALLS,
@@ -32,8 +33,7 @@ from run_texts import (
 )
 from tool_ends import tool
 from trau_frames import FRAME_OCTETS, PCM_OCTETS, Refusal
-
-BYTE_ORDER_MARK = b"\xef\xbb\xbf"
+from word_faults import fault_of_number, faults_of_spaces, grouped, shown
 
 # The words after an order's name, as the documents show them; the other orders have only C.
 SHOWN = {"open": "C or S open C mulaw", "bridge": "C D", "level": "C V", "dtx": "C on|off|uplink"}
@@ -45,59 +45,9 @@ FEW_NAMES = {"law": "mulaw, or nothing for A-law", "mode": "on, off or uplink"}
 # The grammar
 
 
-def grouped(number: int) -> str:
-    """A number as the documents write it."""
-    return f"{number:,}"
-
-
 COMMENT = "#"
 STRIPS = trau_frames.as_started("orders.py strip leaves out comments and empty lines")
-
-
-MOST_SHOWN = 40
-
-
-def shown(word: str) -> str:
-    """A word of octets as it is printed: text of UTF-8 as such, all else that doesn't print escaped, and of a long word the beginning."""
-    text = word.encode("latin-1").decode("utf-8", "backslashreplace")
-    text = "".join(letter if letter.isprintable() else letter.encode("unicode_escape").decode() for letter in text)
-    return text if len(text) <= MOST_SHOWN else f"{text[:MOST_SHOWN]}.."
-
-
-def fault_of_number(what: str, word: str, least: int, most: int) -> Optional[str]:
-    """What is wrong with a word that is to be a number of a range, if anything."""
-    if not re.fullmatch(r"\d+", word, re.ASCII):
-        return f"{what} '{shown(word)}': decimal digits alone make a number"
-    if len(word) > 1 and word[0] == "0":
-        return f"{what} {shown(word)}: a leading zero"
-    if not least <= int(word[:12]) <= most:
-        return f"{what} {shown(word)}: {grouped(least)} to {grouped(most)}"
-    return None
-
-
-def faults_of_spaces(line: bytes) -> Tuple[List[str], str]:
-    """What is wrong with a line's octets and spaces, and its text with these put right."""
-    faults = []
-    if line.startswith(BYTE_ORDER_MARK):
-        faults.append("a byte order mark at its start")
-        line = line[len(BYTE_ORDER_MARK) :]
-    if line.endswith(b"\r"):
-        faults.append("a carriage return at its end")
-        line = line.rstrip(b"\r")
-    if b"\t" in line:
-        faults.append("a tab; one space stands between words")
-        line = line.replace(b"\t", b" ")
-    odd = re.search(rb"[^ -~]", line)
-    if odd:
-        faults.append(f"octet 0x{odd[0][0]:02X} at place {odd.start() + 1} is no letter, digit or space")
-    text = line.decode("latin-1")
-    if text.startswith(" "):
-        faults.append("a space at its start")
-    if text.endswith(" "):
-        faults.append("a space at its end")
-    if "  " in text.strip(" "):
-        faults.append("two spaces")
-    return faults, " ".join(word for word in text.split(" ") if word)
+OF_A_MARK = f"{trau_frames.as_started('orders.py')} check --mark takes a mark with the orders after it"
 
 
 def faults_of_words(words: Sequence[str]) -> List[str]:
@@ -145,8 +95,11 @@ class Text:
             if not words or words.startswith(COMMENT):
                 text.faults[number] = [f"a comment; {STRIPS}"] if words else faults or ["an empty line"]
                 continue
-            faults += faults_of_words(words.split(" "))
             stamp = words.split(" ")[0]
+            if stamp in marks.FIRST_WORDS:
+                text.faults[number] = [f"a line of a mark, and no order; {OF_A_MARK}"]
+                continue
+            faults += faults_of_words(words.split(" "))
             if fault_of_number("stamp", stamp, 0, MOST_PERIODS - 1) is None:
                 if before and int(stamp) < before[0]:
                     faults.append(f"stamp {stamp} below that of line {before[1]}, {before[0]}")
@@ -315,10 +268,59 @@ def remarks_on(orders: Sequence[Order], folder: Optional[Path]) -> Remarks:
             found.warnings.extend((order.number, each) for each in said if each)
             note = note_on_periods(folder, order)
             found.notes.extend([(order.number, note)] if note else [])
+            for warns, what in said_of_outgoing(folder, order.calls[0]):
+                (found.warnings if warns else found.notes).append((order.number, what))
     return found
 
 
+def open_at(orders: Sequence[Order], folder: Optional[Path], period: int) -> Dict[int, int]:
+    """The calls that are open at a period, before its orders, and the periods at which they were opened."""
+    board, stamps = Board(folder), {}
+    for order in orders:
+        if order.stamp < period:
+            board.execute(order)
+            stamps[order.number] = order.stamp
+    board.end_of_lines(period)
+    return {call: stamps[board.used[call]] for call in board.ends}
+
+
+def warnings_of_mark(mark: marks.Mark, orders: Sequence[Order], folder: Optional[Path]) -> List[Tuple[int, str]]:
+    """What differs between a mark's calls and those that the orders have open at its period, by the mark's lines. Without the folder of
+    the lines a call may have ended with its lines, so that a call that the mark hasn't says nothing."""
+    opened, found = open_at(orders, folder, mark.period), []
+    for call, line in mark.lines_of_calls.items():
+        if call not in opened:
+            found.append((line, f"these orders don't have call {call} open at period {mark.period}"))
+        elif opened[call] != mark.openings[call]:
+            found.append((line, f"these orders open call {call} at period {opened[call]}"))
+    if folder is not None:
+        absent = sorted(opened.keys() - mark.openings.keys())
+        found += [(mark.lines, f"these orders have call {call} open at period {mark.period}") for call in absent]
+    return [(line, f"warning: trau resume will refuse the mark: {what}") for line, what in found]
+
+
 # The words of the command line
+
+
+def print_faults(what: str, said: Sequence[Tuple[int, str]]) -> None:
+    """Prints what is said of lines, in their order."""
+    for line, each in sorted(said, key=lambda pair: pair[0]):
+        print(f"{what} {line}: {each}")
+
+
+def check_marked(words: argparse.Namespace, octets: bytes) -> int:
+    """Says what is wrong with a mark and the orders after it."""
+    mark, rest = marks.read_mark(octets)
+    text = Text.read(rest)
+    faults = [(line, "; ".join(each)) for line, each in mark.faults.items()]
+    compared = not mark.faults and not text.faults
+    print_faults("mark line", faults or (warnings_of_mark(mark, text.orders, words.lines) if compared else []))
+    too_long = len(octets) > marks.MOST_OCTETS
+    if too_long:
+        print(f"too long: {grouped(len(octets))} octets; the program takes {grouped(marks.MOST_OCTETS)} with the mark")
+    print(f"mark lines {mark.lines} bad {len(mark.faults)}")
+    status = say_of_orders(words, text, len(rest))
+    return 1 if mark.faults or too_long else status
 
 
 def check(words: argparse.Namespace) -> int:
@@ -327,17 +329,20 @@ def check(words: argparse.Namespace) -> int:
         raise Refusal(f"{words.lines}: isn't a folder")
     octets = trau_frames.read_file(words.orders)
     file_kinds.refuse_other(words.orders, octets, "no orders", Kind.TEXT)
-    text = Text.read(octets)
+    return check_marked(words, octets) if words.mark else say_of_orders(words, Text.read(octets), len(octets))
+
+
+def say_of_orders(words: argparse.Namespace, text: Text, octets: int) -> int:
+    """Says what is wrong with orders of so many octets."""
     said = [(line, "; ".join(faults)) for line, faults in text.faults.items()]
     remarks = remarks_on(text.orders, words.lines)
     said += [(line, f"warning: {what}") for line, what in remarks.warnings]
     said += [(line, f"note: {what}") for line, what in remarks.notes]
-    for line, what in sorted(said, key=lambda each: each[0]):
-        print(f"line {line}: {what}")
-    too_long = len(octets) > MOST_ORDER_OCTETS or text.lines > MOST_ORDERS
+    print_faults("line", said)
+    too_long = octets > MOST_ORDER_OCTETS or text.lines > MOST_ORDERS
     if too_long:
         print(
-            f"too long: {grouped(len(octets))} octets and {grouped(text.lines)} lines; the program takes {grouped(MOST_ORDER_OCTETS)}"
+            f"too long: {grouped(octets)} octets and {grouped(text.lines)} lines; the program takes {grouped(MOST_ORDER_OCTETS)}"
             f" octets and {grouped(MOST_ORDERS)} lines"
         )
     print(f"orders {text.lines} bad {len(text.faults)} warnings {len(remarks.warnings)}")
@@ -369,7 +374,10 @@ def add_check(commands: argparse._SubParsersAction) -> None:
         help="says what is wrong with orders",
         description="Prints what is wrong with each bad line, by the number that `trau run` prints as `orders line N`, and the number and\n"
         "cause of each refusal that the run will give. The last line counts: `orders N bad B warnings W`. Status 0: the run takes\n"
-        "the orders. Status 1: a line is bad, or they are too long. Status 2: no orders.",
+        "the orders. Status 1: a line is bad, or they are too long. Status 2: no orders.\n\n"
+        "With --mark it also prints what is wrong with the mark before the orders, by the number that `trau resume` prints as\n"
+        "`save line N`, and which of its calls these orders don't have open, for which `trau resume` prints `save differs C`.\n"
+        "`mark lines N bad B` counts, and what is said of the orders follows.",
         epilog="example: orders.py check orders.txt --lines .",
         formatter_class=argparse.RawDescriptionHelpFormatter,
         allow_abbrev=False,
@@ -380,8 +388,14 @@ def add_check(commands: argparse._SubParsersAction) -> None:
         type=Path,
         metavar="FOLDER",
         help="the folder of the calls' incoming lines: calls then end with their lines, as in a run. It warns of missing lines and of"
-        " lines that aren't what their names say, and notes the periods of the longer line that won't be used. Without it"
+        " lines that aren't what their names say, and notes the periods of the longer line that won't be used, and links by which a run"
+        " writes other files. Without it"
         " calls end only by orders",
+    )
+    added.add_argument(
+        "--mark",
+        action="store_true",
+        help="the file is what `trau resume` reads: a mark, as `trau save` prints it, and after it the orders of the whole run",
     )
     added.set_defaults(runs=check)
 

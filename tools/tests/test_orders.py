@@ -49,6 +49,32 @@ FAULTS = (
     (b"0 dtx 1", "too few words: S dtx C on|off|uplink"),
 )
 
+CALL = b"call 3 from 20 out 5 down 7\n"
+MISSING = "where the line orders is due, which ends a mark, "
+MARK_FAULTS = (
+    (1, b"", "a mark's first line is save P"),
+    (1, b"0 open 1\n", "a mark's first line is save P"),
+    (1, b"orders\n0 open 1\n", "a mark's first line is save P"),
+    (1, b"save 060\norders\n", "period 060: a leading zero"),
+    (1, b"save 0\norders\n", "period 0: 1 to 4,294,967,295"),
+    (1, b"save  60\norders\n", "two spaces"),
+    (1, b"save 60", "no line feed at its end"),
+    (2, b"save 60\n", MISSING + "the text ends"),
+    (2, b"save 60\n0 open 1\n", MISSING + "there is '0 open 1'"),
+    (2, b"save 60\n\norders\n", MISSING + "there is an empty line"),
+    (3, b"save 60\n" + CALL, MISSING + "the text ends"),
+    (2, b"save 60\norders", "no line feed at its end"),
+    (2, b"save 60\norders \n", "a space at its end"),
+    (2, b"save 60\n" + CALL[:-1], "no line feed at its end"),
+    (2, b"save 20\n" + CALL + b"orders\n", "S 20: 0 to 19"),
+    (2, b"save 60\ncall 3 from 20\norders\n", "a mark's line of a call is call C from S out X down Y"),
+    (2, b"save 60\ncall 3 form 20 out 5 down 7\norders\n", "a mark's line of a call is call C from S out X down Y"),
+    (2, b"save 60\ncall 3 from 20 out 4294967296 down 7\norders\n", "X 4294967296: 0 to 4,294,967,295"),
+    (2, b"save 60\ncall 3 from 20 out 5 down -7\norders\n", "Y '-7': decimal digits alone make a number"),
+    (3, b"save 60\n" + CALL + b"call 2 from 0 out 1 down 1\norders\n", "call 2: not above that of a line before, 3"),
+    (3, b"save 60\n" + CALL + CALL + b"orders\n", "call 3: not above that of a line before, 3"),
+)
+
 # Of orders that are made at random.
 FORMS = ("open {}", "open {} mulaw", "close {}", *3 * ("bridge {} {}",), *3 * ("unbridge {}",), "level {} 5")
 
@@ -153,6 +179,35 @@ class Orders(InFolder):
         status, said = self.check(b"0 open 3\n", "--lines", self.folder)
         self.assertEqual((status, said), (0, ["line 1: warning: 3.up is a folder: the line will fail", "orders 1 bad 0 warnings 1"]))
 
+    def test_outgoing_lines_that_lead_elsewhere(self):
+        for side in ("up", "pcm"):
+            shutil.copy(EXAMPLES / "farm" / f"1.{side}", self.folder)
+        self.path("1.pcm", bytes(24480))
+        (self.folder / "other").mkdir()
+        other, beside = self.path("speech.wav", b"RIFF"), self.path("other/1.down", b"")
+        for name, target, said in (
+            ("1.out", other, f"line 1: note: 1.out is a link: the run empties and writes {other}"),
+            ("1.out", self.folder / "new", f"line 1: note: 1.out is a link: the run empties and writes {self.folder / 'new'}"),
+            ("1.out", self.path("1.pcm"), "line 1: warning: 1.out is the file of 1.pcm: a line will fail"),
+            ("1.down", self.path("1.up"), "line 1: warning: 1.down is the file of 1.up: a line will fail"),
+            # As in the folder of a part.
+            ("1.down", beside, None),
+        ):
+            link = self.path(name)
+            link.symlink_to(target)
+            wanted = [said] if said else []
+            count = f"orders 1 bad 0 warnings {int('warning' in (said or ''))}"
+            self.assertEqual(self.check(b"0 open 1\n", "--lines", self.folder), (0, [*wanted, count]))
+            link.unlink()
+        os.link(self.path("1.up"), self.path("1.down"))
+        self.path("1.out").mkdir()
+        said = [
+            "line 1: warning: 1.down is the file of 1.up: a line will fail",
+            "line 1: warning: 1.out is a folder: the line will fail",
+            "orders 1 bad 0 warnings 2",
+        ]
+        self.assertEqual(self.check(b"0 open 1\n", "--lines", self.folder), (0, said))
+
     def test_periods_that_wont_be_used(self):
         for up, pcm, note in (
             (400, 1600, None),
@@ -167,6 +222,44 @@ class Orders(InFolder):
             status, said = self.check(b"0 open 1\n", "--lines", self.folder)
             self.assertEqual((status, said[:-1]), (0, [f"line 1: note: {note}"] if note else []))
             self.assertEqual(said[-1], "orders 1 bad 0 warnings 0")
+
+    def test_a_mark(self):
+        mark = b"save 60\ncall 1 from 0 out 5 down 7\ncall 3 from 20 out 4294967295 down 0\norders\n"
+        given = b"0 open 1\n20 open 3\n60 open 5\n"
+        counts = ["mark lines 4 bad 0", "orders 3 bad 0 warnings 0"]
+        self.assertEqual(self.check(mark + given, "--mark"), (0, counts))
+        self.assertEqual(self.check(b"save 60\norders\n", "--mark"), (0, ["mark lines 2 bad 0", "orders 0 bad 0 warnings 0"]))
+        # Calls that these orders don't have open at the mark's period.
+        says = "warning: trau resume will refuse the mark: these orders"
+        for orders_after, said in (
+            (b"", [f"line 2: {says} don't have call 1 open at period 60", f"line 3: {says} don't have call 3 open at period 60"]),
+            (b"0 open 1\n20 open 3\n59 close 3\n", [f"line 3: {says} don't have call 3 open at period 60"]),
+            (b"0 open 1\n20 open 3\n60 close 3\n", []),
+            (b"0 open 1\n21 open 3\n", [f"line 3: {says} open call 3 at period 21"]),
+        ):
+            status, found = self.check(mark + orders_after, "--mark")
+            self.assertEqual((status, found[:-2]), (0, [f"mark {each}" for each in said]))
+        # With the lines, a call that isn't in the mark, as call 5 of 61 periods, but not one whose lines end before.
+        for call, periods in ((1, 61), (3, 61), (5, 60), (7, 59)):
+            self.path(f"{call}.up", bytes(40 * periods))
+            self.path(f"{call}.pcm", bytes(160 * periods))
+        found = self.check(mark + b"0 open 1\n0 open 5\n0 open 7\n20 open 3\n", "--mark", "--lines", self.folder)[1]
+        self.assertEqual([line for line in found if line.startswith("mark")], [f"mark line 4: {says} have call 5 open at period 60", counts[0]])
+
+    def test_faults_of_a_mark(self):
+        for line, text, said in MARK_FAULTS:
+            with self.subTest(text):
+                status, found = self.check(text, "--mark")
+                self.assertEqual((status, found[0]), (1, f"mark line {line}: {said}"))
+        status, found = self.check(b"save 60\norders\n0 open 01\n", "--mark")
+        self.assertEqual((status, found[:2]), (1, ["mark lines 2 bad 0", "line 1: call 01: a leading zero"]))
+        long = b"save 60\norders\n" + b"0 level 1 32767\n" * 65536 + b" " * 300000
+        status, found = self.check(long, "--mark")
+        self.assertEqual((status, found[0]), (1, f"too long: {len(long):,} octets; the program takes 1,310,720 with the mark"))
+        # A mark where orders are checked without it.
+        status, found = self.check(b"save 60\norders\n0 open 1\n")
+        said = "a line of a mark, and no order; orders.py check --mark takes a mark with the orders after it"
+        self.assertEqual((status, found), (1, [f"line 1: {said}", f"line 2: {said}", "orders 3 bad 2 warnings 0"]))
 
     def test_strip(self):
         notes = b"# two calls\n\n0 open 1 # Alice\n  \n0 open 2\t#  Bob # her brother\n   # and then\n5 close 1\n \t\r\n9  close 2"
@@ -202,13 +295,35 @@ class Orders(InFolder):
 
 @unittest.skipUnless(os.access(PROGRAM, os.X_OK), "TRAU_PROGRAM names no program")
 class AgainstTheProgram(InFolder):
-    def run_program(self, content):
+    def run_program(self, content, command="run"):
         """What the program says of these orders, run in the folder."""
-        return subprocess.run([PROGRAM, "run"], input=content, capture_output=True, cwd=self.folder).stdout.decode()
+        return subprocess.run([PROGRAM, command], input=content, capture_output=True, cwd=self.folder).stdout.decode()
 
     def test_each_fault(self):
         for line, _ in FAULTS:
             self.assertEqual(self.run_program(b"0 open 2\n" + line + b"\n0 close 2\n"), "orders line 2\n", line)
+
+    def test_each_fault_of_a_mark(self):
+        for line, text, _ in MARK_FAULTS:
+            self.assertEqual(self.run_program(text, "resume"), f"save line {line}\n", text)
+
+    def test_any_mark(self):
+        # Good marks with a change of an octet or two: the first bad line is the program's, and none where it has none.
+        source = random.Random(3)
+        good = b"save 60\n" + CALL + b"call 4 from 5 out 0 down 4294967295\norders\n"
+        bad = 0
+        for _ in range(200):
+            content = bytearray(good)
+            for _ in range(source.randint(1, 2)):
+                content[source.randrange(len(content))] = source.choice(b"0123456789 \n\rcaldownsve")
+            faults = orders.marks.read_mark(bytes(content))[0].faults
+            said = self.run_program(bytes(content), "resume")
+            bad += bool(faults)
+            if faults:
+                self.assertEqual(said, f"save line {min(faults)}\n", bytes(content))
+            else:
+                self.assertFalse(said.startswith("save line"), bytes(content))
+        self.assertGreater(bad, 60)
 
     def test_any_lines(self):
         # Good orders with a change of an octet or two: the first bad line is the program's, and none where it has none.
