@@ -181,8 +181,8 @@ class Asked(NamedTuple):
     partial: bool
 
 
-def line_of(name: Path, content: bytes, asked: Asked, marker: Marker) -> Tuple[bytes, str]:
-    """A line of a capture's stream, an uplink of GSM and a Pcm line of the others; and what was found."""
+def line_of(name: Path, content: bytes, asked: Asked, marker: Marker) -> Tuple[bytes, str, bool]:
+    """A line of a capture's stream, an uplink of GSM and a Pcm line of the others; what was found; and whether it is an uplink."""
     streams = streams_of(name, content, asked.partial)
     packets = chosen(name, streams.by_flow, "--stream", asked.stream)
     lead = 0
@@ -204,7 +204,7 @@ def line_of(name: Path, content: bytes, asked: Asked, marker: Marker) -> Tuple[b
         padded = -len(line) % PCM_OCTETS
         line, said = line + padded * bytes([asked.law.idle()]), f"{said} padded {padded}"
     said += counts.said_of_over()
-    return line, f"{said} cut {streams.cut}" if asked.partial else said
+    return line, f"{said} cut {streams.cut}" if asked.partial else said, kind == GSM
 
 
 # From lines

@@ -36,10 +36,17 @@ from wav_files import LAWS_BY_TAG, WAV_LINEAR
 
 
 class Made(NamedTuple):
-    """What a command made: the content of the file, and a line that says what was done."""
+    """What a command made: the content of the file, a line that says what was done, and what the file is."""
 
     content: bytes
     said: str
+    kind: str = ""
+
+
+# What files are, and the sides of the lines that they may be. An octet of a law is one on either side.
+UPLINK, OF_A_LAW, WAV, FRAMES, CAPTURE = "an uplink", "A-law or mu-law", "a WAV file", "frames of libgsm", "a capture"
+SIDES_OF = {UPLINK: ("up",), OF_A_LAW: ("pcm", "out"), WAV: (), FRAMES: (), CAPTURE: ()}
+KINDS_OF_SIDES = {"up": UPLINK, "down": "a downlink", "pcm": OF_A_LAW, "out": OF_A_LAW}
 
 
 # A command makes a file of the words of the command line and the octets of the file that they name.
@@ -52,7 +59,7 @@ Command = Callable[[argparse.Namespace, bytes], Made]
 def uplink(words: argparse.Namespace, given: bytes) -> Made:
     """An uplink, from frames of libgsm or from those of a WAV file."""
     marker = Marker(words.sid == "keep", words.dtxd == 1)
-    return Made(*gsm_files.uplink_of(words.given, given, marker, words.partial))
+    return Made(*gsm_files.uplink_of(words.given, given, marker, words.partial), UPLINK)
 
 
 def gsm(words: argparse.Namespace, given: bytes) -> Made:
@@ -60,13 +67,13 @@ def gsm(words: argparse.Namespace, given: bytes) -> Made:
     treatments = {"speech": "keep", "silence": words.silence, "idle": words.idle, "other": "skip"}
     found = gsm_files.treated_downlink(words.given, given, treatments)
     frames = [trau_frames.gsm_of_data(data) for _, data in found.frames]
-    return Made(b"".join(frames), f"gsm frames {len(frames)} found {found.said}")
+    return Made(b"".join(frames), f"gsm frames {len(frames)} found {found.said}", FRAMES)
 
 
 def listen(words: argparse.Namespace, given: bytes) -> Made:
     """A WAV file, from a downlink."""
     octets, said = listening.alaw_of_downlink(words.given, given, words.trau)
-    return Made(linear_wav(octets, Law.A), f"listen samples {len(octets)} {said}")
+    return Made(linear_wav(octets, Law.A), f"listen samples {len(octets)} {said}", WAV)
 
 
 # Octets of A-law or mu-law, and samples: to a Pcm line, and from an Out line
@@ -102,7 +109,7 @@ def pcm(words: argparse.Namespace, given: bytes) -> Made:
         raise Refusal(f"{words.given}: holds no samples")
     padded = -len(octets) % PCM_OCTETS
     line = octets + bytes([words.law.idle()]) * padded
-    return Made(line, f"pcm periods {len(line) // PCM_OCTETS} padded {padded}")
+    return Made(line, f"pcm periods {len(line) // PCM_OCTETS} padded {padded}", OF_A_LAW)
 
 
 def linear_wav(octets: bytes, law: Law) -> bytes:
@@ -121,11 +128,11 @@ def sound(words: argparse.Namespace, given: bytes) -> Made:
     check_law(words.given, given, words.law)
     said = f"sound samples {len(given)}"
     if words.raw:
-        return Made(given, said)
+        return Made(given, said, OF_A_LAW)
     if words.tag in LAWS_BY_TAG:
         table = words.law.table_to(LAWS_BY_TAG[words.tag])
-        return Made(wav_files.wav_of(words.tag, 8, given.translate(table)), said)
-    return Made(linear_wav(given, words.law), said)
+        return Made(wav_files.wav_of(words.tag, 8, given.translate(table)), said, WAV)
+    return Made(linear_wav(given, words.law), said, WAV)
 
 
 # Captures of network packets: to a line, and from lines
@@ -135,14 +142,15 @@ def pcap(words: argparse.Namespace, given: bytes) -> Made:
     """An uplink or a Pcm line, from a stream of a capture."""
     marker = Marker(words.sid == "keep")
     asked = captures.Asked(words.stream, words.since, words.law, words.partial)
-    return Made(*captures.line_of(words.given, given, asked, marker))
+    line, said, is_uplink = captures.line_of(words.given, given, asked, marker)
+    return Made(line, said, UPLINK if is_uplink else OF_A_LAW)
 
 
 def capture(words: argparse.Namespace, given: bytes) -> Made:
     """A capture, from lines of calls."""
     more = [(name, recordings.read_recording(name)) for name in words.also]
     lines = [(recordings.name_within(name), octets) for name, octets in ((words.given, given), *more)]
-    return Made(*captures.capture_of(lines, words.law))
+    return Made(*captures.capture_of(lines, words.law), CAPTURE)
 
 
 # Time slots, an idle line, and damage
@@ -161,13 +169,13 @@ MOST_SKIPPED = 1 << 40
 
 def idle(words: argparse.Namespace, _: bytes) -> Made:
     """An idle Pcm line."""
-    return Made(bytes([words.law.idle()]) * PCM_OCTETS * words.periods, f"idle periods {words.periods}")
+    return Made(bytes([words.law.idle()]) * PCM_OCTETS * words.periods, f"idle periods {words.periods}", OF_A_LAW)
 
 
 def damage(words: argparse.Namespace, given: bytes) -> Made:
     """An uplink with damages of the kinds that the options name."""
     asked = damages.Damages(words.sid, words.drop, words.zero, tuple(words.align), tuple(words.slip))
-    return Made(*damages.damaged(words.given, given, asked))
+    return Made(*damages.damaged(words.given, given, asked), UPLINK)
 
 
 # What is read and written
@@ -184,9 +192,17 @@ def read_given(words: argparse.Namespace) -> bytes:
     return recordings.read_recording(words.given, getattr(words, "partial", False))
 
 
+def check_new_name(new: Path, kind: str) -> None:
+    """Refuses to write a file of a kind under the name of a line of another."""
+    by_name = KINDS_OF_SIDES.get(new.suffix[1:])
+    if kind and by_name and new.suffix[1:] not in SIDES_OF[kind]:
+        raise Refusal(f"{new}: is {by_name} by its name, and what would be written is {kind}")
+
+
 def make_file(words: argparse.Namespace) -> int:
     """Makes the file that a command makes, and says what was done."""
     made = words.made(words, read_given(words))
+    check_new_name(words.new, made.kind)
     inputs = [*([words.given] if words.given else []), *getattr(words, "also", [])]
     trau_frames.write_file(words.new, made.content, inputs)
     print(made.said, file=sys.stderr if words.new == trau_frames.STREAM else sys.stdout)

@@ -200,7 +200,8 @@ def chosen(name: Path, streams: Dict[Flow, List[Packet]], option: str, number: O
     if number is None and len(streams) == 1:
         number = 1
     if number is None or not 1 <= number <= len(streams):
-        raise Refusal(f"{name}: has {len(streams)} streams, one of which {option} names: {listed(streams)}")
+        count = f"{len(streams)} streams, one of which {option} names" if len(streams) > 1 else f"no stream {number}"
+        raise Refusal(f"{name}: has {count}: {listed(streams)}")
     return list(streams.values())[number - 1]
 
 

@@ -320,13 +320,22 @@ class Captures(InFolder):
         line = self.folder / "line"
         refused("isn't a capture", "pcap", EXAMPLES / "7.up", line)
         refused("isn't a capture", "pcap", self.path("empty", b""), line)
-        refused("has 1 streams, one of which", "pcap", DATA / "gsm.pcap", line, "--stream", "2")
+        refused("has no stream 2: 1 is 127.0.0.1:", "pcap", DATA / "gsm.pcap", line, "--stream", "2")
         octets = (DATA / "gsm.pcap").read_bytes()
         refused("ends within a packet; --partial takes those before it", "pcap", self.path("cut.pcap", octets[:30]), line)
         refused("has no RTP stream", "pcap", self.path("none.pcap", octets[:24]), line)
         refused("the name of a line ends with", "capture", DATA / "speech.gsm", line)
         refused("gives no speech", "capture", self.path("9.up", bytes(400)), line)
-        refused("is an input", "capture", EXAMPLES / "7.up", self.path("8.up", bytes(40)), "--also", self.path("8.up"))
+        self.path("link.pcap").symlink_to(self.path("8.up", bytes(40)))
+        refused("is an input", "capture", EXAMPLES / "7.up", self.path("link.pcap"), "--also", self.path("8.up"))
+
+    def test_names_of_other_lines(self):
+        for capture, name, said in (
+            ("gsm.pcap", "1.pcm", "is A-law or mu-law by its name, and what would be written is an uplink"),
+            ("gsm.pcap", "1.down", "is a downlink by its name, and what would be written is an uplink"),
+            ("pcma.pcapng", "1.up", "is an uplink by its name, and what would be written is A-law or mu-law"),
+        ):
+            self.assert_refused(lines.main, ["pcap", DATA / capture, self.path(name)], f"{name}: {said}")
 
 
 if __name__ == "__main__":

@@ -489,6 +489,26 @@ class TheFileThatIsWritten(InFolder):
         for name in ("7.up", "link.up", "hard.up", "../" + self.folder.name + "/7.up"):
             self.assert_refused(lines.main, ["damage", up, self.folder / name, "--drop", "5"], "is an input")
 
+    def test_by_its_name_a_line_of_another_kind(self):
+        up, out = EXAMPLES / "7.up", EXAMPLES / "farm" / "wanted" / "1.out"
+        uplink, law, down = "an uplink", "A-law or mu-law", "a downlink"
+        for words, name, by_name, kind in (
+            (["uplink", DATA / "speech.gsm"], "1.pcm", law, uplink),
+            (["uplink", DATA / "speech.gsm"], "1.down", down, uplink),
+            (["damage", up], "1.out", law, uplink),
+            (["pcm", out, "--raw"], "1.up", uplink, law),
+            (["idle", "3"], "1.up", uplink, law),
+            (["idle", "3"], "1.down", down, law),
+            (["sound", out], "1.pcm", law, "a WAV file"),
+            (["gsm", EXAMPLES / "farm" / "wanted" / "2.down"], "1.up", uplink, "frames of libgsm"),
+        ):
+            words[2:2] = [self.path(name)]
+            said = f"{name}: is {by_name} by its name, and what would be written is {kind}"
+            self.assert_refused(lines.main, words, said)
+        for words, name in ((["idle", "3"], "1.out"), (["uplink", DATA / "speech.gsm"], "speech"), (["slot", up], "1.pcm")):
+            words[2:2] = [self.path(name)]
+            self.assertEqual(self.run_tool(lines.main, *words)[0], 0)
+
     def test_only_a_file(self):
         self.assert_refused(lines.main, ["uplink", DATA / "speech.gsm", self.folder], "isn't a file")
         # A pipe of its own, and not /dev/null, which root's test would replace if it were a file.
