@@ -31,6 +31,7 @@ class Kind(enum.Enum):
     SOUND = "a sound file"
     GSM = "frames of libgsm"
     CAPTURE = "a capture"
+    OTHER_CAPTURE = "a capture of another kind"
     PACKED = "packed"
     TEXT = "a text"
     UPLINK = "an uplink"
@@ -57,8 +58,9 @@ class Look:
 
 SOX = "sox {} -r 8000 -c 1 -b 16 -e signed-integer NEW.wav"
 FFMPEG = "ffmpeg -i {} -ar 8000 -ac 1 NEW.wav"
+EDITCAP = "editcap -F pcap {} NEW.pcap"
 # Programs that don't unpack what they read.
-OTHERS = ("sox ", "ffmpeg ")
+OTHERS = ("sox ", "ffmpeg ", "editcap ")
 MAGICS = (
     (b"RIFX", Kind.SOUND, "a WAV file of big-endian samples", SOX),
     (b"RF64", Kind.SOUND, "a WAV file of 64 bits", SOX),
@@ -72,11 +74,18 @@ MAGICS = (
     (b"#!AMR", Kind.SOUND, "an AMR file", FFMPEG),
     (b"caff", Kind.SOUND, "a CAF file", FFMPEG),
     (b"\x1a\x45\xdf\xa3", Kind.SOUND, "a Matroska or WebM file", FFMPEG),
+    (b"\x30\x26\xb2\x75\x8e\x66\xcf\x11", Kind.SOUND, "a Windows Media file", FFMPEG),
+    (b"riff\x2e\x91\xcf\x11", Kind.SOUND, "a Wave64 file", FFMPEG),
     (b"\xa1\xb2\xc3\xd4", Kind.CAPTURE, "a pcap capture", "lines.py pcap {} NEW"),
     (b"\xd4\xc3\xb2\xa1", Kind.CAPTURE, "a pcap capture", "lines.py pcap {} NEW"),
     (b"\xa1\xb2\x3c\x4d", Kind.CAPTURE, "a pcap capture", "lines.py pcap {} NEW"),
     (b"\x4d\x3c\xb2\xa1", Kind.CAPTURE, "a pcap capture", "lines.py pcap {} NEW"),
     (b"\x0a\x0d\x0d\x0a", Kind.CAPTURE, "a pcapng capture", "lines.py pcap {} NEW"),
+    (b"\xa1\xb2\xcd\x34", Kind.OTHER_CAPTURE, "a pcap capture of a modified libpcap", EDITCAP),
+    (b"\x34\xcd\xb2\xa1", Kind.OTHER_CAPTURE, "a pcap capture of a modified libpcap", EDITCAP),
+    (b"snoop\0\0\0", Kind.OTHER_CAPTURE, "a snoop capture", EDITCAP),
+    (b"GMBU", Kind.OTHER_CAPTURE, "a Network Monitor capture", EDITCAP),
+    (b"RTSS", Kind.OTHER_CAPTURE, "a Network Monitor capture", EDITCAP),
     (b"\x1f\x8b\x08", Kind.PACKED, "packed by gzip", "lines.py reads such files where their names end with .gz"),
     (b"BZh", Kind.PACKED, "packed by bzip2", "bunzip2 -k {}"),
     (b"\xfd7zXZ\0", Kind.PACKED, "packed by xz", "unxz -k {}"),
@@ -147,6 +156,8 @@ def by_text(head: bytes, size: int) -> Optional[Look]:
     """A text, of orders maybe."""
     if b"\n" not in head or re.search(rb"[^\t\n\r -~]", head):
         return None
+    if re.match(rb"save \d+\n", head):
+        return Look(Kind.TEXT, "the mark of a run, which trau resume reads with the orders after it", "orders.py check --mark {}")
     if any(ORDER_LINE.match(line) for line in head.split(b"\n")):
         return Look(Kind.TEXT, "a text of orders", "orders.py check {}")
     if head.startswith((b"order 1 ", b"end period ")):

@@ -140,6 +140,7 @@ def sound(words: argparse.Namespace, given: bytes) -> Made:
 
 def pcap(words: argparse.Namespace, given: bytes) -> Made:
     """An uplink or a Pcm line, from a stream of a capture."""
+    file_kinds.refuse_other(words.given, given, "no capture in pcap or pcapng", Kind.CAPTURE)
     marker = Marker(words.sid == "keep")
     asked = captures.Asked(words.stream, words.since, words.law, words.partial)
     line, said, is_uplink = captures.line_of(words.given, given, asked, marker)

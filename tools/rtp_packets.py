@@ -124,7 +124,8 @@ def datagrams(name: Path, content: bytes, partial: bool) -> Iterator[Tuple[int, 
             if isinstance(outer, (ip, ip6)) and isinstance(outer.data, udp):
                 yield number, float(time), outer, outer.data
     except (errors.Error, ValueError) as failure:
-        raise Refusal(f"{name}: isn't a capture: {str(failure)[:80]}") from None
+        reason = str(failure).partition(";")[0]
+        raise Refusal(f"{name}: isn't a capture: {reason[:80]}") from None
 
 
 def payload_of(rtp: Any) -> bytes:

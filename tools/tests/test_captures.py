@@ -318,7 +318,10 @@ class Captures(InFolder):
             self.assert_refused(lines.main, words, part)
 
         line = self.folder / "line"
-        refused("isn't a capture", "pcap", EXAMPLES / "7.up", line)
+        refused("is an uplink, its first frame at bit 0, and no capture in pcap or pcapng", "pcap", EXAMPLES / "7.up", line)
+        other = self.path("other", b"snoop" + bytes(60))
+        refused("is a snoop capture, and no capture in pcap or pcapng; editcap -F pcap ", "pcap", other, line)
+        refused("isn't a capture: unknown pcap format\n", "pcap", self.path("bytes", bytes(range(256))), line)
         refused("isn't a capture", "pcap", self.path("empty", b""), line)
         refused("has no stream 2: 1 is 127.0.0.1:", "pcap", DATA / "gsm.pcap", line, "--stream", "2")
         octets = (DATA / "gsm.pcap").read_bytes()

@@ -92,6 +92,11 @@ class Look(InFolder):
             (b"NIST_1A\n   1024\n" + bytes(30), f"a SPHERE file{sox}"),
             (b"caff\0\1" + bytes(30), "a CAF file; ffmpeg -i FILE -ar 8000 -ac 1 NEW.wav"),
             (b"\x1a\x45\xdf\xa3" + bytes(30), "a Matroska or WebM file; ffmpeg -i FILE -ar 8000 -ac 1 NEW.wav"),
+            (b"\x30\x26\xb2\x75\x8e\x66\xcf\x11" + bytes(30), "a Windows Media file; ffmpeg -i FILE -ar 8000 -ac 1 NEW.wav"),
+            (b"riff\x2e\x91\xcf\x11" + bytes(30), "a Wave64 file; ffmpeg -i FILE -ar 8000 -ac 1 NEW.wav"),
+            (b"\x34\xcd\xb2\xa1" + bytes(30), "a pcap capture of a modified libpcap; editcap -F pcap FILE NEW.pcap"),
+            (b"snoop\0\0\0\0\0\0\2" + bytes(30), "a snoop capture; editcap -F pcap FILE NEW.pcap"),
+            (b"GMBU\0\2" + bytes(30), "a Network Monitor capture; editcap -F pcap FILE NEW.pcap"),
             (b"\0\0\0\x14ftypqt  " + bytes(30), "an MP4 or QuickTime file; ffmpeg -i FILE -ar 8000 -ac 1 NEW.wav"),
             (b"BZh91AY&SY" + bytes(30), "packed by bzip2; bunzip2 -k FILE"),
             (b"\xfd7zXZ\0\0\4" + bytes(30), "packed by xz; unxz -k FILE"),
@@ -103,6 +108,10 @@ class Look(InFolder):
             ((DATA / "pcma.pcapng").read_bytes(), "a pcapng capture; lines.py pcap FILE NEW"),
             (gzip.compress(UP), "packed by gzip; lines.py reads such files where their names end with .gz"),
             ((FARM / "orders.txt").read_bytes(), "a text of orders; orders.py check FILE"),
+            (
+                b"save 60\ncall 1 from 0 out 5 down 7\norders\n0 open 1\n",
+                "the mark of a run, which trau resume reads with the orders after it; orders.py check --mark FILE",
+            ),
             ((FARM / "wanted" / "report.txt").read_bytes(), "the report of a run; report.py text FILE"),
             (random.Random(1).randbytes(20000), "nothing that is known here"),
         ):
