@@ -184,10 +184,10 @@ class Asked(NamedTuple):
 def line_of(name: Path, content: bytes, asked: Asked, marker: Marker) -> Tuple[bytes, str, bool]:
     """A line of a capture's stream, an uplink of GSM and a Pcm line of the others; what was found; and whether it is an uplink."""
     streams = streams_of(name, content, asked.partial)
-    packets = chosen(name, streams.by_flow, "--stream", asked.stream)
+    packets = chosen(name, streams, "--stream", asked.stream)
     lead = 0
     if asked.since is not None:
-        lead = periods_between(name, chosen(name, streams.by_flow, "--since", asked.since), packets)
+        lead = periods_between(name, chosen(name, streams, "--since", asked.since), packets)
     kind = kind_of(packets)
     counts = Counts()
     found = list(stretches(name, packets, kind, counts))

@@ -11,13 +11,14 @@ import ipaddress
 import struct
 import sys
 from pathlib import Path
-from typing import Any, Dict, Iterator, List, NamedTuple, Optional, Sequence, Tuple
+from typing import Any, Callable, Dict, Iterator, List, NamedTuple, Optional, Sequence, Tuple
 
 from trau_frames import PERIODS_A_SECOND, Refusal
 
 PCMU, GSM, PCMA = 0, 3, 8
 NAMES = {PCMU: "pcmu", GSM: "gsm", PCMA: "pcma"}
 RTCP_KINDS = range(72, 77)
+LEAST_OF_STREAM = 10  # of other packets a few may look like RTP
 
 
 def library(part: str) -> Any:
@@ -57,15 +58,44 @@ class Flow(NamedTuple):
         return f"{self.source} to {self.target} ssrc 0x{self.name:08x}"
 
 
-# How packets begin, by the capture's kind of link.
+# How packets begin, by the capture's kind of link. Packets without a link begin with IP of either version.
 LINKS = {
     0: ("loopback", "Loopback"),
     1: ("ethernet", "Ethernet"),
-    12: ("ip", "IP"),
-    101: ("ip", "IP"),
+    9: ("ppp", "PPP"),
+    108: ("loopback", "Loopback"),
     113: ("sll", "SLL"),
     276: ("sll2", "SLL2"),
 }
+WITHOUT_LINK = (12, 101, 228, 229)
+
+
+def reader_of_packets(name: Path, link: int) -> Callable[[bytes], Any]:
+    """What reads the packets of a capture with this kind of link."""
+    if link in WITHOUT_LINK:
+        ip, ip6 = library("ip").IP, library("ip6").IP6
+        return lambda octets: (ip6 if octets[:1] and octets[0] >> 4 == 6 else ip)(octets)
+    if link not in LINKS:
+        raise Refusal(f"{name}: has a kind of link, {link}, that isn't known here")
+    module, kind = LINKS[link]
+    return getattr(library(module), kind)
+
+
+MOST_LAYERS = 8
+
+
+def within(packet: Any, kinds: Tuple[type, ...]) -> Any:
+    """The first layer of a packet that is of one of these kinds, or None."""
+    for _ in range(MOST_LAYERS):
+        if isinstance(packet, kinds):
+            return packet
+        packet = getattr(packet, "data", None)
+    return None
+
+
+def is_fragment(outer: Any) -> bool:
+    """Whether an IP packet is a part of one."""
+    return bool(getattr(outer, "mf", 0) or getattr(outer, "offset", 0))
 
 
 # The places of the lengths that lead from packet to packet: dpkt takes a truncated last packet for a shorter one.
@@ -110,18 +140,14 @@ def datagrams(name: Path, content: bytes, partial: bool) -> Iterator[Tuple[int, 
         is_whole = is_whole_pcapng if content.startswith(PCAPNG_BLOCK) else is_whole_pcap
         if not partial and not is_whole(content):
             raise Refusal(f"{name}: ends within a packet; --partial takes those before it")
-        link = reader.datalink()
-        if link not in LINKS:
-            raise Refusal(f"{name}: has a kind of link, {link}, that isn't known here")
-        module, kind = LINKS[link]
-        unpack = getattr(library(module), kind)
+        unpack = reader_of_packets(name, reader.datalink())
         for number, (time, octets) in enumerate(packets_of_file(reader, partial), 1):
             try:
                 packet = unpack(octets)
             except errors.UnpackError:
                 continue
-            outer = packet if isinstance(packet, ip) else packet.data
-            if isinstance(outer, (ip, ip6)) and isinstance(outer.data, udp):
+            outer = within(packet, (ip, ip6))
+            if outer is not None and isinstance(outer.data, udp):
                 yield number, float(time), outer, outer.data
     except (errors.Error, ValueError) as failure:
         reason = str(failure).partition(";")[0]
@@ -143,10 +169,12 @@ def address(octets: bytes, port: int) -> str:
 
 
 class Streams(NamedTuple):
-    """The RTP packets of a capture by their flows, in their order, and how many with speech weren't captured whole."""
+    """The RTP packets of a capture by their flows, in their order; how many with speech weren't captured whole; and the payload types of
+    streams without speech of the three kinds."""
 
     by_flow: Dict[Flow, List[Packet]]
     cut: int
+    other_types: Tuple[int, ...]
 
 
 def streams_of(name: Path, content: bytes, partial: bool = False) -> Streams:
@@ -164,13 +192,15 @@ def streams_of(name: Path, content: bytes, partial: bool = False) -> Streams:
             continue
         if len(datagram.data) < datagram.ulen - 8 and rtp.pt in NAMES:
             if not partial:
-                raise Refusal(f"{name}: packet {number} wasn't captured whole; --partial leaves such packets out")
+                why = "is a fragment, and its parts aren't joined here" if is_fragment(outer) else "wasn't captured whole"
+                raise Refusal(f"{name}: packet {number} {why}; --partial leaves such packets out")
             cut += 1
             continue
         flow = Flow(address(outer.src, datagram.sport), address(outer.dst, datagram.dport), rtp.ssrc)
         streams.setdefault(flow, []).append(Packet(number, rtp.pt, rtp.seq, rtp.ts, payload_of(rtp), time))
     with_speech = {flow: each for flow, each in streams.items() if any(packet.kind in NAMES for packet in each)}
-    return Streams(with_speech, cut)
+    others = {packet.kind for flow, each in streams.items() if flow not in with_speech and len(each) >= LEAST_OF_STREAM for packet in each}
+    return Streams(with_speech, cut, tuple(sorted(others)))
 
 
 def kinds_said(packets: Sequence[Packet]) -> str:
@@ -194,10 +224,12 @@ def listed(streams: Dict[Flow, List[Packet]]) -> str:
     )
 
 
-def chosen(name: Path, streams: Dict[Flow, List[Packet]], option: str, number: Optional[int]) -> List[Packet]:
+def chosen(name: Path, found: Streams, option: str, number: Optional[int]) -> List[Packet]:
     """The packets of the stream with the number that an option gives, counted from 1, or of the only one."""
+    streams = found.by_flow
     if not streams:
-        raise Refusal(f"{name}: has no RTP stream with GSM, PCMA or PCMU")
+        types = f"; its streams have the payload types {', '.join(map(str, found.other_types))}" if found.other_types else ""
+        raise Refusal(f"{name}: has no RTP stream with GSM, PCMA or PCMU (payload types 3, 8 and 0){types}")
     if number is None and len(streams) == 1:
         number = 1
     if number is None or not 1 <= number <= len(streams):

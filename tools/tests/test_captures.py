@@ -313,6 +313,52 @@ class Captures(InFolder):
             (packets,) = captures.streams_of("d", self.path("d.pcap").read_bytes()).by_flow.values()
             self.assertEqual(b"".join(packet.payload for packet in packets), frames)
 
+    def of_link(self, link, change):
+        """A capture with another kind of link: the IP packets of one, each after the octets that begin its packet."""
+        file = io.BytesIO()
+        writer = captures.library("pcap").Writer(file, linktype=link)
+        for place, octets in enumerate(self.packets()[1]):
+            writer.writepkt(change(octets[14:]), ts=place / 50)
+        return self.path("changed.pcap", file.getvalue())
+
+    def test_kinds_of_links(self):
+        whole = self.pcap(DATA / "gsm.pcap")[1]
+        macs = bytes(12)
+        version_6 = b"\x60\0\0\0" + b"{}" + b"\x11\x40" + bytes(15) + b"\1" + bytes(15) + b"\2"
+        for link, begin in (
+            (1, macs + b"\x81\0\0\5\x08\0"),  # a virtual LAN
+            (1, macs + b"\x88\xa8\0\7\x81\0\0\5\x08\0"),  # one in another
+            (1, macs + b"\x88\x64\x11\0\0\1\0\0\0\x21"),  # PPPoE
+            (1, macs + b"\x88\x47\0\1\1\x40"),  # MPLS
+            (0, b"\2\0\0\0"),
+            (9, b"\xff\3\0\x21"),
+            (12, b""),
+            (101, b""),
+            (108, b"\0\0\0\2"),
+            (113, b"\0\0\0\1\0\6\1\2\3\4\5\6\0\0\x08\0"),
+            (228, b""),
+        ):
+            with self.subTest(link=link, begin=begin):
+                self.assertEqual(self.pcap(self.of_link(link, lambda octets: begin + octets))[1], whole)
+        for link in (101, 229):
+            given = self.of_link(link, lambda octets: version_6.replace(b"{}", (len(octets) - 20).to_bytes(2, "big")) + octets[20:])
+            self.assertEqual(self.pcap(given)[1], whole)
+        self.assert_refused(lines.main, ["pcap", self.of_link(147, bytes), self.folder / "line"], "a kind of link, 147, that isn't known here")
+
+    def test_fragments(self):
+        # The first 24 octets of a datagram, as a packet of which more follows.
+        given = self.of_link(101, lambda octets: octets[:2] + b"\0\x2c" + octets[4:6] + b"\x20\0" + octets[8:44])
+        said = "packet 1 is a fragment, and its parts aren't joined here; --partial leaves such packets out"
+        self.assert_refused(lines.main, ["pcap", given, self.folder / "line"], said)
+
+    def test_other_types(self):
+        def other(rtp):
+            rtp.pt = 97
+
+        said = "has no RTP stream with GSM, PCMA or PCMU (payload types 3, 8 and 0); its streams have the payload types 97\n"
+        given = self.of_link(101, lambda octets: self.rewritten(bytes(12) + b"\x08\0" + octets, other)[14:])
+        self.assert_refused(lines.main, ["pcap", given, self.folder / "line"], said)
+
     def test_refused(self):
         def refused(part, *words):
             self.assert_refused(lines.main, words, part)
