@@ -8,7 +8,6 @@ from __future__ import annotations
 
 import enum
 import re
-import shlex
 from dataclasses import dataclass
 from pathlib import Path
 from typing import Dict, NamedTuple, NoReturn, Optional, Tuple
@@ -341,7 +340,7 @@ def command_for(found: Look, name: Path) -> str:
     """The command that takes this file, in words that follow what the file is."""
     if found.command.startswith(OTHERS):
         return f"; {recordings.command_of_others(found.command, name)}"
-    return f"; {trau_frames.as_started(found.command)}".replace("{}", shlex.quote(str(name))) if found.command else ""
+    return f"; {trau_frames.as_started(found.command)}".replace("{}", recordings.quoted(name)) if found.command else ""
 
 
 def said_beside(found: Look, name: Path, not_this: str) -> str:

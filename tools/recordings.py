@@ -21,11 +21,17 @@ def name_within(path: Path) -> Path:
     return path.with_suffix("") if path.suffix == PACKED else path
 
 
+def quoted(path: Path) -> str:
+    """A file's name as a word of a command. Programs take a name that begins with - for an option."""
+    name = str(path)
+    return shlex.quote(f"./{name}" if name.startswith("-") else name)
+
+
 def command_of_others(command: str, path: Path) -> str:
     """A command of another program, in which {} stands for the file. If gzip packed the file, it is unpacked first."""
     within = name_within(path)
-    said = command.replace("{}", shlex.quote(str(within)))
-    return said if within == path else f"gunzip -k {shlex.quote(str(path))}; {said}"
+    said = command.replace("{}", quoted(within))
+    return said if within == path else f"gunzip -k {quoted(path)}; {said}"
 
 
 @contextlib.contextmanager

@@ -7,6 +7,7 @@ import random
 import struct
 import tarfile
 import unittest
+from pathlib import Path
 
 from support import CODEC, DATA, EXAMPLES, InFolder
 from test_lines import wav
@@ -173,6 +174,13 @@ class Look(InFolder):
 
     def test_too_little_for_statistics(self):
         self.assertEqual(self.look(SPOKEN[0].read_bytes()[4000:4799]), "nothing that is known here")
+
+    def test_names_in_commands(self):
+        for name, word in (("a b.gsm", "'a b.gsm'"), ("-x.gsm", "./-x.gsm"), ("x.gsm", "x.gsm")):
+            found = file_kinds.look((DATA / "speech.gsm").read_bytes(), 1320)
+            self.assertEqual(file_kinds.command_for(found, Path(name)), f"; lines.py uplink {word} NEW.up")
+            found = file_kinds.look(b"fLaC" + bytes(40), 44)
+            self.assertTrue(file_kinds.command_for(found, Path(name)).startswith(f"; sox {word} -r 8000"))
 
     def test_several_files(self):
         one, other = self.path("1.up", UP), self.path("a b", b"")
