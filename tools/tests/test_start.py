@@ -780,6 +780,15 @@ class Demo(Started):
         self.assertRegex(err, "^demo: the run in .* ended with status 6; the folder is removed again\n$")
         status, out, err = self.trau(name="demo", TMPDIR=str(self.folder / "gone"))
         self.assertEqual((status, out, err.count("\n")), (2, "", 1))
+        # Standard output is no run: its lines stay, and are named.
+        program.write_text("#!/bin/sh\n")
+        with open("/dev/full", "w") as full:
+            words = [self.top / "demo", self.folder / "a b"]
+            surroundings = {**self.surroundings, "TRAU_PROGRAM": str(program)}
+            ended = subprocess.run(words, stdout=full, stderr=subprocess.PIPE, text=True, env=surroundings, cwd=self.folder)
+        said = f"demo: standard output can't be written; the lines are in {self.folder}/a b\n"
+        self.assertEqual((ended.returncode, ended.stderr), (2, said))
+        self.assertTrue(self.trau("c d", name="demo", TRAU_PROGRAM=str(program))[1].endswith(" -c 1 'c d/1.out'\n"))
         # Broken off, as by control-C.
         program.write_text("#!/bin/sh\necho begun >&2\nexec sleep 7200\n")
         status, said = self.at_terminal(name="demo", stops_at=b"begun", TRAU_PROGRAM=str(program))
