@@ -30,7 +30,7 @@ import trau_frames
 import wav_files
 from code_word import Marker
 from file_kinds import Kind
-from tool_ends import tool
+from tool_ends import FAILED, complain, tool
 from trau_frames import PCM_OCTETS, Law, Refusal
 from wav_files import LAWS_BY_TAG, WAV_LINEAR
 
@@ -211,11 +211,17 @@ def make_file(words: argparse.Namespace) -> int:
 
 
 def look(words: argparse.Namespace) -> int:
-    """Says what files are."""
+    """Says what files are. One that can't be read doesn't end it."""
+    failed = False
     for name in words.files:
-        found = file_kinds.look(*file_kinds.head_of(name))
-        print(f"{name}: {found.said}{file_kinds.command_for(found, name)}")
-    return 0
+        try:
+            found = file_kinds.look(*file_kinds.head_of(name))
+        except Refusal as refusal:
+            complain("lines.py", str(refusal))
+            failed = True
+        else:
+            print(f"{name}: {found.said}{file_kinds.command_for(found, name)}")
+    return FAILED if failed else 0
 
 
 # The words of the command line
@@ -503,7 +509,7 @@ def add_look(commands: argparse._SubParsersAction) -> None:
         description="Says what each file is, and which command takes it. Sound files, frames of libgsm and captures are known by their\n"
         "heads; uplinks, downlinks, time slots and E1 lines by the frames in them, at any bit and in either order of the bits of an\n"
         "octet; A-law, mu-law and samples of 16 bits by statistics, which are a guess. It looks at the first\n"
-        f"{file_kinds.HEAD_OCTETS} octets.",
+        f"{file_kinds.HEAD_OCTETS} octets. A file that can't be read is named on standard error, and the status is 2 at the end.",
         epilog="example: lines.py look *",
         formatter_class=argparse.RawDescriptionHelpFormatter,
         allow_abbrev=False,

@@ -10,6 +10,7 @@ from __future__ import annotations
 import tool_start  # first, for what comes after it
 
 import argparse
+import os
 import sys
 from dataclasses import dataclass, field
 from pathlib import Path
@@ -228,6 +229,8 @@ def warning_of_line(folder: Path, order: Order, side: str) -> Optional[str]:
         return f"{name} is a folder: the line will fail"
     if not (folder / name).is_file():
         return f"there is no {name}: the line will fail"
+    if not os.access(folder / name, os.R_OK):
+        return f"{name} can't be read: the line will fail"
     found = other_kind(folder / name, side, order)
     if not found:
         return None

@@ -22,6 +22,11 @@ def shared_with(path: Path) -> str:
     return next((other.name for other in sorted(incoming_files(path.parent)) if path.samefile(other)), "")
 
 
+def can_be_written(path: Path) -> bool:
+    """Whether this user may write a file, or make it."""
+    return os.access(path if path.exists() else path.parent, os.W_OK)
+
+
 def said_of_outgoing(folder: Path, call: int) -> Iterator[Tuple[bool, str]]:
     """What is said of a call's outgoing lines, each with whether it is a warning or else a note."""
     for side in OUTGOING:
@@ -31,5 +36,7 @@ def said_of_outgoing(folder: Path, call: int) -> Iterator[Tuple[bool, str]]:
             yield True, f"{path.name} is a folder: the line will fail"
         elif shared:
             yield True, f"{path.name} is the file of {shared}: a line will fail"
+        elif not path.is_symlink() and not can_be_written(path):
+            yield True, f"{path.name} can't be written: the line will fail"
         elif path.is_symlink() and os.path.basename(os.path.realpath(path)) != path.name:
             yield False, f"{path.name} is a link: the run empties and writes {os.path.realpath(path)}"

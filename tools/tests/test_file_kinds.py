@@ -186,6 +186,9 @@ class Look(InFolder):
         one, other = self.path("1.up", UP), self.path("a b", b"")
         status, out, err = self.run_tool(lines.main, "look", one, other)
         self.assertEqual((status, out.splitlines()[1], err), (0, f"{other}: empty", ""))
+        status, out, err = self.run_tool(lines.main, "look", one, self.folder, self.path("gone"), other)
+        self.assertEqual((status, out.splitlines()[1:]), (2, [f"{other}: empty"]))
+        self.assertEqual(err, f"lines.py: {self.folder}: Is a directory\nlines.py: {self.path('gone')}: No such file or directory\n")
         self.assert_refused(lines.main, ["look", self.folder / "gone"], "gone: No such file")
         self.assert_refused(lines.main, ["look", self.folder], "Is a directory")
 

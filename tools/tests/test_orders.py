@@ -7,6 +7,7 @@ import re
 import shutil
 import subprocess
 import unittest
+from unittest import mock
 
 import support
 from support import EXAMPLES, InFolder
@@ -207,6 +208,31 @@ class Orders(InFolder):
             "orders 1 bad 0 warnings 2",
         ]
         self.assertEqual(self.check(b"0 open 1\n", "--lines", self.folder), (0, said))
+
+    @unittest.skipUnless(os.getuid(), "root may read and write everything")
+    def test_lines_of_somebody_else(self):
+        self.check_lines_of_somebody_else()
+
+    def test_lines_of_somebody_else_as_root(self):
+        # As if the system said no.
+        with mock.patch.object(os, "access", lambda path, how: how != os.W_OK and not str(path).endswith("1.up")):
+            self.check_lines_of_somebody_else()
+
+    def check_lines_of_somebody_else(self):
+        for name, octets in (("1.up", 400), ("1.pcm", 1600), ("1.out", 1)):
+            self.path(name, bytes(octets))
+        self.path("1.up").chmod(0)
+        self.path("1.out").chmod(0o444)
+        self.folder.chmod(0o555)
+        self.addCleanup(self.folder.chmod, 0o755)
+        self.assertEqual(
+            orders.remarks_on(orders.Text.read(b"0 open 1\n").orders, self.folder).warnings,
+            [
+                (1, "1.up can't be read: the line will fail"),
+                (1, "1.down can't be written: the line will fail"),
+                (1, "1.out can't be written: the line will fail"),
+            ],
+        )
 
     def test_periods_that_wont_be_used(self):
         for up, pcm, note in (
