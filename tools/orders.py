@@ -119,8 +119,13 @@ class Text:
 PERIOD_OCTETS = {"up": FRAME_OCTETS, "pcm": PCM_OCTETS}
 
 
+def is_unending(path: Path) -> bool:
+    """Whether a line is a pipe or a device, whose length nobody knows."""
+    return path.exists() and not path.is_file() and not path.is_dir()
+
+
 def periods_of_lines(folder: Path, call: int) -> Dict[str, int]:
-    """How many whole periods each of a call's incoming lines has; None for a line that doesn't exist."""
+    """How many whole periods each of a call's incoming lines has, if it is a file."""
     found = {}
     for side, octets in PERIOD_OCTETS.items():
         path = folder / f"{call}.{side}"
@@ -128,9 +133,14 @@ def periods_of_lines(folder: Path, call: int) -> Dict[str, int]:
     return found
 
 
-def periods_of(folder: Path, call: int) -> int:
-    """How many periods the lines of a call have: those that both its incoming lines give."""
-    return min(periods_of_lines(folder, call).values())
+def has_unending(folder: Path, call: int) -> bool:
+    """Whether an incoming line of a call is a pipe or a device."""
+    return any(is_unending(folder / f"{call}.{side}") for side in PERIOD_OCTETS)
+
+
+def end_by_lines(folder: Path, call: int, stamp: int) -> Optional[int]:
+    """The period at which a call ends that is opened at a stamp: both its incoming lines give those before it. None if nobody knows."""
+    return None if has_unending(folder, call) else stamp + min(periods_of_lines(folder, call).values())
 
 
 class Board:
@@ -190,7 +200,7 @@ class Board:
         first = order.calls[0]
         if order.verb == "open":
             self.used[first] = order.number
-            self.ends[first] = None if self.folder is None else order.stamp + periods_of(self.folder, first)
+            self.ends[first] = None if self.folder is None else end_by_lines(self.folder, first, order.stamp)
         elif order.verb == "bridge":
             first, second = order.calls
             self.partners.update({first: second, second: first})
@@ -227,6 +237,8 @@ def warning_of_line(folder: Path, order: Order, side: str) -> Optional[str]:
     name = line_name(order, side)
     if (folder / name).is_dir():
         return f"{name} is a folder: the line will fail"
+    if is_unending(folder / name):
+        return None
     if not (folder / name).is_file():
         return f"there is no {name}: the line will fail"
     if not os.access(folder / name, os.R_OK):
@@ -240,6 +252,8 @@ def warning_of_line(folder: Path, order: Order, side: str) -> Optional[str]:
 
 def note_on_periods(folder: Path, order: Order) -> Optional[str]:
     """How many periods of the longer incoming line won't be used, if any; or which line has no period, so that the call has none."""
+    if has_unending(folder, order.calls[0]):
+        return "a line is a pipe or a device, so that nobody knows when the call ends"
     periods = periods_of_lines(folder, order.calls[0])
     shorter, longer = sorted(periods, key=periods.__getitem__)
     unused = periods[longer] - periods[shorter]

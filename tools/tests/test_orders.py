@@ -209,6 +209,12 @@ class Orders(InFolder):
         ]
         self.assertEqual(self.check(b"0 open 1\n", "--lines", self.folder), (0, said))
 
+    def test_a_pipe_for_a_line(self):
+        os.mkfifo(self.path("3.up"))
+        self.path("3.pcm", bytes(1600))
+        wanted = ["line 1: note: a line is a pipe or a device, so that nobody knows when the call ends", "orders 2 bad 0 warnings 0"]
+        self.assertEqual(self.check(b"0 open 3\n11 close 3\n", "--lines", self.folder), (0, wanted))
+
     @unittest.skipUnless(os.getuid(), "root may read and write everything")
     def test_lines_of_somebody_else(self):
         self.check_lines_of_somebody_else()
