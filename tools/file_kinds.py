@@ -33,6 +33,7 @@ class Kind(enum.Enum):
     OTHER_CAPTURE = "a capture of another kind"
     PACKED = "packed"
     TEXT = "a text"
+    REPORT = "a report"
     UPLINK = "an uplink"
     DOWNLINK = "a downlink"
     E1 = "an E1 line"
@@ -160,7 +161,7 @@ def by_text(head: bytes, size: int) -> Optional[Look]:
     if any(ORDER_LINE.match(line) for line in head.split(b"\n")):
         return Look(Kind.TEXT, "a text of orders", "orders.py check {}")
     if head.startswith((b"order 1 ", b"end period ")):
-        return Look(Kind.TEXT, "the report of a run", "report.py text {}")
+        return Look(Kind.REPORT, "the report of a run", "report.py text {}")
     return Look(Kind.TEXT, "a text")
 
 

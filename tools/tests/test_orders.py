@@ -133,6 +133,9 @@ class Orders(InFolder):
         up = (EXAMPLES / "7.up").read_bytes()
         said = "7.up: is an uplink, its first frame at bit 0, and no orders; trau run takes it"
         self.assert_refused(orders.main, ["check", self.path("7.up", up)], said)
+        report = EXAMPLES / "farm" / "wanted" / "report.txt"
+        said = f"{report}: is the report of a run, and no orders; report.py text {report}"
+        self.assert_refused(orders.main, ["check", report], said)
 
     def test_too_long(self):
         status, said = self.check(b"0 open 1\n" * 65537)

@@ -632,6 +632,8 @@ class WrongWords(Started):
         "follow 7 320": "follow 320: W is 0 to 316",
         "relya 7": "relya: no command; trau help tells them",
         "-x": "-x: no command; trau help tells them",
+        "relay 7 --no-lock": "--no-lock: it stands once, before the command",
+        "run --no-lock": "--no-lock: it stands once, before the command",
         "no such/thing": "no: no command; trau help tells them",
     }
     RIGHT = (
