@@ -47,6 +47,16 @@ if not HAS_LIBRARY:
     os.environ["CC"] = "/no/compiler"
 
 
+class Modules(unittest.TestCase):
+    def test_all_that_the_tools_import_is_packed(self):
+        packed = {*trau_package.TOOLS, *trau_package.BESIDE_TOOLS}
+        for name in sorted(packed):
+            if name.endswith(".py"):
+                for found in re.findall(r"^(?:from|import) (\w+)", (TOOLS / name).read_text(), re.M):
+                    if (TOOLS / f"{found}.py").is_file():
+                        self.assertIn(f"{found}.py", packed, name)
+
+
 @unittest.skipUnless(HAS_PROGRAM, "TRAU_PROGRAM names no program")
 class Package(InFolder):
     def setUp(self):
