@@ -490,6 +490,16 @@ class TwoPrograms(Started):
         (self.out / "trau_program").unlink()
         self.assertEqual(said(), "program: not built")
 
+    def test_a_program_that_isnt_there(self):
+        # A mistyped name starts neither another program nor a proof.
+        for name in ("/no/program", str(self.out), "gone"):
+            said = f"trau: TRAU_PROGRAM is '{name}', and no program is there\n"
+            self.assertEqual(self.trau("relay", "7", TRAU_PROGRAM=name), (125, "", said))
+            self.assertEqual(self.trau("relay", TRAU_PROGRAM=name), (125, "", said))
+            self.assertEqual(self.trau("help", TRAU_PROGRAM=name), (0, Help.HELP, ""))
+            self.assertEqual(self.trau(name="demo", TRAU_PROGRAM=name), (125, "", said))
+        self.assertFalse(self.asked.exists())
+
     def test_where_the_second_is_missing(self):
         self.processor(V3)
         (self.out / "trau.built.x86-64-v3").unlink()
