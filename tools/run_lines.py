@@ -177,6 +177,10 @@ def sent(made: Made, octets: bytes) -> bytes:
 # A run
 
 
+# The octets of a period on the outgoing lines.
+OUTGOING = {"down": FRAME_OCTETS, "out": PCM_OCTETS}
+
+
 @dataclass
 class Call:
     """A call as the report describes it and as its uplink is searched. Only the orders show its law."""
@@ -222,6 +226,18 @@ class Call:
             if self.span.counts[what] != count:
                 raise Refusal(
                     f"{name}: gives {what} {count}, and the report has {self.span.counts[what]}: it is of another run"
+                )
+        self.check_outgoing(folder)
+
+    def check_outgoing(self, folder: Path) -> None:
+        """Refuses an outgoing line that hasn't the octets of the call's periods. One that failed may have fewer; one of a call without
+        periods is an older one."""
+        for side, octets in OUTGOING.items():
+            name, wanted = folder / f"{self.number}.{side}", self.periods() * octets
+            if wanted and side not in self.failed and name.is_file() and name.stat().st_size != wanted:
+                raise Refusal(
+                    f"{name}: has {name.stat().st_size} octets, and {self.periods()} periods give {wanted}: it is of another run, or of a"
+                    " part of this one"
                 )
 
     def shifts(self) -> Iterator[Asking]:

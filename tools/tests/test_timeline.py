@@ -455,6 +455,25 @@ class Pictures(InFolder):
                 finally:
                     undo()
 
+    def test_outgoing_lines_of_another_length(self):
+        for name, octets, periods in (("2.down", 40, 100), ("2.out", 160, 100), ("3.down", 40, 58)):
+            line = self.folder / name
+            before = line.read_bytes() if line.is_file() else None
+            for size in (0, periods * octets - 1, periods * octets + octets):
+                line.write_bytes(bytes(size))
+                self.refused(f"{name}: has {size} octets, and {periods} periods give {periods * octets}: it is of another run, or")
+            # One that failed has fewer.
+            line.write_bytes(bytes(octets))
+            report = self.folder / "report.txt"
+            text = report.read_text()
+            report.write_text(text.replace("end period", f"line {name.replace('.', ' ')} failed\nend period"))
+            self.assertEqual(self.run_tool(timeline.main, self.folder, self.folder / "run.svg")[0], 0)
+            report.write_text(text)
+            (self.folder / "run.svg").unlink()
+            line.unlink()
+            if before is not None:
+                line.write_bytes(before)
+
     def test_refused_files(self):
         (self.folder / "3.up").write_bytes((self.folder / "3.up").read_bytes()[40:])
         self.refused("it is of another run")
