@@ -261,15 +261,17 @@ SOUNDS = {
     "out": (PCMA, sounds_of_octets),
 }
 FIRST_PORT = 5004  # that of RTP, by which other programs know it
+PORTS = 30000  # of streams; later ones have those of the first again, at other addresses
 
 
 def datagram_of(stream: int, kind: int, sequence: int, marked: bool, sound: Sound) -> bytes:
     """The Ethernet frame of a packet of a stream."""
     rtp = library("rtp").RTP(seq=sequence % SEQUENCES, ts=sound.stamp % STAMPS, ssrc=stream, data=sound.payload)
     rtp.version, rtp.pt, rtp.m = 2, kind, marked
-    udp = library("udp").UDP(sport=FIRST_PORT + 2 * stream, dport=FIRST_PORT, data=bytes(rtp))
+    high, low = divmod(stream, 256)
+    udp = library("udp").UDP(sport=FIRST_PORT + 2 * (stream % PORTS), dport=FIRST_PORT, data=bytes(rtp))
     udp.ulen = len(udp)
-    packet = library("ip").IP(src=bytes([10, 0, 0, stream]), dst=bytes([10, 0, 1, stream]), p=17, ttl=64, data=udp)
+    packet = library("ip").IP(src=bytes([10, high, 0, low]), dst=bytes([10, high, 1, low]), p=17, ttl=64, data=udp)
     packet.len = len(packet)
     return bytes(
         library("ethernet").Ethernet(src=bytes([2, 0, 0, 0, 0, 1]), dst=bytes([2, 0, 0, 0, 0, 2]), data=packet)
@@ -288,6 +290,8 @@ def packets_of(stream: int, kind: int, sounds: Iterable[Sound]) -> Iterator[Tupl
 
 def capture_of(lines: Sequence[Tuple[Path, bytes]], law: Law) -> Tuple[bytes, str]:
     """A capture of the lines, each a stream, those from and to the exchange with this law; and what it has."""
+    if len(lines) >= 1 << 16:
+        raise Refusal(f"{len(lines)} lines: fewer than {1 << 16} make a capture")
     packets: List[Tuple[float, bytes]] = []
     for stream, (name, octets) in enumerate(lines, 1):
         side = name.suffix[1:]

@@ -359,6 +359,15 @@ class Captures(InFolder):
         given = self.of_link(101, lambda octets: self.rewritten(bytes(12) + b"\x08\0" + octets, other)[14:])
         self.assert_refused(lines.main, ["pcap", given, self.folder / "line"], said)
 
+    def test_many_lines(self):
+        # More than the last octet of an address tells apart.
+        up = self.path("7.up", (EXAMPLES / "7.up").read_bytes()[:40])
+        more = [word for _ in range(299) for word in ("--also", up)]
+        status, out, err = self.run_tool(lines.main, "capture", up, self.path("new.pcap"), *more)
+        self.assertEqual((status, out, err), (0, "capture streams 300 packets 300\n", ""))
+        flows = captures.streams_of("new", self.path("new.pcap").read_bytes()).by_flow
+        self.assertEqual(len({(flow.source, flow.target) for flow in flows}), 300)
+
     def test_refused(self):
         def refused(part, *words):
             self.assert_refused(lines.main, words, part)
