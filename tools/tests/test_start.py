@@ -568,7 +568,7 @@ class Help(Started):
 
     def test_a_page_for_each_command(self):
         for command in trau_words.COMMANDS:
-            for words in (["help", command.name], [command.name, "--help"]):
+            for words in (["help", command.name], [command.name, "--help"], [command.name, "-h"]):
                 self.assertEqual(self.trau(*words), (0, trau_words.page(command), ""), words)
         self.assertEqual(self.trau("help", "x"), (1, "usage\n", "trau: help x: no command; trau help tells them\n"))
 
@@ -621,6 +621,8 @@ class WrongWords(Started):
         "run --periods 4294967296": "--periods 4294967296: 1 to 4294967295",
         "run --periods 99999999999999999999": "--periods 99999999999999999999: 1 to 4294967295",
         "run --batch": "--batch: its value is missing, 1 to 250",
+        "run --batch=": "--batch: its value is missing, 1 to 250",
+        "run -x": "-x: no option of run; trau help run tells them",
         "run --batch 2 --batch=3": "--batch: it stands twice",
         "run --work 2": "--work: no option of run; trau help run tells them",
         "run --seed 2": "--seed: no option of run; trau help run tells them",
