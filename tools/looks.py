@@ -24,7 +24,7 @@ class Look(enum.Enum):
     OTHER = ("another kind of frame", "#F0E442")
     MISS = ("missed: no frame where one is due", "#1A1A1A")
     NONE = ("nothing yielded", "url(#nothing)")
-    PAUSE = ("pause: unusable behind a descriptor", "#CFE9F8")
+    PAUSE = ("pause: unusable after a descriptor", "#CFE9F8")
     QUIET = ("quiet: unusable with no speech before", "#E2E2E2")
 
     def __init__(self, words: str, colour: str) -> None:

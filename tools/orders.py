@@ -56,7 +56,7 @@ def faults_of_words(words: Sequence[str]) -> List[str]:
     stamp, *others = words
     faults = [fault_of_number("stamp", stamp, 0, MOST_PERIODS - 1)]
     if not others:
-        return [each for each in faults if each] + ["no order behind the stamp"]
+        return [each for each in faults if each] + ["no order after the stamp"]
     name, *given = others
     if name not in FORMS:
         small = f"; write {name.lower()}" if name.lower() in FORMS else f"; the orders are {', '.join(FORMS)}"

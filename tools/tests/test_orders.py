@@ -35,7 +35,7 @@ FAULTS = (
     (b"00 open 1", "stamp 00: a leading zero"),
     (b"4294967295 open 1", "stamp 4294967295: 0 to 4,294,967,294"),
     (b"open 1", "stamp 'open'"),
-    (b"0", "no order behind the stamp"),
+    (b"0", "no order after the stamp"),
     (b"0 opne 1", "no order 'opne'; the orders are open, close, bridge, unbridge, level, dtx"),
     (b"0 OPEN 1", "no order 'OPEN'; write open"),
     (b"# calls", "a comment; orders.py strip leaves out comments and empty lines"),
