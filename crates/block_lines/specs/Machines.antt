@@ -47,11 +47,12 @@ blocks_with M blocks next = if nat_lt (length next) M.shape.octets then blocks e
 abbrev pub with_next : Machine → (List (List ℕ) → List ℕ → List ℕ) → List (List ℕ) → List ℕ → List ℕ
 with_next M f blocks next = if nat_lt (length next) M.shape.octets then f blocks next else f (blocks ++ next ∷ []) []
 
--- a block has 1 to 160 octets; the incoming line is none of the outgoing ones; nothing goes out before the first block; and a line may
--- end after its last block
+-- a block has 1 to 160 octets; there are at most 4 outgoing lines, none of them the incoming one; nothing goes out before the
+-- first block; and a line may end after its last block
 pub record IsLawful (M : Machine) : Type 0 where
   pub some : 0 < M.shape.octets
   pub most : M.shape.octets ≤ 160
+  pub few : M.shape.lines ≤ 4
   pub apart : M.shape.from ≢ M.shape.to
   pub nothing_made : (j : ℕ) → M.made j [] [] ≡ []
   pub nothing_printed : M.printed [] [] ≡ []

@@ -13,7 +13,7 @@ pub struct Shape {
     pub octets: usize,
     /// The side of the call's line that it reads.
     pub from: Side,
-    /// How many lines it writes: those of its call and of the next ones.
+    /// How many lines it writes, at most 4: those of its call and of the next ones.
     pub lines: u32,
     /// Their side, not that of the line that it reads.
     pub to: Side,
@@ -46,9 +46,9 @@ pub trait BlockMachine {
         ensures makes { IfSome result (λ count. Makes about (stands self.old) (stands self.new) block.now (holds self.new) (says self.new) count) }
         ensures refuses { IsNone result → IsNext about block.now → ⊥ };
 
-    /// The octets that it holds for one of its lines, counted from 0.
+    /// The octets that it holds for a line, counted from 0.
     fn held(&self, line: u32) -> &[u8]
-        requires { line < about.shape.lines }
+        requires { line < 4 }
         ensures { result.now ≡ holds self.now line };
 
     /// The text for what it took last.

@@ -17,6 +17,7 @@ fn write_lines<M: BlockMachine, T: Trunk>(
     trunk: &mut T,
 ) -> Result<(), u32>
     requires shape { shape ≡ M.about.shape }
+    requires few { shape.lines ≤ 4 }
     requires low { 1 ≤ call }
     requires high { call + shape.lines ≤ 4097 }
     requires within { (j : ℕ) → j < shape.lines → count ≤ length (M.holds machine.now j) }

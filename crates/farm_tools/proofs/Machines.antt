@@ -11,6 +11,7 @@ pub relay_lawful : IsLawful relay_machine
 relay_lawful = record {
   some = omega arith;
   most = omega arith;
+  few = omega arith;
   apart = λ e. cc;
   nothing_made = λ j. refl;
   nothing_printed = refl;
@@ -21,6 +22,7 @@ pub decode_lawful : IsLawful decode_machine
 decode_lawful = record {
   some = omega arith;
   most = omega arith;
+  few = omega arith;
   apart = λ e. cc;
   nothing_made = decode_nothing;
   nothing_printed = refl;
@@ -31,6 +33,7 @@ pub encode_lawful : IsLawful encode_machine
 encode_lawful = record {
   some = omega arith;
   most = omega arith;
+  few = omega arith;
   apart = λ e. cc;
   nothing_made = encode_nothing;
   nothing_printed = refl;

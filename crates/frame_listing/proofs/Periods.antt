@@ -28,6 +28,7 @@ pub frames_lawful : IsLawful frames_machine
 frames_lawful = record {
   some = omega arith;
   most = omega arith;
+  few = omega arith;
   apart = λ e. cc;
   nothing_made = λ j. refl;
   nothing_printed = listed_nothing;

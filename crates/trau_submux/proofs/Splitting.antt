@@ -18,6 +18,7 @@ pub split_lawful : IsLawful split_machine
 split_lawful = record {
   some = omega arith;
   most = omega arith;
+  few = omega arith;
   apart = λ e. cc;
   nothing_made = λ j. empty (channel j []) (length-channel j [] 0 refl);
   nothing_printed = refl;
