@@ -1,10 +1,9 @@
 -- Which line has which file on a disk, so that no line is written to the file of another (this project's profile).
 use Rattle.std.specs.Prelude.{◌≡◌, ◌≢◌, ◌⊎◌, ℕ, List, Option, None, Some, slice_index_or}
 use Rattle.trau_files.specs.declared.trunk.claims.Claim.{Claim}
-use Rattle.trau_files.specs.declared.trunk.seats.Access.{Access}
 use Rattle.trau_files.specs.declared.trunk.seats.Access.TheVariants.{Reading, Writing}
 
--- the file that the line at this place was last opened with, if that is a file on a disk
+-- the last file on a disk that the line at this place was opened with, if there is one
 abbrev pub claim_at : List (Option Claim) → ℕ → Option Claim
 claim_at claims k = slice_index_or claims k None
 
@@ -25,12 +24,7 @@ abbrev pub Has : Option Claim → Claim → Type 0
 Has None c = ⊥
 Has (Some held) c = (held.file ≡ c.file) × (c.access ≡ Writing → held.access ≡ Writing)
 
--- the line has some file, and has it for writing if it is opened for that
-abbrev pub HasFor : Option Claim → Access → Type 0
-HasFor None access = ⊥
-HasFor (Some held) access = access ≡ Writing → held.access ≡ Writing
-
--- the files of all lines but the one at this place are as before
+-- which file any line but the one at this place has, and what for, is as before
 abbrev pub OthersKeep : List (Option Claim) → List (Option Claim) → ℕ → Type 0
 OthersKeep old new p = (k : ℕ) → k ≢ p → claim_at new k ≡ claim_at old k
 

@@ -1,9 +1,9 @@
 //! Which line has which file on a disk, so that no line is written to the file of another.
 
-ghost use Rattle.std.specs.Prelude.{◌≡◌, ◌≢◌, ◌⊎◌, ℕ, IfOk, IfErr, IfSome, IsSome, IsTrue, false, None, All};
+ghost use Rattle.std.specs.Prelude.{◌≡◌, ◌⊎◌, IfOk, IfErr, IfSome, IsSome, IsTrue, false, None, All};
 ghost use Rattle.trau_io.specs.Indices.{index_of_line};
 ghost use Rattle.trau_files.specs.declared.trunk.seats.Access.TheVariants.{Writing};
-ghost use Rattle.trau_files.specs.Claims.{AreApart, Has, HasFor, IsTaken, MayHave, MayShare, OthersKeep, claim_at};
+ghost use Rattle.trau_files.specs.Claims.{AreApart, Has, IsTaken, MayHave, MayShare, OthersKeep, claim_at};
 
 use super::seats::Access;
 use std::alloc::{AllocError, Global};
@@ -29,7 +29,7 @@ impl FileIdentity {
     }
 }
 
-/// The file that a line was last opened with, and what for. Once it is for writing, it stays so while the line has this file.
+/// The last file on a disk that a line was opened with, and what for. Once it is for writing, it stays so while the line has this file.
 #[derive(Clone, Copy)]
 pub struct Claim {
     pub file: FileIdentity,
@@ -71,7 +71,6 @@ impl Claims {
     /// Gives the file to the line, unless another line has it and one of the two is written. The error is that line's place.
     pub fn claim(&mut self, line: Line, claim: Claim) -> Result<(), usize>
         ensures has { IfOk result (λ _. Has (claim_at self.new (index_of_line line.call line.side)) claim) }
-        ensures has_for { IfOk result (λ _. HasFor (claim_at self.new (index_of_line line.call line.side)) claim.access) }
         ensures others { OthersKeep self.old self.new (index_of_line line.call line.side) }
         ensures taken { IfErr result (λ other. (self.new ≡ self.old) × IsTaken self.old (index_of_line line.call line.side) claim other) }
         ensures apart { AreApart self.new }
@@ -105,8 +104,7 @@ impl Claims {
 
 // Whether a line has this file already, for the same access or for writing.
 fn has(held: Option<Claim>, claim: Claim) -> bool
-    ensures has { IsTrue result → Has held claim }
-    ensures has_for { IsTrue result → HasFor held claim.access }
+    ensures { IsTrue result → Has held claim }
 {
     match held {
         Some(held) => {

@@ -1,12 +1,12 @@
 //! The files of all lines. Some of them are open.
 
-ghost use Rattle.std.specs.Prelude.{◌≡◌, ◌<◌, ◌↔◌, ◌⊎◌, length, pos, IfOk, IsTrue, All, Some, None};
+ghost use Rattle.std.specs.Prelude.{◌≡◌, ◌<◌, ◌↔◌, ◌⊎◌, length, pos, IfErr, IfOk, IsTrue, All, Some, None};
+ghost use Rattle.std.specs.Fs.{IsFile, file_type};
 ghost use Rattle.std.specs.IoError.{raw_os_error};
 ghost use Rattle.std.specs.Io.{ReadsAtMost, WritesAtMost};
-ghost use Rattle.trau_files.specs.declared.trunk.seats.Access.TheVariants.{Reading, Writing};
 ghost use Rattle.trau_io.specs.Indices.{index_of_line};
-ghost use Rattle.std.specs.Fs.{IsFile, file_type};
-ghost use Rattle.trau_files.specs.Claims.{AreApart, HasFor, OthersKeep, claim_at};
+ghost use Rattle.trau_files.specs.declared.trunk.seats.Access.TheVariants.{Reading, Writing};
+ghost use Rattle.trau_files.specs.Claims.{AreApart, Has, OthersKeep, claim_at};
 ghost use Rattle.trau_files.specs.Files.{IsOpenAt, IsFileOf, OpenAfter, in_seat, file_after, opened, options_for};
 
 use super::claims::{Claim, Claims, FileIdentity};
@@ -143,25 +143,30 @@ impl<'a, R: Files> LineFiles<'a, R> {
     {
         let mut file = options_for(access, at).open(self.files, name_of(line).as_str())?;
         let metadata = file.metadata()?;
-        self.take(line, access, at, &file, &metadata)?;
+        let claim = Claim {
+            file: FileIdentity::of(&metadata),
+            access,
+        };
+        self.take(line, claim, at, &file, &metadata)?;
         if at > 0 {
             file.seek(SeekFrom::Start(at))?;
         }
         Ok(file)
     }
 
-    // Gives an opened file to the line, unless it is another line's. Only then is a file emptied, if it is opened for writing and
-    // nothing has been written yet. A pipe or a device keeps nothing that could be lost; any number of lines may have it.
+    // Gives an opened file, which has these metadata, to the line, unless it is another line's. Only then is a file emptied, if it is
+    // opened for writing and nothing has been written yet. A pipe or a device keeps nothing that could be lost; any number of lines may
+    // have it.
     fn take(
         &mut self,
         line: Line,
-        access: Access,
+        claim: Claim,
         at: u64,
         file: &R::File,
         metadata: &Metadata,
     ) -> Result<(), Fault>
         ensures seats { self.new.seats ≡ self.old.seats }
-        ensures has { IfOk result (λ _. IsFile (file_type metadata.now) → HasFor (claim_at self.new.claims (index_of_line line.call line.side)) access) }
+        ensures has { IfOk result (λ _. IsFile (file_type metadata.now) → Has (claim_at self.new.claims (index_of_line line.call line.side)) claim) }
         ensures apart { AreApart self.new.claims }
         ensures others { OthersKeep self.old.claims self.new.claims (index_of_line line.call line.side) }
     {
@@ -170,8 +175,8 @@ impl<'a, R: Files> LineFiles<'a, R> {
         if !metadata.is_file() {
             return Ok(());
         }
-        self.claim(line, access, metadata)?;
-        match access {
+        self.claim(line, claim, metadata)?;
+        match claim.access {
             Access::Writing if at == 0 => Ok(file.set_len(0)?),
             _ => Ok(()),
         }
@@ -179,19 +184,19 @@ impl<'a, R: Files> LineFiles<'a, R> {
 
     // Gives the file to the line, unless a line that was opened before has it and one of the two is written. A file that is written
     // under several names mustn't be that of any incoming line either, opened or not.
-    fn claim(&mut self, line: Line, access: Access, metadata: &Metadata) -> Result<(), Fault>
+    fn claim(&mut self, line: Line, claim: Claim, metadata: &Metadata) -> Result<(), Fault>
         ensures seats { self.new.seats ≡ self.old.seats }
-        ensures has { IfOk result (λ _. HasFor (claim_at self.new.claims (index_of_line line.call line.side)) access) }
+        ensures has { IfOk result (λ _. Has (claim_at self.new.claims (index_of_line line.call line.side)) claim) }
+        ensures refused { IfErr result (λ _. self.new.claims ≡ self.old.claims) }
         ensures apart { AreApart self.new.claims }
         ensures others { OthersKeep self.old.claims self.new.claims (index_of_line line.call line.side) }
     {
-        let file = FileIdentity::of(metadata);
-        if access == Access::Writing && is_linked(self.files, line, metadata) {
-            if let Some(place) = self.recordings.place_of(self.files, file) {
+        if claim.access == Access::Writing && is_linked(self.files, line, metadata) {
+            if let Some(place) = self.recordings.place_of(self.files, claim.file) {
                 return Err(Fault::Shared(place));
             }
         }
-        match self.claims.claim(line, Claim { file, access }) {
+        match self.claims.claim(line, claim) {
             Ok(()) => Ok(()),
             Err(place) => Err(Fault::Shared(place)),
         }
