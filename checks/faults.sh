@@ -269,14 +269,17 @@ else
     fail "$what: status $status, $text"
 fi
 
-# Reasons, for at most twenty lines.
+# Reasons, for at most twenty lines, in the order in which a round uses them.
 rm -rf "$work/run"
 mkdir "$work/run"
 cd "$work/run"
 status=0
 seq 25 | sed 's/^/0 open /' | "$top/trau" run >report.txt 2>said || status=$?
-if [ "$status" = 6 ] && [ "$(grep -c '^line ' report.txt)" = 50 ] && [ "$(sed -n 21p said)" = "trau: lines failed beside these: 30" ] &&
-    [ "$(grep -c '^trau: [0-9]*\.\(up\|pcm\): No such file or directory' said)" = 20 ] && [ "$(wc -l <said)" = 21 ]; then
+{
+    seq 10 | sed 's/.*/&.up\n&.pcm/' | sed 's/.*/trau: &: No such file or directory (os error 2)/'
+    echo "trau: lines failed beside these: 30"
+} >reasons
+if [ "$status" = 6 ] && [ "$(grep -c '^line ' report.txt)" = 50 ] && cmp reasons said; then
     echo "ok reasons of twenty lines"
 else
     fail "reasons: status $status"
