@@ -20,10 +20,11 @@ use trau_alaw::{Law, compress_all};
 use trau_io::{Desk, Side, Trunk};
 use trau_params::Params;
 
-/// The block machine of `decode`: the decoder after all frames so far, and the octets of the last.
+/// The block machine of `decode`: the decoder after all frames so far, and the bits and the octets of the last.
 #[derive(Drop)]
 pub struct Decoding {
     decoder: Decoder,
+    bits: [u8; 320],
     octets: [u8; 160],
 }
 
@@ -55,7 +56,7 @@ impl BlockMachine for Decoding {
         if block.len() < 40 {
             return None;
         }
-        let d = good_data(block)?;
+        let d = good_data(block, &mut self.bits)?;
         decode_octets(&mut self.decoder, &d, &mut self.octets);
         Some(160)
     }
@@ -102,6 +103,7 @@ pub fn decode<T: Trunk, D: Desk>(_alloc: Global, call: u32, trunk: &mut T, desk:
 {
     let mut machine = Decoding {
         decoder: Decoder::home(),
+        bits: [0; 320],
         octets: [0; 160],
     };
     run_command(&mut machine, call, trunk, desk)

@@ -1,20 +1,18 @@
-//! Downlink frames for data bits.
-ghost use Rattle.std.specs.Prelude.{◌≡◌, true};
-ghost use Rattle.trau_bits.specs.Bits.{AreBits, octets_of};
-ghost use Rattle.trau_frame.specs.declared.frames.DownFrame.TheVariants.{Speech};
-ghost use Rattle.trau_frame.specs.DownFrame.{down_bits};
+//! The octets of downlink frames.
+ghost use Rattle.std.specs.Prelude.{◌≡◌, length};
+ghost use Rattle.trau_bits.specs.Bits.{octets_of};
+ghost use Rattle.trau_frame.specs.DownFrame.{HasBits, down_bits};
 
 use trau_bits::pack;
 use trau_frame::{DownFrame, write_down};
 
-/// Makes the downlink speech frame with these data bits and SP 1.
-// Inlined, so that a caller's data bits are copied once less.
+/// Makes the octets of a downlink frame, by its bits.
 #[inline(always)]
-pub fn downlink_frame(d: &[u8; 260], frame: &mut [u8; 40])
-    requires { AreBits d.now }
-    ensures { frame.new ≡ octets_of (down_bits (Speech d.now true)) }
+pub fn pack_frame(frame: &DownFrame, bits: &mut [u8; 320], octets: &mut [u8; 40])
+    requires { HasBits frame.now }
+    ensures long { length octets.new ≡ 40 }
+    ensures octets { octets.new ≡ octets_of (down_bits frame.now) }
 {
-    let mut bits = [0; 320];
-    write_down(&DownFrame::Speech { d: *d, sp: true }, &mut bits);
-    pack(&bits, frame);
+    write_down(frame, bits);
+    pack(bits, octets);
 }

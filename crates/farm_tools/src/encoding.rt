@@ -7,13 +7,14 @@ ghost use Rattle.block_lines.specs.Command.{Causes, CommandRuns, Leaves, status_
 ghost use Rattle.farm_tools.specs.Made.{block_samples, frame_of_encoded};
 ghost use Rattle.farm_tools.specs.Machines.{encode_machine};
 
-use crate::downlink::downlink_frame;
+use crate::downlink::pack_frame;
 use arrayvec::ArrayString;
 use block_lines::{BlockMachine, Shape, ToolEnd, run_command};
 use fr_encoder::Encoder;
 use itoa::Buffer;
 use std::alloc::Global;
 use trau_alaw::{Law, expand_all};
+use trau_frame::DownFrame;
 use trau_io::{Desk, Side, Trunk};
 
 /// The block machine of `encode`: the encoder after all periods so far, and the frame of the last.
@@ -89,7 +90,7 @@ fn encode_frame(encoder: &mut Encoder, block: &[u8], frame: &mut [u8; 40])
     let (params, _, _) = encoder.encode(&expand_all(Law::A, period));
     let mut d = [0; 260];
     params.to_bits(&mut d);
-    downlink_frame(&d, frame);
+    pack_frame(&DownFrame::Speech { d, sp: true }, &mut [0; 320], frame);
 }
 
 /// Encodes a call's Pcm line to its downlink: for each block of 160 A-law octets (G.711) the downlink speech frame

@@ -58,11 +58,10 @@ impl BlockMachine for Listing {
             return Some(0);
         }
         let period = block.as_array().unwrap();
-        let Some(found) = self.sync.feed(period) else {
-            return Some(0);
-        };
-        self.yields += 1;
-        write_line(&found, &mut self.text);
+        if let Some(found) = &self.sync.feed(period) {
+            self.yields += 1;
+            write_line(found, &mut self.text);
+        }
         Some(0)
     }
 

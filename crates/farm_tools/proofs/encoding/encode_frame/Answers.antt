@@ -14,7 +14,7 @@ returns-clause-history c = λ past stands.
     let samples = c.expand_all.ensures ∙ expanded-block c.unwrap-period.result.now c.args.block.now period in
     let one = c.encode.ensures.history past stands in (
       subst (λ x. Stands (x ∷ past) c.encode.new.self) samples one.0,
-      c.downlink_frame.ensures
+      c.pack_frame.ensures.octets
           ∙ coded_frame-bits c.encode.result.0 c.encode.result.1 c.encode.result.2 c.to_bits.new.bits c.to_bits.ensures.value
           ∙ ap frame_of_encoded (subst (λ x. encoded_of c.encode.result.0 c.encode.result.1 c.encode.result.2 ≡ encoding_of x past) samples one.1),
     )

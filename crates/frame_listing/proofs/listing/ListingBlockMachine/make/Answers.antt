@@ -25,15 +25,20 @@ returns-in_default-clause-makes c =
     let whole : length c.args.block.now ≡ 40 = omega (arith, c.requires.bound, c.if-block-lt40.false) in
     let period = (MatchOption-at_some (length c.args.block.now ≢ 40) (λ y. IsWholeChunk c.args.block.now y.now 40) c.unwrap-period.result
     c.unwrap-period.ensures c.as_array.ensures.cases).same in
+    let found = subst (λ r. (past : List (List ℕ)) → Stands past c.args.self.now.sync →
+    Stands (c.unwrap-period.result.now ∷ past) c.feed.new.self × (r ≡ yield_of c.unwrap-period.result.now past)) c.in_default.is c.feed.ensures.history in
     one_period c.args.self.now.sync c.feed.new.self c.args.self.now.yields _ 0 (omega arith) c.args.block.now (λ j. []) c.clear.new.self.bytes None
-    (subst (λ o. (past : List (List ℕ)) → Stands past c.args.self.now.sync → Stands (o ∷ past) c.feed.new.self × (None ≡ yield_of o past)) period
-    c.in_default.ensures.history) refl (omega arith) whole c.clear.ensures
+    (subst (λ o. (past : List (List ℕ)) → Stands past c.args.self.now.sync →
+    Stands (o ∷ past) c.feed.new.self × (None ≡ yield_of o past)) period found) refl (omega arith) whole c.clear.ensures
 
-pub returns-clause-makes : goal.returns-clause-makes
-returns-clause-makes c =
+pub returns-in-Some-clause-makes : goal.returns-in-Some-clause-makes
+returns-in-Some-clause-makes c =
     let whole : length c.args.block.now ≡ 40 = omega (arith, c.requires.bound, c.if-block-lt40.false) in
     let period = (MatchOption-at_some (length c.args.block.now ≢ 40) (λ y. IsWholeChunk c.args.block.now y.now 40) c.unwrap-period.result
     c.unwrap-period.ensures c.as_array.ensures.cases).same in
-    one_period c.args.self.now.sync c.feed.new.self c.args.self.now.yields _ 1 refl c.args.block.now (λ j. []) c.write_line.new.text.bytes (Some c.in-Some.found)
-    (subst (λ o. (past : List (List ℕ)) → Stands past c.args.self.now.sync → Stands (o ∷ past) c.feed.new.self × (Some c.in-Some.found ≡ yield_of o past)) period
-    c.in-Some.ensures.history) refl (omega arith) whole (c.write_line.ensures ∙ sym (append-nil (line_of c.in-Some.found)))
+    let found = subst (λ r. (past : List (List ℕ)) → Stands past c.args.self.now.sync →
+    Stands (c.unwrap-period.result.now ∷ past) c.feed.new.self × (r ≡ yield_of c.unwrap-period.result.now past)) c.in-Some.is c.feed.ensures.history in
+    one_period c.args.self.now.sync c.feed.new.self c.args.self.now.yields _ 1 refl c.args.block.now (λ j. []) c.write_line.new.text.bytes
+    (Some c.in-Some.found) (subst (λ o. (past : List (List ℕ)) → Stands past c.args.self.now.sync →
+    Stands (o ∷ past) c.feed.new.self × (Some c.in-Some.found ≡ yield_of o past)) period found) refl (omega arith) whole
+    (c.write_line.ensures ∙ sym (append-nil (line_of c.in-Some.found)))

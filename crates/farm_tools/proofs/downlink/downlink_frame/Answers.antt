@@ -1,6 +1,0 @@
-use Rattle.std.proofs.Common.{◌∙◌, ap}
-use Rattle.trau_bits.specs.Bits.{octets_of}
-use Rattle.farm_tools.proofs.downlink.downlink_frame.Goals as goal
-
-pub returns : goal.returns
-returns c = c.pack.ensures.octets ∙ ap octets_of c.write_down.ensures.bits
