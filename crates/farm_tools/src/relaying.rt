@@ -47,6 +47,8 @@ impl BlockMachine for Relaying {
         }
     }
 
+    // Inlined into the loop, which knows the length of a whole block.
+    #[inline(always)]
     fn make(&mut self, block: &[u8]) -> Option<usize> {
         if block.is_empty() {
             return Some(0);
@@ -82,7 +84,6 @@ impl BlockMachine for Relaying {
 }
 
 // The downlink speech frame with the data bits of a block of 40 octets, which is unpacked to `bits`; None if it isn't a good speech frame.
-// It isn't made of `good_data`, so that the data bits are copied once.
 fn relayed(block: &[u8], bits: &mut [u8; 320]) -> Option<DownFrame>
     requires { length block.now ≡ 40 }
     ensures good { IsSome result ↔ IsGoodSpeech (bits_of block.now) }

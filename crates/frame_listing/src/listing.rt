@@ -52,6 +52,8 @@ impl BlockMachine for Listing {
         }
     }
 
+    // Inlined into the loop, which knows the length of a whole block.
+    #[inline(always)]
     fn make(&mut self, block: &[u8]) -> Option<usize> {
         self.text.clear();
         if block.len() < 40 {
