@@ -1,4 +1,4 @@
-"""Lines and orders that are drawn from a number, and what a run makes of them (docs/commands/drill.md).
+"""Lines that are drawn from a number, the orders of a drill, and what a run makes of both (docs/commands/drill.md).
 
 All of it is this project's profile.
 """
@@ -77,7 +77,7 @@ def drawn_orders(calls: int, periods: int) -> List[Order]:
 
 
 def drill_farm(seed: int, calls: int, periods: int) -> Farm:
-    """What a run of so many periods makes of the drawn lines and orders (docs/commands/drill.md)."""
+    """What a run of so many periods makes of the drawn lines and the orders (docs/commands/drill.md)."""
     incoming = {call: drawn_lines(seed, call, periods) for call in range(1, calls + 1)}
     return farm_of(plan_of(drawn_orders(calls, periods), periods, incoming))
 

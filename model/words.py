@@ -37,7 +37,7 @@ class Resume(NamedTuple):
 
 
 class Drill(NamedTuple):
-    """`drill`: what its lines and orders are drawn from, and the most periods of a round."""
+    """`drill`: what its lines are drawn from, and the most periods of a round."""
 
     seed: int
     calls: int

@@ -86,8 +86,8 @@ COMMANDS = (
     Command(
         "drill",
         "[OPTIONS]",
-        "draws lines and orders from a number, processes them in memory as run does, and prints the report, with"
-        " sums of what goes out; it uses no file",
+        "draws lines from a number, runs orders over them in memory as run does, and prints the report, with sums"
+        " of what goes out; it uses no file",
         (0, 1, 4, 5),
     ),
     Command(
@@ -154,7 +154,7 @@ OPTIONS = (
 DRILL_OPTIONS = (
     *OPTIONS[:3],
     Option("--periods", 1, 1000, 200, "the periods of the drill"),
-    Option("--seed", 0, 4294967295, 1, "the number that lines and orders are drawn from"),
+    Option("--seed", 0, 4294967295, 1, "the number that lines are drawn from"),
     Option("--calls", 1, 256, 64, "the calls of the drill"),
 )
 
