@@ -3,9 +3,9 @@
 and captures of network packets. It also says what a file is, and damages uplinks.
 
 A command reads one file and writes another (`idle` reads none, `look` writes none), and prints one line on standard output that says what
-it did. `-` is standard input or standard output; if the file goes to standard output, the line goes to standard error. A file whose name
-ends with .gz is unpacked first. If a command can't take something, it prints one line on standard error, exits with status 2 and writes
-nothing.
+it did. `-` is standard input or standard output; if the file goes to standard output, the line goes to standard error. Each command but
+`look` unpacks a file whose name ends with .gz as it reads it. If a command can't take something, it prints one line on standard error,
+exits with status 2 and writes nothing.
 """
 
 from __future__ import annotations

@@ -391,7 +391,7 @@ def add_check(commands: argparse._SubParsersAction) -> None:
         help="says what is wrong with orders",
         description="Prints what is wrong with each bad line, by the number that `trau run` prints as `orders line N`, and the number and\n"
         "cause of each refusal that the run will give. The last line counts: `orders N bad B warnings W`. Status 0: the run takes\n"
-        "the orders. Status 1: a line is bad, or they are too long. Status 2: no orders.\n\n"
+        "the orders. Status 1: a line is bad, or they are too long. Status 2: they can't be read.\n\n"
         "With --mark it also prints what is wrong with the mark before the orders, by the number that `trau resume` prints as\n"
         "`save line N`, and which of its calls these orders don't have open, for which `trau resume` prints `save differs C`.\n"
         "`mark lines N bad B` counts, and what is said of the orders follows.",
@@ -422,8 +422,8 @@ def add_strip(commands: argparse._SubParsersAction) -> None:
     added = commands.add_parser(
         "strip",
         help="leaves out comments and empty lines",
-        description="Writes the orders without comments, which begin with # anywhere in a line, and without empty lines. All else stays\n"
-        "as it is. `trau run` numbers the remaining lines.",
+        description="Writes the orders without comments, which begin with # anywhere in a line and the spaces before them, and without\n"
+        "empty lines. `trau run` numbers the remaining lines.",
         epilog="example: orders.py strip notes.txt | trau run",
         formatter_class=argparse.RawDescriptionHelpFormatter,
         allow_abbrev=False,
