@@ -11,7 +11,7 @@ ghost use Rattle.block_lines.specs.Command.{Causes, CommandRuns, Leaves, status_
 ghost use Rattle.farm_tools.specs.Machines.{decode_machine};
 
 use crate::text::{refusal_text, taken_text};
-use crate::uplink::good_data;
+use crate::uplink::good_frame;
 use arrayvec::ArrayString;
 use block_lines::{BlockMachine, Shape, ToolEnd, run_command};
 use fr_decoder::Decoder;
@@ -20,7 +20,8 @@ use trau_alaw::{Law, compress_all};
 use trau_io::{Desk, Side, Trunk};
 use trau_params::Params;
 
-/// The block machine of `decode`: the decoder after all frames so far, and the bits and the octets of the last.
+/// The block machine of `decode`: the decoder after all frames so far, room for the bits of a block, and the octets that
+/// were made of the last one.
 #[derive(Drop)]
 pub struct Decoding {
     decoder: Decoder,
@@ -56,8 +57,8 @@ impl BlockMachine for Decoding {
         if block.len() < 40 {
             return None;
         }
-        let d = good_data(block, &mut self.bits)?;
-        decode_octets(&mut self.decoder, &d, &mut self.octets);
+        let good = good_frame(block, &mut self.bits)?;
+        decode_octets(&mut self.decoder, &good.d, &mut self.octets);
         Some(160)
     }
 

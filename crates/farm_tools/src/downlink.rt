@@ -6,7 +6,7 @@ ghost use Rattle.trau_frame.specs.DownFrame.{HasBits, down_bits};
 use trau_bits::pack;
 use trau_frame::{DownFrame, write_down};
 
-/// Makes the octets of a downlink frame, by its bits.
+/// Makes the 40 octets of a downlink frame. `bits` is room for its 320 bits, and holds them afterwards.
 #[inline(always)]
 pub fn pack_frame(frame: &DownFrame, bits: &mut [u8; 320], octets: &mut [u8; 40])
     requires { HasBits frame.now }

@@ -17,10 +17,12 @@ use trau_alaw::{Law, expand_all};
 use trau_frame::DownFrame;
 use trau_io::{Desk, Side, Trunk};
 
-/// The block machine of `encode`: the encoder after all periods so far, and the frame of the last.
+/// The block machine of `encode`: the encoder after all periods so far, room for the bits of a frame, and the octets of
+/// the last one.
 #[derive(Drop)]
 pub struct Encoding {
     encoder: Encoder,
+    bits: [u8; 320],
     frame: [u8; 40],
 }
 
@@ -49,7 +51,7 @@ impl BlockMachine for Encoding {
         if block.len() < 160 {
             return Some(0);
         }
-        encode_frame(&mut self.encoder, block, &mut self.frame);
+        encode_frame(&mut self.encoder, block, &mut self.bits, &mut self.frame);
         Some(40)
     }
 
@@ -79,8 +81,8 @@ impl BlockMachine for Encoding {
     }
 }
 
-// Makes the downlink frame of the next 160 A-law octets.
-fn encode_frame(encoder: &mut Encoder, block: &[u8], frame: &mut [u8; 40])
+// Makes the downlink frame of the next 160 A-law octets. `bits` is room for its bits.
+fn encode_frame(encoder: &mut Encoder, block: &[u8], bits: &mut [u8; 320], frame: &mut [u8; 40])
     requires { length block.now ≡ 160 }
     ensures long { length frame.new ≡ 40 }
     ensures history { (past : List (List ℤ)) → Stands past encoder.old →
@@ -90,13 +92,13 @@ fn encode_frame(encoder: &mut Encoder, block: &[u8], frame: &mut [u8; 40])
     let (params, _, _) = encoder.encode(&expand_all(Law::A, period));
     let mut d = [0; 260];
     params.to_bits(&mut d);
-    pack_frame(&DownFrame::Speech { d, sp: true }, &mut [0; 320], frame);
+    pack_frame(&DownFrame::Speech { d, sp: true }, bits, frame);
 }
 
 /// Encodes a call's Pcm line to its downlink: for each block of 160 A-law octets (G.711) the downlink speech frame
 /// of their samples, encoded from the reset state over all blocks so far (GSM 06.10), with SP 1. No block is refused.
-/// It prints `encode frames N left R`, R being the octets after the last whole block, or `line C SIDE failed`. It doesn't
-/// allocate, and never ends with `Refused` or `Memory`.
+/// After 4,294,967,295 blocks nothing more is read. It prints `encode frames N left R`, R being the octets after the last
+/// whole block, or `line C SIDE failed`. It doesn't allocate, and never ends with `Refused` or `Memory`.
 pub fn encode<T: Trunk, D: Desk>(_alloc: Global, call: u32, trunk: &mut T, desk: &mut D) -> ToolEnd
     requires { IsCallNumber call }
     ensures runs { CommandRuns encode_machine (T.lines trunk.old) (T.lines trunk.new) (D.desk desk.old) (D.desk desk.new) call result }
@@ -106,6 +108,7 @@ pub fn encode<T: Trunk, D: Desk>(_alloc: Global, call: u32, trunk: &mut T, desk:
 {
     let mut machine = Encoding {
         encoder: Encoder::home(),
+        bits: [0; 320],
         frame: [0; 40],
     };
     run_command(&mut machine, call, trunk, desk)

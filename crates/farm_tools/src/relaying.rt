@@ -1,25 +1,19 @@
 //! The command `relay`.
-ghost use Rattle.std.specs.Prelude.{◌≡◌, IfSome, IsSome, length, true, ◌↔◌};
-ghost use Rattle.trau_bits.specs.Bits.{bits_of};
-ghost use Rattle.trau_frame.specs.declared.frames.DownFrame.TheVariants.{Speech};
-ghost use Rattle.trau_frame.specs.DownFrame.{HasBits};
-ghost use Rattle.trau_frame.specs.Frame.{data_of};
-ghost use Rattle.trau_frame.specs.Relay.{IsGoodSpeech};
 ghost use Rattle.call_number.specs.CallNumber.{IsCallNumber};
 ghost use Rattle.block_lines.specs.Command.{Causes, CommandRuns, Leaves, status_of};
 ghost use Rattle.farm_tools.specs.Machines.{relay_machine};
 
 use crate::downlink::pack_frame;
 use crate::text::{refusal_text, taken_text};
-use crate::uplink::is_good_speech;
+use crate::uplink::good_frame;
 use arrayvec::ArrayString;
 use block_lines::{BlockMachine, Shape, ToolEnd, run_command};
 use std::alloc::Global;
-use trau_bits::unpack;
-use trau_frame::{DownFrame, read_up, sync_matches};
+use trau_frame::DownFrame;
 use trau_io::{Desk, Side, Trunk};
 
-/// The block machine of `relay`: the bits and the octets of the frame that it made last. It keeps nothing else from block to block.
+/// The block machine of `relay`: room for the bits of a block and of its frame, and the octets of the frame that it made
+/// last. It keeps nothing from block to block.
 #[derive(Drop)]
 pub struct Relaying {
     bits: [u8; 320],
@@ -56,13 +50,14 @@ impl BlockMachine for Relaying {
         if block.len() < 40 {
             return None;
         }
-        match &relayed(block, &mut self.bits) {
-            Some(frame) => {
-                pack_frame(frame, &mut self.bits, &mut self.frame);
-                Some(40)
-            }
-            None => None,
-        }
+        let good = good_frame(block, &mut self.bits)?;
+        let d = good.d;
+        pack_frame(
+            &DownFrame::Speech { d, sp: true },
+            &mut self.bits,
+            &mut self.frame,
+        );
+        Some(40)
     }
 
     fn held(&self, _line: u32) -> &[u8] {
@@ -83,31 +78,11 @@ impl BlockMachine for Relaying {
     }
 }
 
-// The downlink speech frame with the data bits of a block of 40 octets, which is unpacked to `bits`; None if it isn't a good speech frame.
-fn relayed(block: &[u8], bits: &mut [u8; 320]) -> Option<DownFrame>
-    requires { length block.now ≡ 40 }
-    ensures good { IsSome result ↔ IsGoodSpeech (bits_of block.now) }
-    ensures frame { IfSome result (λ f. f ≡ Speech (data_of (bits_of block.now)) true) }
-    ensures has_bits { IfSome result HasBits }
-{
-    unpack(block, bits);
-    if !sync_matches(bits) {
-        return None;
-    }
-    let frame = read_up(bits);
-    if !is_good_speech(&frame) {
-        return None;
-    }
-    Some(DownFrame::Speech {
-        d: frame.d,
-        sp: true,
-    })
-}
-
 /// Copies the good speech frames of a call's uplink, bits unchanged, to its downlink: for each block of 40 octets
 /// the downlink speech frame with the same data bits and SP 1. It stops at the first block that isn't a good speech
-/// frame or in which the line ends. At the end it prints one line of text: `relay frames N`, `relay refused N` or
-/// `line C SIDE failed`. It doesn't allocate, and never ends with `Memory`.
+/// frame or that the line's end cuts short, at the line's end, after 4,294,967,295 blocks, or at a fault. At the end
+/// it prints one line of text: `relay frames N`, `relay refused N` or `line C SIDE failed`. It doesn't allocate, and
+/// never ends with `Memory`.
 pub fn relay<T: Trunk, D: Desk>(_alloc: Global, call: u32, trunk: &mut T, desk: &mut D) -> ToolEnd
     requires { IsCallNumber call }
     ensures runs { CommandRuns relay_machine (T.lines trunk.old) (T.lines trunk.new) (D.desk desk.old) (D.desk desk.new) call result }
