@@ -3,7 +3,7 @@
  * Units
  *   A period is 20 ms of speech: 160 samples at 8000 a second, or 160 octets of A-law or mu-law.
  *   A sample is 13 bits left-justified in 16: -32768 to 32760 in steps of 8. The encoder ignores the three lowest bits, and the
- *   decoder sets them to zero. So the 16-bit samples of any sound file can be encoded as they are.
+ *   decoder sets them to zero. So the 16-bit samples of any sound file can be encoded as they are. Mu-law expands to steps of 4.
  *   A frame is the 76 parameters of a period, 260 bits of them (13 kbit/s).
  *
  * What the caller must ensure

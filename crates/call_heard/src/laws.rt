@@ -29,14 +29,15 @@ pub fn handed_frames_have_260_bits()
     ensures { (number : ℕ) (ts : List CallPeriod) → length (bits260 (handed_fields (effective_now number ts))) ≡ 260 }
 {}
 
-/// On the Down line of any history of a call, exactly the made frames are found, each at its place with what was
-/// sent in it, if its first 316 bits are on the line. A history has the newest period first.
+/// On the Down line of any history of a call in which each item handed over has 260 bits, exactly the made frames are
+/// found, each at its place with what was sent in it, if its first 316 bits are on the line. A history has the newest
+/// period first.
 pub fn frames_of_a_leg_are_found()
     ensures { (who : Who) (ts : List CallPeriod) → PeriodsHandFrames ts →
         Found (down_line who ts) (all_within (320 * length ts) (as_made (frame_now who) (frames_of ts))) }
 {}
 
-/// On the whole Down line of a call, exactly the frames that the call makes are found.
+/// On the whole Down line of a call whose items have 260 bits each, exactly the frames that the call makes are found.
 pub fn frames_of_a_call_are_found()
     // Each frame is found at its place with what was sent in it, if its first 316 bits are on the line. No others
     // are found.
@@ -50,7 +51,7 @@ pub fn frames_of_a_call_are_found()
     // Each made frame is sent.
     ensures each { (call : Call) → IsWhole call → length (down_frames call (frames_of_call call)) ≡ length (frames_of_call call) }
 
-    // The first frame is at bit 320. Each further one is 320 bits, and two for each octet of the shift, after the
+    // The first frame is at bit 320. Each further one follows by 320 bits and twice the shift (in octets) of the
     // one before. So each adopted shift moves the next place by exactly that shift.
     ensures places { (call : Call) → IsWhole call → map (λ f. f.place) (found_of call) ≡ places_from 320 (map (λ f. f.shift) (frames_of_call call)) }
 {

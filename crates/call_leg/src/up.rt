@@ -43,7 +43,7 @@ pub(crate) fn handed(e: &Effective) -> Params
     }
 }
 
-// Decodes the next frame of a plain stretch.
+// Decodes a frame to the 160 octets of a period, by the call's law.
 fn decode(decoder: &mut Decoder, law: Law, p: &Params, octets: &mut [u8; 160])
     ensures { played_frame law decoder.old (fields_of p.now) ≡ (octets.new, decoder.new) }
 {

@@ -234,7 +234,7 @@ impl CallJob {
         self.phase = Phase::Second;
     }
 
-    // Processes the next place of the first phase ..
+    // Processes the next place of the first phase.
     fn turn_up(&mut self)
         requires place { has_period self.old.io ≡ true }
         requires first { self.old.phase ≡ First }
@@ -244,7 +244,7 @@ impl CallJob {
         self.notes.push_reserved(note);
     }
 
-    // .. and of the second.
+    // Processes the next place of the second phase.
     fn turn_back(&mut self)
         requires place { has_period self.old.io ≡ true }
         requires second { self.old.phase ≡ Second }

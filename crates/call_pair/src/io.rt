@@ -19,7 +19,7 @@ pub struct LegIo {
     pub pcm: Vec<u8>,
     pub out: Vec<u8>,
     pub down: Vec<u8>,
-    /// How many periods are given.
+    /// How many periods the lines gave; before they are read, how many the round takes.
     pub given: u32,
     /// How many of them are done.
     pub done: u32,
@@ -129,7 +129,7 @@ impl LegIo {
         self.done < self.given
     }
 
-    /// The octets of the next place of the Up line ..
+    /// The 40 octets of the next place of the Up line.
     pub(crate) fn up_next(&self) -> &[u8; 40]
         requires { has_period self.now ≡ true }
         ensures { result.now ≡ up_at self.now.done self.now }
@@ -137,7 +137,7 @@ impl LegIo {
         self.up[40 * self.done as usize..].first_chunk().unwrap()
     }
 
-    /// .. and of the Pcm line.
+    /// The 160 octets of the next place of the Pcm line.
     pub(crate) fn pcm_next(&self) -> &[u8; 160]
         requires { has_period self.now ≡ true }
         ensures { result.now ≡ pcm_at self.now.done self.now }
@@ -145,7 +145,7 @@ impl LegIo {
         self.pcm[160 * self.done as usize..].first_chunk().unwrap()
     }
 
-    /// Writes the octets of the next place of the Out line ..
+    /// Writes the 160 octets of the next place of the Out line.
     pub(crate) fn put_out(&mut self, octets: &[u8; 160])
         requires { has_period self.old ≡ true }
         ensures { self.new ≡ with_out self.old octets.now }
@@ -154,7 +154,7 @@ impl LegIo {
         self.out[start..start + 160].copy_from_slice(octets);
     }
 
-    /// .. and of the Down line, which completes the place.
+    /// Writes the 40 octets of the next place of the Down line, and counts the place as done.
     pub(crate) fn put_down(&mut self, octets: &[u8; 40])
         requires { has_period self.old ≡ true }
         ensures io { self.new ≡ with_period self.old octets.now }

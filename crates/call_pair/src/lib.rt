@@ -3,9 +3,9 @@
 //! Between the rounds, which read and write the lines' octets, and the pool (`pool_run`), which runs jobs in
 //! slices. A job takes a call's leg (`call_leg`) with the octets of its Up and Pcm lines for a round's periods, and
 //! fills those of its Out and Down lines. It has two phases: all its uplink halves, then all its downlink halves.
-//! Between them it gets the effective frames of its partner, if it has one; each goes out on the downlink of the
-//! same period. So different workers can process the two calls of a bridge. A running job touches nothing outside
-//! and takes no memory.
+//! Between them it gets the effective frames of its partner, if it has one. Each is handed to the downlink half of
+//! the same period, and goes out in that period or in the next one. So different workers can process the two calls
+//! of a bridge. A running job touches nothing outside and takes no memory.
 //!
 //! A job lives as long as its call. Between rounds it is at rest, and orders change the halves of its leg.
 //!

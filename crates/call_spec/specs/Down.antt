@@ -38,8 +38,8 @@ made_among call m = filter (λ f. nat_lt (when f.start) (periods call)) (first_f
 abbrev pub frames_of_call : Call → List NumberedFrame
 frames_of_call call = reverse (made_among call (2 * periods call))
 
--- A span has item i for frame j if the frame isn't made before the span's first period, i frames before it are made in that period or
--- later, and i is less than the number of the span's periods.
+-- A span has item i for frame j if the frame isn't made before the span's first period, exactly i of the earlier frames
+-- are made in that period or later, and i is less than the number of the span's periods.
 pub record HasItem (call : Call) (span : Span) (j i : ℕ) : Type 0 where
   pub number : i ≡ count_from span.from (first_frames call j)
   pub begun : span.from ≤ when (frame_by_number call j).start

@@ -8,7 +8,8 @@
 //! Nothing here runs: the crate is for readers of a call's contract, and for crates that speak of whole calls.
 //!
 //! `laws` has the laws. Definitions: `specs/Call.antt` (the call, its yields, effective frames and spans),
-//! `specs/Stretches.antt` (a list cut into stretches), `specs/Out.antt` and `specs/Down.antt` (the two lines),
+//! `specs/Stretches.antt` (a list cut into stretches), `specs/Out.antt` (the octets of the Out line),
+//! `specs/Down.antt` (the bits of the Down line),
 //! `specs/Whole.antt` (the periods of a call, as its leg gets them), `specs/History.antt` (the call of a history of
 //! periods).
 #![tactic(auto)]

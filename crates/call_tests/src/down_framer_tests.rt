@@ -122,8 +122,8 @@ fn are_framed(line: &mut Line) -> usize {
     framed
 }
 
-// Field 39 in period 0, 63 in period 2, 40 in period 3. Frame 0 is put off by 39 steps, so 312 ones follow it;
-// frame 1 has 316 bits.
+// Field 39 in period 0, 63 in period 2, 40 in period 3. Frame 0 takes the shift of 39 steps of 8 bits, so 312 ones
+// follow it; frame 1 takes that of -4 bits, so it has 316.
 #[test]
 fn frames_at_their_places(rt: HostRuntime) {
     let mut line = new_line(&rt, rt.alloc());

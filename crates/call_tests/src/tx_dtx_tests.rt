@@ -31,7 +31,7 @@ fn spoken_in_turn(burst: u32, pause: u32) -> [u32; 3] {
     [first, second, spoken(&mut tx, pause, false)]
 }
 
-// The first of the pauses of 1 to 30 frames behind a burst that doesn't go out as it should; 31 if all do.
+// The first of the pauses of 1 to 30 frames after a burst that doesn't go out as it should; 31 if all do.
 fn first_wrong(burst: u32) -> u32 {
     for pause in 1..31u32 {
         let hangover = if burst >= 23 { 4.min(pause) } else { 0 };

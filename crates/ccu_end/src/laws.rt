@@ -16,7 +16,7 @@ pub fn written_downlink_is_read()
 {}
 
 /// In the first n bits of a line of frames with shifts, exactly the frames whose first 316 bits are there are found, each at
-/// its place. The first is at bit 320; each further one follows the one before by 320 bits and two for each octet of the shift.
+/// its place. The first is at bit 320; each further one follows by 320 bits and twice the shift (in octets) of the one before.
 pub fn shifted_frames_are_found()
     ensures { (xs : List Shifted) (n : ℕ) → AreShifted xs → Found (take n (shifted_line xs)) (all_within n (found_from 320 xs)) }
 {}
@@ -33,7 +33,7 @@ pub fn one_list()
     ensures { (bits : List ℕ) (fs gs : List FoundFrame) → Found bits fs → Found bits gs → fs ≡ gs }
 {}
 
-/// The first frame is at bit 320; each further one follows the one before by 320 bits and two for each octet of the shift. So
+/// The first frame is at bit 320; each further one follows by 320 bits and twice the shift (in octets) of the one before. So
 /// each shift moves the next place by exactly that shift.
 pub fn places_by_shifts()
     ensures { (frame : List PcmFrame → DownFrame) (ps : List PcmPeriod) →

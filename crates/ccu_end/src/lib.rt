@@ -1,4 +1,4 @@
-//! The base station's end of a downlink.
+//! The base station's end of a downlink: the channel codec unit (CCU) of GSM 08.60.
 //!
 //! Finds the frames of a downlink, 40 octets a period of 20 ms, at any bit and through their shifts. A frame is reported in
 //! the period of its bit 315, since a shift of -2 leaves out the four time bits that follow. The station sends the speech
@@ -10,6 +10,7 @@
 //!
 //! - `hunt`: the search for the sync pattern (GSM 08.60) in two periods of bits
 //! - `frame`: what a downlink frame says (this project's profile)
+//! - `finds`: a found frame, and those of a period
 //! - `asking`: what is sent up
 //! - `station`: what is kept from period to period
 //! - `recording`: the command; `text`: its texts

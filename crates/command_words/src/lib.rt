@@ -6,7 +6,7 @@
 //!
 //! - `asked`: what words can ask for
 //! - `words`: the whole reading
-//! - `tools`: the words of the four tools
+//! - `tools`: the words of the tools and of `frames`
 //! - `slots`: those of the commands on time slots
 //! - `follow`: those of the base station's end
 //! - `run`: the options of `run`, `save` and `resume`

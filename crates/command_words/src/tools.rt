@@ -1,4 +1,4 @@
-//! The words of the four tools.
+//! The words of the tools (`relay`, `decode`, `encode`) and of `frames`.
 
 ghost use Rattle.std.specs.Prelude.{◌≡◌, ℕ, ◌≤◌, IfSome, IsNone, map, string_bytes};
 ghost use Rattle.command_words.specs.declared.asked.Asked.{Asked as OneAsked};

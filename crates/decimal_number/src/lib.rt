@@ -30,7 +30,7 @@ pub fn number_of_text(text: &str, low: u32, high: u32) -> Option<u32>
     }
 }
 
-/// The same for octets, which need not be a text.
+/// The same for octets, which need not be UTF-8.
 pub fn number_of_octets(octets: &[u8], low: u32, high: u32) -> Option<u32>
     ensures some { IfSome result (λ n. IsNumber low high octets.now n) }
     ensures none { IsNone result → (n : ℕ) → IsNumber low high octets.now n → ⊥ }

@@ -7,7 +7,8 @@ use Rattle.down_framer.specs.Memory.{FramerMemory}
 abbrev pub after_put : FramerMemory → List ℕ → FramerMemory
 after_put s octets = record { stored = s.stored; held = s.held ++ drop s.to_skip octets; to_skip = s.to_skip - 160 }
 
--- a frame and its shift: the frame goes into store, and its octets are dropped; those that aren't held yet are to be skipped
+-- a frame and its shift: the frame goes into store, and the octets up to the next frame's start are dropped; those of
+-- them that aren't held yet are to be skipped
 abbrev pub after_frame : FramerMemory → List ℕ → ℤ → FramerMemory
 after_frame s f shift = record {
   stored = s.stored ++ frame_on_line shift f;

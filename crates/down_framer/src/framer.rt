@@ -14,9 +14,9 @@ use std::alloc::{AllocError, Global};
 use std::marker::Model;
 use trau_bits::pack;
 
-/// The downlink of one call: bits of made frames that haven't gone out yet, octets of the Pcm line that no frame has
-/// taken yet, and the number of coming octets to skip. In each period, call `put` once, then `frame` as long as `ready`
-/// is true, then `take` once.
+/// The downlink of one call: bits of made frames that haven't gone out yet, octets of the Pcm line from the next
+/// frame's start on, and the number of coming octets to skip. In each period, call `put` once, then `frame` as long as
+/// `ready` is true, then `take` once.
 #[derive(Drop)]
 pub struct Framer {
     bits: HeapCircularBuffer<u8>,
@@ -59,7 +59,8 @@ fn step_of(shift: i16) -> usize
 }
 
 impl Framer {
-    /// A framer before the first period, with 320 ones in store. It has room for every period.
+    /// A framer before the first period, with 320 ones in store. Its rings, of 960 bits (an octet each) and 320 octets,
+    /// have room for every period. The error is that there is no memory for them.
     pub fn new(alloc: Global) -> Result<Framer, AllocError>
         ensures value { IfOk result (λ framer. framer ≡ home_memory) }
         ensures between { IfOk result (λ framer. IsBetweenPeriods framer) }
@@ -120,7 +121,8 @@ impl Framer {
     }
 
     /// Takes the 320 bits of the next frame. Stores them, with the ones that its shift adds or without the bits that it
-    /// leaves out, and drops the octets of the frame. The shift is in octets of the Pcm line, 0 to 156 or -2.
+    /// leaves out, and drops the octets up to the start of the frame after it, 160 plus the shift; `put` skips those of
+    /// them that aren't held yet. The shift is in octets of the Pcm line, 0 to 156 or -2.
     pub fn frame(&mut self, f: &[u8; 320], shift: i16)
         requires ready { 160 ≤ length self.old.held }
         requires shift { IsShift shift }

@@ -1,7 +1,7 @@
 //! The downlink of a call, cut into periods (this project's profile, modelled on GSM 08.60).
 //!
 //! The framer works between the exchange's line (160 octets a period of 20 ms) and the downlink (40 octets a period).
-//! It keeps the octets that no frame has taken yet, says when a frame is to be made and from which 160 octets, takes
+//! It keeps the octets from the next frame's start on, says when a frame is to be made and from which 160 octets, takes
 //! the frame's 320 bits, and gives out the bits of each period. A shift moves the frames after it: either octets are
 //! lost and ones go out after the frame, or two octets are taken a second time and the frame goes out without its four
 //! T bits. One octet of the exchange's line corresponds to two bits of the downlink, so the octets held, the bits in

@@ -27,8 +27,8 @@ drilled_run seed calls periods = record {
 unfoldable pub text_with_sums : Run → List ℕ
 text_with_sums r = report_text (report_of r []) ++ flat_map (λ c. sum_line c (out_of_call r c) (down_of_call r c)) (calls_in r)
 
--- This is the text of a drill. There are lines with the drill's contents on which its run leaves what it gives them, and none of
--- them fails. This doesn't say which lines the drill processed.
+-- This is the text of a drill. Lines with the drill's contents exist on which its run leaves what it gives, and none of
+-- them fails. That the drill processed these very lines isn't said.
 pub record IsDrilled (seed calls periods : ℕ) (text : List ℕ) : Type 0 where
   pub before : ℕ → Side → LineState
   pub now : ℕ → Side → LineState

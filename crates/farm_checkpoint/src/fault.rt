@@ -10,6 +10,7 @@ pub enum MarkFault {
     /// The first line that isn't in the grammar, counted from 1.
     #[error("save line {0}")]
     Line(u32),
+    /// Out of memory.
     #[error("no memory")]
     Memory,
 }

@@ -32,9 +32,9 @@ fn read_calls(alloc: Global, period: u32, text: &[u8]) -> Result<(Vec<MarkCall>,
     }
 }
 
-/// The mark at the start of a text of at most 1,310,720 octets, and the mark's length in octets; orders follow it.
-/// A text that doesn't begin with a mark gives `Line` with the number, from 1, of the first line that isn't in the
-/// grammar. A line without its LF isn't in the grammar.
+/// The mark at the start of a text of at most 1,310,720 octets, and the mark's length in octets. What follows the mark
+/// isn't read. A text that doesn't begin with a mark gives `Line` with the number, from 1, of the first line that
+/// isn't in the grammar. A line without its LF isn't in the grammar. If memory runs out, the error is `Memory`.
 pub fn read_mark(alloc: Global, text: &[u8]) -> Result<(Mark, u32), MarkFault>
     requires { length text.now ≤ 1310720 }
     ensures ok { IfOk result (λ read. IsRead text.now read.0 read.1) }

@@ -21,9 +21,9 @@ up_line seed call periods = flat_map (up_octets seed call) (range_with_len 0 per
 unfoldable pub pcm_line : ℕ → ℕ → ℕ → List ℕ
 pcm_line seed call periods = flat_map (pcm_octets seed call) (range_with_len 0 periods)
 
--- the four lines of a call. No operation on them is cut or set to fail. The outgoing lines have room for its periods, 40 and 160
--- octets each. The incoming lines aren't written, but have room for one octet: so of all four lines it can be said that a line
--- with room left has never failed
+-- the four lines of a call. No operation on them is short or set to fail. The outgoing lines have room for its periods,
+-- 40 and 160 octets each. The incoming lines aren't written, but have room for one octet, so that one statement holds
+-- of all four lines: a line with room left has never failed
 abbrev pub line_of_call : ℕ → ℕ → ℕ → Side → MemoryLine
 line_of_call seed call periods Up = new_line (up_line seed call periods) [] [] 1
 line_of_call seed call periods Pcm = new_line (pcm_line seed call periods) [] [] 1

@@ -11,7 +11,7 @@ pub struct Generator {
 }
 
 impl Generator {
-    /// The generator before a call's first draw.
+    /// The generator before a call's first draw. The call's number is below 4,096.
     pub fn new(seed: u32, call: u32) -> Generator
         requires { call < 4096 }
         ensures { result.x ≡ draw_state seed call 0 }

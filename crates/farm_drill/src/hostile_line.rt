@@ -116,9 +116,10 @@ fn period_octets(kind: HostileKind, period: u32) -> [u8; 40]
     }
 }
 
-/// An Up line of `periods` periods of 40 octets, at most 1,000, that tries what uplinks may do. By its kind: 0 is all zeros and 1
-/// all ones; in 2 each frame asks for the greatest delay and in 3 for an advance; in 4 each frame is cut after its 305th bit, the
-/// least distance at which two places can match; in 5 all data bits are 1.
+/// An Up line that no base station sends, of `periods` periods of 40 octets, at most 1,000. By its kind, 0 to 5: 0 is
+/// all zeros and 1 all ones; in 2 each frame asks for the greatest delay and in 3 for an advance; in 4 each frame is
+/// cut after its 305th bit, the least distance at which two places can match; in 5 all data bits are 1. An error says
+/// that memory ran out.
 pub fn hostile(alloc: Global, kind: u8, periods: u32) -> Result<Vec<u8>, AllocError>
     requires kind { kind ≤ 5 }
     requires periods { periods ≤ 1000 }

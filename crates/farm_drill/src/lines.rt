@@ -43,7 +43,7 @@ fn draw_lines(alloc: Global, seed: u32, call: u32, periods: u32) -> Result<Incom
     })
 }
 
-// Sets a line on which no operation is cut or fails.
+// Sets a line on which no operation is short or set to fail.
 fn set_line(
     trunk: &mut MemTrunk,
     alloc: Global,

@@ -17,6 +17,7 @@ pub enum OrdersFault {
     /// The first line that isn't in the grammar, counted from 1.
     #[error("orders line {0}")]
     Line(u32),
+    /// Out of memory.
     #[error("no memory")]
     Memory,
 }

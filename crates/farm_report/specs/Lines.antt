@@ -1,5 +1,5 @@
--- The text of a report (this project's profile): a line for each order, for each bridge, two for each call, one for each
--- line of a call that failed, and one for the end.
+-- The text of a report (this project's profile): a line for each executed order, one for each bridge, two for each
+-- call, one for each line of a call that failed, and one for the end.
 use Rattle.std.specs.Prelude.{ℕ, max, List, [], ◌∷◌, ◌++◌, length, codes, decimal, Result, Ok, Err}
 use Rattle.std.specs.List.{flat_map, fold}
 use Rattle.trau_io.specs.declared.line.Line.{Line}

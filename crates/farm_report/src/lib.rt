@@ -4,10 +4,10 @@
 //! the lines that failed. From these it makes the text that goes to the desk.
 //!
 //! The text is this project's profile. `report` has the report, `lines` how each kind of line is written, `text`
-//! the whole text and that of the failed lines alone, `sums` a line of sums, which drills print after a report or
-//! in place of one.
+//! the whole text and that of the failed lines alone, `sums` the sum of octets, modulo 2^32, which marks have too, and
+//! a line of sums, which drills print after a report or in place of one.
 //! Definitions: `specs/Lines.antt` (each line, and the whole text), `specs/Numbered.antt` (the numbers of a line),
-//! `specs/Sums.antt`, `specs/View.antt`.
+//! `specs/Sums.antt` (sums, and a line of them), `specs/View.antt` (a report as contracts see it).
 #![tactic(auto)]
 
 mod lines;

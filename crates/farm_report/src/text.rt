@@ -30,8 +30,8 @@ fn put_report(text: &mut String, report: &Report) -> Result<(), AllocError>
     put_last(text, &report.calls, report.left)
 }
 
-/// The text of a report: a line for each order and each bridge, two for each call, one for each line that failed,
-/// and the last line.
+/// The text of a report: a line for each executed order and each bridge, two for each call, one for each line that
+/// failed, and the last line.
 pub fn write_report(alloc: Global, report: &Report) -> Result<String, AllocError>
     ensures { IfOk result (λ text. string_bytes text ≡ report_text report.now) }
 {

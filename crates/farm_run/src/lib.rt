@@ -1,7 +1,7 @@
 //! The run of a farm: from orders and lines to the octets on the lines of all calls, and the report. A run can be marked at
 //! its end, or resumed at such a mark.
 //!
-//! It keeps the board (`switchboard`) and the farm (`farm_rounds`) in step. The top call hands it the orders that were read,
+//! It keeps the board (`switchboard`) and the farm (`farm_rounds`) in step. The top function hands it the orders that were read,
 //! and prints the report. A `stage` is a run at one of its clocks. `clock` goes from the orders of a period to a round of
 //! periods, and on to a later clock: `orders` executes the orders of the clock, `ends` reports the calls that end to the board,
 //! `outgoing` writes the octets of a round, sums them, or holds them back, and `journal` (with `notes`) notes what the report

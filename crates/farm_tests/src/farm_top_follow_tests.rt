@@ -22,7 +22,8 @@ fn frame(i: usize) -> u8 {
     }
 }
 
-// A period of ones; a frame; a shift of 39 octets; a frame without its time bits, by a shift of -2; a frame; twelve ones.
+// A period of ones; a frame and 312 ones, by a shift of 156; a frame without its four time bits, by a shift of -2; a
+// frame; twelve ones. Shifts are in octets of the Pcm line, two bits of the downlink each.
 // So the frames begin at bits 320, 952 and 1268, the third one within an octet.
 fn downlink(rt: &impl Abort, alloc: Global) -> Vec<u8> {
     let mut octets = vec![in alloc; 0xFF; 200].expect(rt, "memory");

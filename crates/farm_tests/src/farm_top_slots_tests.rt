@@ -43,7 +43,7 @@ static ROWS: [Row; 7] = [
             (4, Down, &[0xFF]),
         ],
     },
-    // The slot ends with a rest.
+    // The slot's three octets don't make up an octet of each channel, so they are left.
     Row {
         command: "split",
         lines: &[(1, Pcm, &[0x1B, 0x1B, 0x1B], NONE)],
@@ -157,7 +157,7 @@ fn comes_of<R: Abort + Threads + Wait + Sync>(rt: &R, alloc: Global, row: &Row, 
     outcome.is(row.status, row.text) && is_written(&trunk, row)
 }
 
-// How many rows are right in pieces of this size, from the first on.
+// How many rows are right in chunks of this size, from the first on.
 fn come<R: Abort + Threads + Wait + Sync>(rt: &R, alloc: Global, cut: u32) -> usize {
     let mut come = 0usize;
     for row in &ROWS {

@@ -1,4 +1,4 @@
-//! Tests of the top call and of the pool: operations on lines and desk that fail, runs in memory, workers that steal.
+//! Tests of the top function and of the pool: operations on lines and desk that fail, runs in memory, workers that steal.
 //!
 //! They are in a crate of their own, since a crate with tests is proved a second time with them. They call public functions only.
 #![tactic(auto)]

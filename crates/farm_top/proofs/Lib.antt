@@ -1,4 +1,4 @@
--- Lemmas on the top call.
+-- Lemmas on the top function.
 mod Asking
 mod Carrying
 mod Drilling

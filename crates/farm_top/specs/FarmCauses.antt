@@ -43,10 +43,10 @@ abbrev pub SomeOpenedRose : Run → (ℕ → Side → LineState) → (ℕ → Si
 SomeOpenedRose r before now = (c : ℕ) × (s : Side) × IsOpened r c × Rose (before c s).faults (now c s).faults
 
 -- 3: only if a fault of the desk's reading was counted, and always if that count grew. 7: only if the orders that were read are too
--- long; if the desk tells such orders, the status is 7, 3 or 5. 2: only if a line that was read isn't in the grammar; if the desk
--- tells orders within the limits with such a line, the status is 2, 3 or 5. With 2, 3 and 7 no line was used. 4: only if a fault of
--- the desk's writing was counted; if that count grew, the status is 4, 2, 3, 5 or 7. 6: only if a line's fault was counted; if a
--- line's count grew, the status is 6, 4 or 5. 0: only if every line's count is unchanged. 5: out of memory.
+-- long; if known orders are too long, the status is 7, 3 or 5. 2: only if a line that was read isn't in the grammar; if known orders
+-- within the limits have such a line, the status is 2, 3 or 5. With 2, 3 and 7 no line was used. 4: only if a fault of the desk's
+-- writing was counted; if that count grew, the status is 4, 2, 3, 5 or 7. 6: only if a line's fault was counted; if a line's count
+-- grew, the status is 6, 4 or 5. 0: only if every line's count is unchanged. 5: out of memory.
 pub record RunCauses (before now : ℕ → Side → LineState) (desk desk' : DeskState) (status : ℕ) : Type 0 where
   pub known : (status ≡ 0) ⊎ (status ≡ 2) ⊎ (status ≡ 3) ⊎ (status ≡ 4) ⊎ (status ≡ 5) ⊎ (status ≡ 6) ⊎ (status ≡ 7)
   pub read_failed : status ≡ 3 → Rose desk.read_faults desk'.read_faults

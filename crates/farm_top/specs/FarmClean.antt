@@ -13,7 +13,7 @@ use Rattle.farm_report.specs.Lines.{report_text}
 use Rattle.farm_run.specs.Runs.{NoneRose, Leaves, none_fails}
 use Rattle.block_lines.specs.Command.{IsCalm}
 
--- the desk tells a text within the limits, whose lines are those of these orders
+-- the desk's text is known and within the limits, and its lines are those of these orders
 pub record TellsOrders (orders : List Order) (desk : DeskState) : Type 0 where
   pub text : List ℕ
   pub told : desk.to_come ≡ Some text

@@ -1,4 +1,4 @@
--- What `run`, or a command that runs as it does, leaves if the desk tells its orders, whatever fails (this project's profile).
+-- What `run`, or a command that runs as it does, leaves if its orders are known, whatever fails (this project's profile).
 use Rattle.std.specs.Prelude.{◌≡◌, ◌≢◌, ◌⊎◌, ◌<◌, ℕ, List, [], Option, Some, length, take}
 use Rattle.std.specs.Io.KnownBytes.{Appends}
 use Rattle.trau_io.specs.declared.line.Line.{Line}

@@ -1,4 +1,4 @@
--- What the top call does.
+-- What the top function does.
 pub mod Drill
 pub mod Farm
 pub mod FarmCauses

@@ -1,4 +1,4 @@
--- What the top call promises of each command (this project's profile).
+-- What the top function promises of each command (this project's profile).
 use Rattle.std.specs.Prelude.{◌≡◌, ◌≢◌, ◌⊎◌, ℕ, max, List}
 use Rattle.trau_io.specs.declared.line.Side.{Side}
 use Rattle.trau_io.specs.Lines.{LineState}
@@ -33,8 +33,7 @@ use Rattle.farm_top.specs.ResumeEnded.{JoinsMarked, ResumeDiffers, ResumeEnded}
 use Rattle.farm_top.specs.Save.{CarriesSave, CleanSave, SaveEnded}
 use Rattle.farm_top.specs.Words.{AsksFor, AsksForFollow, AsksForFrames, AsksForMerge, AsksForSplit}
 
--- `run` with these settings. `orders` are those that the desk tells. If it doesn't tell its orders, the field `run` says what is
--- done.
+-- `run` with these settings. `orders` are those of the desk, if they are known. If they aren't, the field `run` says what is done.
 pub record RunPromise (s : Settings) (before now : ℕ → Side → LineState) (desk desk' : DeskState) (status : ℕ) : Type 0 where
   -- what it does, whatever fails, and why the status is what it is
   pub run : CarriesRun s before now desk desk' status

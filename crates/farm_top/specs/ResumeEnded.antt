@@ -1,4 +1,4 @@
--- What the command `resume` leaves if the desk tells a mark and orders, whatever fails (this project's profile).
+-- What the command `resume` leaves if its mark and orders are known, whatever fails (this project's profile).
 use Rattle.std.specs.Prelude.{◌≡◌, ◌≢◌, ◌⊎◌, ℕ, max, List, ◌++◌, [], Some}
 use Rattle.std.specs.Io.KnownBytes.{Appends}
 use Rattle.trau_io.specs.declared.line.Line.{Line}

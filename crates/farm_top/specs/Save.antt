@@ -51,7 +51,7 @@ CarriesSave s before now desk desk' status = SavesFarm s before now desk desk' s
 abbrev pub mark_told : Run → List Line → List ℕ
 mark_told r failed = saved_text failed (mark_of r)
 
--- What it leaves if the desk tells its orders: all that `run` does, with this text.
+-- What it leaves if its orders are known: all that `run` does, with this text.
 abbrev pub SaveEnded : List Order → Settings → (ℕ → Side → LineState) → (ℕ → Side → LineState) → DeskState → DeskState → ℕ → Type 0
 SaveEnded orders s before now desk desk' status = EndedTelling mark_told orders s before now desk desk' status
 

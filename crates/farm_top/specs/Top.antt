@@ -1,4 +1,4 @@
--- What the top call does with a command.
+-- What the top function does with a command.
 use Rattle.std.specs.Prelude.{◌≡◌, ℕ, ◌+◌, ◌≤◌, ◌%◌}
 use Rattle.call_number.specs.CallNumber.{IsCallNumber}
 use Rattle.trau_io.specs.declared.line.Side.{Side}

@@ -25,7 +25,7 @@ pub(crate) fn tell_whole<D: Desk>(desk: &mut D, text: &[u8]) -> u8
     }
 }
 
-/// Draws the lines and orders of a drill, runs the orders over the lines, and prints the report and the sums.
+/// Draws the lines of a drill, runs its orders over them, and prints the report and the sums.
 pub(crate) fn drill_farm<R: Threads + Wait + Sync, D: Desk, G: Gate + Sync>(
     rt: &R,
     alloc: Global,

@@ -1,4 +1,4 @@
-//! The top call of the transcoder: words in, octets and a text out, and a status.
+//! The top function of the transcoder: words in, octets and a text out, and a status.
 //!
 //! The program's own crate calls it with the lines, the desk and the words of the command line. It reads the words
 //! (`command_words`), runs the command and returns the status. The command is a tool (`farm_tools`); a command on a time slot
@@ -6,8 +6,8 @@
 //! lines (`farm_run`) and reported (`farm_report`); a run to a mark or from a mark on (`farm_checkpoint`); a drill
 //! (`drill_run`); or a live drill (`live_run`).
 //!
-//! `top` has the top call, `farm` the command `run`, `save`, `resume`, `drill`, `live` and `follow` the commands of these names,
-//! `lines` the other commands on lines, `status` the statuses, `laws` the law that `resume` accepts a mark of `save`.
+//! `top` has the top function, `farm` the command `run`, `save`, `resume`, `drill`, `live` and `follow` the commands of these
+//! names, `lines` the other commands on lines, `status` the statuses, `laws` the law that `resume` accepts a mark of `save`.
 //!
 //! The commands, their texts and the statuses are this project's profile.
 //! Definitions: `specs/Promises.antt` (all that is promised of each command), `specs/Words.antt` (which words ask for what),

@@ -1,4 +1,4 @@
-//! The top call: the words in, the octets and the text out, and the status.
+//! The top function: the words in, the octets and the text out, and the status.
 
 ghost use Rattle.std.specs.Prelude.{◌≡◌, ◌≢◌, ◌⊎◌, ℕ, codes};
 ghost use Rattle.block_lines.specs.Command.{status_of};
@@ -100,8 +100,8 @@ fn carry_out<R: Threads + Wait + Sync, T: Trunk, D: Desk, G: Gate + Sync>(
 /// the start. It holds back the octets of the periods before the mark's, compares the mark there, and writes what follows. Its
 /// report is that of the whole run.
 ///
-/// `drill` draws the lines and orders of some calls from a seed, runs the orders over the lines in memory, and prints the report,
-/// followed by the sums of the octets of each call's outgoing lines.
+/// `drill` draws the lines of some calls from a seed, runs orders over them in memory, and prints the report, followed by the sums
+/// of the octets of each call's outgoing lines.
 ///
 /// `live` draws the periods of some calls from a seed. Callers, each on a thread of its own, post them to a live farm. It prints
 /// the sums of the octets of each call's outgoing lines.

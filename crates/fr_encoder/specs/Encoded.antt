@@ -31,7 +31,8 @@ encoding s blocks =
       peak = peak_of s;
     }
 
--- the input of short-term analysis from preprocessed samples s: the codes of their ratios, and s without the lost low bits
+-- the input of short-term analysis from preprocessed samples s: the codes of their ratios, and s shifted down and up
+-- again, as linear prediction leaves it
 abbrev pub analysed : List ℤ → SampleFrame
 analysed s = sample_frame (ratio_codes (ratios_of_frame s)) (samples_after s)
 

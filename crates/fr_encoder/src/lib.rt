@@ -1,10 +1,10 @@
 //! The full rate encoder (GSM 06.10, section 4.2): 160 samples to a frame of parameters.
 //!
-//! It takes the 160 samples of a period of 20 ms, 13 bits left-justified in 16, expanded from a line's octets, and
-//! gives the parameters of a speech frame (`trau_params`). A frame goes through the stages of the standard:
-//! preprocessing (`fr_pre`), linear prediction (`fr_lpc`), short-term analysis (`fr_short`), and then its four blocks
-//! in turn through long-term prediction (`fr_long`) and pulse coding (`fr_rpe`). Besides the parameters, it gives the
-//! values that the transmit side averages and decides on.
+//! It takes the 160 samples of a period of 20 ms, 16 bits each, expanded from a line's octets, ignores the three lowest
+//! bits of each (of which mu-law uses one), and gives the parameters of a speech frame (`trau_params`). A frame goes
+//! through the stages of the standard: preprocessing (`fr_pre`), linear prediction (`fr_lpc`), short-term analysis
+//! (`fr_short`), and then its four blocks in turn through long-term prediction (`fr_long`) and pulse coding (`fr_rpe`).
+//! Besides the parameters, it gives the values that the transmit side averages and decides on.
 //!
 //! `block` has a coded block, `blocks` codes the four blocks, `encoder` is the whole, `laws` has a law.
 //!

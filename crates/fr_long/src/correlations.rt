@@ -16,9 +16,9 @@ ghost use Rattle.fr_long.specs.Lag.{correlation_of, sum_of_products, AreSigned16
 use std::simd::prelude::*;
 use trau_lanes::{neighbours, products, sums, wide};
 
-/// The correlations of a block `wt`, scaled to magnitudes up to 512, with the last 120 residuals `past`, the
-/// newest last, at the lags of 40 to 120 samples: the sum over k = 0 to 39 of
-/// `2 * wt[k] * past[120 - lag + k]` is number `lag - 40`.
+/// The correlations of a block `wt`, scaled to magnitudes up to 512, with the last 120 residuals `past`, the newest
+/// last, at the lags of 40 to 120 samples. Number `lag - 40` is the sum over k = 0 to 39 of
+/// `2 * wt[k] * past[120 - lag + k]`.
 pub fn correlate(wt: &[i16; 40], past: &[i16; 120]) -> [i32; 81]
     requires { AreScaled wt.now }
     ensures { (lag : ℕ) → 40 ≤ lag → lag ≤ 120 → entry result (lag - 40) ≡ sum_of_products wt.now past.now lag }
@@ -172,7 +172,7 @@ fn wide_16(samples: i16x16) -> i32x16
     samples.cast::<i32>()
 }
 
-// The products of 16 words, of which one is above -32768.
+// The products of 16 words, lane by lane; the words of `a` are above -32768.
 fn products_of_16(a: i32x16, b: i32x16) -> i32x16
     requires words_a { Each1 (λ x. unsigned_abs x ≤ 32767) a }
     requires words_b { Each1 (λ x. unsigned_abs x ≤ 32768) b }

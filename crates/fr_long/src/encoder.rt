@@ -31,7 +31,7 @@ impl Model for LtpHistory {
 
     ghost inverse = { λ dp. record { dp = dp } };
 
-    // A read of lanes doesn't prove that residuals are words.
+    // The check knows of an entry that is read by itself that it is a word, but not of entries that are read as lanes.
     ghost invariant = { λ history. AreSigned16 history.dp };
 }
 

@@ -15,7 +15,7 @@ fn small_product(a: i16, b: i16) -> i32
     i32::from(a) * i32::from(b)
 }
 
-/// The energy of the 40 residuals from `lag` samples before a block on.
+/// L_power: the energy of the 40 residuals from `lag` samples before a block on, each shifted down by 3 places.
 pub(crate) fn power(earlier: &[i16; 120], lag: u8) -> i32
     requires at_least { 40 ≤ lag }
     requires at_most { lag ≤ 120 }

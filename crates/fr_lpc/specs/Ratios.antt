@@ -34,7 +34,7 @@ gains = pos 20480 ∷ pos 20480 ∷ pos 20480 ∷ pos 20480 ∷ pos 13964 ∷ po
 abbrev pub most : List ℤ
 most = pos 31 ∷ pos 31 ∷ pos 15 ∷ pos 15 ∷ pos 7 ∷ pos 7 ∷ pos 3 ∷ pos 3 ∷ []
 
--- a ratio times A, plus B, in whole steps of 2^9, rounded to the nearest
+-- a ratio times A / 2^15, rounded down, plus B, in whole steps of 2^9, rounded to the nearest
 unfoldable pub quantised_ratio : ℤ → ℤ → ℤ → ℤ
 quantised_ratio a b lar = floor_shr (add_of (add_of (mult_of a lar) b) (pos 256)) 9
 

@@ -19,7 +19,7 @@ scaling_of_peak smax = if smax == 0 then 0 else 4 - norm_of (smax * 2 ^ 16)
 abbrev pub scaling_of : List ℤ → ℕ
 scaling_of s = scaling_of_peak (unsigned_abs (peak_of s))
 
--- a sample shifted down
+-- a sample shifted down by scalauto places, 1 or more, and rounded to the nearest
 unfoldable pub scaled_sample : ℕ → ℤ → ℤ
 scaled_sample scalauto x = mult_r_of x (floor_shr (pos 16384) (scalauto - 1))
 
@@ -31,6 +31,7 @@ scaled_down scalauto s = if scalauto == 0 then s else map (scaled_sample scalaut
 unfoldable pub scaled_up : ℕ → List ℤ → List ℤ
 scaled_up scalauto s = if scalauto == 0 then s else map (λ x. shl_of x scalauto) s
 
--- the samples for all later steps: shifted down and up again, so that low bits are lost
+-- the samples for all later steps: shifted down and up again, and so rounded to multiples of 2^scalauto (but 32768,
+-- which doesn't fit a word, is clamped to 32767)
 abbrev pub samples_after : List ℤ → List ℤ
 samples_after s = let scalauto = scaling_of s in scaled_up scalauto (scaled_down scalauto s)

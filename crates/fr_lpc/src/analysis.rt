@@ -21,8 +21,8 @@ pub struct Lpc {
 }
 
 /// Finds the linear prediction of a frame `s` of 160 preprocessed samples of 16 bits (a period of 20 ms). On the way,
-/// `s` is shifted down and up again: if the frame is loud, each sample loses up to four low bits for all later steps
-/// (GSM 06.10, sections 4.2.4 to 4.2.7).
+/// `s` is shifted down and up again: if its peak is 2,048 or more, each sample is rounded to a multiple of 2, 4, 8 or
+/// 16 for all later steps (GSM 06.10, sections 4.2.4 to 4.2.7).
 pub fn analyse(s: &mut [i16; 160]) -> Lpc
     ensures samples { s.new ≡ samples_after s.old }
     ensures lar { result.lar ≡ ratios_of_frame s.old }

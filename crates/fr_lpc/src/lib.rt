@@ -2,10 +2,11 @@
 //!
 //! The encoder's stage after preprocessing: it takes the 160 preprocessed samples of a frame (16 bits, a period of 20
 //! ms), finds the eight log area ratios of the filter that predicts them, and codes these. The scaling around the
-//! autocorrelation clears low bits of the samples, and short-term analysis takes the samples without them.
+//! autocorrelation rounds away low bits of a loud frame's samples, and short-term analysis takes the rounded samples.
 //!
-//! `scaling` shifts the samples down and up, `autocorrelation` has their sums, `reflection` the recursion that
-//! finds the reflection coefficients, `ratios` the log area ratios and their codes, `analysis` all of a frame.
+//! `scaling` shifts the samples down and up, `autocorrelation` has the sums of their products at lags 0 to 8,
+//! `reflection` the recursion that finds the reflection coefficients, `ratios` the log area ratios and their codes,
+//! `analysis` all of a frame.
 //!
 //! Definitions: `specs/Scaling.antt`, `specs/Autocorrelation.antt`, `specs/Reflection.antt`, `specs/Ratios.antt`.
 #![tactic(auto)]

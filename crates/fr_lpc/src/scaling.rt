@@ -6,7 +6,7 @@ ghost use Rattle.fr_lpc.specs.Scaling.{AreWithin, peak_of, scaling_of_peak, scal
 
 use trau_num::{abs16, mult_r, norm, shl16};
 
-/// The peak of a frame: the greatest magnitude of its 160 samples.
+/// The peak of a frame: the greatest magnitude of its 160 samples, where that of -32768 counts as 32767.
 pub fn peak(s: &[i16; 160]) -> i16
     ensures value { result ≡ peak_of s.now }
     ensures not_negative { pos 0 ≤ℤ result }
@@ -62,7 +62,7 @@ fn scaled_sample(x: i16, scaling: u8) -> i16
     mult_r(x, 16384 >> (scaling - 1))
 }
 
-/// Shifts the samples down.
+/// Shifts the samples down by `scaling` places, 0 to 4, each rounded to the nearest.
 #[tactic(auto, unfolding(crate::specs::Scaling::scaled_down))]
 pub(crate) fn scale_down(s: &mut [i16; 160], scaling: u8)
     requires at_most_4 { scaling ≤ 4 }
@@ -78,7 +78,7 @@ pub(crate) fn scale_down(s: &mut [i16; 160], scaling: u8)
     }
 }
 
-/// Shifts the samples up again, with zeros in their low bits.
+/// Shifts the samples up again, with zeros in their low bits. 2048 times 2^4 is clamped to 32767, with ones there.
 #[tactic(auto, unfolding(crate::specs::Scaling::scaled_up))]
 pub(crate) fn scale_up(s: &mut [i16; 160], scaling: u8)
     requires { scaling ≤ 4 }

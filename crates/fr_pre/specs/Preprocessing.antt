@@ -15,7 +15,7 @@ next_l_z2 l_z2 s1 =
     let l_s2 = s1 *ℤ pos 32768 +ℤ mult_r_of lsp (pos 32735) in
     l_add_of (msp *ℤ pos 32735) l_s2
 
--- sof: the sample without its offset, L_z2 rounded to a word
+-- sof: the sample without its offset, L_z2 / 2^15 rounded to the nearest
 unfoldable pub offset_free : ℤ → ℤ
 offset_free l_z2 = clamp16 (floor_shr (l_add_of l_z2 (pos 16384)) 15)
 

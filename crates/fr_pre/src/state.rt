@@ -11,8 +11,11 @@ use crate::passes::{compensate, downscale, follow, preemphasise};
 #[derive(Clone, Copy, Debug, PartialEq, Eq)]
 #[repr(C)]
 pub struct PreState {
+    /// z1, the last downscaled sample (so).
     pub z1: i16,
+    /// L_z2, the sum of the offset compensation: 2^15 times z1, plus an offset.
     pub l_z2: i32,
+    /// mp, the last sample before preemphasis (sof).
     pub mp: i16,
     pub ghost z1_bound: { unsigned_abs z1 ≤ 2 ^ 14 },
     pub ghost offset_bound: { unsigned_abs (l_z2 -ℤ z1 *ℤ pos 32768) ≤ 2 ^ 29 },

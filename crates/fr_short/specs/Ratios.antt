@@ -8,7 +8,8 @@ use Rattle.trau_params.specs.Ratios.{offsets, least_ratios}
 abbrev pub inverses : List ℤ
 inverses = pos 13107 ∷ pos 13107 ∷ pos 13107 ∷ pos 13107 ∷ pos 19223 ∷ pos 17476 ∷ pos 31454 ∷ pos 29708 ∷ []
 
--- LARpp of a code, by MIC, B and INVA of its place: 2 * INVA * ((LARc + MIC) * 2^10 - 2 * B), clamped and rounded at each step
+-- LARpp of a code, by MIC, B and INVA of its place: 2 * (INVA / 2^15) * ((LARc + MIC) * 2^10 - 2 * B), clamped and
+-- rounded at each step
 unfoldable pub decoded_ratio : ℤ → ℤ → ℤ → ℕ → ℤ
 decoded_ratio mic b inva code =
     let half = mult_r_of inva (sub_of ((pos code +ℤ mic) *ℤ pos 1024) (b *ℤ pos 2)) in add_of half half

@@ -8,9 +8,8 @@ use Rattle.block_lines.specs.Machines.{Machine}
 use Rattle.frame_listing.specs.declared.listing.Listing.{Listing}
 use Rattle.frame_listing.specs.Texts.{listed}
 
--- It takes every period of 40 octets, and less than a period may be left. It writes no line (so the side of its lines means nothing),
--- and prints a line of text for each yield;
--- at the end how many these are and how many octets are left.
+-- It takes every period of 40 octets, and less than a period may be left. It writes to no line, so the side `to` means nothing. It
+-- prints a line of text for each yield, and at the end how many yields there were and how many octets are left.
 abbrev pub frames_machine : Machine
 frames_machine = record {
   shape = record { octets = 40; from = Up; lines = 0; to = Down };

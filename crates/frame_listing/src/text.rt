@@ -39,6 +39,7 @@ fn word(found: &Yield) -> &'static str
     }
 }
 
+// The place of a yield, in bits from the line's start.
 fn place(found: &Yield) -> u64
     ensures { result ≡ place_of found.now }
 {

@@ -18,7 +18,8 @@ abbrev pub low_of : Mode → ℕ
 low_of (Hunting low) = low
 low_of (Locked next misses) = next
 
--- the first bit of the next period is before this place: the end of the frame that is due; `base` + 1, which sets no limit, if the search hunts
+-- the next period begins before this place: the end of the frame that is due or, if the search hunts, `base` + 1, which
+-- sets no limit
 abbrev pub high_of : ℕ → Mode → ℕ
 high_of base (Hunting low) = base + 1
 high_of base (Locked next misses) = next + 320

@@ -8,8 +8,9 @@
 //! `window` has the bits of two periods, `hunt` looks for the first match in them, `advance` takes the search over one
 //! period, and `search` has the state between periods.
 //!
-//! Hunting counts zeros bit by bit, and checks the ones only after sixteen zeros. If the first of these ones is there,
-//! no sixteen zeros end in the sixteen bits from it on. So each bit costs a few operations, whatever the line carries.
+//! Hunting counts zeros bit by bit, and checks the ones only after sixteen zeros. If the first one is missing, the
+//! check ends at once. If it is there, the next check is at least seventeen bits later. So each bit costs a few
+//! operations, whatever the line carries.
 //!
 //! Definitions: `specs/Yields.antt` (all yields of a whole line, using `specs/Match.antt` of `trau_frame`),
 //! `specs/Periods.antt` (the yield of each period), `specs/Memory.antt`, `specs/Step.antt` and `specs/Stands.antt` (the

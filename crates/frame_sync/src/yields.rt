@@ -1,6 +1,6 @@
 //! The yields of the search, and its mode.
 
-/// A yield of the search.
+/// What the search gives: a frame, or a miss where a frame was due.
 #[derive(Clone, Copy)]
 pub enum Yield {
     /// A frame, with its 320 bits, 0 or 1 each.

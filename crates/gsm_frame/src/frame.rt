@@ -66,7 +66,7 @@ fn ratios(number: u64) -> [u8; 8]
     [larc1, larc2, larc3, larc4, larc5, larc6, larc7, larc8]
 }
 
-/// The frame that 33 octets carry, if they begin with the four bits.
+/// The frame that 33 octets carry, or None if they don't begin with the four bits 1101.
 #[tactic(auto, unfolding(crate::specs::Packed::packed_from))]
 pub fn unpack(octets: &[u8; 33]) -> Option<Params>
     ensures carried { IfSome result (λ params. Carries octets.now (fields_of params)) }

@@ -77,7 +77,7 @@ fn half(bits: &[u8; 520], first: usize) -> [u8; 260]
     half
 }
 
-/// The 65 octets of two frames.
+/// The 65 octets of WAV49 that carry two frames, `first` in front.
 pub fn pack_pair(first: &Params, second: &Params) -> [u8; 65]
     ensures { bits_of_pair result ≡ bits260_of first.now ++ bits260_of second.now }
 {

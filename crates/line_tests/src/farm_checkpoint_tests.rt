@@ -56,7 +56,7 @@ const CALLS_AT_101: &[MarkCall] = &[
     },
 ];
 
-// One call of three periods of silence: octets 213 on its speech line.
+// One call of three periods of silence: octets 213 on its Out line.
 const SILENCE: &str = "save 3\ncall 1 from 0 out 102240 down 28958\norders\n";
 
 // The highest number everywhere.

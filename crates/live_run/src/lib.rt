@@ -2,7 +2,8 @@
 //!
 //! Right below the top function, which prints the text. It takes the seed and the numbers of calls, periods,
 //! callers and waiting posts. It draws the periods (`farm_drill`), posts, processes and reads them (`farm_live`),
-//! ends the farm, and writes the sums of the octets of each call.
+//! ends the farm, and makes the text: the sums, modulo 2^32, of the octets of each call's outgoing lines
+//! (`farm_report`).
 //!
 //! `size` has the numbers of a live drill, `shared` what its callers share, `calls` what a caller does with one
 //! call, `posters` the callers on their threads, `rest` what remains for the calling thread, `sums` the text,

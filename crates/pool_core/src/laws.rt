@@ -6,7 +6,7 @@ ghost use Rattle.pool_core.specs.declared.step.PoolStep.{PoolStep as OneStep};
 ghost use Rattle.pool_core.specs.Machine.{pool_start, place, times_in_all};
 ghost use Rattle.pool_core.specs.Steps.{after, runs};
 
-/// After every list of steps from the start, with any number of workers, each job is in exactly one deque, in
+/// After every list of steps from the start, with any number of workers but 0, each job is in exactly one deque, in
 /// exactly one hand, or done; its place is its length or the sum of its runs, whichever is less.
 pub fn every_list_of_steps()
     ensures once { (workers : ℕ) (lens : List ℕ) (steps : List OneStep) (job : ℕ) → 0 < workers → job < length lens →

@@ -25,8 +25,9 @@ module _ {W : Type 0} where
     pub each : (k : ℕ) (t : Thief W) (p : Knower W) → k < length m.passes.items → IsPassFor (slice_index_or thieves k t) (slice_index_or m.passes.items k p)
     pub ended : All (IsEnded finish) m.done.items
 
-  -- Each deque's parts are its owner's and those of the passes of the workers, one each, and of passes in hand. In hand is, at suc k and k,
-  -- one pass of deque k; at k and 0, one pass of each of the first k deques; at 0 and 0, none.
+  -- Each deque's 1024 parts are its owner's and those of the passes of the workers, one each, and of passes in hand.
+  -- By `more` and `less`, in hand is one pass of deque k (k + 1 and k), one pass of each of the first k deques
+  -- (k and 0), or none (0 and 0).
   pub record IsShared (finish : W → W) (thieves : List (Thief W)) (members : List (Member W)) (more less : ℕ) : Type 0 where
     pub pair : length members ≡ length thieves
     pub own : (k : ℕ) (t : Thief W) (m : Member W) → k < length members →

@@ -1,10 +1,10 @@
 //! The rule of one deque, and the functions that keep it.
 //!
-//! Each worker has its own deque, and for each deque a handle to steal by and a pass. A pass has a view, and so has
-//! the owner's end of a deque: the entries that were pushed and obtained through it. The rule, `IsKept`, stays true
-//! whoever takes a job: the entries pushed in all views are those obtained in all views and those in the deque, in
-//! some order. An entry is a job's number with its finished job, so it doesn't change when a half-done job changes
-//! hands.
+//! Each worker has its own deque, and a pass of each deque. The handles to steal by, one for each deque, are shared. A
+//! pass has a view, and so has the owner's end of a deque: the entries that were pushed and obtained through it. The
+//! rule, `IsKept`, stays true whoever takes a job: the entries pushed in all views are those obtained in all views and
+//! those in the deque, in some order. An entry is a job's number with its finished job, so it doesn't change when a
+//! half-done job changes hands.
 //!
 //! The views of a deque share 1,024 parts of the right to know the whole. So an owner that has all parts again
 //! and finds the deque empty knows that everything that was pushed was obtained.

@@ -5,8 +5,8 @@
 //! "finished" exact. The crates above make a job for each call of a round, with its octets, and run it in two
 //! phases, with a pool for each.
 //!
-//! Each worker has a deque. At most as many workers run as there are jobs. A single one runs in the caller's
-//! thread; otherwise each has its own thread. At the start, job i is in the deque of worker i modulo the number of
+//! Each worker has a deque. At most as many workers run as there are jobs. One of them runs in the caller's thread,
+//! each other one in a thread of its own. At the start, job i is in the deque of worker i modulo the number of
 //! workers. A worker takes the front job of its own deque, or else of another's, beginning with its neighbour's. It
 //! runs one slice of the job and, unless that finishes it, puts it at the back of its own deque. A worker ends when
 //! it has no job in hand and has found every deque empty. When all have ended, the caller looks through the deques
@@ -20,9 +20,13 @@
 //! - `pool`: the run.
 //!
 //! The contract says what each job becomes, not who runs its slices or when. So a pool with one thread, or one that
-//! never steals, would meet it too. Only a test (`jobs_are_stolen_half_done`) shows that workers run at the same
-//! time and steal half-done jobs: its gate holds slices back until others were run. It isn't proved that a worker
-//! ends: it goes on for as long as it finds jobs (`Wait`). Jobs, places and slices are this project's own.
+//! never steals, would meet it too. Only tests (as `jobs_are_stolen_half_done` of `farm_tests`) show that workers run
+//! at the same time and steal half-done jobs: their gates hold slices back until others were run. It isn't proved that
+//! a worker ends: it goes on for as long as it finds jobs (`Wait`). Jobs, places and slices are this project's own.
+//!
+//! Definitions: `specs/Deque.antt` (the rule of one deque), `specs/Member.antt` (what a worker's steps keep),
+//! `specs/Pool.antt` (the workers together), `specs/Room.antt` (the room of a pool), `specs/Joins.antt` (the joins of
+//! the passes). `work` says what a job is to a pool. `call_pair` has the job of a call, `farm_rounds` runs the pools.
 #![tactic(auto)]
 
 mod answer;

@@ -16,10 +16,10 @@ use std::sync::Wait;
 use std::thread;
 use std::thread::Threads;
 
-/// Runs each job to its end, in slices of `slice` places, and returns the finished jobs in the order of the given
-/// ones. The room's workers run the slices, at most as many as there are jobs, and each slice is between the two
-/// calls of the gate. A single worker runs in the caller's thread; otherwise each has its own thread. It takes no
-/// memory for the jobs, and can't fail.
+/// Runs each job to its end, in slices of `slice` places, at least 1, and returns the finished jobs in the order of
+/// the given ones. There are no more jobs than `room` was reserved for. The room's workers run the slices, at most as
+/// many as there are jobs, and each slice is between the two calls of the gate. One worker runs in the caller's
+/// thread, each other one in a thread of its own. It takes no memory for the jobs, and can't fail.
 pub fn run_pool<R: Threads + Wait + Sync, W: Work + Send, G: Gate + Sync>(
     rt: &R,
     room: PoolRoom<W>,
@@ -123,7 +123,7 @@ fn work_first<R: Threads + Wait + Sync, W: Work + Send, G: Gate + Sync>(
     work_all(rt, thieves, first, slice, gate);
 }
 
-// Runs each worker in its own thread until all have ended; a single one in the caller's thread.
+// Runs the workers until all have ended: one in the caller's thread, each other one in a thread of its own.
 fn work_all<R: Threads + Wait + Sync, W: Work + Send, G: Gate + Sync>(
     rt: &R,
     thieves: &[Thief<W>],

@@ -34,13 +34,13 @@ pub trait Work: Drop {
     ghost stays: { (x : Self) → left x ≡ 0 → finish x ≡ x };
 }
 
-/// Called before and after each slice. The pool learns nothing from it, and no clause names it. It may hold a slice
-/// back, as a test does.
+/// Called before and after each slice of a pool, and by `live_run` before and after each post. The pool and `live_run`
+/// learn nothing from it, and no clause names it. It may hold a slice or a post back, as a test does.
 pub trait Gate {
-    /// Before a slice of the job of this call.
+    /// Before a slice of this call's job, or a post to this call.
     fn before(&self, call: u32);
 
-    /// After a slice of the job of this call.
+    /// After a slice of this call's job, or once a post to this call was accepted.
     fn after(&self, call: u32);
 }
 

@@ -12,6 +12,7 @@ use crate::transfer::{give_block, take_block};
 use trau_io::{Side, Trunk};
 
 impl CallLines {
+    // Reads the round's octets of the Up line, and notes how the reading ended.
     fn take_up<T: Trunk>(&mut self, trunk: &mut T, up: &mut [u8])
         requires { length up.old ≡ 40 * self.old.periods }
         ensures this { Takes (T.lines trunk.old self.old.call Up) (T.lines trunk.new self.old.call Up) self.new.up up.new }
@@ -22,6 +23,7 @@ impl CallLines {
         self.set_up(taken);
     }
 
+    // The same of the Pcm line.
     fn take_pcm<T: Trunk>(&mut self, trunk: &mut T, pcm: &mut [u8])
         requires { length pcm.old ≡ 160 * self.old.periods }
         ensures this { Takes (T.lines trunk.old self.old.call Pcm) (T.lines trunk.new self.old.call Pcm) self.new.pcm pcm.new }
@@ -44,6 +46,7 @@ impl CallLines {
         self.take_pcm(trunk, pcm);
     }
 
+    // Writes the octets to the Down line, unless it failed before, and notes whether it fails now.
     fn give_down<T: Trunk>(&mut self, trunk: &mut T, down: &[u8])
         ensures this { LineGives (T.lines trunk.old self.old.call Down) (T.lines trunk.new self.old.call Down) self.old.down self.new.down down.now }
         ensures others { OthersStay (T.lines trunk.old) (T.lines trunk.new) self.old.call Down }
@@ -53,6 +56,7 @@ impl CallLines {
         self.set_down(outlet);
     }
 
+    // The same of the Out line.
     fn give_out<T: Trunk>(&mut self, trunk: &mut T, out: &[u8])
         ensures this { LineGives (T.lines trunk.old self.old.call Out) (T.lines trunk.new self.old.call Out) self.old.out self.new.out out.now }
         ensures others { OthersStay (T.lines trunk.old) (T.lines trunk.new) self.old.call Out }

@@ -52,8 +52,8 @@ pub record GoesOut (r : Run) : Type 0 where
   -- no frame carries anything else
   pub only : (c j h : ℕ) → (frame_by_number (whole_call r c) j).carries ≡ Some h →
       (x : Span) × IsBridged r c (start_in r c + h) x × CarriesHanded r c (start_in r c + h) x j
-  -- what is handed n periods after the bridge's start goes out n frames after the first frame made in the bridge; so what is
-  -- handed later goes out in a later frame, and each once
+  -- what is handed n periods after the bridge's start goes out n frames after the first frame made in the bridge's
+  -- first period or later; so what is handed later goes out in a later frame, and each once
   pub first : (c : ℕ) (x : Span) → (first : ℕ) × IsFirstOfSpan (whole_call r c) (span_for r c x) first
   pub place : (c t : ℕ) (x : Span) (first j : ℕ) → IsBridged r c t x → IsFirstOfSpan (whole_call r c) (span_for r c x) first →
       CarriesHanded r c t x j ↔ (j ≡ first + (t - x.from))

@@ -1,5 +1,5 @@
--- The same from what is known while the run goes on. `ds` are the orders that were executed so far, the oldest first, and
--- `left` the remaining ones. At the clock t, no executed order has a stamp above t, and no remaining one a stamp below t.
+-- The periods and settings of a run's calls, from what is known while the run goes on. `ds` are the orders that were
+-- executed so far, the oldest first, and `left` the remaining ones. At the clock t, no executed order has a stamp above t, and no remaining one a stamp below t.
 use Rattle.std.specs.Prelude.{◌≡◌, ℕ, zero, suc, ◌+◌, ◌-◌, ◌<◌, ◌≤◌, Bool, ◌&&◌, ◌||◌, if◌then◌else◌, ◌==◌, nat_lt, Option, is_some, is_none, IfSome}
 use Rattle.std.specs.Prelude.{option_map, find, Result, Ok, Err, List, ◌++◌, map, pos}
 use Rattle.std.specs.List.{All, list_any}
@@ -45,7 +45,7 @@ bridge_now r ds t c = find (λ x. joins c x && is_none x.ended && has_period r d
 abbrev pub handed_now : Run → List Done → ℕ → ℕ → Option (List ℕ)
 handed_now r ds t c = option_map (λ x. let d = other c x in item_of d (ups_to r d (t + 1 - start_of ds d))) (bridge_now r ds t c)
 
--- period t of an open call, if no order comes between the clock and it
+-- period t of an open call, if no remaining order has stamp t or a lower one
 abbrev pub period_now : Run → List Done → ℕ → ℕ → CallPeriod
 period_now r ds t c = let k = t - start_of ds c in record {
   up = up_in r c k;

@@ -71,7 +71,7 @@ cause_in r c = (end_of (given_in r) r.periods (done_in r) c (start_of (done_in r
 abbrev pub worked_to : Run → ℕ → ℕ → ℕ
 worked_to r t c = min t (end_in r c) - start_in r c
 
--- whose call it is: its number, and the law of the order that opened it
+-- the law of the order that opened a call, and the call's number with this law
 abbrev pub law_in : Run → ℕ → Law
 law_in r c = law_at c (done_in r)
 

@@ -231,8 +231,8 @@ pub fn a_run_is_joined_of_two()
     ensures { (r : Run) (p : ℕ) → AreOrders r.orders → p ≤ r.periods → Joins r p }
 {}
 
-/// The mark of a run of at least one period is a mark: its calls began before its period, their numbers rise, and its sums have
-/// 32 bits.
+/// The mark of a run of 1 to 4,294,967,295 periods is a mark: its calls began before its period, their numbers rise, and its
+/// sums have 32 bits.
 pub fn marks_of_runs_are_marks()
     ensures { (r : Run) → 1 ≤ r.periods → r.periods ≤ 4294967295 → IsMark (mark_of r) }
 {}

@@ -16,7 +16,7 @@ missed_after count missed = min (count + (if missed then 1 else 0)) fall_from_mi
 abbrev pub fall_after : ℕ → ℕ → ℕ
 fall_after count fall = if count == fall_from_missed then min (fall + 1) silent_after else fall
 
--- after a lost period; `missed`: a silence descriptor was due and didn't come
+-- after a lost period; `missed`: it brought an unusable speech frame where a silence descriptor was due (TAF 1)
 abbrev pub state_after_loss : RxState → Bool → RxState
 state_after_loss Quiet missed = Quiet
 state_after_loss (Speech p n) missed = Speech p (min (n + 1) silent_after)

@@ -1,10 +1,10 @@
 //! The receive side: one effective frame for each period of an uplink (modelled on GSM 06.11, 06.12 and 06.31).
 //!
 //! It is given the frame that the search found in each period of 20 ms (`trau_frame`), or none. Its answer goes to the
-//! decoder or, in a bridge, to the partner: the speech that came, a frame that replaces lost speech (`rx_subst`), comfort
-//! noise (`rx_noise`), or that the call is quiet. If a silence descriptor comes in noise, it is approached in eight steps,
-//! one in each period, unless the level of the noise has begun to fall.
-//! Both kinds of made frames draw from one random source. It starts at the call's number and is never set again.
+//! decoder or, in a bridge, to the partner: the speech that came, a frame that replaces lost speech (`rx_subst`),
+//! comfort noise (`rx_noise`), or that the call is quiet. If a silence descriptor comes in noise, it is approached in
+//! eight steps, one in each period, unless the level of the noise has begun to fall. Both kinds of made frames draw
+//! from one random source. It starts at the call's number and is never set again.
 //!
 //! Modules: `state` (what is kept from period to period), `hearing` (how a period changes it), `frames` (the effective frame
 //! from it), `effective` (its type), `rx` (the receive side of a call), `laws`.

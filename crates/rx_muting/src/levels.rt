@@ -4,7 +4,7 @@ ghost use Rattle.std.specs.Prelude.{◌≡◌, ◌≤◌};
 ghost use Rattle.trau_params.specs.Widths.{xmaxc_width, FitWidth};
 ghost use Rattle.rx_muting.specs.Muting.{lowered_maxima};
 
-/// The four block maxima, each lowered by 4 for each of up to 17 steps, but not below 0.
+/// The codes of four block maxima (xmaxc, 6 bits), each lowered by 4 for each of up to 17 steps, but not below 0.
 pub fn lowered(xmaxc: &[u8; 4], steps: u8) -> [u8; 4]
     requires fit { FitWidth xmaxc_width xmaxc.now }
     requires steps { steps ≤ 17 }

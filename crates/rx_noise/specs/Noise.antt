@@ -19,7 +19,7 @@ unfoldable pub all_noise_pulses : (ℕ → ℕ → ℕ) → List (List ℕ)
 all_noise_pulses draw = map (λ j. noise_pulses draw (14 * j + 1)) (range_with_len 0 4)
 
 -- the noise of a silence descriptor, its level lowered by these steps: the ratios and the block maxima are the
--- descriptor's, the lags alternate, and the gains are 0
+-- descriptor's, the lags alternate, and the codes of the gains are 0, which stands for a gain of 0.1
 unfoldable pub noise_at : Fields → ℕ → (ℕ → ℕ → ℕ) → Fields
 noise_at sid steps draw = record {
   larc = sid.larc;

@@ -47,8 +47,8 @@ fn maxima(old: &[u8; 4], new: &[u8; 4], i: u8) -> [u8; 4]
     xmaxc
 }
 
-/// The silence descriptor after `i` of the eight steps, 1 to 8, from `old` to `new`: each ratio and each block maximum
-/// is `(old * (8 - i) + new * i) / 8`, all else is that of `new`.
+/// The silence descriptor after `i` of the eight steps, 1 to 8, from `old` to `new`: each code LARc and xmaxc is
+/// `(old * (8 - i) + new * i) / 8`, rounded down; all else is that of `new`.
 #[tactic(auto, unfolding(crate::specs::Mix::mix_of))]
 pub fn mix(old: &Params, new: &Params, i: u8) -> Params
     requires low { 1 ≤ i }

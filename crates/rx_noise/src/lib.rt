@@ -1,9 +1,10 @@
 //! Comfort noise: the frames that the receive side makes from a silence descriptor (GSM 06.12).
 //!
-//! While the far side is silent, its base station sends a silence descriptor (SID) from time to time. The SID's log
-//! area ratios and block maxima describe the noise there. From the latest SID, this crate makes a frame that the
-//! decoder takes in the place of speech. It takes the SID as a frame of parameters (`trau_params`), the fall of its
-//! level since descriptors stopped coming, and the call's random source. `rx_handler` counts the fall.
+//! While the mobile's user is silent, the mobile sends a silence descriptor (SID) from time to time, and the base
+//! station passes it on. The SID's log area ratios and block maxima describe the noise there. From the latest SID, this
+//! crate makes a frame that the decoder takes in the place of speech. It takes the SID as a frame of parameters
+//! (`trau_params`), the number of periods for which its level has fallen, and the call's random source. `rx_handler`
+//! counts these periods: from that of the second missed descriptor on.
 //!
 //! A further descriptor of a pause is approached in eight steps; `mix` gives the descriptor after each of them.
 //!

@@ -13,9 +13,10 @@ use trau_params::{Params, silence};
 // The fall at which noise becomes silence.
 const SILENT: u8 = 17;
 
-/// The noise frame of the silence descriptor `sid`, whose level has fallen for `fall` periods, at most 17. It has the
-/// descriptor's ratios, and its block maxima lowered by 4 for each period of the fall; `draw` gives the grids and
-/// pulses. After 17 periods it is silence, and nothing is drawn.
+/// The noise frame of the silence descriptor `sid`, whose level has fallen for `fall` periods; 17 stands for 17 or
+/// more. It has the descriptor's ratios, lags of 40 and 120 in turn, 0 as the code of each gain, and the descriptor's
+/// xmaxc lowered by 4 for each period of the fall; `draw` gives the grids and pulses. With 17 it is silence, and
+/// nothing is drawn.
 #[tactic(auto, unfolding(crate::specs::Noise::noise_of))]
 pub fn noise_frame(sid: &Params, fall: u8, draw: &mut Draw) -> Params
     requires { fall ≤ 17 }

@@ -13,9 +13,10 @@ use trau_params::{Params, silence};
 // The number of the lost period whose frame is silence.
 const SILENT: u8 = 17;
 
-/// The frame for the `n`-th lost period, 1 to 17, after the good frame `last`. In the first it is the good frame
-/// itself. From the second on its block maxima are lowered by 4 for each period since the first, and `draw` gives its
-/// grids. In the 17th it is silence. Nothing is drawn in the first and the 17th.
+/// The frame for the `n`-th lost period after the good frame `last`; 17 stands for the 17th and each later one. In the
+/// first it is the good frame itself. From the second on the codes of its block maxima (xmaxc) are lowered by 4 for
+/// each period since the first, and `draw` gives its grids. From the 17th on it is silence. Nothing is drawn in the
+/// first and from the 17th on.
 #[tactic(auto, unfolding(crate::specs::Lost::lost_of, rx_muting::specs::Draws::state_after))]
 pub fn lost_frame(last: &Params, n: u8, draw: &mut Draw) -> Params
     requires low { 1 ≤ n }

@@ -30,11 +30,13 @@ pub enum Act {
     Opened { call: u32, law: Law },
     /// `partner` is the other call of the bridge that ends with the call; None if the call wasn't bridged.
     Closed { call: u32, partner: Option<u32> },
+    /// The two calls as the order names them.
     Bridged { a: u32, b: u32 },
     /// The two calls in the order in which the bridge's order named them.
     Unbridged { a: u32, b: u32 },
-    /// The peak from which a frame of the call counts as speech, 0 to 32,767.
+    /// The peak from which a downlink frame of the call counts as speech if DTX is on, 0 to 32,767.
     LevelSet { call: u32, level: i16 },
+    /// When pauses of the call's downlink go out as silence descriptors.
     DtxSet { call: u32, mode: DtxMode },
 }
 
@@ -45,7 +47,8 @@ pub struct Reply {
     pub result: Result<Act, Refusal>,
 }
 
-/// A bridge that has ended: its first period, and the first one after it.
+/// A bridge that has ended: its first period of the run, and the first one after it. They are equal if the bridge has
+/// no period.
 #[derive(Clone, Copy, Debug, PartialEq, Eq)]
 pub struct Span {
     pub a: u32,

@@ -170,7 +170,7 @@ impl Board {
         ensures state { self.new ≡ told_more self.old end.call end.at }
         ensures told { (t : ℕ) → end.at < t → EndBefore t self.old → EndBefore t self.new }
 
-        // The call is no longer open, and it and its partner have none now. Laws stay.
+        // The call is no longer open, and neither it nor the call that was its partner has a partner now. Laws stay.
         ensures opened { (c : ℕ) → opened_now self.new c ≡ opened_now self.old c }
         ensures open { (c : ℕ) → open_now self.new c ≡ open_without end.call (open_now self.old) c }
         ensures law { (c : ℕ) → law_now self.new c ≡ law_now self.old c }

@@ -2,8 +2,8 @@
 //!
 //! Between an operator's orders (`trau_orders`) and the rounds, which process the calls. The board takes the orders
 //! in order of their stamps, and between rounds the ends of calls whose lines ended them. For each order it says
-//! what the order does or why it is refused. A bridge joins two open calls for tandem free operation; its span is
-//! reported once it has ended.
+//! what the order does or why it is refused. A bridge joins two open calls: the effective frames of each go out on the
+//! other's downlink, without decoding. Its span is reported once it has ended.
 //!
 //! The rules are this project's profile. Whether a call is open or bridged is defined over the whole list of
 //! executed orders and the ends of the calls; the code keeps a table of calls and bridges. `act` has the plain

@@ -224,8 +224,8 @@ impl Table {
         self.add_span(position, span_to(&bridge, stamp));
     }
 
-    /// Marks a call as ended by its lines. Its latest bridge ends with it; if that bridge has a later end, `at`
-    /// replaces it.
+    /// Marks a call as ended by its lines or by the run's end: `at` is the first period after it. Its latest bridge
+    /// ends with it; if that bridge has a later end, `at` replaces it.
     pub fn end_call(&mut self, call: u32, at: u32)
         requires call { call < NUMBERS }
         requires spans { self.old.spans ≡ filter_map (span_in self.old) self.old.bridges }

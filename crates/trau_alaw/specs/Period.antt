@@ -1,4 +1,4 @@
--- The octets and the samples of a stretch of a line.
+-- The octets and the samples of a period, or of any part of a line.
 use Rattle.std.specs.Prelude.{ℕ, ℤ, List, map}
 use Rattle.trau_alaw.specs.declared.Law.{Law}
 use Rattle.trau_alaw.specs.Companding.{middle, octet_of}

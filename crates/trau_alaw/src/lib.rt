@@ -1,4 +1,4 @@
-//! A-law and mu-law of a PCM line (G.711, tables 1a and 2a).
+//! A-law and mu-law of a PCM line (G.711, tables 1a, 1b, 2a and 2b).
 //!
 //! Converts between the Pcm and Out lines of a call and the codec: an octet of a line stands for a sample of 16 bits,
 //! and a sample is sent as the octet whose interval contains it. Both directions are computed without a table.
@@ -23,7 +23,9 @@ pub use period::{compress_all, expand_all};
 /// The law of a PCM line.
 #[derive(Clone, Copy, Debug, PartialEq, Eq)]
 pub enum Law {
+    /// A-law.
     A,
+    /// Mu-law.
     Mu,
 }
 
@@ -58,7 +60,7 @@ pub fn idle_octet(law: Law) -> u8
     }
 }
 
-/// The sample of 16 bits that an octet stands for: the middle of its interval.
+/// The sample of 16 bits that an A-law octet stands for: the middle of its interval.
 pub fn expand(octet: u8) -> i16
     ensures { result ≡ middle (alaw octet) }
 {
@@ -67,7 +69,7 @@ pub fn expand(octet: u8) -> i16
     if code < 128 { -magnitude } else { magnitude }
 }
 
-/// The octet that a sample of 16 bits is sent as.
+/// The A-law octet that a sample of 16 bits is sent as.
 pub fn compress(x: i16) -> u8
     ensures value { result ≡ octet_of alaw x }
     ensures only { IsOnlyOctet alaw x result }

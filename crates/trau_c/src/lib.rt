@@ -6,6 +6,9 @@
 //! called on different states at the same time. Each export calls one function of another crate, and repeats its
 //! clauses in terms of what C gets; `trau_fr_decode_octets` unpacks and decodes.
 //!
+//! The exports don't test what C passes. The header says what the C program must ensure: good pointers, states that
+//! come from these two functions and that only exports write, and each field of a frame within its width.
+//!
 //! Definition: `specs/DecodedOctets.antt`.
 #![tactic(auto)]
 

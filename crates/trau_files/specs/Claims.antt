@@ -3,7 +3,7 @@ use Rattle.std.specs.Prelude.{◌≡◌, ◌≢◌, ◌⊎◌, ℕ, List, Option
 use Rattle.trau_files.specs.declared.trunk.claims.Claim.{Claim}
 use Rattle.trau_files.specs.declared.trunk.seats.Access.TheVariants.{Reading, Writing}
 
--- the last file on a disk that the line at this place was opened with, if there is one
+-- the last file on a disk that the line with this index was opened with, if there is one
 abbrev pub claim_at : List (Option Claim) → ℕ → Option Claim
 claim_at claims k = slice_index_or claims k None
 
@@ -15,7 +15,7 @@ MayShare a b = a.file ≡ b.file → (a.access ≡ Reading) × (b.access ≡ Rea
 abbrev pub AreApart : List (Option Claim) → Type 0
 AreApart claims = (i j : ℕ) (a b : Claim) → claim_at claims i ≡ Some a → claim_at claims j ≡ Some b → i ≢ j → MayShare a b
 
--- the line at this place may have this file beside those of the other lines
+-- the line with this index may have this file beside those of the other lines
 abbrev pub MayHave : List (Option Claim) → ℕ → Claim → Type 0
 MayHave claims p c = (k : ℕ) (b : Claim) → claim_at claims k ≡ Some b → k ≢ p → MayShare c b
 
@@ -24,7 +24,7 @@ abbrev pub Has : Option Claim → Claim → Type 0
 Has None c = ⊥
 Has (Some held) c = (held.file ≡ c.file) × (c.access ≡ Writing → held.access ≡ Writing)
 
--- which file any line but the one at this place has, and what for, is as before
+-- which file any line but the one with this index has, and what for, is as before
 abbrev pub OthersKeep : List (Option Claim) → List (Option Claim) → ℕ → Type 0
 OthersKeep old new p = (k : ℕ) → k ≢ p → claim_at new k ≡ claim_at old k
 

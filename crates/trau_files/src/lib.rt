@@ -4,7 +4,7 @@
 //! to the top function.
 //!
 //! No contract can say what the system's files and streams hold. Contracts know the fault counts of both, which are proved
-//! against the traits of `trau_io`, and which files of a trunk are open and at which octet. So it is proved at which place of
+//! against the traits of `trau_io`, and which files of a trunk are open and at which octet. So it is proved at which octet of
 //! which file a line is read and written. The names of the files are this project's profile. Definitions: `specs/Files.antt`,
 //! `specs/Claims.antt` (which line has which file).
 #![tactic(auto)]

@@ -21,9 +21,9 @@ pub enum Class {
     Good,
     /// A valid silence descriptor.
     Sid,
-    /// A silence descriptor that can't be used.
+    /// A silence descriptor that can't be used: SID 1 or 3, or SID 2 in a bad frame.
     InvalidSid,
-    /// A bad frame, and every frame that isn't speech.
+    /// A bad speech frame with SID 0, and every frame that isn't speech.
     Unusable,
 }
 
@@ -51,6 +51,7 @@ pub struct UpFrame {
 pub enum DownFrame {
     /// No speech: its data bits are ones.
     Idle,
+    /// Speech, or a silence descriptor.
     Speech {
         /// Bits D1 to D260, the codec's parameters.
         d: [u8; 260],

@@ -40,7 +40,7 @@ pub struct Counts {
     pub idle: u64,
     /// Frames of another kind.
     pub other: u64,
-    /// Places where a frame was due and no sync bits matched.
+    /// Places where a frame was due and its 35 sync bits didn't all match.
     pub miss: u64,
     /// Periods in which no yield ended.
     pub none: u64,

@@ -61,6 +61,6 @@ l_mult_of a b = clamp32 (a *ℤ b *ℤ pos 2)
 unfoldable pub norm_of : ℕ → ℕ
 norm_of v = count_by (λ k. nat_lt (v * 2 ^ k) (2 ^ 30)) (range_with_len 0 30)
 
--- the number at place i of a list
+-- the number at place i of a list, or 0 after its end
 abbrev pub entry : List ℤ → ℕ → ℤ
 entry xs i = slice_index_or xs i (pos 0)

@@ -16,6 +16,7 @@ pub enum OrderFault {
     /// More than 65,536 lines.
     #[error("orders too long")]
     TooMany,
+    /// Out of memory.
     #[error("no memory")]
     Memory,
 }

@@ -1,7 +1,8 @@
 //! An operator's orders: what to do to which calls, and from which period of 20 ms on.
 //!
-//! The first stage of a farm: it parses the orders' text, one order a line, or reports the first line that isn't an
-//! order. The orders' board (open calls, bridges, refusals) takes the orders from here.
+//! The first stage of a run: it parses a text, one order a line, that comes from standard input (`farm_orders`) or is
+//! that of a drill (`farm_drill`). If the text is within its limits, it gives the orders or the first line that isn't
+//! in the grammar. The board (`switchboard`) then executes the orders.
 //!
 //! The grammar and its limits are this project's profile.
 //! Definitions: `specs/Grammar.antt` (the line of an order), `specs/Text.antt` (the lines of a text, and the orders

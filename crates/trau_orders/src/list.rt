@@ -33,8 +33,9 @@ impl Model for Orders {
 }
 
 impl Orders {
-    /// Parses the lines of a text. A text that is too long gives `TooLong`; else too many lines give `TooMany`;
-    /// else a line that isn't in the grammar gives `Line` with the number of the first such line.
+    /// Parses the lines of a text. More than 1,048,576 octets give `TooLong`; else more than 65,536 lines give
+    /// `TooMany`; else a line that isn't in the grammar gives `Line` with the number of the first such line, from 1. A
+    /// stamp below that of the line before isn't in the grammar. If memory runs out, the error is `Memory`.
     pub fn parse(alloc: Global, text: &[u8]) -> Result<Orders, OrderFault>
         ensures ok { IfOk result (λ orders. AreLines (text_lines text.now) orders) }
         ensures within { IfOk result (λ orders. IsWithin text.now) }

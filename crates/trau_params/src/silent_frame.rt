@@ -6,7 +6,8 @@ ghost use Rattle.trau_params.specs.Silence.{silent_fields};
 
 use crate::params::Params;
 
-/// The frame to decode if there is no other.
+/// The frame of silence: it is decoded once lost speech or noise has been muted for long enough, and a quiet call in a
+/// bridge hands it over.
 pub fn silence() -> Params
     ensures { fields_of result ≡ silent_fields }
 {

@@ -26,7 +26,9 @@ use trau_io::{Desk, tell};
 // Why the top function can't be called.
 #[derive(Clone, Copy)]
 enum Refusal {
+    // A word isn't UTF-8.
     NotText,
+    // Memory ran out.
     NoMemory,
 }
 

@@ -12,7 +12,7 @@ pub record Measures : Type 0 where
 abbrev pub measures_of : Trace → Measures
 measures_of t = record { lar = t.lar; xmax = t.xmax }
 
--- a coded frame: its parameters, its measures, the peak of its samples, and the level and DTX in force
+-- a coded frame: its parameters, its measures, the peak of its preprocessed samples, and the level and DTX in force
 pub record Coded : Type 0 where
   pub fields : Fields
   pub measures : Measures

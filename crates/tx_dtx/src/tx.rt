@@ -148,8 +148,9 @@ impl Tx {
         self.last = *t;
     }
 
-    /// Takes the parameters of a coded frame, its measures, the peak of its samples, the level of voice activity, and
-    /// whether DTX is on. Returns the frame to send, and SP, which is true for speech.
+    /// Takes the parameters of a coded frame, its log area ratios and block maxima before coding, the peak of its
+    /// preprocessed samples, the level that the peak of an active frame reaches, and whether DTX is on. Returns the
+    /// frame to send, and SP, which is true for speech.
     pub fn send(&mut self, p: &Params, t: &Trace, peak: i16, level: i16, on: bool) -> (Params, bool)
         ensures step { next_sent self.old (coded_frame p.now t.now peak level on) ≡ (sent_frame result.0 result.1, self.new) }
 

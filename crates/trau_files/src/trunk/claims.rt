@@ -36,7 +36,7 @@ pub struct Claim {
     pub access: Access,
 }
 
-/// The files of all lines, by the lines' places.
+/// The files of all lines, by the lines' indices (`line_index`).
 #[derive(Drop)]
 pub struct Claims {
     of_lines: Vec<Option<Claim>>,
@@ -68,7 +68,7 @@ impl Claims {
         Ok(Claims { of_lines })
     }
 
-    /// Gives the file to the line, unless another line has it and one of the two is written. The error is that line's place.
+    /// Gives the file to the line, unless another line has it and one of the two is written. The error is that line's index.
     pub fn claim(&mut self, line: Line, claim: Claim) -> Result<(), usize>
         ensures has { IfOk result (λ _. Has (claim_at self.new (index_of_line line.call line.side)) claim) }
         ensures others { OthersKeep self.old self.new (index_of_line line.call line.side) }
@@ -88,7 +88,7 @@ impl Claims {
         }
     }
 
-    // The place of another line that has this file, if one of the two is written.
+    // The index of another line that has this file, if one of the two is written.
     fn other(&self, place: usize, claim: Claim) -> Option<usize>
         ensures taken { IfSome result (λ other. IsTaken self.now place claim other) }
         ensures free { result ≡ None → MayHave self.now place claim }

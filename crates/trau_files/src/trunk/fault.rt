@@ -13,7 +13,7 @@ const TOLD: u32 = 20;
 pub enum Fault {
     /// The system's error.
     System(io::Error),
-    /// The line at this place has the same file, and one of the two is written.
+    /// The line with this index has the same file, and one of the two is written.
     Shared(usize),
 }
 
@@ -36,7 +36,7 @@ impl Display for Fault {
     }
 }
 
-// The side of the line at a place.
+// The side of the line with an index.
 fn side_at(place: usize) -> Side {
     match place % 4 {
         0 => Side::Up,

@@ -9,7 +9,7 @@ use std::marker::Model;
 use std::rt::Files;
 use trau_io::{LINE_INDICES, Line, Side, line_index};
 
-/// The files of the incoming lines of all calls, by the lines' places, as they were when `place_of` was first called.
+/// The files of the incoming lines of all calls, by the lines' indices, as they were when `place_of` was first called.
 #[derive(Drop)]
 pub struct Recordings {
     of_lines: Vec<Option<FileIdentity>>,
@@ -38,7 +38,7 @@ impl Recordings {
         })
     }
 
-    /// The place of an incoming line that has this file.
+    /// The index of an incoming line that has this file.
     pub fn place_of<R: Files>(&mut self, files: &R, file: FileIdentity) -> Option<usize> {
         if !self.is_searched {
             self.search(files);

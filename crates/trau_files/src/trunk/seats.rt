@@ -41,7 +41,7 @@ impl<F: Drop> Model for OpenFile<F> {
 #[derive(Drop)]
 pub struct Seats<F: Drop> {
     files: Vec<Option<OpenFile<F>>>,
-    // The seat that a line's file had last, by the line's place. Another line's file may have it now.
+    // The seat that a line's file had last, by the line's index. Another line's file may have it now.
     seat_of: Vec<u8>,
     // The seat of the next file that is opened. It rises to `last`, and stays there.
     next: u8,
