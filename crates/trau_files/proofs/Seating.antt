@@ -1,11 +1,11 @@
 -- Seats after a file is put into one, and after a line is given one.
-use Rattle.std.proofs.Common.{◌≡◌, ◌⊎◌, Result, IfSome, subst, ◌<◌, ℕ, zero, suc, List, [], ◌∷◌, length, Option, None, Some, All, slice_set, slice_index_or}
+use Rattle.std.proofs.Common.{◌≡◌, ◌⊎◌, Result, Ok, Err, IfSome, IsSome, subst, ◌<◌, ℕ, zero, suc, List, [], ◌∷◌, length, Option, None, Some, All, slice_set, slice_index_or}
 use Rattle.std.proofs.Common.{length-set, refl, sym, ◌∙◌, ap, arith, inl, inr}
 use Rattle.std.proofs.lemmas.List.{get_or_read_under}
 use Rattle.trau_io.specs.declared.line.Side.{Side}
 use Rattle.trau_io.specs.Indices.{index_of_line}
 use Rattle.trau_io.proofs.Tables.{same_line}
-use Rattle.trau_files.specs.Files.{OpenLine, IsFileOf, OpenAfter, AreSeated, in_seat, file_after}
+use Rattle.trau_files.specs.Files.{OpenLine, IsFileOf, OnlyCloses, OpenAfter, AreSeated, in_seat, file_after}
 
 -- an element is the one that was put there, or as before
 pub set_place : {X : Type 0} (xs : List X) (i : ℕ) (y d : X) (k : ℕ) →
@@ -106,6 +106,26 @@ moved_after seats seat_of seat old file result was within seated after =
     moved None was after = tt
     moved (Some o) was after = subst (OpenAfter seats (slice_set seats seat file) o.call o.side) after (moved_to seats seat_of o seat file was within seated)
 
+pub seated_moved : {E : Type 0} (seats : List (Option OpenLine)) (seat_of : List ℕ) (seat : ℕ) (old file : Option OpenLine) (result : Result ℕ E) →
+    in_seat seats seat ≡ old → IsSome (in_seat seats seat) → AreSeated seats seat_of → IfSome old (λ o. file ≡ file_after o.call o.side o.access o.at result) →
+    AreSeated (slice_set seats seat file) seat_of
+seated_moved {E = E} seats seat_of seat old file result was some seated after k o there =
+    elim (set_place seats seat file None k) [
+      | inl s ↦ named old was (subst (λ (x : Option OpenLine). IsSome x) was some) after (sym s.1 ∙ there) ∙ sym s.0
+      | inr s ↦ seated k o (sym s ∙ there)
+    ]
+  where
+    same : (x : OpenLine) (result : Result ℕ E) → file ≡ file_after x.call x.side x.access x.at result → file ≡ Some o → (x.call ≡ o.call) × (x.side ≡ o.side)
+    same x (Ok n) after e = (cc, cc)
+    same x (Err r) after e = (cc, cc)
+
+    named : (old : Option OpenLine) → in_seat seats seat ≡ old → IsSome old → IfSome old (λ o. file ≡ file_after o.call o.side o.access o.at result) →
+        file ≡ Some o → slice_index_or seat_of (index_of_line o.call o.side) 0 ≡ seat
+    named None was some after e = cc
+    named (Some x) was some after e = let line = same x result after e in
+        ap (λ c. slice_index_or seat_of (index_of_line c o.side) 0) (sym line.0)
+        ∙ ap (λ s. slice_index_or seat_of (index_of_line x.call s) 0) (sym line.1) ∙ seated seat x was
+
 -- a line without an open file is given a seat, and its file is put there
 pub given_and_put : (seats : List (Option OpenLine)) (seat_of : List ℕ) (file : OpenLine) (p seat : ℕ) → p ≡ index_of_line file.call file.side → p < length seat_of →
     seat < length seats → IsFileOf seats file.call file.side None → AreSeated seats seat_of →
@@ -120,31 +140,29 @@ given_and_put seats seat_of file p seat at room within closed seated =
       set_there seats seat (Some file) None within,
     )
 
--- the file in a line's seat stays, or is closed
-module _ (seats : List (Option OpenLine)) (seat_of : List ℕ) (seat : ℕ) (file : Option OpenLine) (within : seat < length seats)
-    (seated : AreSeated seats seat_of) where
-  kept_or_none : (file ≡ in_seat seats seat) ⊎ (file ≡ None) → (k : ℕ) →
-      (in_seat (slice_set seats seat file) k ≡ in_seat seats k) ⊎ (in_seat (slice_set seats seat file) k ≡ None)
-  kept_or_none others k =
+-- the file in a seat stays, or is closed
+module _ (seats : List (Option OpenLine)) (seat : ℕ) (file : Option OpenLine) (others : (file ≡ in_seat seats seat) ⊎ (file ≡ None)) where
+  pub only_closes : OnlyCloses seats (slice_set seats seat file)
+  only_closes k =
       elim (set_place seats seat file None k) [
         | inl s ↦ elim others [ inl e ↦ inl (s.1 ∙ e ∙ ap (in_seat seats) (sym s.0)) | inr e ↦ inr (s.1 ∙ e) ]
         | inr s ↦ inl s
       ]
 
-  pub seated_still : (file ≡ in_seat seats seat) ⊎ (file ≡ None) → AreSeated (slice_set seats seat file) seat_of
-  seated_still others k o there = elim (kept_or_none others k) [ inl e ↦ seated k o (sym e ∙ there) | inr e ↦ let none = e in cc ]
+  pub seated_still : (seat_of : List ℕ) → AreSeated seats seat_of → AreSeated (slice_set seats seat file) seat_of
+  seated_still seat_of seated k o there = elim (only_closes k) [ inl e ↦ seated k o (sym e ∙ there) | inr e ↦ let none = e in cc ]
 
-  pub none_open : (call : ℕ) (side : Side) → seat ≡ slice_index_or seat_of (index_of_line call side) 0 → (file ≡ in_seat seats seat) ⊎ (file ≡ None) →
-      IfSome file (λ o. o.call ≡ call → o.side ≡ side → ⊥) →
+  pub none_open : (seat_of : List ℕ) (call : ℕ) (side : Side) → seat < length seats → AreSeated seats seat_of →
+      seat ≡ slice_index_or seat_of (index_of_line call side) 0 → IfSome file (λ o. o.call ≡ call → o.side ≡ side → ⊥) →
       IsFileOf (slice_set seats seat file) call side None
-  none_open call side named others other = record {
+  none_open seat_of call side within seated named other = record {
     only = λ k o there c s. absurd
         (refused file other o (sym (set_there seats seat file None within) ∙ ap (in_seat (slice_set seats seat file)) (sym (here k o there c s)) ∙ there) c s);
     there = tt;
   }
     where
       here : (k : ℕ) (o : OpenLine) → in_seat (slice_set seats seat file) k ≡ Some o → o.call ≡ call → o.side ≡ side → k ≡ seat
-      here k o there c s = let at = seated_still others k o there in cc
+      here k o there c s = let at = seated_still seat_of seated k o there in cc
 
       refused : (file : Option OpenLine) → IfSome file (λ o. o.call ≡ call → o.side ≡ side → ⊥) → (o : OpenLine) → file ≡ Some o → o.call ≡ call →
           o.side ≡ side → ⊥

@@ -7,7 +7,7 @@ ghost use Rattle.std.specs.Io.{ReadsAtMost, WritesAtMost};
 ghost use Rattle.trau_io.specs.Indices.{index_of_line};
 ghost use Rattle.trau_files.specs.declared.trunk.seats.Access.TheVariants.{Reading, Writing};
 ghost use Rattle.trau_files.specs.Claims.{AreApart, Has, OthersKeep, claim_at};
-ghost use Rattle.trau_files.specs.Files.{IsOpenAt, IsFileOf, OpenAfter, in_seat, file_after, opened, options_for};
+ghost use Rattle.trau_files.specs.Files.{IsOpenAt, IsFileOf, OnlyCloses, OpenAfter, in_seat, file_after, opened, options_for};
 
 use super::claims::{Claim, Claims, FileIdentity};
 use super::fault::{Fault, Reasons};
@@ -106,7 +106,7 @@ impl<'a, R: Files> LineFiles<'a, R> {
         }
     }
 
-    // Frees the next seat, and opens a line's file into it. If no descriptor is left, another file is closed first.
+    // Frees the next seat, and opens a line's file into it.
     // It isn't inlined: its room on the stack would be cleared at each read and write of an open file.
     #[cold]
     #[inline(never)]
@@ -118,13 +118,7 @@ impl<'a, R: Files> LineFiles<'a, R> {
         ensures others { OthersKeep self.old.claims self.new.claims (index_of_line line.call line.side) }
     {
         self.seats.free_next();
-        let file = match self.open_at(line, access, at) {
-            Err(Fault::System(fault)) if lacks_descriptor(&fault) => {
-                self.seats.lessen();
-                self.open_at(line, access, at)?
-            }
-            opened => opened?,
-        };
+        let file = self.open_or_lessen(line, access, at)?;
         Ok(
             self.seats.put(OpenFile {
                 file,
@@ -135,6 +129,22 @@ impl<'a, R: Files> LineFiles<'a, R> {
         )
     }
 
+    // Opens a line's file. If no descriptor is left, another file is closed first.
+    fn open_or_lessen(&mut self, line: Line, access: Access, at: u64) -> Result<R::File, Fault>
+        ensures seats { OnlyCloses self.old.seats self.new.seats }
+        ensures number { length self.new.seats ≡ length self.old.seats }
+        ensures apart { AreApart self.new.claims }
+        ensures others { OthersKeep self.old.claims self.new.claims (index_of_line line.call line.side) }
+    {
+        match self.open_at(line, access, at) {
+            Err(Fault::System(fault)) if lacks_descriptor(&fault) => {
+                self.seats.lessen();
+                self.open_at(line, access, at)
+            }
+            opened => opened,
+        }
+    }
+
     // Opens a line's file at this octet, unless it is another line's.
     fn open_at(&mut self, line: Line, access: Access, at: u64) -> Result<R::File, Fault>
         ensures seats { self.new.seats ≡ self.old.seats }
@@ -142,16 +152,34 @@ impl<'a, R: Files> LineFiles<'a, R> {
         ensures others { OthersKeep self.old.claims self.new.claims (index_of_line line.call line.side) }
     {
         let mut file = options_for(access, at).open(self.files, name_of(line).as_str())?;
+        self.begin(line, access, at, &mut file)?;
+        Ok(file)
+    }
+
+    // Gives an opened file to the line, unless it is another line's, and goes to this octet of it.
+    fn begin(
+        &mut self,
+        line: Line,
+        access: Access,
+        at: u64,
+        file: &mut R::File,
+    ) -> Result<(), Fault>
+        ensures seats { self.new.seats ≡ self.old.seats }
+        ensures apart { AreApart self.new.claims }
+        ensures others { OthersKeep self.old.claims self.new.claims (index_of_line line.call line.side) }
+    {
+        // For the prover only, as in `take`.
+        let _ = &self.claims;
         let metadata = file.metadata()?;
         let claim = Claim {
             file: FileIdentity::of(&metadata),
             access,
         };
-        self.take(line, claim, at, &file, &metadata)?;
+        self.take(line, claim, at, file, &metadata)?;
         if at > 0 {
             file.seek(SeekFrom::Start(at))?;
         }
-        Ok(file)
+        Ok(())
     }
 
     // Gives an opened file, which has these metadata, to the line, unless it is another line's. Only then is a file emptied, if it is

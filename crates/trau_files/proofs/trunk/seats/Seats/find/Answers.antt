@@ -1,42 +1,69 @@
-use Rattle.std.proofs.Common.{◌<◌, ◌∙◌, List, Option, Some, rules, slice_set, sym, subst}
-use Rattle.trau_files.specs.Files.{OpenLine, OpenAfter}
-use Rattle.trau_files.proofs.Seating.{kept_or_closed, moved_to, none_open, seat_read, seated_still}
+use Rattle.std.proofs.Common.{◌≡◌, ◌⊎◌, ◌<◌, ◌∙◌, List, Option, None, Some, ap, length, length-set, rules, slice_set, sym, subst}
+use Rattle.trau_files.specs.Files.{AreSeated, OnlyCloses, OpenLine, OpenAfter, in_seat}
+use Rattle.trau_files.proofs.Seating.{IsSeatOf, kept_or_closed, moved_to, none_open, only_closes, seat_read, seated_still, set_there}
+use Rattle.trau_files.proofs.trunk.seats.Seats.find.Given as Given
 use Rattle.trau_files.proofs.trunk.seats.Seats.find.Goals as goal
+use Rattle.trau_files.proofs.trunk.seats.Seats.find.Goals.{After-stands}
 
-pub returns-then-stands-clause-open : goal.returns-then-stands-clause-open
-returns-then-stands-clause-open g c = λ is.
+-- the seat that the line's entry names
+seat : (g : Given.Over) (c : After-stands g) →
+    IsSeatOf c.self.inside.files.items c.self.inside.seat_of.items c.args.line.call c.args.line.side c.index-seat.result.now c.index_mut.result.now
+seat g c =
     let low : c.index-seat.result.now < 256 = search rules in
-    let seat = seat_read c.self.inside.files.items c.self.inside.seat_of.items c.args.line.call c.args.line.side c.line_index.result c.index-seat.result.now
-    c.index_mut.result.now (sym c.self.inside.files.ok.0 ∙ c.self.invariant.0)
-    (sym c.self.inside.seat_of.ok.0 ∙ c.self.invariant.1) low c.line_index.ensures.within c.line_index.ensures.value c.index-seat.ensures c.index_mut.ensures.value in
+    seat_read c.self.inside.files.items c.self.inside.seat_of.items c.args.line.call c.args.line.side c.line_index.result c.index-seat.result.now
+    c.index_mut.result.now (sym c.self.inside.files.ok.0 ∙ c.self.invariant.0) (sym c.self.inside.seat_of.ok.0 ∙ c.self.invariant.1)
+    low c.line_index.ensures.within c.line_index.ensures.value c.index-seat.ensures c.index_mut.ensures.value
+
+-- its file stays, or is closed
+stays : (g : Given.Over) (c : After-stands g) → (c.stands.new.seat ≡ in_seat c.self.inside.files.items c.index-seat.result.now) ⊎ (c.stands.new.seat ≡ None)
+stays g c = kept_or_closed (seat g c).here c.stands.ensures.others
+
+seated : (g : Given.Over) (c : After-stands g) →
+    AreSeated (slice_set c.self.inside.files.items c.index-seat.result.now c.stands.new.seat) c.self.inside.seat_of.items
+seated g c = seated_still c.self.inside.files.items c.index-seat.result.now c.stands.new.seat (stays g c) c.self.inside.seat_of.items c.self.invariant.2
+
+others : (g : Given.Over) (c : After-stands g) → OnlyCloses c.args.self.now (slice_set c.self.inside.files.items c.index-seat.result.now c.stands.new.seat)
+others g c =
+    subst (λ (seats : List (Option OpenLine)). OnlyCloses seats (slice_set c.self.inside.files.items c.index-seat.result.now c.stands.new.seat)) c.self.view_is
+    (only_closes c.self.inside.files.items c.index-seat.result.now c.stands.new.seat (stays g c))
+
+number : (g : Given.Over) (c : After-stands g) → length (slice_set c.self.inside.files.items c.index-seat.result.now c.stands.new.seat) ≡ length c.args.self.now
+number g c = length-set c.self.inside.files.items c.index-seat.result.now c.stands.new.seat ∙ ap length c.self.view_is
+
+pub invariant_of-self : goal.invariant_of-self
+invariant_of-self g c = (c.self.invariant.0, c.self.invariant.1, seated g (goal.at.invariant_of-self g c).After-stands)
+
+pub returns-then-stands : goal.returns-then-stands
+returns-then-stands g c =
+    let here = seat g (goal.at.returns-then-stands g c).After-stands in
     let there = c.stands.ensures.stands c.if-stands.true in
-    let was = seat.here ∙ sym (c.stands.ensures.same c.if-stands.true) ∙ there in
+    let kept : in_seat c.self.inside.files.items c.index-seat.result.now ≡ c.stands.new.seat = here.here ∙ sym (c.stands.ensures.same c.if-stands.true) in
     let moved = moved_to c.self.inside.files.items c.self.inside.seat_of.items
-    (record { call = c.args.line.call; side = c.args.line.side; access = c.args.access; at = c.args.at }) c.index-seat.result.now c.stands.new.seat was
-    seat.within c.self.invariant.2 in
-    subst (λ (seats : List (Option OpenLine)). OpenAfter seats
-    (slice_set c.self.inside.files.items c.index-seat.result.now c.stands.new.seat) c.args.line.call c.args.line.side
-    (Some (record { call = c.args.line.call; side = c.args.line.side; access = c.args.access; at = c.args.at }))) c.self.view_is
-    (subst (OpenAfter c.self.inside.files.items
-    (slice_set c.self.inside.files.items c.index-seat.result.now c.stands.new.seat) c.args.line.call c.args.line.side) there moved)
+    (record { call = c.args.line.call; side = c.args.line.side; access = c.args.access; at = c.args.at }) c.index-seat.result.now c.stands.new.seat (kept ∙ there)
+    here.within c.self.invariant.2 in
+    record {
+      stands = set_there c.self.inside.files.items c.index-seat.result.now c.stands.new.seat None here.within ∙ there;
+      «open» = λ _. subst (λ (seats : List (Option OpenLine)). OpenAfter seats
+          (slice_set c.self.inside.files.items c.index-seat.result.now c.stands.new.seat) c.args.line.call c.args.line.side
+          (Some (record { call = c.args.line.call; side = c.args.line.side; access = c.args.access; at = c.args.at }))) c.self.view_is
+          (subst (OpenAfter c.self.inside.files.items
+          (slice_set c.self.inside.files.items c.index-seat.result.now c.stands.new.seat) c.args.line.call c.args.line.side) there moved);
+      closed = λ is. cc;
+      others = others g (goal.at.returns-then-stands g c).After-stands;
+      number = number g (goal.at.returns-then-stands g c).After-stands;
+    }
 
 pub invariant_of-self-2 : goal.invariant_of-self-2
-invariant_of-self-2 g c =
-    let low : c.index-seat.result.now < 256 = search rules in
-    let seat = seat_read c.self.inside.files.items c.self.inside.seat_of.items c.args.line.call c.args.line.side c.line_index.result c.index-seat.result.now
-    c.index_mut.result.now (sym c.self.inside.files.ok.0 ∙ c.self.invariant.0)
-    (sym c.self.inside.seat_of.ok.0 ∙ c.self.invariant.1) low c.line_index.ensures.within c.line_index.ensures.value c.index-seat.ensures c.index_mut.ensures.value in (
-      c.self.invariant.0,
-      c.self.invariant.1,
-      seated_still c.self.inside.files.items c.self.inside.seat_of.items c.index-seat.result.now c.stands.new.seat
-          seat.within c.self.invariant.2 (kept_or_closed seat.here c.stands.ensures.others),
-    )
+invariant_of-self-2 g c = (c.self.invariant.0, c.self.invariant.1, seated g (goal.at.invariant_of-self-2 g c).After-stands)
 
-pub returns-clause-closed : goal.returns-clause-closed
-returns-clause-closed g c = λ is.
-    let low : c.index-seat.result.now < 256 = search rules in
-    let seat = seat_read c.self.inside.files.items c.self.inside.seat_of.items c.args.line.call c.args.line.side c.line_index.result c.index-seat.result.now
-    c.index_mut.result.now (sym c.self.inside.files.ok.0 ∙ c.self.invariant.0)
-    (sym c.self.inside.seat_of.ok.0 ∙ c.self.invariant.1) low c.line_index.ensures.within c.line_index.ensures.value c.index-seat.ensures c.index_mut.ensures.value in
-    none_open c.self.inside.files.items c.self.inside.seat_of.items c.index-seat.result.now c.stands.new.seat seat.within c.self.invariant.2 c.args.line.call
-    c.args.line.side seat.named (kept_or_closed seat.here c.stands.ensures.others) (c.stands.ensures.closed c.if-stands.false)
+pub returns : goal.returns
+returns g c =
+    let here = seat g (goal.at.returns g c).After-stands in
+    record {
+      stands = tt;
+      «open» = λ is. cc;
+      closed = λ _. none_open c.self.inside.files.items c.index-seat.result.now c.stands.new.seat (stays g (goal.at.returns g c).After-stands) c.self.inside.seat_of.items c.args.line.call c.args.line.side
+          here.within c.self.invariant.2 here.named (c.stands.ensures.closed c.if-stands.false);
+      others = others g (goal.at.returns g c).After-stands;
+      number = number g (goal.at.returns g c).After-stands;
+    }

@@ -1,19 +1,37 @@
-use Rattle.std.proofs.Common.{◌≡◌, ◌∙◌, length, List, Option, None, IfSome, arith, slice_set, sym, subst}
+use Rattle.std.proofs.Common.{◌≡◌, ◌∙◌, length, List, Option, None, IfSome, IsSome, arith, slice_set, sym, subst}
 use Rattle.std.proofs.lemmas.List.{get_or_read_under}
 use Rattle.trau_files.specs.Files.{OpenLine, OpenAfter, in_seat, file_after}
-use Rattle.trau_files.proofs.Seating.{moved_after}
+use Rattle.trau_files.proofs.Seating.{moved_after, seated_moved}
+use Rattle.trau_files.proofs.trunk.seats.Seats.write.Given as Given
 use Rattle.trau_files.proofs.trunk.seats.Seats.write.Goals as goal
+use Rattle.trau_files.proofs.trunk.seats.Seats.write.Goals.{After-index_mut}
+
+count : (g : Given.Over) (c : After-index_mut g) → length c.self.inside.files.items ≡ 256
+count g c = sym c.self.inside.files.ok.0 ∙ c.self.invariant.0
+
+here : (g : Given.Over) (c : After-index_mut g) → in_seat c.self.inside.files.items c.args.seat ≡ c.index_mut.result.now
+here g c =
+    sym (get_or_read_under c.self.inside.files.items c.args.seat 256 c.index_mut.result.now None c.index_mut.ensures.value (omega (arith, c.ranges.seat.fits))
+    (sym (count g c)))
+
+pub invariant_of-self : goal.invariant_of-self
+invariant_of-self g c =
+    let before = (goal.at.invariant_of-self g c).After-index_mut in
+    let files = c.self.inside.files.items in
+    let some = subst (λ (seats : List (Option OpenLine)). IsSome (in_seat seats c.args.seat)) (sym c.self.view_is) c.requires in (
+      c.self.invariant.0,
+      c.self.invariant.1,
+      seated_moved files c.self.inside.seat_of.items c.args.seat c.index_mut.result.now c.write_in.new.seat c.write_in.result (here g before) some
+          c.self.invariant.2 c.write_in.ensures.after,
+    )
 
 pub returns-clause-open : goal.returns-clause-open
 returns-clause-open g c =
+    let before = (goal.at.returns-clause-open g c).After-index_mut in
     let files = c.self.inside.files.items in
     let seat = c.args.seat in
-    let was = c.index_mut.result.now in
     let result = c.write_in.result in
-    let count : length files ≡ 256 = sym c.self.inside.files.ok.0 ∙ c.self.invariant.0 in
-    let here : in_seat files seat ≡ was =
-    sym (get_or_read_under files seat 256 was None c.index_mut.ensures.value (omega (arith, c.ranges.seat.fits)) (sym count)) in
-    let moved = moved_after files c.self.inside.seat_of.items seat was c.write_in.new.seat result here
-    (omega (arith, c.ranges.seat.fits, count)) c.self.invariant.2 c.write_in.ensures.after in
+    let moved = moved_after files c.self.inside.seat_of.items seat c.index_mut.result.now c.write_in.new.seat result (here g before)
+    (omega (arith, c.ranges.seat.fits, count g before)) c.self.invariant.2 c.write_in.ensures.after in
     subst (λ (seats : List (Option OpenLine)). IfSome (in_seat seats seat)
     (λ o. OpenAfter seats (slice_set files seat c.write_in.new.seat) o.call o.side (file_after o.call o.side o.access o.at result))) c.self.view_is moved
