@@ -5,7 +5,7 @@ use std::alloc::AllocError;
 use thiserror::Error;
 
 /// The settings of a run.
-#[derive(Clone, Copy, Debug, PartialEq, Eq)]
+#[derive(Clone, Copy, PartialEq, Eq)]
 pub struct Settings {
     /// Threads, 1 to 64.
     pub workers: u32,
@@ -18,7 +18,7 @@ pub struct Settings {
 }
 
 /// What the words ask for. The calls of tools are 1 to 4,096.
-#[derive(Clone, Copy, Debug, PartialEq, Eq)]
+#[derive(Clone, Copy, PartialEq, Eq)]
 pub enum Asked {
     /// A run of all calls that orders open.
     Run(Settings),
