@@ -1,12 +1,11 @@
 -- The words of a live drill.
-use Rattle.std.proofs.Common.{◌≡◌, List, [], Option, refl, subst, true, arith}
+use Rattle.std.proofs.Common.{◌≡◌, Option, subst, arith}
 use Rattle.std.specs.Prelude.{codes}
-use Rattle.clap.specs.Words.{App, Text, HasMatchesOf, is_simple_and_free, fault_of, matches_of, first_value, found_of, first_of}
-use Rattle.clap.specs.declared.parser.matches.ArgMatches.{ArgMatches}
+use Rattle.clap.specs.Words.{Text}
 use Rattle.command_words.specs.declared.live.LiveSettings.{LiveSettings}
 use Rattle.command_words.specs.Options.{IsValueOf}
-use Rattle.command_words.specs.Live.{live_app, GivesLive}
-use Rattle.command_words.proofs.Matched.{rows_read, none_faulty, one_value}
+use Rattle.command_words.specs.Live.{GivesLive}
+use Rattle.command_words.proofs.Matched.{one_value}
 
 -- the same texts give the same live drill
 pub same_live_texts : (v w : Text → Option Text) (s : LiveSettings) → ((id : Text) → v id ≡ w id) → GivesLive v s → GivesLive w s
@@ -17,13 +16,6 @@ same_live_texts v w s same gives = record {
   callers = subst (λ o. IsValueOf o 1 64 4 s.callers) (same (codes "callers")) gives.callers;
   inbox = subst (λ o. IsValueOf o 1 1024 8 s.inbox) (same (codes "inbox")) gives.inbox;
 }
-
-pub read_live_rows : (a : App) (words : List Text) (m : ArgMatches) → a ≡ live_app → HasMatchesOf a words m → (id : Text) →
-    first_value (found_of m) id ≡ first_of id (matches_of live_app words)
-read_live_rows a words m is has id = rows_read live_app refl refl a words m is has id
-
-pub live_taken : (a : App) (words : List Text) → a ≡ live_app → (is_simple_and_free a ≡ true → fault_of a words ≡ []) → fault_of live_app words ≡ []
-live_taken a words is kinds = none_faulty live_app refl refl a words is kinds
 
 -- they give one
 pub one_live_of : (text_of : Text → Option Text) (s t : LiveSettings) → GivesLive text_of s → GivesLive text_of t → s ≡ t

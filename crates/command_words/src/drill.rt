@@ -1,14 +1,14 @@
 //! The options of `drill`.
 
 ghost use Rattle.std.specs.Prelude.{◌≡◌, ℕ, IfOk, IfSome, IsNone, IsErrOf, map, string_bytes};
-ghost use Rattle.clap.specs.Words.{app_of, first_value, found_of};
+ghost use Rattle.clap.specs.Words.{first_value, found_of};
 ghost use Rattle.command_words.specs.declared.asked.Settings.{Settings as TheSettings};
-ghost use Rattle.command_words.specs.Drill.{drill_app, GivesDrill, AreDrillOptions};
+ghost use Rattle.command_words.specs.Drill.{GivesDrill, AreDrillOptions};
 
-use crate::options::{bare_command, matches_in, settings_of, value, with_options};
+use crate::options::{matches_of, settings_of, value};
 use crate::{Settings, WordsFault};
-use clap::{ArgMatches, Command};
-use std::alloc::{AllocError, Global};
+use clap::ArgMatches;
+use std::alloc::Global;
 
 const MOST_CALLS: u32 = 256;
 
@@ -20,16 +20,6 @@ pub(crate) struct Drilled {
     pub(crate) seed: u32,
     pub(crate) calls: u32,
     pub(crate) settings: Settings,
-}
-
-fn drill_command<'a>(alloc: Global) -> Result<Command<'a>, AllocError>
-    ensures { IfOk result (λ c. app_of c ≡ drill_app) }
-{
-    with_options(
-        alloc,
-        bare_command(alloc, "drill"),
-        &["workers", "batch", "slice", "periods", "seed", "calls"],
-    )
 }
 
 fn drilled_of(matches: &ArgMatches<'_>) -> Option<Drilled>
@@ -49,7 +39,11 @@ pub(crate) fn read_drill(alloc: Global, options: &[String]) -> Result<Drilled, W
     ensures usage { IsErrOf result WordsFault.Usage → (seed calls : ℕ) (s : TheSettings) →
         AreDrillOptions (map (λ w. string_bytes w) options.now) seed calls s → ⊥ }
 {
-    let command = drill_command(alloc)?;
-    let matches = matches_in(command, options)?;
+    let matches = matches_of(
+        alloc,
+        "drill",
+        &["workers", "batch", "slice", "periods", "seed", "calls"],
+        options,
+    )?;
     drilled_of(&matches).ok_or(WordsFault::Usage)
 }

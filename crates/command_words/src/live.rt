@@ -1,14 +1,14 @@
 //! The options of `live`.
 
 ghost use Rattle.std.specs.Prelude.{◌≡◌, IfOk, IfSome, IsNone, IsErrOf, map, string_bytes};
-ghost use Rattle.clap.specs.Words.{app_of, first_value, found_of};
+ghost use Rattle.clap.specs.Words.{first_value, found_of};
 ghost use Rattle.command_words.specs.declared.live.LiveSettings.{LiveSettings as TheSettings};
-ghost use Rattle.command_words.specs.Live.{live_app, GivesLive, AreLiveOptions};
+ghost use Rattle.command_words.specs.Live.{GivesLive, AreLiveOptions};
 
 use crate::WordsFault;
-use crate::options::{bare_command, matches_in, value, with_options};
-use clap::{ArgMatches, Command};
-use std::alloc::{AllocError, Global};
+use crate::options::{matches_of, value};
+use clap::ArgMatches;
+use std::alloc::Global;
 
 /// What a live drill is made of.
 #[derive(Clone, Copy, PartialEq, Eq)]
@@ -23,16 +23,6 @@ pub struct LiveSettings {
     pub callers: u32,
     /// The most posts that may wait at a call, 1 to 1,024.
     pub inbox: u32,
-}
-
-fn live_command<'a>(alloc: Global) -> Result<Command<'a>, AllocError>
-    ensures { IfOk result (λ c. app_of c ≡ live_app) }
-{
-    with_options(
-        alloc,
-        bare_command(alloc, "live"),
-        &["seed", "calls", "periods", "callers", "inbox"],
-    )
 }
 
 fn live_of(matches: &ArgMatches<'_>) -> Option<LiveSettings>
@@ -53,7 +43,11 @@ pub(crate) fn read_live(alloc: Global, options: &[String]) -> Result<LiveSetting
     ensures ok { IfOk result (λ s. AreLiveOptions (map (λ w. string_bytes w) options.now) s) }
     ensures usage { IsErrOf result WordsFault.Usage → (s : TheSettings) → AreLiveOptions (map (λ w. string_bytes w) options.now) s → ⊥ }
 {
-    let command = live_command(alloc)?;
-    let matches = matches_in(command, options)?;
+    let matches = matches_of(
+        alloc,
+        "live",
+        &["seed", "calls", "periods", "callers", "inbox"],
+        options,
+    )?;
     live_of(&matches).ok_or(WordsFault::Usage)
 }

@@ -19,8 +19,8 @@ fn option<'a>(alloc: Global, name: &'a str) -> Arg<'a>
     Arg::new(alloc, name).long(name).action(ArgAction::Set)
 }
 
-/// A command whose words are its options only, without flags for help and version.
-pub(crate) fn bare_command<'a>(alloc: Global, name: &'a str) -> Command<'a>
+// A command whose words are its options only, without flags for help and version.
+fn bare_command<'a>(alloc: Global, name: &'a str) -> Command<'a>
     ensures { app_of result ≡ bare_app name.entry.now }
 {
     Command::new(alloc, name)
@@ -29,8 +29,8 @@ pub(crate) fn bare_command<'a>(alloc: Global, name: &'a str) -> Command<'a>
         .disable_version_flag(true)
 }
 
-/// A command with an option for each of these names, in order.
-pub(crate) fn with_options<'a>(
+// A command with an option for each of these names, in order.
+fn with_options<'a>(
     alloc: Global,
     mut command: Command<'a>,
     names: &[&'a str],
@@ -43,12 +43,9 @@ pub(crate) fn with_options<'a>(
     Ok(command)
 }
 
-/// What a command finds in its words. `Usage`: they aren't options of this command, each at most once and with a value.
-/// The contract says so for commands without rules between their options; all commands of this program are.
-pub(crate) fn matches_in<'a>(
-    command: Command<'a>,
-    words: &'a [String],
-) -> Result<ArgMatches<'a>, WordsFault>
+// What a command finds in its words. `Usage`: they aren't options of this command, each at most once and with a value.
+// The contract says so for commands without rules between their options; all commands of this program are.
+fn matches_in<'a>(command: Command<'a>, words: &'a [String]) -> Result<ArgMatches<'a>, WordsFault>
     ensures matches { IfOk result (HasMatchesOf (app_of command.entry) (map (λ w. string_bytes w) words.now)) }
     ensures taken { IfOk result (λ _. is_simple_and_free (app_of command.entry) ≡ true →
         fault_of (app_of command.entry) (map (λ w. string_bytes w) words.now) ≡ []) }
@@ -60,6 +57,27 @@ pub(crate) fn matches_in<'a>(
         Err(error) if error.kind() == ErrorKind::OutOfMemory => Err(WordsFault::Memory),
         Err(_) => Err(WordsFault::Usage),
     }
+}
+
+/// What the command of this name, with an option for each of these names, finds in its words. `Usage`: they aren't its
+/// options, each at most once and with a value.
+pub(crate) fn matches_of<'a>(
+    alloc: Global,
+    name: &'a str,
+    names: &[&'a str],
+    words: &'a [String],
+) -> Result<ArgMatches<'a>, WordsFault>
+    ensures matches { IfOk result (HasMatchesOf (fold (λ app name. with_option name.now app) (bare_app name.entry.now) names.now)
+        (map (λ w. string_bytes w) words.now)) }
+    ensures taken { IfOk result (λ _.
+        is_simple_and_free (fold (λ app name. with_option name.now app) (bare_app name.entry.now) names.now) ≡ true →
+        fault_of (fold (λ app name. with_option name.now app) (bare_app name.entry.now) names.now) (map (λ w. string_bytes w) words.now) ≡ []) }
+    ensures usage { IsErrOf result WordsFault.Usage →
+        is_simple_and_free (fold (λ app name. with_option name.now app) (bare_app name.entry.now) names.now) ≡ true →
+        fault_of (fold (λ app name. with_option name.now app) (bare_app name.entry.now) names.now) (map (λ w. string_bytes w) words.now) ≡ [] → ⊥ }
+{
+    let command = with_options(alloc, bare_command(alloc, name), names)?;
+    matches_in(command, words)
 }
 
 /// The value of an option, or its default if it isn't given.

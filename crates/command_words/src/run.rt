@@ -1,31 +1,21 @@
 //! The options of `run`, which `save` and `resume` have too.
 
 ghost use Rattle.std.specs.Prelude.{◌≡◌, codes, IfOk, IfSome, IsNone, IsErrOf, is_some, map, string_bytes};
-ghost use Rattle.clap.specs.Words.{app_of, first_value, found_of};
+ghost use Rattle.clap.specs.Words.{first_value, found_of};
 ghost use Rattle.command_words.specs.declared.asked.Settings.{Settings as TheSettings};
 ghost use Rattle.command_words.specs.Options.{GivesSettings};
-ghost use Rattle.command_words.specs.Run.{run_app, periods_option, AreOptions, GivePeriods};
+ghost use Rattle.command_words.specs.Run.{periods_option, AreOptions, GivePeriods};
 
-use crate::options::{bare_command, matches_in, settings_of, with_options};
+use crate::options::{matches_of, settings_of};
 use crate::{Settings, WordsFault};
-use clap::{ArgMatches, Command};
-use std::alloc::{AllocError, Global};
+use clap::ArgMatches;
+use std::alloc::Global;
 
 // The settings of a run, and whether its periods were given.
 #[derive(Clone, Copy)]
 struct RunOptions {
     settings: Settings,
     has_periods: bool,
-}
-
-fn run_command<'a>(alloc: Global) -> Result<Command<'a>, AllocError>
-    ensures { IfOk result (λ c. app_of c ≡ run_app) }
-{
-    with_options(
-        alloc,
-        bare_command(alloc, "run"),
-        &["workers", "batch", "slice", "periods"],
-    )
 }
 
 fn options_of(matches: &ArgMatches<'_>) -> Option<RunOptions>
@@ -44,8 +34,12 @@ fn read_options(alloc: Global, options: &[String]) -> Result<RunOptions, WordsFa
     ensures periods { IfOk result (λ o. o.has_periods ≡ is_some (periods_option (map (λ w. string_bytes w) options.now))) }
     ensures usage { IsErrOf result WordsFault.Usage → (s : TheSettings) → AreOptions (map (λ w. string_bytes w) options.now) s → ⊥ }
 {
-    let command = run_command(alloc)?;
-    let matches = matches_in(command, options)?;
+    let matches = matches_of(
+        alloc,
+        "run",
+        &["workers", "batch", "slice", "periods"],
+        options,
+    )?;
     options_of(&matches).ok_or(WordsFault::Usage)
 }
 
