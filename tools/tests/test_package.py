@@ -59,30 +59,35 @@ class Modules(unittest.TestCase):
 
 @unittest.skipUnless(HAS_PROGRAM, "TRAU_PROGRAM names no program")
 class Package(InFolder):
+    @classmethod
+    def setUpClass(cls):
+        folder = tempfile.TemporaryDirectory()
+        cls.addClassCleanup(folder.cleanup)
+        cls.made = cls.make(Path(folder.name))
+
     def setUp(self):
         super().setUp()
         self.commands = self.path("commands")
         self.commands.mkdir()
         put_python(self.commands)
 
-    def make(self, name="made"):
+    @staticmethod
+    def make(folder):
         """The package's file."""
-        folder = self.folder / name
-        folder.mkdir()
         ended = subprocess.run([TOOLS / "package", folder], capture_output=True, text=True)
-        self.assertEqual((ended.returncode, ended.stderr), (0, note()))
+        assert (ended.returncode, ended.stderr) == (0, note()), ended
         (made,) = folder.iterdir()
         content = made.read_bytes()
         said = f"package {made} octets {len(content)} sha256 {hashlib.sha256(content).hexdigest()}\n"
         without = "" if HAS_LIBRARY else "package without the C library, which isn't built\n"
-        self.assertEqual(ended.stdout, without + said)
+        assert ended.stdout == without + said, ended
         return made
 
-    def unpack(self, made):
+    def unpack(self):
         """The package's folder."""
-        with tarfile.open(made) as tar:
+        with tarfile.open(self.made) as tar:
             tar.extractall(self.folder)
-        return self.folder / made.name[: -len(".tar.gz")]
+        return self.folder / self.made.name[: -len(".tar.gz")]
 
     def said(self, *words, given=b"", folder=None, **changes):
         """The status, standard output and standard error, on a machine without the toolchain."""
@@ -91,10 +96,12 @@ class Package(InFolder):
         return ended.returncode, ended.stdout.decode(), ended.stderr.decode()
 
     def test_the_same_octets_again(self):
-        self.assertEqual(self.make("one").read_bytes(), self.make("two").read_bytes())
+        again = self.folder / "again"
+        again.mkdir()
+        self.assertEqual(self.made.read_bytes(), self.make(again).read_bytes())
 
     def test_what_is_in_it(self):
-        package = self.unpack(self.make())
+        package = self.unpack()
         sums = (package / "SHA256SUMS").read_text().splitlines()
         names = {line[66:] for line in sums}
         there = {str(path.relative_to(package)) for path in package.rglob("*") if path.is_file()}
@@ -109,7 +116,7 @@ class Package(InFolder):
 
     @unittest.skipUnless(HAS_LIBRARY, "no C library is built")
     def test_the_library(self):
-        package = self.unpack(self.make())
+        package = self.unpack()
         for name in trau_package.LIBRARY_FILES:
             self.assertTrue((package / "clib" / "out" / name).is_file(), name)
         gsm = self.said(package / "clib" / "with", "sh", "-c", "echo $LD_LIBRARY_PATH")
@@ -122,7 +129,7 @@ class Package(InFolder):
         self.assertEqual(out, "listen samples 16000 found speech 91 silence 8 idle 0 other 0 outside 324\n")
 
     def test_the_commands_of_its_readme(self):
-        package = self.unpack(self.make())
+        package = self.unpack()
         text = (package / "README.md").read_text().split("## With recordings of your own")[1]
         block = re.search(r"(?:^    .*\n)+", text, re.M)[0]
         lines = [line[4:] for line in block.splitlines()]
@@ -133,7 +140,7 @@ class Package(InFolder):
         self.assertEqual(ended, (0, "\n".join(wanted) + "\n", ""))
 
     def test_links_of_its_documents_lead_to_files(self):
-        package = self.unpack(self.make())
+        package = self.unpack()
         documents = list(package.rglob("*.md"))
         self.assertGreater(len(documents), 20)
         for document in documents:
@@ -141,7 +148,7 @@ class Package(InFolder):
                 self.assertTrue((document.parent / link).is_file(), (document, link))
 
     def test_from_its_own_folder(self):
-        package = self.unpack(self.make())
+        package = self.unpack()
         status, out, err = self.said(package / "trau", "--version")
         self.assertEqual((status, err), (0, ""))
         self.assertIn("\nprogram: for x86-64-v", out)
@@ -152,7 +159,7 @@ class Package(InFolder):
         self.assertEqual(self.said(package / "demo", "--unproved")[0], 2)
 
     def test_install_and_remove(self):
-        package, prefix = self.unpack(self.make()), self.folder / "a prefix"
+        package, prefix = self.unpack(), self.folder / "a prefix"
         install = package / "install"
         status, out, err = self.said(install, "--prefix", prefix)
         self.assertEqual((status, err), (0, ""))
@@ -183,7 +190,7 @@ class Package(InFolder):
         self.assertEqual(list((prefix / "bin").iterdir()), [prefix / "bin" / "other"])
 
     def test_where_nothing_can_be_written(self):
-        package, prefix = self.unpack(self.make()), self.folder / "prefix"
+        package, prefix = self.unpack(), self.folder / "prefix"
         install = package / "install"
         # One line, and only of the first failure.
         prefix.write_text("a file")
@@ -200,7 +207,7 @@ class Package(InFolder):
         self.assertEqual({path: path.lstat().st_ino for path in prefix.rglob("*")}, before)
 
     def test_what_is_in_the_way(self):
-        package, prefix = self.unpack(self.make()), self.folder / "prefix"
+        package, prefix = self.unpack(), self.folder / "prefix"
         install, link, home = package / "install", prefix / "bin" / "trau", prefix / "lib" / "trau"
         for other in (link, home):
             other.parent.mkdir(parents=True)
@@ -217,14 +224,14 @@ class Package(InFolder):
         self.assertEqual([path for path in prefix.rglob("*") if not path.is_dir()], [link])
 
     def test_below_a_folder_of_a_packager(self):
-        package = self.unpack(self.make())
+        package = self.unpack()
         status, out, _ = self.said(package / "install", "--prefix", "/usr", DESTDIR=str(self.folder / "root"))
         self.assertEqual(status, 0)
         self.assertIn("the program is /usr/bin/trau", out)
         self.assertEqual(self.said(self.folder / "root" / "usr" / "bin" / "trau")[:2], (1, "usage\n"))
 
     def test_refused(self):
-        package, prefix = self.unpack(self.make()), self.folder / "prefix"
+        package, prefix = self.unpack(), self.folder / "prefix"
         for words in (["--what"], ["--prefix"], ["here"]):
             status, out, err = self.said(package / "install", *words)
             self.assertEqual((status, out), (2, ""))
