@@ -43,17 +43,27 @@ fn is_untold<R: Abort + Threads + Wait + Sync>(
 }
 
 // How many of the first ten reads and writes of the desk fail as they should, in turn.
-fn desk_fails<R: Abort + Threads + Wait + Sync>(rt: &R, alloc: Global) -> usize {
-    let unused = calm(rt, alloc);
-    let whole = carry_calm(rt, alloc, calm(rt, alloc));
+fn failed<R: Abort + Threads + Wait + Sync>(
+    rt: &R,
+    alloc: Global,
+    unused: &MemTrunk,
+    whole: &Outcome,
+) -> usize {
     for number in 0..10u32 {
-        let read = is_unread(rt, alloc, number, &unused);
-        let write = is_untold(rt, alloc, number, &whole);
+        let read = is_unread(rt, alloc, number, unused);
+        let write = is_untold(rt, alloc, number, whole);
         if !read || !write {
             return number as usize;
         }
     }
     10
+}
+
+// The same, with the lines before a run, and a run in which no operation fails.
+fn desk_fails<R: Abort + Threads + Wait + Sync>(rt: &R, alloc: Global) -> usize {
+    let unused = calm(rt, alloc);
+    let whole = carry_calm(rt, alloc, calm(rt, alloc));
+    failed(rt, alloc, &unused, &whole)
 }
 
 #[test]

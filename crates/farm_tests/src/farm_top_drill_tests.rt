@@ -137,7 +137,7 @@ fn tells<R: Abort + Threads + Wait + Sync>(
 ) -> bool {
     let mut trunk = trunk_of(rt, alloc, &FAILING);
     let drilled = carry(rt, alloc, words, &mut trunk, "no orders", NONE, &OpenGate);
-    drilled.is(0, text) && is_unused(&trunk)
+    drilled.is(0, text) & is_unused(&trunk)
 }
 
 #[test]
@@ -287,17 +287,10 @@ fn hostile_lines(rt: &impl Abort, alloc: Global, row: &Hostile) -> MemTrunk {
     let mut trunk = trunk_of(rt, alloc, &pcm);
     let up = hostile(alloc, row.kind.min(5), periods as u32).expect(rt, "memory");
     put(rt, alloc, &mut trunk, line(1, Up), up, ALL, NONE);
-    for side in [Down, Out] {
-        put(
-            rt,
-            alloc,
-            &mut trunk,
-            line(1, side),
-            Vec::new(alloc),
-            ALL,
-            NONE,
-        );
-    }
+    let down = Vec::new(alloc);
+    put(rt, alloc, &mut trunk, line(1, Down), down, ALL, NONE);
+    let out = Vec::new(alloc);
+    put(rt, alloc, &mut trunk, line(1, Out), out, ALL, NONE);
     trunk
 }
 
@@ -313,7 +306,7 @@ fn comes_of<R: Abort + Threads + Wait + Sync>(rt: &R, alloc: Global, row: &Hosti
         NONE,
         &OpenGate,
     );
-    ran.is(0, row.text) && [sum(&trunk, Down), sum(&trunk, Out)] == [row.down, row.out]
+    ran.is(0, row.text) & ([sum(&trunk, Down), sum(&trunk, Out)] == [row.down, row.out])
 }
 
 #[test]

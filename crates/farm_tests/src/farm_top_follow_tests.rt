@@ -149,7 +149,7 @@ static ROWS: [Row; 8] = [
 // Whether following a downlink gives what its row says.
 fn comes_of<R: Abort + Threads + Wait + Sync>(rt: &R, alloc: Global, row: &Row) -> bool {
     let (outcome, trunk) = follow(rt, alloc, row.cut, row.faults);
-    outcome.is(row.status, row.text) && are_answers(trunk.written(line(7, Down)), row.sent)
+    outcome.is(row.status, row.text) & are_answers(trunk.written(line(7, Down)), row.sent)
 }
 
 #[test]

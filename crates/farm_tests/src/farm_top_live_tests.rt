@@ -78,7 +78,7 @@ fn live_met<R: Abort + Threads + Wait + Sync>(
     let mut trunk = trunk_of(rt, alloc, &FAILING);
     let words = ["live", "--calls=2", callers, "--periods=1"];
     let outcome = carry(rt, alloc, &words, &mut trunk, "no orders", NONE, &gate);
-    outcome.is(0, ONE_PERIOD) && are_unused(&trunk) && gate.passed(1) && gate.used_up() == used_up
+    outcome.is(0, ONE_PERIOD) & are_unused(&trunk) & gate.passed(1) & (gate.used_up() == used_up)
 }
 
 // Neither of two callers can post its period before the other has come to post its own. With a single caller, the first wait

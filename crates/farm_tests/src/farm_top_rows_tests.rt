@@ -150,7 +150,7 @@ fn comes_of<R: Abort + Threads + Wait + Sync>(rt: &R, alloc: Global, row: &Row) 
     let mut trunk = quiet_lines(rt, alloc, row.up, row.pcm, fails);
     let mut desk = desk_of(rt, alloc, "0 open 1\n", row.desk_fails, NONE, row.room);
     let outcome = carry_at(rt, alloc, &["run"], &mut trunk, &mut desk, &OpenGate);
-    outcome.is(row.status, row.text) && is_written(&trunk, row)
+    outcome.is(row.status, row.text) & is_written(&trunk, row)
 }
 
 #[test]
@@ -300,7 +300,7 @@ fn carry_three<R: Abort + Threads + Wait + Sync>(
 // Whether a line is whole, and the same in two runs.
 fn is_same(one: &MemTrunk, other: &MemTrunk, line: Line, count: usize) -> bool {
     let octets = one.written(line);
-    octets.len() == count && octets == other.written(line)
+    (octets.len() == count) & (octets == other.written(line))
 }
 
 // Whether two failing lines leave call 8, and Out of call 9, as they are if nothing fails.
@@ -308,10 +308,10 @@ fn two_fail<R: Abort + Threads + Wait + Sync>(rt: &R, alloc: Global) -> bool {
     let (_outcome, calm) = carry_three(rt, alloc, &[]);
     let (outcome, trunk) = carry_three(rt, alloc, &FAILING);
     outcome.is(6, TEXT_OF_THREE)
-        && is_same(&trunk, &calm, line(8, Down), 800)
-        && is_same(&trunk, &calm, line(8, Out), 3200)
-        && is_same(&trunk, &calm, line(9, Out), 3200)
-        && trunk.written(line(9, Down)).is_empty()
+        & is_same(&trunk, &calm, line(8, Down), 800)
+        & is_same(&trunk, &calm, line(8, Out), 3200)
+        & is_same(&trunk, &calm, line(9, Out), 3200)
+        & trunk.written(line(9, Down)).is_empty()
 }
 
 #[test]
@@ -380,9 +380,9 @@ fn is_in_pieces<R: Abort + Threads + Wait + Sync>(rt: &R, alloc: Global, cut: u3
     let (outcome, trunk) = carry_shifted(rt, alloc, cut);
     let (_outcome, whole) = carry_shifted(rt, alloc, ALL);
     outcome.is(0, TEXT_OF_SHIFTED)
-        && is_same(&trunk, &whole, line(1, Down), 160)
-        && is_same(&trunk, &whole, line(1, Out), 640)
-        && trunk.written(line(1, Out)).starts_with(&[0xD5; 160])
+        & is_same(&trunk, &whole, line(1, Down), 160)
+        & is_same(&trunk, &whole, line(1, Out), 640)
+        & trunk.written(line(1, Out)).starts_with(&[0xD5; 160])
 }
 
 #[test]

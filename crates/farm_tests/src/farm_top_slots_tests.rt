@@ -154,7 +154,7 @@ fn comes_of<R: Abort + Threads + Wait + Sync>(rt: &R, alloc: Global, row: &Row, 
     let mut trunk = lines_of(rt, alloc, row, cut);
     let words = [row.command, "1"];
     let outcome = carry(rt, alloc, &words, &mut trunk, "", row.desk_fails, &OpenGate);
-    outcome.is(row.status, row.text) && is_written(&trunk, row)
+    outcome.is(row.status, row.text) & is_written(&trunk, row)
 }
 
 // How many rows are right in chunks of this size, from the first on.

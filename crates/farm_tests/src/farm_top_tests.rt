@@ -229,7 +229,7 @@ fn leaves<R: Abort + Threads + Wait + Sync>(
 ) -> bool {
     let (status, text, sent) = due;
     let (outcome, trunk) = carry_tool(rt, alloc, row.tool, cut, faults);
-    outcome.is(status, text) && is_front(trunk.written(line(7, row.outgoing)), sent, all)
+    outcome.is(status, text) & is_front(trunk.written(line(7, row.outgoing)), sent, all)
 }
 
 // Whether a command leaves what is due if operation `number` of the incoming line, of the outgoing line or of the desk fails.

@@ -109,6 +109,20 @@ pub(crate) fn trunk_of(rt: &impl Abort, alloc: Global, lines: &[Laid]) -> MemTru
     trunk
 }
 
+// Sets a line of call 1, with `count` times the same octet.
+fn put_quiet(
+    rt: &impl Abort,
+    alloc: Global,
+    trunk: &mut MemTrunk,
+    side: Side,
+    octet: u8,
+    count: usize,
+    fails: u32,
+) {
+    let octets = filled(rt, alloc, octet, count);
+    put(rt, alloc, trunk, line(1, side), octets, 10_000, fails);
+}
+
 // The lines of call 1: `up` octets of an uplink without a frame, and `pcm` octets of an idle Pcm line. `fails` says for each side
 // which operation fails on it.
 pub(crate) fn quiet_lines(
@@ -120,14 +134,9 @@ pub(crate) fn quiet_lines(
 ) -> MemTrunk {
     let mut trunk = trunk_of(rt, alloc, &[]);
     let [on_up, on_pcm, on_down, on_out] = fails;
-    for (side, octet, count, fails) in [
-        (Side::Up, 0, up, on_up),
-        (Side::Pcm, 0xD5, pcm, on_pcm),
-        (Side::Down, 0, 0, on_down),
-        (Side::Out, 0, 0, on_out),
-    ] {
-        let octets = filled(rt, alloc, octet, count);
-        put(rt, alloc, &mut trunk, line(1, side), octets, 10_000, fails);
-    }
+    put_quiet(rt, alloc, &mut trunk, Side::Up, 0, up, on_up);
+    put_quiet(rt, alloc, &mut trunk, Side::Pcm, 0xD5, pcm, on_pcm);
+    put_quiet(rt, alloc, &mut trunk, Side::Down, 0, 0, on_down);
+    put_quiet(rt, alloc, &mut trunk, Side::Out, 0, 0, on_out);
     trunk
 }

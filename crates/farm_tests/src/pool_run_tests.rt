@@ -85,10 +85,15 @@ fn run_at_once<R: Abort + Threads + Wait + Sync, G: Gate + Sync>(
     run_pool(rt, room, counters(rt, alloc, jobs), slice, gate)
 }
 
-// Whether jobs are finished, by their calls' numbers and what they have written down.
+// Whether a job is finished, by its call's number and what it has written down.
+fn is_finished(job: &Counter, call: u32, digits: u32) -> bool {
+    job.finished() & (job.call == call) & (job.digits == digits)
+}
+
+// Whether all jobs are.
 fn are_finished(jobs: &[Box<Counter>], written: &[(u32, u32)]) -> bool {
     for (job, written) in jobs.iter().zip(written) {
-        if !job.finished() || (job.call(), job.digits) != *written {
+        if !is_finished(job, written.0, written.1) {
             return false;
         }
     }
