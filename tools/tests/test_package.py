@@ -2,6 +2,7 @@
 
 import gzip
 import hashlib
+import itertools
 import os
 import re
 import shutil
@@ -10,6 +11,7 @@ import tarfile
 import tempfile
 import unittest
 from pathlib import Path
+from typing import NamedTuple
 from unittest import mock
 
 from support import EXAMPLES, PLAIN_PATH, TOOLS, TOP, InFolder, put_python
@@ -30,18 +32,50 @@ def is_built(kind):
 SECOND = f"trau_program.{trau_package.KIND}"
 
 
-def is_second_packed():
-    return not trau_package.is_given() and is_built(trau_package.KIND)
+class Built(NamedTuple):
+    """What is built, and so packed: the C library and the second program."""
+
+    library: bool
+    second: bool
+
+    def note(self):
+        """What is said on standard error where one program alone is packed."""
+        if trau_package.is_given() or self.second:
+            return ""
+        return f"package: no program for {trau_package.KIND} is built, so none is packed; tools/build.py builds it\n"
 
 
-def note():
-    """What is said on standard error where one program alone is packed."""
-    if trau_package.is_given() or is_second_packed():
-        return ""
-    return f"package: no program for {trau_package.KIND} is built, so none is packed; tools/build.py builds it\n"
+def what_is_built():
+    library = bool(os.environ.get("TRAU_CLIB")) or trau_package.library_is_built()
+    return Built(library, not trau_package.is_given() and is_built(trau_package.KIND))
 
 
-HAS_LIBRARY = bool(os.environ.get("TRAU_CLIB")) or trau_package.library_is_built()
+def packed(*words):
+    """What tools/package said of a new folder, and what was built then. Other checks build both at the same time; if one was built meanwhile,
+    the packages are made once more."""
+    folder = words[-1]
+    folder.mkdir(exist_ok=True)
+    while True:
+        before = what_is_built()
+        ended = subprocess.run([TOOLS / "package", *words], capture_output=True, text=True)
+        if what_is_built() == before:
+            assert (ended.returncode, ended.stderr) == (0, before.note()), ended
+            return ended.stdout, before
+        for path in folder.iterdir():
+            path.unlink()
+
+
+def twice(test):
+    """What a test's class made, or what is made anew if more is built by now, and what is made of the same once more."""
+    made, built = test.made, test.built
+    for number in itertools.count():
+        again, then = test.make(test.folder / f"again {number}")
+        if then == built:
+            return made, again
+        made, built = again, then
+
+
+HAS_LIBRARY = what_is_built().library
 if not HAS_LIBRARY:
     # Without a compiler tools/package leaves the library out, where it would prove and build it.
     os.environ["CC"] = "/no/compiler"
@@ -63,7 +97,7 @@ class Package(InFolder):
     def setUpClass(cls):
         folder = tempfile.TemporaryDirectory()
         cls.addClassCleanup(folder.cleanup)
-        cls.made = cls.make(Path(folder.name))
+        cls.made, cls.built = cls.make(Path(folder.name))
 
     def setUp(self):
         super().setUp()
@@ -73,15 +107,14 @@ class Package(InFolder):
 
     @staticmethod
     def make(folder):
-        """The package's file."""
-        ended = subprocess.run([TOOLS / "package", folder], capture_output=True, text=True)
-        assert (ended.returncode, ended.stderr) == (0, note()), ended
+        """The package's file, and what was built then."""
+        said, built = packed(folder)
         (made,) = folder.iterdir()
         content = made.read_bytes()
-        said = f"package {made} octets {len(content)} sha256 {hashlib.sha256(content).hexdigest()}\n"
-        without = "" if HAS_LIBRARY else "package without the C library, which isn't built\n"
-        assert ended.stdout == without + said, ended
-        return made
+        without = "" if built.library else "package without the C library, which isn't built\n"
+        wanted = f"package {made} octets {len(content)} sha256 {hashlib.sha256(content).hexdigest()}\n"
+        assert said == without + wanted, said
+        return made, built
 
     def unpack(self):
         """The package's folder."""
@@ -96,9 +129,8 @@ class Package(InFolder):
         return ended.returncode, ended.stdout.decode(), ended.stderr.decode()
 
     def test_the_same_octets_again(self):
-        again = self.folder / "again"
-        again.mkdir()
-        self.assertEqual(self.made.read_bytes(), self.make(again).read_bytes())
+        made, again = twice(self)
+        self.assertEqual(made.read_bytes(), again.read_bytes())
 
     def test_what_is_in_it(self):
         package = self.unpack()
@@ -111,7 +143,7 @@ class Package(InFolder):
         wanted = ("trau_program", "man/trau.1", "man/trau-lines.1", "trau.bash", "tools/orders.py", "examples/farm/orders.txt")
         for name in (*wanted, "tools/grammar.txt", "README.md", "docs/OPERATORS.md", "docs/CHANGELOG.md"):
             self.assertIn(name, names)
-        self.assertEqual(SECOND in names, is_second_packed())
+        self.assertEqual(SECOND in names, self.built.second)
         self.assertFalse((package / "crates" / "trau_program").exists())
 
     @unittest.skipUnless(HAS_LIBRARY, "no C library is built")
@@ -256,16 +288,15 @@ class Debian(InFolder):
     def setUpClass(cls):
         folder = tempfile.TemporaryDirectory()
         cls.addClassCleanup(folder.cleanup)
-        cls.made = cls.make(Path(folder.name))
+        cls.made, cls.built = cls.make(Path(folder.name))
 
     @staticmethod
     def make(folder):
-        """The files of the packages, by the packages' names."""
-        ended = subprocess.run([TOOLS / "package", "--deb", folder], capture_output=True, text=True)
-        assert (ended.returncode, ended.stderr) == (0, note()), ended
+        """The files of the packages, by the packages' names, and what was built then."""
+        said, built = packed("--deb", folder)
         made = {path.name.partition("_")[0]: path for path in folder.glob("*.deb")}
-        assert all(f"package {path} octets {path.stat().st_size} sha256 " in ended.stdout for path in made.values()), ended
-        return made
+        assert all(f"package {path} octets {path.stat().st_size} sha256 " in said for path in made.values()), said
+        return made, built
 
     def unpack(self, *names):
         """The folder of these packages' files."""
@@ -275,7 +306,7 @@ class Debian(InFolder):
         return root
 
     def test_names(self):
-        wanted = ["libtrau-fr-dev", "libtrau-fr1", "trau"] if HAS_LIBRARY else ["trau"]
+        wanted = ["libtrau-fr-dev", "libtrau-fr1", "trau"] if self.built.library else ["trau"]
         self.assertEqual(sorted(self.made), wanted)
 
     def fields(self, made):
@@ -355,8 +386,8 @@ class Debian(InFolder):
         self.assertTrue((root / "usr" / "lib" / "trau" / "docs" / "FILES.md").is_file())
 
     def test_the_same_octets_again(self):
-        again = self.make(self.folder)
-        for name, path in self.made.items():
+        made, again = twice(self)
+        for name, path in made.items():
             self.assertEqual(path.read_bytes(), again[name].read_bytes(), name)
 
     @unittest.skipUnless(shutil.which("lintian"), "there is no lintian")
