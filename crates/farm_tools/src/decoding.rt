@@ -11,7 +11,7 @@ ghost use Rattle.block_lines.specs.Command.{Causes, CommandRuns, Leaves, status_
 ghost use Rattle.farm_tools.specs.Machines.{decode_machine};
 
 use crate::text::{refusal_text, taken_text};
-use crate::uplink::good_frame;
+use crate::uplink::good_data;
 use arrayvec::ArrayString;
 use block_lines::{BlockMachine, Shape, ToolEnd, run_command};
 use fr_decoder::Decoder;
@@ -57,8 +57,8 @@ impl BlockMachine for Decoding {
         if block.len() < 40 {
             return None;
         }
-        let good = good_frame(block, &mut self.bits)?;
-        decode_octets(&mut self.decoder, &good.d, &mut self.octets);
+        let d = good_data(block, &mut self.bits)?;
+        decode_octets(&mut self.decoder, &d, &mut self.octets);
         Some(160)
     }
 

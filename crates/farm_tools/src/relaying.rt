@@ -5,7 +5,7 @@ ghost use Rattle.farm_tools.specs.Machines.{relay_machine};
 
 use crate::downlink::pack_frame;
 use crate::text::{refusal_text, taken_text};
-use crate::uplink::good_frame;
+use crate::uplink::good_data;
 use arrayvec::ArrayString;
 use block_lines::{BlockMachine, Shape, ToolEnd, run_command};
 use std::alloc::Global;
@@ -50,8 +50,7 @@ impl BlockMachine for Relaying {
         if block.len() < 40 {
             return None;
         }
-        let good = good_frame(block, &mut self.bits)?;
-        let d = good.d;
+        let d = good_data(block, &mut self.bits)?;
         pack_frame(
             &DownFrame::Speech { d, sp: true },
             &mut self.bits,

@@ -1,6 +1,6 @@
 //! The good speech frames of an uplink.
 ghost use Rattle.std.specs.Prelude.{◌≡◌, IsSome, IfSome, IsTrue, length, ◌↔◌};
-ghost use Rattle.trau_bits.specs.Bits.{bits_of};
+ghost use Rattle.trau_bits.specs.Bits.{bits_of, AreBits};
 ghost use Rattle.trau_frame.specs.declared.frames.Kind.TheVariants.{Speech};
 ghost use Rattle.trau_frame.specs.declared.frames.Class.TheVariants.{Good};
 ghost use Rattle.trau_frame.specs.Frame.{data_of};
@@ -16,12 +16,13 @@ pub fn is_good_speech(frame: &UpFrame) -> bool
     frame.kind == Kind::Speech && frame.class == Class::Good
 }
 
-/// The good speech frame that a block of 40 octets is, or None if it isn't one. `bits` is room for the block's 320 bits,
-/// and holds them afterwards.
-pub fn good_frame(block: &[u8], bits: &mut [u8; 320]) -> Option<UpFrame>
+/// The bits D1 to D260 of a block of 40 octets, or None if it isn't a good speech frame. `bits` is room for the block's
+/// 320 bits, and holds them afterwards.
+pub fn good_data(block: &[u8], bits: &mut [u8; 320]) -> Option<[u8; 260]>
     requires { length block.now ≡ 40 }
     ensures good { IsSome result ↔ IsGoodSpeech (bits_of block.now) }
-    ensures data_bits { IfSome result (λ frame. frame.d ≡ data_of (bits_of block.now)) }
+    ensures data_bits { IfSome result (λ d. d ≡ data_of (bits_of block.now)) }
+    ensures are_bits { IfSome result (λ d. AreBits d) }
 {
     unpack(block, bits);
     if !sync_matches(bits) {
@@ -31,5 +32,5 @@ pub fn good_frame(block: &[u8], bits: &mut [u8; 320]) -> Option<UpFrame>
     if !is_good_speech(&frame) {
         return None;
     }
-    Some(frame)
+    Some(frame.d)
 }

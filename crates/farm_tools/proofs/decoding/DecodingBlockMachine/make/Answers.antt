@@ -10,9 +10,9 @@ returns-clause-makes c =
     let whole : length c.args.block.now ≡ 40 = omega (arith, c.requires.bound, c.if-block-lt40.false) in
     let octets = c.decode_octets.new.octets in
     one_line decode_machine _ _ c.args.block.now octets 160 (λ blocks rest. refl) refl c.decode_octets.ensures.long
-    (record { whole = whole; good = c.in_ok-good.ensures.good.0 refl })
-    (decoder_more _ _ c.args.block.now c.in_ok-good.good.d octets c.in_ok-good.ensures.data_bits c.decode_octets.ensures.history)
-    (decode_more _ _ c.args.block.now c.in_ok-good.good.d octets c.in_ok-good.ensures.data_bits c.decode_octets.ensures.history)
+    (record { whole = whole; good = c.in_ok-d.ensures.good.0 refl })
+    (decoder_more _ _ c.args.block.now c.in_ok-d.d octets c.in_ok-d.ensures.data_bits c.decode_octets.ensures.history)
+    (decode_more _ _ c.args.block.now c.in_ok-d.d octets c.in_ok-d.ensures.data_bits c.decode_octets.ensures.history)
 
 pub returns-then-is_empty-clause-makes : goal.returns-then-is_empty-clause-makes
 returns-then-is_empty-clause-makes c =

@@ -10,8 +10,8 @@ returns-clause-makes c =
     let whole : length c.args.block.now ≡ 40 = omega (arith, c.requires.bound, c.if-block-lt40.false) in
     let octets = c.pack_frame.new.octets in
     one_line relay_machine _ _ c.args.block.now octets 40 (λ blocks rest. refl) refl c.pack_frame.ensures.long
-    (record { whole = whole; good = c.in_ok-good.ensures.good.0 refl }) (λ blocks now. tt)
-    (λ blocks now. relay_more blocks c.args.block.now c.in_ok-good.good.d octets c.in_ok-good.ensures.data_bits c.pack_frame.ensures.octets)
+    (record { whole = whole; good = c.in_ok-d.ensures.good.0 refl }) (λ blocks now. tt)
+    (λ blocks now. relay_more blocks c.args.block.now c.in_ok-d.d octets c.in_ok-d.ensures.data_bits c.pack_frame.ensures.octets)
 
 pub returns-then-is_empty-clause-makes : goal.returns-then-is_empty-clause-makes
 returns-then-is_empty-clause-makes c =
