@@ -1,15 +1,21 @@
 //! Which line has which file on a disk, so that no line is written to the file of another.
 
 ghost use Rattle.std.specs.Prelude.{◌≡◌, ◌⊎◌, IfOk, IfErr, IfSome, IsSome, IsTrue, false, None, All};
+ghost use Rattle.std.specs.Fs.{IsFile, file_type};
 ghost use Rattle.trau_io.specs.Indices.{index_of_line};
 ghost use Rattle.trau_files.specs.declared.trunk.seats.Access.TheVariants.{Writing};
 ghost use Rattle.trau_files.specs.Claims.{AreApart, Has, IsTaken, MayHave, MayShare, OthersKeep, claim_at};
 
+use super::fault::Fault;
+use super::name::name_of;
+use super::recordings::Recordings;
 use super::seats::Access;
 use std::alloc::{AllocError, Global};
+use std::fs;
 use std::fs::Metadata;
 use std::marker::Model;
 use std::os::unix::fs::MetadataExt;
+use std::rt::Files;
 use trau_io::{LINE_INDICES, Line, line_index};
 
 /// A file on a disk: its device and its inode (stat(2)), the same for any name or link by which it is opened.
@@ -36,10 +42,11 @@ pub struct Claim {
     pub access: Access,
 }
 
-/// The files of all lines, by the lines' indices (`line_index`).
+/// The files that lines have, by the lines' indices (`line_index`), and those of the folder's incoming lines, opened or not.
 #[derive(Drop)]
 pub struct Claims {
     of_lines: Vec<Option<Claim>>,
+    recordings: Recordings,
 }
 
 impl Model for Claims {
@@ -61,11 +68,57 @@ impl Claims {
         ensures none { IfOk result (All (λ claim. claim ≡ None)) }
         ensures apart { IfOk result AreApart }
     {
+        let recordings = Recordings::new(alloc)?;
         let mut of_lines = Vec::with_capacity(alloc, LINE_INDICES)?;
         for _ in 0..LINE_INDICES {
             of_lines.push_reserved(None);
         }
-        Ok(Claims { of_lines })
+        Ok(Claims {
+            of_lines,
+            recordings,
+        })
+    }
+
+    /// Gives an opened file, which has these metadata, to the line, unless it is another line's. A pipe or a device keeps nothing
+    /// that could be lost; any number of lines may have it.
+    pub fn take<R: Files>(
+        &mut self,
+        files: &R,
+        line: Line,
+        claim: Claim,
+        metadata: &Metadata,
+    ) -> Result<(), Fault>
+        ensures has { IfOk result (λ _. IsFile (file_type metadata.now) → Has (claim_at self.new (index_of_line line.call line.side)) claim) }
+        ensures apart { AreApart self.old → AreApart self.new }
+        ensures others { OthersKeep self.old self.new (index_of_line line.call line.side) }
+    {
+        if !metadata.is_file() {
+            return Ok(());
+        }
+        if let Some(place) = self.recorded(files, line, claim, metadata) {
+            return Err(Fault::Shared(place));
+        }
+        match self.claim(line, claim) {
+            Ok(()) => Ok(()),
+            Err(place) => Err(Fault::Shared(place)),
+        }
+    }
+
+    // The index of an incoming line, opened or not, whose file a line is to write under another name.
+    fn recorded<R: Files>(
+        &mut self,
+        files: &R,
+        line: Line,
+        claim: Claim,
+        metadata: &Metadata,
+    ) -> Option<usize>
+        ensures { self.new ≡ self.old }
+    {
+        if claim.access == Access::Writing && is_linked(files, line, metadata) {
+            self.recordings.place_of(files, claim.file)
+        } else {
+            None
+        }
     }
 
     /// Gives the file to the line, unless another line has it and one of the two is written. The error is that line's index.
@@ -128,4 +181,14 @@ fn clash(held: Option<Claim>, claim: Claim) -> bool
         }
         None => false,
     }
+}
+
+// Whether a line's file may have another name beside the line's: that is a symbolic link, the file has several links, or the
+// system doesn't say.
+fn is_linked<R: Files>(files: &R, line: Line, metadata: &Metadata) -> bool {
+    metadata.nlink() > 1
+        || match fs::symlink_metadata(files, name_of(line).as_str()) {
+            Ok(entry) => entry.is_symlink(),
+            Err(_) => true,
+        }
 }

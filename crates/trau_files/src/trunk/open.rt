@@ -1,24 +1,21 @@
 //! The files of all lines. Some of them are open.
 
-ghost use Rattle.std.specs.Prelude.{◌≡◌, ◌<◌, ◌↔◌, ◌⊎◌, length, pos, IfErr, IfOk, IsTrue, All, Some, None};
-ghost use Rattle.std.specs.Fs.{IsFile, file_type};
+ghost use Rattle.std.specs.Prelude.{◌≡◌, ◌<◌, ◌↔◌, ◌⊎◌, length, pos, IfOk, IsTrue, All, Some, None};
 ghost use Rattle.std.specs.IoError.{raw_os_error};
 ghost use Rattle.std.specs.Io.{ReadsAtMost, WritesAtMost};
 ghost use Rattle.trau_io.specs.Indices.{index_of_line};
 ghost use Rattle.trau_files.specs.declared.trunk.seats.Access.TheVariants.{Reading, Writing};
-ghost use Rattle.trau_files.specs.Claims.{AreApart, Has, OthersKeep, claim_at};
+ghost use Rattle.trau_files.specs.Claims.{AreApart, OthersKeep};
 ghost use Rattle.trau_files.specs.Files.{IsOpenAt, IsFileOf, OnlyCloses, OpenAfter, in_seat, file_after, opened, options_for};
 
 use super::claims::{Claim, Claims, FileIdentity};
 use super::fault::{Fault, Reasons};
 use super::name::name_of;
-use super::recordings::Recordings;
 use super::seats::{Access, OpenFile, Seats};
 use std::alloc::{AllocError, Global};
-use std::fs::{Metadata, OpenFile as _, OpenOptions};
+use std::fs::{OpenFile as _, OpenOptions};
 use std::io::{Seek, SeekFrom};
 use std::marker::Model;
-use std::os::unix::fs::MetadataExt;
 use std::rt::Files;
 use std::{fs, io};
 use trau_io::Line;
@@ -35,7 +32,6 @@ pub struct LineFiles<'a, R: Files> {
     files: &'a R,
     seats: Seats<R::File>,
     claims: Claims,
-    recordings: Recordings,
     reasons: Reasons,
 }
 
@@ -60,12 +56,10 @@ impl<'a, R: Files> LineFiles<'a, R> {
     {
         let seats = Seats::new(alloc)?;
         let claims = Claims::new(alloc)?;
-        let recordings = Recordings::new(alloc)?;
         Ok(LineFiles {
             files,
             seats,
             claims,
-            recordings,
             reasons: Reasons::new(),
         })
     }
@@ -136,97 +130,12 @@ impl<'a, R: Files> LineFiles<'a, R> {
         ensures apart { AreApart self.new.claims }
         ensures others { OthersKeep self.old.claims self.new.claims (index_of_line line.call line.side) }
     {
-        match self.open_at(line, access, at) {
+        match open_at(self.files, &mut self.claims, line, access, at) {
             Err(Fault::System(fault)) if lacks_descriptor(&fault) => {
                 self.seats.lessen();
-                self.open_at(line, access, at)
+                open_at(self.files, &mut self.claims, line, access, at)
             }
             opened => opened,
-        }
-    }
-
-    // Opens a line's file at this octet, unless it is another line's.
-    fn open_at(&mut self, line: Line, access: Access, at: u64) -> Result<R::File, Fault>
-        ensures seats { self.new.seats ≡ self.old.seats }
-        ensures apart { AreApart self.new.claims }
-        ensures others { OthersKeep self.old.claims self.new.claims (index_of_line line.call line.side) }
-    {
-        let mut file = options_for(access, at).open(self.files, name_of(line).as_str())?;
-        self.begin(line, access, at, &mut file)?;
-        Ok(file)
-    }
-
-    // Gives an opened file to the line, unless it is another line's, and goes to this octet of it.
-    fn begin(
-        &mut self,
-        line: Line,
-        access: Access,
-        at: u64,
-        file: &mut R::File,
-    ) -> Result<(), Fault>
-        ensures seats { self.new.seats ≡ self.old.seats }
-        ensures apart { AreApart self.new.claims }
-        ensures others { OthersKeep self.old.claims self.new.claims (index_of_line line.call line.side) }
-    {
-        // For the prover only, as in `take`.
-        let _ = &self.claims;
-        let metadata = file.metadata()?;
-        let claim = Claim {
-            file: FileIdentity::of(&metadata),
-            access,
-        };
-        self.take(line, claim, at, file, &metadata)?;
-        if at > 0 {
-            file.seek(SeekFrom::Start(at))?;
-        }
-        Ok(())
-    }
-
-    // Gives an opened file, which has these metadata, to the line, unless it is another line's. Only then is a file emptied, if it is
-    // opened for writing and nothing has been written yet. A pipe or a device keeps nothing that could be lost; any number of lines may
-    // have it.
-    fn take(
-        &mut self,
-        line: Line,
-        claim: Claim,
-        at: u64,
-        file: &R::File,
-        metadata: &Metadata,
-    ) -> Result<(), Fault>
-        ensures seats { self.new.seats ≡ self.old.seats }
-        ensures has { IfOk result (λ _. IsFile (file_type metadata.now) → Has (claim_at self.new.claims (index_of_line line.call line.side)) claim) }
-        ensures apart { AreApart self.new.claims }
-        ensures others { OthersKeep self.old.claims self.new.claims (index_of_line line.call line.side) }
-    {
-        // For the prover only: reading the field brings in the invariant that the lines' files are apart.
-        let _ = &self.claims;
-        if !metadata.is_file() {
-            return Ok(());
-        }
-        self.claim(line, claim, metadata)?;
-        match claim.access {
-            Access::Writing if at == 0 => Ok(file.set_len(0)?),
-            _ => Ok(()),
-        }
-    }
-
-    // Gives the file to the line, unless a line that was opened before has it and one of the two is written. A file that is written
-    // under several names mustn't be that of any incoming line either, opened or not.
-    fn claim(&mut self, line: Line, claim: Claim, metadata: &Metadata) -> Result<(), Fault>
-        ensures seats { self.new.seats ≡ self.old.seats }
-        ensures has { IfOk result (λ _. Has (claim_at self.new.claims (index_of_line line.call line.side)) claim) }
-        ensures refused { IfErr result (λ _. self.new.claims ≡ self.old.claims) }
-        ensures apart { AreApart self.new.claims }
-        ensures others { OthersKeep self.old.claims self.new.claims (index_of_line line.call line.side) }
-    {
-        if claim.access == Access::Writing && is_linked(self.files, line, metadata) {
-            if let Some(place) = self.recordings.place_of(self.files, claim.file) {
-                return Err(Fault::Shared(place));
-            }
-        }
-        match self.claims.claim(line, claim) {
-            Ok(()) => Ok(()),
-            Err(place) => Err(Fault::Shared(place)),
         }
     }
 }
@@ -245,21 +154,48 @@ impl<'a, R: Files + Eprint> LineFiles<'a, R> {
     }
 }
 
+// Opens a line's file at this octet, unless it is another line's.
+fn open_at<R: Files>(
+    files: &R,
+    claims: &mut Claims,
+    line: Line,
+    access: Access,
+    at: u64,
+) -> Result<R::File, Fault>
+    ensures apart { AreApart claims.old → AreApart claims.new }
+    ensures others { OthersKeep claims.old claims.new (index_of_line line.call line.side) }
+{
+    let mut file = options_for(access, at).open(files, name_of(line).as_str())?;
+    let metadata = file.metadata()?;
+    let claim = Claim {
+        file: FileIdentity::of(&metadata),
+        access,
+    };
+    claims.take(files, line, claim, &metadata)?;
+    start(&mut file, access, at, metadata.is_file())?;
+    Ok(file)
+}
+
+// Goes to this octet of a line's file. Only now is a file emptied, if nothing has been written to it yet.
+fn start<F: fs::OpenFile + Seek>(
+    file: &mut F,
+    access: Access,
+    at: u64,
+    is_file: bool,
+) -> io::Result<()> {
+    if at > 0 {
+        file.seek(SeekFrom::Start(at))?;
+    } else if is_file && access == Access::Writing {
+        file.set_len(0)?;
+    }
+    Ok(())
+}
+
 // Whether a file wasn't opened because no descriptor is left.
 fn lacks_descriptor(fault: &io::Error) -> bool
     ensures { IsTrue result ↔ ((raw_os_error fault.now ≡ Some (pos 23)) ⊎ (raw_os_error fault.now ≡ Some (pos 24))) }
 {
     matches!(fault.raw_os_error(), Some(NONE_IN_SYSTEM | NONE_IN_PROCESS))
-}
-
-// Whether a line's file may have another name beside the line's: that is a symbolic link, the file has several links, or the
-// system doesn't say.
-fn is_linked<R: Files>(files: &R, line: Line, metadata: &Metadata) -> bool {
-    metadata.nlink() > 1
-        || match fs::symlink_metadata(files, name_of(line).as_str()) {
-            Ok(entry) => entry.is_symlink(),
-            Err(_) => true,
-        }
 }
 
 // How a line's file is opened. A missing file is created if it is opened for writing and nothing has been written yet.
