@@ -1,6 +1,6 @@
 -- A pass is cut of a worker's deque before the work.
-use Rattle.std.proofs.Common.{◌≡◌, ◌≢◌, ℕ, zero, suc, ◌+◌, ◌-◌, ◌<◌, ◌≤◌, List, [], ◌∷◌, ◌++◌, length, set, get_or, get_or-set_same, get_or-set_other, sym}
-use Rattle.std.proofs.Common.{refl, ap, ◌∙◌, subst, ⊎_elim, arith, add-one}
+use Rattle.std.proofs.Common.{◌≡◌, ◌≢◌, ℕ, ◌+◌, ◌-◌, ◌<◌, ◌≤◌, List, [], ◌∷◌, length, set, get_or, get_or-set_same, get_or-set_other, sym}
+use Rattle.std.proofs.Common.{ap, ◌∙◌, subst, ⊎_elim, arith, add-one}
 use Rattle.std.specs.Global.{Global}
 use Rattle.std.proofs.lemmas.Bool.{cases_eq}
 use Rattle.std.proofs.Math.ListN.{length-set}
@@ -24,12 +24,6 @@ module _ {W : Type 0} where
   rows-le : (k : ℕ) (ms : List (Member W)) → rows_at k ms ≤ length ms
   rows-le k [] = omega arith
   rows-le k (m ∷ ms) = omega (arith, rows-le k ms, below-le k (length m.passes.items))
-
-  pub passes_snoc : (ms : List (Member W)) (m : Member W) → ((i : ℕ) → passes_of ms i ≡ []) → m.passes.items ≡ [] → (i : ℕ) → passes_of (ms ++ m ∷ []) i ≡ []
-  passes_snoc [] m none is zero = is
-  passes_snoc [] m none is (suc i) = refl
-  passes_snoc (x ∷ ms) m none is zero = none 0
-  passes_snoc (x ∷ ms) m none is (suc i) = passes_snoc ms m (λ j. none (suc j)) is i
 
 module _ {W : Type 0} (finish : W → W) where
   module _ (thieves : List (Thief W)) (ms : List (Member W)) (k : ℕ) (r : Member W) (unused : IsUnused finish thieves ms k) (there : k < length ms)

@@ -1,10 +1,8 @@
 -- A pool's room is made, worker by worker.
-use Rattle.std.proofs.Common.{◌≡◌, ◌≢◌, ℕ, ◌+◌, ◌<◌, ◌≤◌, List, [], ◌∷◌, ◌++◌, length, map, set, get_or, sym, refl, ap, ◌∙◌, subst, arith, length-append}
+use Rattle.std.proofs.Common.{◌≡◌, ◌≢◌, ℕ, zero, suc, ◌+◌, ◌<◌, ◌≤◌, List, [], ◌∷◌, ◌++◌, length, map, All, set, get_or, sym, refl, ap, ◌∙◌, subst, arith}
 use Rattle.std.specs.Global.{Vec}
 use Rattle.std.proofs.Math.ListN.{length-set}
-use Rattle.std.proofs.Math.Seq.{get_or-append_seam}
-use Rattle.std.proofs.lemmas.List.{get_or_append_left}
-use Rattle.crossbeam_deque.specs.Handles.{view, worker_deque, stealer_deque, stealer_flavor, worker_view}
+use Rattle.crossbeam_deque.specs.Handles.{view, worker_deque, stealer_deque, worker_flavor, stealer_flavor, worker_view}
 use Rattle.pool_run.specs.declared.deque.View.{View}
 use Rattle.pool_run.specs.declared.deque.Task.{Task}
 use Rattle.pool_run.specs.declared.member.Member.{Member}
@@ -17,8 +15,27 @@ use Rattle.pool_run.specs.Pool.{passes_of}
 use Rattle.trau_num.proofs.Weights.{weigh-append}
 use Rattle.pool_run.proofs.Weights.{weigh-set, weigh_ones, weigh_zeros}
 use Rattle.pool_run.proofs.Rows.{has_pass, passes_at, passes_set_same, passes_set_other}
-use Rattle.pool_run.proofs.Lists.{each_set, below_lt, each_snoc}
+use Rattle.pool_run.proofs.Lists.{any_of, each_set, below_lt, each_snoc, same_default}
 use Rattle.pool_run.proofs.Left.{OwnLeft}
+
+module _ {W : Type 0} where
+  -- each handle is that of the worker at its place
+  abbrev pub AreThieves : List (Member W) → List (Thief W) → Type 0
+  AreThieves ms ts = (k : ℕ) (t : Thief W) → k < length ts → (m : Member W) →
+      (stealer_deque (get_or ts k t) ≡ worker_deque (get_or ms k m).own) × (stealer_flavor (get_or ts k t) ≡ worker_flavor (get_or ms k m).own)
+
+  pub thief_more : (ms : List (Member W)) (ts : List (Thief W)) (m : Member W) (t : Thief W) → AreThieves ms ts → length ts < length ms →
+      m ≡ get_or ms (length ts) m → (stealer_deque t ≡ worker_deque m.own) × (stealer_flavor t ≡ worker_flavor m.own) → AreThieves ms (ts ++ t ∷ [])
+  thief_more ms ts m t old there is new =
+      each_snoc (λ (k : ℕ) (u : Thief W). (d : Member W) → (stealer_deque u ≡ worker_deque (get_or ms k d).own)
+      × (stealer_flavor u ≡ worker_flavor (get_or ms k d).own)) ts t old
+      (λ d. subst (λ (x : Member W). (stealer_deque t ≡ worker_deque x.own) × (stealer_flavor t ≡ worker_flavor x.own))
+      (is ∙ same_default ms (length ts) m d there) new)
+
+  pub no_passes : (most : ℕ) (ms : List (Member W)) → All (IsNew most) ms → (i : ℕ) → passes_of ms i ≡ []
+  no_passes most [] new i = refl
+  no_passes most (m ∷ ms) new zero = (new 0 m (omega arith)).passes
+  no_passes most (m ∷ ms) new (suc i) = no_passes most ms (λ k d h. new (suc k) d (omega arith)) i
 
 module _ {W : Type 0} (finish : W → W) where
   module _ (thieves : List (Thief W)) (ms : List (Member W)) (me : ℕ) (r : Member W) (row : Vec (Knower W))
@@ -78,82 +95,46 @@ module _ {W : Type 0} (finish : W → W) where
     }
     given_row = record { unused = give_unused; mine = give_mine; rows = give_rows; room = give_left }
 
-  pub none_unused : (thieves : List (Thief W)) (ms : List (Member W)) → thieves ≡ [] → ms ≡ [] → IsUnused finish thieves ms 0
-  none_unused thieves ms no_thieves no_members =
-      subst (λ (ts : List (Thief W)). IsUnused finish ts ms 0) (sym no_thieves)
-      (subst (λ (ns : List (Member W)). IsUnused finish [] ns 0) (sym no_members) (record {
-        shared = record { pair = refl; own = λ k t m h. absurd (omega arith); rows = λ k m h. absurd (omega arith); parts = λ k m h. absurd (omega arith) };
-        fifo = λ k t h. absurd (omega arith);
-        given = λ h. refl;
-        obtained = λ h. refl;
-      }))
+  module _ (ms : List (Member W)) (most : ℕ) (new : All (IsNew most) ms) where
+    no_rows : (k : ℕ) → rows_at k ms ≡ 0
+    no_rows k = weigh_zeros (has_pass k) ms (λ i d h. ap (λ (l : List (Knower W)). below k (length l)) (new i d h).passes)
 
-  module _ (thieves : List (Thief W)) (ms : List (Member W)) (m : Member W) (t : Thief W) (most : ℕ) (unused : IsUnused finish thieves ms 0)
-      (new : IsNew most m t) (none : (i : ℕ) → passes_of ms i ≡ []) where
-    unused_rows : (k : ℕ) → rows_at k ms ≡ 0
-    unused_rows k =
-        weigh_zeros (λ (x : Member W). below k (length x.passes.items)) ms
-        (λ i d h. ap (λ (l : List (Knower W)). below k (length l)) (sym (passes_at ms i d h) ∙ none i))
+    pub new_left : RoomLeft 0 most ms
+    new_left = λ k m h. let left = (new k m h).left in (omega (arith, left.0), left.1)
 
-    new_rows : (k : ℕ) → rows_at k (ms ++ m ∷ []) ≡ 0
-    new_rows k = omega (arith, weigh-append (has_pass k) ms (m ∷ []), unused_rows k, ap (λ (l : List (Knower W)). below k (length l)) new.passes)
-
-    old_row : (x : Member W) → HasRow finish thieves x → HasRow finish (thieves ++ t ∷ []) x
-    old_row x s = record {
-      fifo = s.fifo;
-      parts = s.parts;
-      few = let f = s.few in omega (arith, length-append thieves (t ∷ []));
-      each =
-          λ k u p h. subst (λ (v : Thief W). IsPassFor v (get_or x.passes.items k p))
-          (sym (get_or_append_left thieves (t ∷ []) u k (let f = s.few in omega arith))) (s.each k u p h);
-      ended = s.ended;
-    }
-
-    new_row : HasRow finish (thieves ++ t ∷ []) m
-    new_row = let e : length m.passes.items ≡ 0 = ap length new.passes in let d : length m.done.items ≡ 0 = ap length new.done in record {
-      fifo = new.fifo;
-      parts = omega (arith, ap (λ (u : View W). u.parts) new.view);
+    new_row : (thieves : List (Thief W)) (m : Member W) → IsNew most m → HasRow finish thieves m
+    new_row thieves m is = let e : length m.passes.items ≡ 0 = ap length is.passes in let d : length m.done.items ≡ 0 = ap length is.done in record {
+      fifo = is.fifo;
+      parts = omega (arith, ap (λ (u : View W). u.parts) is.view);
       few = omega arith;
       each = λ k u p h. absurd (omega arith);
       ended = λ k u h. absurd (omega arith);
     }
 
-    new_shared : IsShared finish (thieves ++ t ∷ []) (ms ++ m ∷ []) 0 0
-    new_shared = let shared = unused.shared in record {
-      pair = omega (arith, shared.pair, length-append ms (m ∷ []), length-append thieves (t ∷ []));
-      own = λ k u d h. each_snoc (λ (k : ℕ) (x : Member W). worker_deque x.own ≡ stealer_deque (get_or (thieves ++ t ∷ []) k u)) ms m
-          (λ k d h. shared.own k u d h ∙ ap stealer_deque (sym (get_or_append_left thieves (t ∷ []) u k (let p = shared.pair in omega arith))))
-          (new.deque
-          ∙ ap stealer_deque (sym (subst (λ (n : ℕ). get_or (thieves ++ t ∷ []) n u ≡ t) (sym shared.pair) (get_or-append_seam thieves t [] u)))) k d h;
-      rows = each_snoc (λ (k : ℕ) (x : Member W). HasRow finish (thieves ++ t ∷ []) x) ms m (λ k d h. old_row (get_or ms k d) (shared.rows k d h)) new_row;
-      parts = each_snoc (λ (k : ℕ) (x : Member W). (worker_view x.own).parts + rows_at k (ms ++ m ∷ []) + 0 ≡ 1024 + 0) ms m
-          (λ k d h. omega (arith, shared.parts k d h, unused_rows k, new_rows k)) (omega (arith, new_rows (length ms), ap (λ (u : View W). u.parts) new.view));
-    }
-
-    pub new_unused : IsUnused finish (thieves ++ t ∷ []) (ms ++ m ∷ []) 0
-    new_unused = record {
-      shared = new_shared;
-      fifo = each_snoc (λ (k : ℕ) (u : Thief W). stealer_flavor u ≡ 0) thieves t unused.fifo new.thief_fifo;
+    pub new_unused : (thieves : List (Thief W)) → length thieves ≡ length ms → AreThieves ms thieves → IsUnused finish thieves ms 0
+    new_unused thieves len are = record {
+      shared = record {
+        pair = sym len;
+        own = λ k t m h. sym (are k t (omega (arith, len)) m).0;
+        rows = λ k m h. new_row thieves (get_or ms k m) (new k m h);
+        parts = λ k m h. omega (arith, no_rows k, ap (λ (u : View W). u.parts) (new k m h).view);
+      };
+      fifo = λ k t h. let h' : k < length ms = omega arith in let m = any_of ms k h' in (are k t h m).1 ∙ (new k m h').fifo;
       given =
-          λ h. omega (
+          λ h. weigh_zeros (given finish h) ms
+          (λ i d lt. let n = new i d lt in omega (
             arith,
-            unused.given h,
-            weigh-append (given finish h) ms (m ∷ []),
-            ap (λ (u : View W). weigh h u.pushed) new.view,
-            ap (λ (ts : List (Task W)). weigh h (map (entry_of finish) ts)) new.done,
-          );
+            ap (λ (u : View W). weigh h u.pushed) n.view,
+            ap (λ (ts : List (Task W)). weigh h (map (entry_of finish) ts)) n.done,
+          ));
       obtained =
-          λ h. omega (
+          λ h. weigh_zeros (obtained h) ms
+          (λ i d lt. let n = new i d lt in omega (
             arith,
-            unused.obtained h,
-            weigh-append (obtained h) ms (m ∷ []),
-            ap (λ (u : View W). weigh h u.obtained) new.view,
-            ap (weigh (λ (q : Knower W). weigh h (view q).obtained)) new.passes,
-          );
+            ap (λ (u : View W). weigh h u.obtained) n.view,
+            ap (weigh (λ (q : Knower W). weigh h (view q).obtained)) n.passes,
+          ));
     }
-
-    pub new_left : RoomLeft 0 most ms → RoomLeft 0 most (ms ++ m ∷ [])
-    new_left left = each_snoc (OwnLeft 0 most) ms m left ((omega (arith, new.left.0), new.left.1))
 
   pub no_row : (thieves : List (Thief W)) → IsRow thieves []
   no_row thieves = record { each = λ k t p h. absurd (omega arith); obtained = λ h. refl }

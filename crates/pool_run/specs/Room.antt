@@ -1,6 +1,6 @@
 -- The room of a pool, and how it is made.
 use Rattle.std.specs.Prelude.{◌≡◌, ℕ, ◌<◌, ◌≤◌, List, [], length, slice_index_or}
-use Rattle.crossbeam_deque.specs.Handles.{view, worker_deque, stealer_deque, worker_flavor, stealer_flavor, worker_view, worker_index, worker_capacity}
+use Rattle.crossbeam_deque.specs.Handles.{view, worker_flavor, stealer_flavor, worker_view, worker_index, worker_capacity}
 use Rattle.pool_run.specs.declared.member.Member.{Member}
 use Rattle.trau_num.specs.Weights.{weigh}
 use Rattle.pool_run.specs.Deque.{knows}
@@ -22,11 +22,9 @@ module _ {W : Type 0} where
     pub obtained : (h : ℕ × W → ℕ) → all_obtained h members ≡ 0
     pub left : RoomLeft 0 most members
 
-  -- a worker with an empty deque and no passes, and the handle to steal from it
-  pub record IsNew (most : ℕ) (m : Member W) (t : Thief W) : Type 0 where
-    pub deque : worker_deque m.own ≡ stealer_deque t
+  -- a worker with an empty deque and no passes
+  pub record IsNew (most : ℕ) (m : Member W) : Type 0 where
     pub fifo : worker_flavor m.own ≡ 0
-    pub thief_fifo : stealer_flavor t ≡ 0
     pub view : worker_view m.own ≡ knows 1024 [] []
     pub passes : m.passes.items ≡ []
     pub done : m.done.items ≡ []

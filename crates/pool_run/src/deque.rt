@@ -133,7 +133,8 @@ pub fn new_owner<W: Work>(alloc: Global, most: usize) -> Result<Owner<W>, AllocE
 /// A new pass, with one of the owner's parts.
 pub fn cut_pass<W: Work>(owner: &mut Owner<W>) -> Knower<W>
     requires { 1 < (worker_view owner.old).parts }
-    ensures same { SameWorker owner.old owner.new × (worker_index owner.new ≡ worker_index owner.old) }
+    ensures same { SameWorker owner.old owner.new }
+    ensures index { worker_index owner.new ≡ worker_index owner.old }
     ensures pass { IsPassOf (worker_deque owner.old) result }
     ensures left { worker_view owner.new ≡ knows ((worker_view owner.old).parts - 1) (worker_view owner.old).pushed (worker_view owner.old).obtained }
     ensures cut { view result ≡ knows 1 [] [] }
@@ -213,7 +214,8 @@ pub fn pop_left<W: Work>(owner: &mut Owner<W>) -> Option<Task<W>>
 /// Shows for an owner with all parts that no entry was obtained more often than it was pushed.
 pub fn audit<W: Work>(owner: &mut Owner<W>)
     requires { (worker_view owner.old).parts ≡ 1024 }
-    ensures same { SameWorker owner.old owner.new × (worker_view owner.new ≡ worker_view owner.old) }
+    ensures same { SameWorker owner.old owner.new }
+    ensures view { worker_view owner.new ≡ worker_view owner.old }
     ensures covered { IsCovered (worker_view owner.old) }
 {
     let _ = owner.len_as::<Covered>();

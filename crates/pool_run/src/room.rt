@@ -1,13 +1,13 @@
 //! The memory of a pool, reserved before its jobs are known.
 
-ghost use Rattle.std.specs.Prelude.{◌≡◌, ◌≢◌, ℕ, ◌+◌, ◌<◌, ◌≤◌, [], length, vec_len, IfOk, OnOk, slice_index_or};
+ghost use Rattle.std.specs.Prelude.{◌≡◌, ◌≢◌, ℕ, ◌+◌, ◌<◌, ◌≤◌, [], length, vec_len, All, IfOk, OnOk, slice_index_or};
 ghost use Rattle.crossbeam_deque.specs.Handles.{view};
 ghost use Rattle.pool_run.specs.Member.{IsPassFor};
 ghost use Rattle.pool_run.specs.Pool.{passes_of};
 ghost use Rattle.pool_run.specs.Room.{IsNew, IsUnused, IsRow, RoomLeft};
 
 use crate::Work;
-use crate::deque::{Knower, Owner, Task, Thief, cut_pass, new_owner};
+use crate::deque::{Knower, Task, Thief, cut_pass, new_owner};
 use crate::member::Member;
 use std::alloc::{AllocError, Global};
 use std::marker::Model;
@@ -48,7 +48,8 @@ impl<W: Work> PoolRoom<W> {
     {
         let jobs = most as usize;
         let workers = workers.min(most.max(1)) as usize;
-        let (mut members, thieves) = new_members(alloc, workers, jobs)?;
+        let mut members = new_members(alloc, workers, jobs)?;
+        let thieves = new_thieves(alloc, members.as_slice())?;
         give_rows(alloc, thieves.as_slice(), members.as_mut_slice())?;
         let finished = Vec::with_capacity(alloc, jobs)?;
         let answer = Vec::with_capacity(alloc, jobs)?;
@@ -62,47 +63,48 @@ impl<W: Work> PoolRoom<W> {
     }
 }
 
-// A worker with an empty deque and no passes, and the handle to steal from it.
-fn new_member<W: Work>(
-    alloc: Global,
-    me: usize,
-    most: usize,
-) -> Result<(Member<W>, Thief<W>), AllocError>
-    ensures { IfOk result (λ r. IsNew most r.0 r.1) }
+// A worker with an empty deque and no passes.
+fn new_member<W: Work>(alloc: Global, me: usize, most: usize) -> Result<Member<W>, AllocError>
+    ensures { IfOk result (λ m. IsNew most m) }
 {
     let done = Vec::with_capacity(alloc, most)?;
-    let own: Owner<W> = new_owner(alloc, most)?;
-    let thief = own.stealer()?;
-    Ok((
-        Member {
-            me,
-            own,
-            passes: Vec::new(alloc),
-            done,
-        },
-        thief,
-    ))
+    let own = new_owner(alloc, most)?;
+    Ok(Member {
+        me,
+        own,
+        passes: Vec::new(alloc),
+        done,
+    })
 }
 
-// Workers with empty deques and no passes, and the handles to steal from them.
+// Workers with empty deques and no passes.
 fn new_members<W: Work>(
     alloc: Global,
     workers: usize,
     most: usize,
-) -> Result<(Vec<Member<W>>, Vec<Thief<W>>), AllocError>
-    ensures unused { IfOk result (λ r. IsUnused W.finish r.1.items r.0.items 0) }
-    ensures len { IfOk result (λ r. vec_len r.0 ≡ workers) }
-    ensures rows { IfOk result (λ r. (i : ℕ) → passes_of r.0.items i ≡ []) }
-    ensures room { IfOk result (λ r. RoomLeft 0 most r.0.items) }
+) -> Result<Vec<Member<W>>, AllocError>
+    ensures new { IfOk result (λ ms. All (IsNew most) ms.items) }
+    ensures len { IfOk result (λ ms. vec_len ms ≡ workers) }
 {
-    let mut members: Vec<Member<W>> = Vec::with_capacity(alloc, workers)?;
-    let mut thieves: Vec<Thief<W>> = Vec::with_capacity(alloc, workers)?;
+    let mut members = Vec::with_capacity(alloc, workers)?;
     for me in 0..workers {
-        let (member, thief) = new_member(alloc, me, most)?;
+        let member = new_member(alloc, me, most)?;
         members.push_reserved(member);
+    }
+    Ok(members)
+}
+
+// The handles to steal from new workers.
+fn new_thieves<W: Work>(alloc: Global, members: &[Member<W>]) -> Result<Vec<Thief<W>>, AllocError>
+    requires { (most : ℕ) × All (IsNew most) members.now }
+    ensures { IfOk result (λ ts. IsUnused W.finish ts.items members.now 0) }
+{
+    let mut thieves = Vec::with_capacity(alloc, members.len())?;
+    for member in members {
+        let thief = member.own.stealer()?;
         thieves.push_reserved(thief);
     }
-    Ok((members, thieves))
+    Ok(thieves)
 }
 
 // Cuts a pass off deque k.

@@ -1,13 +1,9 @@
-use Rattle.std.proofs.Common.{◌∙◌, sym}
 use Rattle.pool_run.proofs.room.new_member.Goals as goal
 
 pub returns : goal.returns
 returns g c =
-    let own = c.in_ok-own.ensures in
-    let thief = c.in_ok-thief.ensures in record {
-      deque = sym thief.0;
+    let own = c.in_ok-own.ensures in record {
       fifo = own.0;
-      thief_fifo = thief.1 ∙ own.0;
       view = own.1;
       passes = c.new.ensures.items;
       done = c.in_ok-done.ensures.items;
