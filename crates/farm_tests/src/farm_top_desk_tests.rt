@@ -1,6 +1,6 @@
 //! The command `run` over two calls. The desk fails at each of its first ten reads and at each of its first ten writes: 20 runs.
 
-use crate::desk::{FailingDesk, WRITTEN};
+use crate::desk::FailingDesk;
 use crate::lines::NONE;
 use crate::rows::assert_parts;
 use crate::two_calls::{ORDERS, Outcome, calm, carry, carry_calm, is_written};
@@ -19,14 +19,7 @@ fn is_unread<R: Abort + Threads + Wait + Sync>(
 ) -> bool {
     let desk = FailingDesk::new(rt, alloc, ORDERS, number, NONE);
     let run = carry(rt, alloc, calm(rt, alloc), desk);
-    let is_told = run.desk.text() == "orders unread\n".as_bytes();
-    run.status == 3 && is_told && is_written(&run.trunk, unused)
-}
-
-// Whether a text is the prefix of a report that the writes before write `number` wrote.
-fn is_front(text: &[u8], number: u32, report: &[u8]) -> bool {
-    let length = number as usize * WRITTEN;
-    text.len() == length && length < report.len() && report.starts_with(text)
+    run.is(3, "orders unread\n".as_bytes()) & is_written(&run.trunk, unused)
 }
 
 // Whether a run in which write `number` of the desk fails leaves a prefix of the report, and all lines whole.
@@ -38,8 +31,7 @@ fn is_untold<R: Abort + Threads + Wait + Sync>(
 ) -> bool {
     let desk = FailingDesk::new(rt, alloc, ORDERS, NONE, number);
     let run = carry(rt, alloc, calm(rt, alloc), desk);
-    let is_told = is_front(run.desk.text(), number, whole.desk.text());
-    run.status == 4 && is_told && is_written(&run.trunk, &whole.trunk)
+    run.is_cut(number, whole.desk.text()) & is_written(&run.trunk, &whole.trunk)
 }
 
 // How many of the first ten reads and writes of the desk fail as they should, in turn.

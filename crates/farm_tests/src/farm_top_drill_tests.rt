@@ -1,6 +1,6 @@
 //! The command `drill`; and uplinks that no base station sends.
 
-use crate::desk::{FailingDesk, WRITTEN};
+use crate::desk::FailingDesk;
 use crate::endless::Endless;
 use crate::farm_top_tests::{carry, status_of};
 use crate::lines::{Laid, NONE, line, put, trunk_of};
@@ -155,11 +155,7 @@ fn is_told_in_part<R: Abort + Threads + Wait + Sync>(rt: &R, alloc: Global) -> b
     let desk = FailingDesk::new(rt, alloc, "", 0, 1);
     let words = ["drill", "--calls=1", "--periods=1"];
     let run = carry_out(rt, alloc, &words, trunk, desk);
-    let text = run.desk.text();
-    run.status == 4
-        && text.len() == WRITTEN
-        && ONE_PERIOD.as_bytes().starts_with(text)
-        && is_unused(&run.trunk)
+    run.is_cut(1, ONE_PERIOD.as_bytes()) & is_unused(&run.trunk)
 }
 
 #[test]
@@ -274,9 +270,9 @@ fn sum(trunk: &MemTrunk, side: Side) -> u32 {
     sum
 }
 
-// Call 1 with a hostile uplink and an idle Pcm line.
-fn hostile_lines(rt: &impl Abort, alloc: Global, row: &Hostile) -> MemTrunk {
-    let periods = row.periods.min(1000);
+// Call 1 with a hostile uplink of this kind and an idle Pcm line.
+fn hostile_lines(rt: &impl Abort, alloc: Global, kind: u8, periods: usize) -> MemTrunk {
+    let periods = periods.min(1000);
     let pcm = [Laid {
         call: 1,
         side: Pcm,
@@ -285,7 +281,7 @@ fn hostile_lines(rt: &impl Abort, alloc: Global, row: &Hostile) -> MemTrunk {
         fails: NONE,
     }];
     let mut trunk = trunk_of(rt, alloc, &pcm);
-    let up = hostile(alloc, row.kind.min(5), periods as u32).expect(rt, "memory");
+    let up = hostile(alloc, kind.min(5), periods as u32).expect(rt, "memory");
     put(rt, alloc, &mut trunk, line(1, Up), up, ALL, NONE);
     let down = Vec::new(alloc);
     put(rt, alloc, &mut trunk, line(1, Down), down, ALL, NONE);
@@ -296,7 +292,7 @@ fn hostile_lines(rt: &impl Abort, alloc: Global, row: &Hostile) -> MemTrunk {
 
 // Whether a run over a hostile uplink gives what its row says.
 fn comes_of<R: Abort + Threads + Wait + Sync>(rt: &R, alloc: Global, row: &Hostile) -> bool {
-    let mut trunk = hostile_lines(rt, alloc, row);
+    let mut trunk = hostile_lines(rt, alloc, row.kind, row.periods);
     let ran = carry(
         rt,
         alloc,
@@ -330,7 +326,7 @@ frames 8 left 0
 
 // Whether `frames` lists them so.
 fn lists_cut_frames<R: Abort + Threads + Wait + Sync>(rt: &R, alloc: Global) -> bool {
-    let mut trunk = hostile_lines(rt, alloc, &HOSTILE[4]);
+    let mut trunk = hostile_lines(rt, alloc, 4, 10);
     let listed = carry(rt, alloc, &["frames", "1"], &mut trunk, "", NONE, &OpenGate);
     listed.is(0, CUT_FRAMES)
 }

@@ -195,10 +195,9 @@ fn is_as_given<R: Abort + Threads + Wait + Sync>(
     let run = carry_calm(rt, alloc, failed_at(rt, alloc, row, number));
     let ends = ends_its_call(row.side, before);
     let told = told_of(rt, alloc, row, ends, given.desk.text());
-    run.status == 6
-        && given.status == 0
-        && run.desk.text() == told.as_bytes()
-        && have_fronts(&run.trunk, &given.trunk, row, before)
+    run.is(6, told.as_bytes())
+        & (given.status == 0)
+        & have_fronts(&run.trunk, &given.trunk, row, before)
 }
 
 // Whether an incoming line isn't read again after its end: the run is as if no operation failed.
@@ -209,10 +208,9 @@ fn ends_once<R: Abort + Threads + Wait + Sync>(
     whole: &Outcome,
 ) -> bool {
     let run = carry_calm(rt, alloc, failed_at(rt, alloc, row, BEHIND_THE_END));
-    run.status == 0
-        && run.desk.text() == whole.desk.text()
-        && is_written(&run.trunk, &whole.trunk)
-        && run.trunk.faults(line(row.call, row.side)) == 0
+    run.is(0, whole.desk.text())
+        & is_written(&run.trunk, &whole.trunk)
+        & (run.trunk.faults(line(row.call, row.side)) == 0)
 }
 
 // Whether a run in which an incoming line fails at operation `number` agrees with the run over the octets before it.

@@ -1,7 +1,7 @@
 //! The base station's end of a downlink in memory: whole, in chunks, and with a line or the desk that fails.
 
 use crate::farm_top_tests::{Outcome, carry};
-use crate::lines::{NONE, UPLINK_FRAME, line, put, trunk_of};
+use crate::lines::{NONE, UPLINK_FRAME, copied, line, put, trunk_of};
 use crate::rows::assert_row;
 use pool_run::OpenGate;
 use std::alloc::Global;
@@ -25,8 +25,8 @@ fn frame(i: usize) -> u8 {
 // A period of ones; a frame and 312 ones, by a shift of 156; a frame without its four time bits, by a shift of -2; a
 // frame; twelve ones. Shifts are in octets of the Pcm line, two bits of the downlink each.
 // So the frames begin at bits 320, 952 and 1268, the third one within an octet.
-fn downlink(rt: &impl Abort, alloc: Global) -> Vec<u8> {
-    let mut octets = vec![in alloc; 0xFF; 200].expect(rt, "memory");
+fn downlink() -> [u8; 200] {
+    let mut octets = [0xFF; 200];
     for i in 0..40 {
         octets[40 + i] = frame(i);
         octets[119 + i] = frame(i);
@@ -60,7 +60,7 @@ fn follow<R: Abort + Threads + Wait + Sync>(
 ) -> (Outcome, MemTrunk) {
     let (read, write, told) = faults;
     let mut trunk = trunk_of(rt, alloc, &[]);
-    let octets = downlink(rt, alloc);
+    let octets = copied(rt, alloc, &downlink());
     put(rt, alloc, &mut trunk, line(7, Up), octets, cut, read);
     let none = Vec::new(alloc);
     put(rt, alloc, &mut trunk, line(7, Down), none, cut, write);

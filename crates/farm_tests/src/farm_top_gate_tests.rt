@@ -1,8 +1,8 @@
 //! The workers of a run are several threads, and steal calls half done. No clause says so.
 
-use crate::farm_top_tests::carry;
+use crate::farm_top_tests::status_over;
 use crate::held::Held;
-use crate::lines::{Laid, NONE, trunk_of};
+use crate::lines::{Laid, NONE};
 use crate::paired::Paired;
 use crate::rows::assert_row;
 use std::alloc::Global;
@@ -105,8 +105,7 @@ const ORDERS: &str = "0 open 1\n0 open 2\n0 open 3\n";
 
 // Runs the calls 1, 2 and 3, by two workers in slices of one period. Returns the status.
 fn run_gated<R: Abort + Threads + Wait + Sync>(rt: &R, alloc: Global, gate: &Held) -> u8 {
-    let mut trunk = trunk_of(rt, alloc, &LINES);
-    carry(rt, alloc, &WORDS, &mut trunk, ORDERS, NONE, gate).status
+    status_over(rt, alloc, &WORDS, &LINES, ORDERS, gate)
 }
 
 // Whether the run's status is 0, each call passed the gate for three slices of each phase, and each wait of the gate met its
@@ -192,9 +191,8 @@ static UNEVEN_LINES: [Laid; 8] = [
 
 // Runs both calls, by two workers in slices of one period. Returns the status.
 fn run_paired<R: Abort + Threads + Wait + Sync>(rt: &R, alloc: Global, gate: &Paired) -> u8 {
-    let mut trunk = trunk_of(rt, alloc, &UNEVEN_LINES);
     let orders = "0 open 1\n0 open 2\n";
-    carry(rt, alloc, &WORDS, &mut trunk, orders, NONE, gate).status
+    status_over(rt, alloc, &WORDS, &UNEVEN_LINES, orders, gate)
 }
 
 // Each call passes the gate under its own number, twice for each of its periods: once in each phase.

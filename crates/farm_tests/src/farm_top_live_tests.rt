@@ -2,8 +2,8 @@
 //! whatever they do.
 
 use crate::between::Between;
-use crate::desk::{FailingDesk, WRITTEN};
-use crate::farm_top_tests::carry;
+use crate::desk::FailingDesk;
+use crate::farm_top_tests::{carry, status_over};
 use crate::lines::{Laid, NONE, line, trunk_of};
 use crate::met::Met;
 use crate::paired::Paired;
@@ -65,8 +65,20 @@ fn are_unused(trunk: &MemTrunk) -> bool {
     true
 }
 
-// A drill of one period by these callers: whether it prints its text, uses no line and passes the gate once for each call, and
-// this many waits of the gate end without their condition.
+// Whether a drill of one period by these callers, at this gate, prints its text and uses no line.
+fn is_told<R: Abort + Threads + Wait + Sync>(
+    rt: &R,
+    alloc: Global,
+    callers: &'static str,
+    gate: &Met,
+) -> bool {
+    let mut trunk = trunk_of(rt, alloc, &FAILING);
+    let words = ["live", "--calls=2", callers, "--periods=1"];
+    let outcome = carry(rt, alloc, &words, &mut trunk, "no orders", NONE, gate);
+    outcome.is(0, ONE_PERIOD) & are_unused(&trunk)
+}
+
+// The same, and whether it passes the gate once for each call, and this many waits of the gate end without their condition.
 fn live_met<R: Abort + Threads + Wait + Sync>(
     rt: &R,
     alloc: Global,
@@ -75,10 +87,7 @@ fn live_met<R: Abort + Threads + Wait + Sync>(
     used_up: u32,
 ) -> bool {
     let gate = Met::new(turns);
-    let mut trunk = trunk_of(rt, alloc, &FAILING);
-    let words = ["live", "--calls=2", callers, "--periods=1"];
-    let outcome = carry(rt, alloc, &words, &mut trunk, "no orders", NONE, &gate);
-    outcome.is(0, ONE_PERIOD) & are_unused(&trunk) & gate.passed(1) & (gate.used_up() == used_up)
+    is_told(rt, alloc, callers, &gate) && gate.passed(1) && gate.used_up() == used_up
 }
 
 // Neither of two callers can post its period before the other has come to post its own. With a single caller, the first wait
@@ -110,18 +119,25 @@ fn callers_meet_between_two_posts(rt: HostRuntime) {
     assert_row(&rt, 2, gate.used_up() == 0);
 }
 
-// A live drill of twenty periods by these callers, with inboxes for one post: whether its status is 0, and each period passes the
-// gate once.
+// A live drill of twenty periods by these callers, with inboxes for one post. Returns the status.
+fn live_gated<R: Abort + Threads + Wait + Sync>(
+    rt: &R,
+    alloc: Global,
+    callers: &'static str,
+    gate: &Paired,
+) -> u8 {
+    let words = ["live", "--calls=2", callers, "--periods=20", "--inbox=1"];
+    status_over(rt, alloc, &words, &FAILING, "", gate)
+}
+
+// Whether its status is 0, and each period passes the gate once.
 fn live_paired<R: Abort + Threads + Wait + Sync>(
     rt: &R,
     alloc: Global,
     callers: &'static str,
 ) -> bool {
     let gate = Paired::new();
-    let mut trunk = trunk_of(rt, alloc, &FAILING);
-    let words = ["live", "--calls=2", callers, "--periods=20", "--inbox=1"];
-    let status = carry(rt, alloc, &words, &mut trunk, "", NONE, &gate).status;
-    status == 0 && gate.passed([20, 20, 0])
+    live_gated(rt, alloc, callers, &gate) == 0 && gate.passed([20, 20, 0])
 }
 
 // Each period passes the gate once, even if its post is tried again.
@@ -135,15 +151,8 @@ fn each_period_passes_the_gate_once(rt: HostRuntime) {
 fn is_told_in_part<R: Abort + Threads + Wait + Sync>(rt: &R, alloc: Global) -> bool {
     let trunk = trunk_of(rt, alloc, &FAILING);
     let desk = FailingDesk::new(rt, alloc, "", 0, 1);
-    let run = carry_out(
-        rt,
-        alloc,
-        &["live", "--calls=2", "--periods=1"],
-        trunk,
-        desk,
-    );
-    let text = run.desk.text();
-    run.status == 4 && text.len() == WRITTEN && ONE_PERIOD.as_bytes().starts_with(text)
+    let words = ["live", "--calls=2", "--periods=1"];
+    carry_out(rt, alloc, &words, trunk, desk).is_cut(1, ONE_PERIOD.as_bytes())
 }
 
 #[test]

@@ -1,7 +1,7 @@
 //! The two phases of a round: different workers process the two calls of a bridge at once. No clause says so.
 
-use crate::farm_top_tests::carry;
-use crate::lines::{Laid, NONE, trunk_of};
+use crate::farm_top_tests::status_over;
+use crate::lines::{Laid, NONE};
 use crate::met::Met;
 use crate::rows::assert_row;
 use std::alloc::Global;
@@ -72,8 +72,19 @@ static LINES: [Laid; 8] = [
 
 const ORDERS: &str = "0 open 1\n0 open 2\n0 bridge 1 2\n";
 
-// Runs both calls, bridged from the first period on, in slices of one period: whether the status is 0, this many waits of the gate
-// end without their condition, and each call passes the gate for three slices of each phase.
+// Runs both calls, bridged from the first period on, in slices of one period. Returns the status.
+fn run_bridged<R: Abort + Threads + Wait + Sync>(
+    rt: &R,
+    alloc: Global,
+    workers: &'static str,
+    gate: &Met,
+) -> u8 {
+    let words = ["run", "--workers", workers, "--slice", "1"];
+    status_over(rt, alloc, &words, &LINES, ORDERS, gate)
+}
+
+// Whether the run's status is 0, this many waits of the gate end without their condition, and each call passes the gate for three
+// slices of each phase.
 fn run_met<R: Abort + Threads + Wait + Sync>(
     rt: &R,
     alloc: Global,
@@ -82,10 +93,7 @@ fn run_met<R: Abort + Threads + Wait + Sync>(
     used_up: u32,
 ) -> bool {
     let gate = Met::new(turns);
-    let mut trunk = trunk_of(rt, alloc, &LINES);
-    let words = ["run", "--workers", workers, "--slice", "1"];
-    let outcome = carry(rt, alloc, &words, &mut trunk, ORDERS, NONE, &gate);
-    outcome.status == 0 && gate.used_up() == used_up && gate.passed(6)
+    run_bridged(rt, alloc, workers, &gate) == 0 && gate.used_up() == used_up && gate.passed(6)
 }
 
 // Each call starts in a deque of its own, and neither of two workers can go on with the first slice of a phase before the other

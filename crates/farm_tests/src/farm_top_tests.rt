@@ -97,6 +97,19 @@ pub(crate) fn carry_at<R: Abort + Threads + Wait + Sync, G: Gate + Sync>(
     Outcome { status, text }
 }
 
+// Runs the command of these words over these lines, with these orders and this gate for the workers. Returns the status.
+pub(crate) fn status_over<R: Abort + Threads + Wait + Sync, G: Gate + Sync>(
+    rt: &R,
+    alloc: Global,
+    texts: &[&str],
+    lines: &[Laid],
+    orders: &str,
+    gate: &G,
+) -> u8 {
+    let mut trunk = trunk_of(rt, alloc, lines);
+    carry(rt, alloc, texts, &mut trunk, orders, NONE, gate).status
+}
+
 // Which operation of the incoming lines, of the outgoing lines and of the desk fails.
 type Faults = (u32, u32, u32);
 

@@ -214,6 +214,20 @@ fn told<'a>(
     jobs
 }
 
+// Runs jobs of these numbers of places, by this number of workers and in slices of this number of places.
+fn run_watched<R: Abort + Threads + Wait + Sync>(
+    rt: &R,
+    alloc: Global,
+    places: &[u32; 3],
+    workers: u32,
+    slice: u32,
+    watched: &Watched,
+) {
+    let room = PoolRoom::reserve(alloc, workers.clamp(1, 64), 3).expect(rt, "memory");
+    let jobs = told(rt, alloc, places, watched);
+    let _answer = run_pool(rt, room, jobs, slice.max(1), watched);
+}
+
 // Whether this number of workers runs each slice of three jobs between the slice's own two calls of the gate.
 fn each_slice_is_between<R: Abort + Threads + Wait + Sync>(
     rt: &R,
@@ -223,9 +237,7 @@ fn each_slice_is_between<R: Abort + Threads + Wait + Sync>(
     slices: [u32; 3],
 ) -> bool {
     let watched = Watched::new();
-    let room = PoolRoom::reserve(alloc, workers.clamp(1, 64), 3).expect(rt, "memory");
-    let jobs = told(rt, alloc, &[3, 5, 4], &watched);
-    let _answer = run_pool(rt, room, jobs, slice.max(1), &watched);
+    run_watched(rt, alloc, &[3, 5, 4], workers, slice, &watched);
     watched.each_is_between(slices)
 }
 

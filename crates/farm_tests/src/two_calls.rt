@@ -1,6 +1,6 @@
 //! Two calls of 30 periods, bridged at period 4, in rounds of at most 7 periods.
 
-use crate::desk::FailingDesk;
+use crate::desk::{FailingDesk, WRITTEN};
 use crate::farm_top_tests::status_of;
 use crate::lines::{NONE, line, numbered, put, trunk_of};
 use pool_run::OpenGate;
@@ -9,7 +9,7 @@ use std::process::Abort;
 use std::sync::Wait;
 use std::thread::Threads;
 use trau_io::Side::{Down, Out, Pcm, Up};
-use trau_io::{MemTrunk, Side};
+use trau_io::{Line, MemTrunk, Side};
 
 pub(crate) const ORDERS: &str = "0 open 7\n0 open 9\n4 bridge 7 9\n";
 
@@ -63,6 +63,23 @@ pub(crate) struct Outcome {
     pub(crate) trunk: MemTrunk,
 }
 
+impl Outcome {
+    // Whether a command has this status and this text.
+    pub(crate) fn is(&self, status: u8, text: &[u8]) -> bool {
+        self.status == status && self.desk.text() == text
+    }
+
+    // Whether a command whose desk failed has told what this number of writes take of a report, and not all of it.
+    pub(crate) fn is_cut(&self, writes: u32, report: &[u8]) -> bool {
+        let text = self.desk.text();
+        let length = writes as usize * WRITTEN;
+        self.status == 4
+            && text.len() == length
+            && length < report.len()
+            && report.starts_with(text)
+    }
+}
+
 // Runs a command over these lines, at this desk.
 pub(crate) fn carry_out<R: Abort + Threads + Wait + Sync>(
     rt: &R,
@@ -98,10 +115,15 @@ pub(crate) fn carry_calm<R: Abort + Threads + Wait + Sync>(
     carry(rt, alloc, trunk, FailingDesk::calm(rt, alloc, ORDERS))
 }
 
+// Whether a line got the same in two runs.
+fn is_same(trunk: &MemTrunk, other: &MemTrunk, line: Line) -> bool {
+    trunk.written(line) == other.written(line)
+}
+
 // Whether the outgoing lines got the same in two runs.
 pub(crate) fn is_written(trunk: &MemTrunk, other: &MemTrunk) -> bool {
-    trunk.written(line(7, Down)) == other.written(line(7, Down))
-        && trunk.written(line(7, Out)) == other.written(line(7, Out))
-        && trunk.written(line(9, Down)) == other.written(line(9, Down))
-        && trunk.written(line(9, Out)) == other.written(line(9, Out))
+    is_same(trunk, other, line(7, Down))
+        && is_same(trunk, other, line(7, Out))
+        && is_same(trunk, other, line(9, Down))
+        && is_same(trunk, other, line(9, Out))
 }
