@@ -18,7 +18,7 @@ pub enum RunEnd {
 }
 
 /// How a command on lines ended.
-#[derive(Clone, Copy, Debug, PartialEq, Eq)]
+#[derive(Clone, Copy)]
 pub enum ToolEnd {
     /// The line was read to its end, or to 4,294,967,295 blocks.
     Done,

@@ -1,7 +1,7 @@
 -- The octets of a place, octets that are written, and tests of places.
-use Rattle.std.proofs.Common.{◌≡◌, ◌∙◌, ℕ, ◌+◌, ◌-◌, ◌*◌, ◌<◌, ◌≤◌, ◌==◌, ltb, true, false, List, ◌++◌, length, take, drop, sym, ap, append_assoc, Vec, arith}
+use Rattle.std.proofs.Common.{◌≡◌, ◌∙◌, ℕ, ◌+◌, ◌-◌, ◌*◌, ◌<◌, ◌≤◌, ◌==◌, ltb, true, false, List, ◌++◌, length, take, drop, sym, ap, append_assoc, length-append, Vec, arith}
 use Rattle.std.proofs.lemmas.Bool.Decides.{nat_tests}
-use Rattle.std.proofs.lemmas.List.{drop-drop, with_items_is}
+use Rattle.std.proofs.lemmas.List.{drop-drop, length-drop, length-take-le, with_items_is}
 use Rattle.std.specs.Vec.{with_items}
 use borrow.Rule.Slice.PartMut.{put_mid, mid_of, same_len_mid}
 use Rattle.call_pair.specs.Memory.{IoMemory, IsIo}
@@ -30,6 +30,30 @@ with_items-written v start n buffer part octets was same now long =
     let fits = same_len_mid start k buffer part same in
     with_items_is v (put_mid start k buffer part) (omega (arith, fits, ap length was, v.ok.0)) ∙ ap (put_mid start k buffer) now ∙
     put_mid-written start k buffer octets (omega arith) ∙ ap (λ (xs : List ℕ). written xs start octets) was
+
+-- a buffer whose contents were lent keeps its length
+pub length-with_items : {Z : Type 0} (v : Vec ℕ Z) (xs : List ℕ) → length (with_items v xs).items ≡ length v.items
+length-with_items v xs =
+    let all = length-append xs (drop (length xs) v.items) in
+    let rest = length-drop (length xs) v.items in
+    let there : v.len ≤ length (xs ++ drop (length xs) v.items) = omega (arith, all, rest, v.ok.0) in
+    length-take-le v.len (xs ++ drop (length xs) v.items) there ∙ (let e : v.len ≡ length v.items = omega (arith, v.ok.0) in e)
+
+-- octets of the same lengths are a call's as well
+pub io-stands : (io : IoMemory) (up pcm out down : List ℕ) → IsIo io → length up ≡ length io.up → length pcm ≡ length io.pcm → length out ≡ length io.out →
+    length down ≡ length io.down → IsIo (record io { up = up; pcm = pcm; out = out; down = down })
+io-stands io up pcm out down h u p o d = record {
+  number = h.number;
+  room = record {
+    periods = h.room.periods;
+    enough = h.room.enough;
+    up_room = u ∙ h.room.up_room;
+    pcm_room = p ∙ h.room.pcm_room;
+    out_room = o ∙ h.room.out_room;
+    down_room = d ∙ h.room.down_room;
+  };
+  within = h.within;
+}
 
 pub is_same : (m n : ℕ) → m ≡ n → (m == n) ≡ true
 is_same m n e = grind (arith, nat_tests)

@@ -11,7 +11,7 @@ use Rattle.command_words.specs.declared.asked.Settings.{Settings}
 use Rattle.command_words.specs.declared.live.LiveSettings.{LiveSettings}
 use Rattle.command_words.specs.Asking.{IsToolOn, AsksTool, Asks, AskForOne}
 use Rattle.command_words.specs.Options.{GivesSettings}
-use Rattle.command_words.specs.Run.{run_app, AreOptions}
+use Rattle.command_words.specs.Run.{run_app, AreOptions, GivePeriods}
 use Rattle.command_words.specs.Drill.{drill_app, AreDrillOptions, GivesDrill}
 use Rattle.command_words.specs.Live.{live_app, AreLiveOptions, GivesLive}
 use Rattle.command_words.specs.Slots.{AsksSlot, IsSlotOn, NamesSlot}
@@ -114,7 +114,30 @@ no_asked words no_run no_save no_resume no_drill no_live no_tool no_follow no_sl
 no_asked words no_run no_save no_resume no_drill no_live no_tool no_follow no_slot (Split c) asks = no_slot (Split c) asks
 no_asked words no_run no_save no_resume no_drill no_live no_tool no_follow no_slot (Merge c) asks = no_slot (Merge c) asks
 
--- words that begin with `drill` or `live` and don't give its options ask for nothing
+-- words that begin with a command that takes options and don't give its options ask for nothing
+pub no_run : (words options : List Text) → words ≡ codes "run" ∷ options → ((s : Settings) → AreOptions options s → ⊥) → (a : Asked) → Asks words a → ⊥
+no_run words options is none a asks =
+    let m = kind_by_word words options (codes "run") a is asks in
+    let also = m.1.0.spelled in
+    let same : m.1.0.options ≡ options = cc in
+    none m.0 (subst (λ (os : List Text). AreOptions os m.0) same m.1.0.are)
+
+pub no_save : (words options : List Text) → words ≡ codes "save" ∷ options → ((s : Settings) → AreOptions options s → GivePeriods options → ⊥) → (a : Asked) →
+    Asks words a → ⊥
+no_save words options is none a asks =
+    let m = kind_by_word words options (codes "save") a is asks in
+    let also = m.1.0.spelled in
+    let same : m.1.0.options ≡ options = cc in
+    none m.0 (subst (λ (os : List Text). AreOptions os m.0) same m.1.0.are) (subst (λ (os : List Text). GivePeriods os) same m.1.0.marked)
+
+pub no_resume : (words options : List Text) → words ≡ codes "resume" ∷ options → ((s : Settings) → AreOptions options s → ⊥) → (a : Asked) → Asks words a →
+    ⊥
+no_resume words options is none a asks =
+    let m = kind_by_word words options (codes "resume") a is asks in
+    let also = m.1.0.spelled in
+    let same : m.1.0.options ≡ options = cc in
+    none m.0 (subst (λ (os : List Text). AreOptions os m.0) same m.1.0.are)
+
 pub no_drill : (words options : List Text) → words ≡ codes "drill" ∷ options → ((seed calls : ℕ) (s : Settings) → AreDrillOptions options seed calls s → ⊥) →
     (a : Asked) → Asks words a → ⊥
 no_drill words options is none a asks =

@@ -8,7 +8,7 @@ use crate::compare::first_difference;
 use std::marker::Model;
 
 /// A call that is open at a mark.
-#[derive(Clone, Copy, Debug, PartialEq, Eq)]
+#[derive(Clone, Copy, PartialEq, Eq)]
 pub struct MarkCall {
     /// Its number, 1 to 4,096.
     pub call: u32,

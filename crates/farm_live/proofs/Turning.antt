@@ -51,6 +51,18 @@ pub worked_some : {E : Type 0} (b back : BookState) (r : Result (Option Entry) E
 worked_some {E} b back r o e p q answer = subst (λ (x : Option Entry). MatchOption x ((b.inbox ≡ []) × (back ≡ b)) (λ e. Worked b e back)) q
     (subst (λ (x : Result (Option Entry) E). MatchResult x (λ o. MatchOption o ((b.inbox ≡ []) × (back ≡ b)) (λ e. Worked b e back)) (λ _. back ≡ b)) p answer)
 
+-- an answer without one
+pub worked_none : {E : Type 0} (b back : BookState) (r : Result (Option Entry) E) (o : Option Entry) → r ≡ Ok o → o ≡ None →
+    MatchResult r (λ o. MatchOption o ((b.inbox ≡ []) × (back ≡ b)) (λ e. Worked b e back)) (λ _. back ≡ b) → (b.inbox ≡ []) × (back ≡ b)
+worked_none {E} b back r o p q answer = subst (λ (x : Option Entry). MatchOption x ((b.inbox ≡ []) × (back ≡ b)) (λ e. Worked b e back)) q
+    (subst (λ (x : Result (Option Entry) E). MatchResult x (λ o. MatchOption o ((b.inbox ≡ []) × (back ≡ b)) (λ e. Worked b e back)) (λ _. back ≡ b)) p answer)
+
+-- no answer, for want of memory
+pub worked_err : {E : Type 0} (b back : BookState) (r : Result (Option Entry) E) (e : E) → r ≡ Err e →
+    MatchResult r (λ o. MatchOption o ((b.inbox ≡ []) × (back ≡ b)) (λ e. Worked b e back)) (λ _. back ≡ b) → back ≡ b
+worked_err {E} b back r e p answer =
+    subst (λ (x : Result (Option Entry) E). MatchResult x (λ o. MatchOption o ((b.inbox ≡ []) × (back ≡ b)) (λ e. Worked b e back)) (λ _. back ≡ b)) p answer
+
 -- whatever came of working, the book may be given back
 pub may_worked : {E : Type 0} (v : View) (b back : BookState) (r : Result (Option Entry) E) → Held v (took v b) →
     MatchResult r (λ o. MatchOption o ((b.inbox ≡ []) × (back ≡ b)) (λ e. Worked b e back)) (λ _. back ≡ b) → May (took v b) back
@@ -100,13 +112,18 @@ unfolding record_of
 goes_on b few = let posts = length-append (map (λ (e : Entry). e.post) b.history) b.inbox in let same = length-map b.history (λ (e : Entry). e.post) in omega
     arith
 
+-- the book was given back as it was taken
+pub looked_at : (v w u : View) (b back : BookState) → w ≡ took v b → Held v w → back ≡ b → u ≡ gave w back → Looked v u × (u.taken ≡ b)
+looked_at v w u b back is h same given =
+    let e : gave (took v b) b ≡ u = ap (λ k. gave (took v b) k) (sym same) ∙ given_as v w u b back is given in
+    subst (λ (y : View). Looked v y × (y.taken ≡ b)) e (turned_same v b (held_as v w b is h), refl)
+
 -- the inbox was full
 pub full_at : (v w u : View) (b back : BookState) → w ≡ took v b → Held v w → back ≡ b → u ≡ gave w back → length b.inbox ≡ b.is_of.room
     → Looked v u × (length u.taken.inbox ≡ v.is_of.room)
 full_at v w u b back is h same given full =
-    let t = held_as v w b is h in
-    let e : gave (took v b) b ≡ u = ap (λ k. gave (took v b) k) (sym same) ∙ given_as v w u b back is given in
-    subst (λ (y : View). Looked v y × (length y.taken.inbox ≡ v.is_of.room)) e (turned_same v b t, full ∙ ap (λ (n : BookOf). n.room) t.is_of)
+    let looked = looked_at v w u b back is h same given in
+    (looked.0, ap (λ k. length k.inbox) looked.1 ∙ full ∙ ap (λ (n : BookOf). n.room) (held_as v w b is h).is_of)
 
 -- how many entries were before the one that was worked
 pub placed_at : (v w u : View) (b back : BookState) (n : ℕ) → w ≡ took v b → u ≡ gave w back → n ≡ length b.history → n ≡ length u.taken.history

@@ -5,7 +5,7 @@ use switchboard::{Reply, Span};
 use trau_io::{CallEnd, Counts, Line};
 
 /// A call of the run: its first period, its end, and what was counted over its periods.
-#[derive(Clone, Copy, Debug, PartialEq, Eq)]
+#[derive(Clone, Copy)]
 pub struct CallLine {
     pub end: CallEnd,
     pub from: u32,
@@ -13,7 +13,7 @@ pub struct CallLine {
 }
 
 /// A bridge of the run, with the numbers of handed frames that were sent and lost.
-#[derive(Clone, Copy, Debug, PartialEq, Eq)]
+#[derive(Clone, Copy)]
 pub struct SpanLine {
     pub span: Span,
     /// Frames of call `a` that call `b` sent.

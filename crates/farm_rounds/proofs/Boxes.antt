@@ -1,5 +1,5 @@
 -- The open calls in their boxes, by their places.
-use Rattle.std.proofs.Common.{◌≡◌, ◌≢◌, refl, sym, ap, ◌∙◌, subst, ℕ, zero, suc, ◌+◌, ◌<◌, ◌≤◌, Bool, true, false, List, [], ◌∷◌, ◌++◌, length, map, get_or, arith, inl, inr}
+use Rattle.std.proofs.Common.{◌≡◌, ◌≢◌, refl, sym, ap, ◌∙◌, subst, ℕ, zero, suc, ◌+◌, ◌<◌, ◌≤◌, Bool, true, false, List, [], ◌∷◌, ◌++◌, length, length-append, map, get_or, arith, inl, inr}
 use Rattle.std.specs.Prelude.{slice_set, filter}
 use Rattle.std.specs.Global.{Box}
 use Rattle.std.proofs.lemmas.Bool.{cases_lt, eq-eqb, ne_eqb}
@@ -38,6 +38,19 @@ at_back [] ys n e = ap (λ (k : ℕ). open_at ys k) (sym e)
 at_back (x ∷ xs) ys zero e = absurd (omega arith)
 at_back (x ∷ xs) ys (suc n) e = at_back xs ys n (omega (arith, e))
 
+-- what is read in one of two parts is read in the whole
+pub front_read : (bs xs ys : List (Box OpenCall)) (k : ℕ) (b : Box OpenCall) (o : OpenCall) → bs ≡ xs ++ ys → k < length xs →
+    o ≡ (get_or xs k b).value → o ≡ open_at bs k
+front_read bs xs ys k b o parts l e = e ∙ at_read xs k b l ∙ sym (at_front xs ys k l) ∙ ap (λ (zs : List (Box OpenCall)). open_at zs k) (sym parts)
+
+pub back_long : (bs xs ys : List (Box OpenCall)) (n : ℕ) → bs ≡ xs ++ ys → length xs ≡ n → n < length bs → 0 < length ys
+back_long bs xs ys n parts long l = omega (arith, ap length parts, length-append xs ys, long, l)
+
+pub back_read : (bs xs ys : List (Box OpenCall)) (n : ℕ) (b : Box OpenCall) (o : OpenCall) → bs ≡ xs ++ ys → length xs ≡ n → n < length bs →
+    o ≡ (get_or ys 0 b).value → o ≡ open_at bs n
+back_read bs xs ys n b o parts long l e =
+    e ∙ at_read ys 0 b (back_long bs xs ys n parts long l) ∙ sym (at_back xs ys n long) ∙ ap (λ (zs : List (Box OpenCall)). open_at zs n) (sym parts)
+
 pub front_set : (xs ys : List (Box OpenCall)) (k : ℕ) (b : Box OpenCall) → k < length xs → open_at (slice_set xs k b ++ ys) k ≡ b.value
 front_set [] ys k b l = absurd (omega arith)
 front_set (x ∷ xs) ys zero b l = refl
@@ -50,6 +63,9 @@ front_other (x ∷ xs) ys zero (suc j) b ne = refl
 front_other (x ∷ xs) ys (suc k) zero b ne = refl
 front_other (x ∷ xs) ys (suc k) (suc j) b ne = front_other xs ys k j b (λ e. ne (ap suc e))
 
+pub back_set : (xs ys : List (Box OpenCall)) (n : ℕ) (b : Box OpenCall) → length xs ≡ n → 0 < length ys → open_at (xs ++ slice_set ys 0 b) n ≡ b.value
+back_set xs ys n b e l = at_back xs (slice_set ys 0 b) n e ∙ at_set ys 0 b l
+
 pub back_other : (xs ys : List (Box OpenCall)) (n j : ℕ) (b : Box OpenCall) → length xs ≡ n → j ≢ n → open_at (xs ++ slice_set ys 0 b) j ≡ open_at (xs ++ ys) j
 back_other [] [] n j b e ne = refl
 back_other [] (y ∷ ys) n zero b e ne = absurd (ne e)
@@ -57,6 +73,10 @@ back_other [] (y ∷ ys) n (suc j) b e ne = refl
 back_other (x ∷ xs) ys zero j b e ne = absurd (omega (arith, e))
 back_other (x ∷ xs) ys (suc n) zero b e ne = refl
 back_other (x ∷ xs) ys (suc n) (suc j) b e ne = back_other xs ys n j b (omega (arith, e)) (λ q. ne (ap suc q))
+
+-- the partner's notes reach as far, as both are read
+pub told_same : (o p o' p' : OpenCall) → o ≡ o' → p ≡ p' → o'.job.bridge_end ≤ length p'.job.notes → o.job.bridge_end ≤ length p.job.notes
+told_same o p o' p' eo ep l = omega (arith, ap (λ (x : OpenCall). x.job.bridge_end) eo, ap (λ (x : OpenCall). length x.job.notes) ep, l)
 
 pub heard_same : (o p o' p' : OpenCall) (i : OpenCall) → i ≡ with_job o (heard_from p.job o.job) → o ≡ o' → p ≡ p' →
     i ≡ with_job o' (heard_from p'.job o'.job)

@@ -1,7 +1,7 @@
 //! The pace of a run.
 
 /// The workers, batch, slice and length of a run.
-#[derive(Clone, Copy, Debug, PartialEq, Eq)]
+#[derive(Clone, Copy, PartialEq, Eq)]
 pub struct Pace {
     /// The workers of a round's pool, 1 to 64.
     pub workers: u32,

@@ -1,7 +1,7 @@
 //! The tools that write a line.
 
 /// A tool: it reads the blocks of one line of a call, and writes another.
-#[derive(Clone, Copy, Debug, PartialEq, Eq)]
+#[derive(Clone, Copy, PartialEq, Eq)]
 pub enum Tool {
     /// Good speech frames of the uplink, bits unchanged, to the downlink.
     Relay,

@@ -8,7 +8,7 @@ use crate::passes::{compensate, downscale, follow, preemphasise};
 /// The state of preprocessing in one call: the last downscaled sample, the sum of the offset compensation, and the last
 /// sample before preemphasis. After any samples from the home state both bounds hold, and under them no sum of two long
 /// words is clamped.
-#[derive(Clone, Copy, Debug, PartialEq, Eq)]
+#[derive(Clone, Copy, PartialEq, Eq)]
 #[repr(C)]
 pub struct PreState {
     /// z1, the last downscaled sample (so).

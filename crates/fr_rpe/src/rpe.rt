@@ -3,7 +3,7 @@
 ghost use Rattle.std.specs.Prelude.{◌<◌, pos, ◌≤ℤ◌, All};
 
 /// The parameters of a block of 40 samples, and what they decode to.
-#[derive(Clone, Copy, Debug)]
+#[derive(Clone, Copy)]
 pub struct Rpe {
     /// Grid position, 2 bits.
     pub mc: u8,

@@ -1,7 +1,7 @@
 //! The numbers of a live drill.
 
 /// A live drill, by its numbers.
-#[derive(Clone, Copy, Debug)]
+#[derive(Clone, Copy)]
 pub struct LiveDrill {
     /// What the periods are drawn from.
     pub seed: u32,

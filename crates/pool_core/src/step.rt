@@ -1,7 +1,7 @@
 //! The steps of the machine.
 
 /// What a worker does. Workers are numbered from 0.
-#[derive(Clone, Copy, Debug, PartialEq, Eq)]
+#[derive(Clone, Copy, PartialEq, Eq)]
 pub enum PoolStep {
     /// The worker's hand is empty and its deque isn't: the front job goes into its hand.
     Pop { worker: u32 },
@@ -18,7 +18,7 @@ pub enum PoolStep {
 }
 
 /// A step that isn't legal. It changed nothing.
-#[derive(Clone, Copy, Debug, PartialEq, Eq)]
+#[derive(Clone, Copy, PartialEq, Eq)]
 pub struct NotLegal {
     pub step: PoolStep,
 }

@@ -7,14 +7,14 @@ ghost use Rattle.round_lines.specs.Transfer.{Takes, LineGives};
 use trau_io::{Failed, Filled, Line, Trunk, read_block, write_all};
 
 /// What an incoming line gave in a round: the number of octets, and whether it failed after them.
-#[derive(Clone, Copy, Debug, PartialEq, Eq)]
+#[derive(Clone, Copy, PartialEq, Eq)]
 pub struct Taken {
     pub count: usize,
     pub failed: bool,
 }
 
 /// The state of an outgoing line in a round.
-#[derive(Clone, Copy, Debug, PartialEq, Eq)]
+#[derive(Clone, Copy, PartialEq, Eq)]
 pub enum Outlet {
     /// It has never failed.
     Sound,

@@ -3,7 +3,7 @@
 use trau_params::Params;
 
 /// The frame that is decoded for a period or, in a bridge, handed to the partner.
-#[derive(Clone, Copy, Debug, PartialEq, Eq)]
+#[derive(Clone, Copy, PartialEq, Eq)]
 pub enum Effective {
     /// Neither good speech nor a silence descriptor came yet, or none since the last idle frame.
     Quiet,

@@ -5,7 +5,7 @@ use trau_alaw::Law;
 use trau_orders::DtxMode;
 
 /// Why an order is refused. `partner` is the other call of the bridge in question.
-#[derive(Clone, Copy, Debug, PartialEq, Eq)]
+#[derive(Clone, Copy, PartialEq, Eq)]
 pub enum Refusal {
     /// `open` of a call that is open.
     AlreadyOpen { call: u32 },
@@ -24,7 +24,7 @@ pub enum Refusal {
 }
 
 /// What an accepted order does, at the start of the period that its stamp names.
-#[derive(Clone, Copy, Debug, PartialEq, Eq)]
+#[derive(Clone, Copy, PartialEq, Eq)]
 pub enum Act {
     /// `law` is that of the call's lines from and to the exchange.
     Opened { call: u32, law: Law },
@@ -41,7 +41,7 @@ pub enum Act {
 }
 
 /// The reply to an order. Orders are numbered from 1.
-#[derive(Clone, Copy, Debug, PartialEq, Eq)]
+#[derive(Clone, Copy, PartialEq, Eq)]
 pub struct Reply {
     pub order: u32,
     pub result: Result<Act, Refusal>,
@@ -49,7 +49,7 @@ pub struct Reply {
 
 /// A bridge that has ended: its first period of the run, and the first one after it. They are equal if the bridge has
 /// no period.
-#[derive(Clone, Copy, Debug, PartialEq, Eq)]
+#[derive(Clone, Copy, PartialEq, Eq)]
 pub struct Span {
     pub a: u32,
     pub b: u32,

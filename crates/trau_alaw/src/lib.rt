@@ -21,7 +21,7 @@ pub use laws::{intervals_part_the_words, recompress, recompress_law};
 pub use period::{compress_all, expand_all};
 
 /// The law of a PCM line.
-#[derive(Clone, Copy, Debug, PartialEq, Eq)]
+#[derive(Clone, Copy, PartialEq, Eq)]
 pub enum Law {
     /// A-law.
     A,

@@ -1,12 +1,11 @@
 -- Each role has its place.
 use Rattle.std.proofs.Common.{◌≡◌, ℕ, ◌+◌, ◌-◌, ◌*◌, ◌/◌, ◌%◌, ◌<◌, ◌≤◌, Bool, true, false, ◌&&◌, ◌||◌, not, ◌⊎◌, inl, inr, nat_eq, nat_lt, nat_le, List}
-use Rattle.std.proofs.Common.{get_or, refl, sym, ap, ◌∙◌, subst, arith, rules}
+use Rattle.std.proofs.Common.{get_or, refl, sym, ap, ◌∙◌, subst, arith}
 use Rattle.std.specs.List.{list_all, range_with_len}
 use Rattle.std.proofs.lemmas.List.Recursion.{and_at}
 use Rattle.std.proofs.lemmas.List.FromFn.{length-range_with_len, get_or-range_with_len}
-use Rattle.std.proofs.lemmas.Bool.{cases_eq, cases_lt, le-ltb, ne_eqb}
+use Rattle.std.proofs.lemmas.Bool.{cases_eq, cases_lt, le-ltb, ne_eqb, and_parts, eqb-true, ltb-true, leb-true}
 use Rattle.std.proofs.lemmas.Bool.Decides.{nat_tests}
-use Rattle.std.proofs.lemmas.Grind.{common_steps}
 use Rattle.trau_frame.specs.Role.{Role, Sync, Control, Data, Time, role_of, place_of_role, IsRole}
 use Rattle.trau_frame.specs.Frame.{Synced}
 
@@ -77,17 +76,22 @@ entry p a len n t l h =
 
 -- what the tests say
 from_same : (r s : Role) → same_role r s ≡ true → r ≡ s
-from_same (Sync a) (Sync b) h = search rules
-from_same (Control a) (Control b) h = search rules
-from_same (Data a) (Data b) h = search rules
-from_same (Time a) (Time b) h = search rules
+from_same (Sync a) (Sync b) h = ap Sync (eqb-true a b h)
+from_same (Control a) (Control b) h = ap Control (eqb-true a b h)
+from_same (Data a) (Data b) h = ap Data (eqb-true a b h)
+from_same (Time a) (Time b) h = ap Time (eqb-true a b h)
 from_same r s h = cc
 
+from_range : (low high n : ℕ) → (nat_le low n && nat_le n high) ≡ true → (low ≤ n) × (n ≤ high)
+from_range low high n h =
+    let both = and_parts (nat_le low n) (nat_le n high) h in
+    (leb-true low n both.0, leb-true n high both.1)
+
 from_is_role : (r : Role) → is_role r ≡ true → IsRole r
-from_is_role (Sync bit) h = grind (arith, common_steps)
-from_is_role (Control c) h = grind (arith, common_steps)
-from_is_role (Data n) h = grind (arith, common_steps)
-from_is_role (Time t) h = grind (arith, common_steps)
+from_is_role (Sync bit) h = ltb-true bit 2 h
+from_is_role (Control c) h = from_range 1 21 c h
+from_is_role (Data n) h = from_range 1 260 n h
+from_is_role (Time t) h = from_range 1 4 t h
 
 -- ---- roles
 
@@ -110,9 +114,9 @@ role_of-within i h = from_is_role (role_of i) (entry (λ i. is_role (role_of i))
 -- a role other than a sync bit's has its place alone
 only_here : (r : Role) (i : ℕ) → (is_sync r || nat_eq (place_of_role r) i) ≡ true → ((bit : ℕ) → r ≡ Sync bit → ⊥) → place_of_role r ≡ i
 only_here (Sync bit) i t h = absurd (h bit refl)
-only_here (Control c) i t h = search rules
-only_here (Data n) i t h = search rules
-only_here (Time n) i t h = search rules
+only_here (Control c) i t h = eqb-true (place_of_role (Control c)) i t
+only_here (Data n) i t h = eqb-true (place_of_role (Data n)) i t
+only_here (Time n) i t h = eqb-true (place_of_role (Time n)) i t
 
 pub place_of-role_of : (i : ℕ) → i < 320 → ((bit : ℕ) → role_of i ≡ Sync bit → ⊥) → place_of_role (role_of i) ≡ i
 place_of-role_of i l h =

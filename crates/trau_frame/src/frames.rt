@@ -4,7 +4,7 @@ ghost use Rattle.std.specs.Prelude.{◌≤◌};
 ghost use Rattle.trau_bits.specs.Bits.{AreBits};
 
 /// What a frame carries, by its bits C1 to C5.
-#[derive(Clone, Copy, Debug, PartialEq, Eq)]
+#[derive(Clone, Copy, PartialEq, Eq)]
 pub enum Kind {
     /// A speech frame, good or bad, or one with a silence descriptor.
     Speech,
@@ -15,7 +15,7 @@ pub enum Kind {
 }
 
 /// The class of an uplink speech frame, by its bad frame indicator and its silence descriptor, modelled on GSM 06.31.
-#[derive(Clone, Copy, Debug, PartialEq, Eq)]
+#[derive(Clone, Copy, PartialEq, Eq)]
 pub enum Class {
     /// Speech.
     Good,

@@ -4,7 +4,7 @@
 use crate::Side;
 
 /// Why a call ended.
-#[derive(Clone, Copy, Debug, PartialEq, Eq)]
+#[derive(Clone, Copy)]
 pub enum Cause {
     /// An accepted order closed it.
     Closed,
@@ -17,7 +17,7 @@ pub enum Cause {
 }
 
 /// The end of a call: `at` is the first period after it.
-#[derive(Clone, Copy, Debug, PartialEq, Eq)]
+#[derive(Clone, Copy)]
 pub struct CallEnd {
     pub call: u32,
     pub at: u32,
@@ -26,7 +26,7 @@ pub struct CallEnd {
 
 /// What was counted over the periods of a call: the yields of its uplink's search by their class, the
 /// periods in which no yield ended, and the downlink frames that were made.
-#[derive(Clone, Copy, Debug, PartialEq, Eq)]
+#[derive(Clone, Copy, PartialEq, Eq)]
 pub struct Counts {
     /// Good speech frames.
     pub good: u64,

@@ -3,7 +3,7 @@
 ghost use Rattle.call_number.specs.CallNumber.{IsCallNumber};
 
 /// Which of a call's four lines.
-#[derive(Clone, Copy, Debug, PartialEq, Eq)]
+#[derive(Clone, Copy, PartialEq, Eq)]
 pub enum Side {
     /// From the base station: 40 octets (one frame of 320 bits) a period of 20 ms.
     Up,
@@ -34,7 +34,7 @@ impl Side {
 }
 
 /// A line: a call's number, 1 to 4,096, and a side.
-#[derive(Clone, Copy, Debug, PartialEq, Eq)]
+#[derive(Clone, Copy, PartialEq, Eq)]
 pub struct Line {
     pub call: u32,
     pub side: Side,
@@ -42,5 +42,5 @@ pub struct Line {
 }
 
 /// The operation failed and was counted as a fault.
-#[derive(Clone, Copy, Debug, PartialEq, Eq)]
+#[derive(Clone, Copy, PartialEq, Eq)]
 pub struct Failed;

@@ -7,7 +7,7 @@ ghost use Rattle.trau_io.specs.Transfer.{FillsBlock, ReadsBlock, WritesAll, Tell
 use crate::{Desk, Failed, Line, Trunk};
 
 /// How a block was filled: to its end, or with this number of octets before the line ended or failed.
-#[derive(Clone, Copy, Debug, PartialEq, Eq)]
+#[derive(Clone, Copy, PartialEq, Eq)]
 pub enum Filled {
     Whole,
     Ended(usize),

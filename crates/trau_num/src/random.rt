@@ -4,7 +4,7 @@ ghost use Rattle.std.specs.Prelude.{◌≡◌, ℕ, ◌<◌, ◌≤◌};
 ghost use Rattle.trau_num.specs.Random.{state_after_draw, drawn_number};
 
 /// The random source of a call, which starts at the call's number.
-#[derive(Clone, Copy, Debug, PartialEq, Eq)]
+#[derive(Clone, Copy)]
 pub struct Draw {
     /// The state: any word of 16 bits.
     pub r: u16,

@@ -4,7 +4,7 @@ use trau_alaw::Law;
 
 /// Whether pauses of a call's downlink go out as silence descriptors with SP 0, so that the base station need not send
 /// in them: discontinuous transmission, DTX (GSM 06.31).
-#[derive(Clone, Copy, Debug, PartialEq, Eq)]
+#[derive(Clone, Copy, PartialEq, Eq)]
 pub enum DtxMode {
     /// In each pause.
     On,
@@ -15,7 +15,7 @@ pub enum DtxMode {
 }
 
 /// What an order asks for. It names calls by their numbers.
-#[derive(Clone, Copy, Debug, PartialEq, Eq)]
+#[derive(Clone, Copy, PartialEq, Eq)]
 pub enum What {
     /// `law` is that of the call's lines from and to the exchange.
     OpenCall { call: u32, law: Law },
@@ -33,7 +33,7 @@ pub enum What {
 }
 
 /// An order, and the period of 20 ms at whose start it takes effect, 0 to 4,294,967,294.
-#[derive(Clone, Copy, Debug, PartialEq, Eq)]
+#[derive(Clone, Copy)]
 pub struct Order {
     pub stamp: u32,
     pub what: What,

@@ -9,7 +9,7 @@ use crate::widths::{BLOCK_BITS, LARC_BITS};
 
 /// The parameters of a frame of 20 ms: eight log area ratios, and for each of four blocks the lag, the
 /// gain, the grid, the block maximum and thirteen pulses.
-#[derive(Clone, Copy, Debug, PartialEq, Eq)]
+#[derive(Clone, Copy, PartialEq, Eq)]
 #[repr(C)]
 pub struct Params {
     /// LARc 1 to 8, of 6, 6, 5, 5, 4, 4, 3 and 3 bits.

@@ -4,7 +4,7 @@ ghost use Rattle.std.specs.Prelude.{pos, ◌≤ℤ◌, All};
 
 /// The values before coding that the transmit side averages over four frames: the eight log area ratios
 /// and the four block maxima.
-#[derive(Clone, Copy, Debug, PartialEq, Eq)]
+#[derive(Clone, Copy)]
 pub struct Trace {
     /// LAR 1 to 8, before they were coded (GSM 06.10, section 4.2.6).
     pub lar: [i16; 8],

@@ -12,9 +12,9 @@ use Rattle.farm_rounds.specs.declared.open.OpenCall.{OpenCall}
 use Rattle.farm_rounds.specs.Calls.{Kept, partner_in}
 use Rattle.farm_rounds.specs.Acts.{Applied}
 use Rattle.farm_rounds.specs.Opens.{opens_in, calls_of, kept_of, AreOpen}
-use Rattle.farm_rounds.specs.Opened.{open_at, IsReleased}
+use Rattle.farm_rounds.specs.Opened.{open_at, AreListed, IsReleased}
 use Rattle.farm_rounds.proofs.Boxes.{at_read, opens_long}
-use Rattle.farm_rounds.proofs.Changing.{numbers_of, listed_open}
+use Rattle.farm_rounds.proofs.Changing.{numbers_of, listed_open, listed_from}
 use Rattle.farm_rounds.proofs.Mutual.{partner_open}
 use Rattle.farm_rounds.proofs.Edited.{remove_map}
 use Rattle.farm_rounds.proofs.Placed.{listed_long, call_at, leg_found}
@@ -62,6 +62,14 @@ release_partner-requires-clause-back c =
     some_there c.deref-2.result.now.partner (λ q e.
     ap is_some
     (ap (λ (xs : List (Box OpenCall)). partner_in (calls_of xs) q) c.deref_mut.ensures.value ∙ (s.both c.args.call q (sym partner ∙ e)).0))
+
+pub release_partner-requires-clause-listed : goal.release_partner-requires-clause-listed
+release_partner-requires-clause-listed c =
+    let s = c.requires.sound.1 in
+    let bs = c.args.calls.now.items in
+    subst (λ (ns : List ℕ). AreListed ns (opens_in c.deref_mut.result.now)) (sym c.deref-3.ensures.value)
+    (subst (λ (xs : List (Box OpenCall)). AreListed c.args.live.now.items (opens_in xs)) (sym c.deref_mut.ensures.value)
+    (listed_from c.requires.sound.0 c.args.live.now.items (opens_in bs) s.listed s.rising s.each))
 
 -- what is known once the partner is free
 module _ (c : goal.After-drop-closed) where

@@ -1,5 +1,4 @@
 use Rattle.std.proofs.Common.{◌≡◌, ◌<◌, sym, ap, ◌∙◌, subst, length, Some, Option, ℕ, arith}
-use Rattle.std.proofs.lemmas.List.{length-map}
 use Rattle.std.proofs.lemmas.List.Elements.{All-get_or}
 use Rattle.call_pair.specs.declared.call_job.Phase.TheVariants.{First}
 use Rattle.farm_rounds.specs.declared.open.OpenCall.{OpenCall}
@@ -9,7 +8,11 @@ use Rattle.farm_rounds.specs.Opens.{opens_in, kept_of, IsOpenCall}
 use Rattle.farm_rounds.specs.Opened.{open_at, no_open}
 use Rattle.farm_rounds.proofs.Boxes.{at_read, opens_long}
 use Rattle.farm_rounds.proofs.Acting.{changed_at}
+use Rattle.farm_rounds.proofs.Changing.{listed_within}
 use Rattle.farm_rounds.proofs.acts.join.Goals as goal
+
+pub bounds-calls-index_of : goal.bounds-calls-index_of
+bounds-calls-index_of c = listed_within c.args.calls.now c.args.live.now c.index_of.result c.requires.listed c.index_of.ensures.within
 
 abbrev kept : Call → Option ℕ → Kept
 kept x p = record { call = x; partner = p }
@@ -18,14 +21,7 @@ pub join-requires : goal.join-requires
 join-requires c =
     let calls = c.args.calls.now in
     let k = c.index_of.result in
-    let within : k < length calls =
-    omega (
-      arith,
-      c.index_of.ensures.within,
-      ap length c.requires.listed.listed,
-      length-map (opens_in calls) (λ (o : OpenCall). o.job.io.call),
-      opens_long calls,
-    ) in
+    let within : k < length calls = listed_within calls c.args.live.now k c.requires.listed c.index_of.ensures.within in
     let own : c.deref_mut.result.now ≡ open_at calls k = c.deref_mut.ensures.value ∙ at_read calls k _ within in
     subst (λ (o : OpenCall). o.job.phase ≡ First) (sym own)
     (All-get_or (λ o. o.job.phase ≡ First) (opens_in calls) k no_open (omega (arith, within, opens_long calls)) c.requires.listed.first)
@@ -34,14 +30,7 @@ pub returns : goal.returns
 returns c =
     let calls = c.args.calls.now in
     let k = c.index_of.result in
-    let within : k < length calls =
-    omega (
-      arith,
-      c.index_of.ensures.within,
-      ap length c.requires.listed.listed,
-      length-map (opens_in calls) (λ (o : OpenCall). o.job.io.call),
-      opens_long calls,
-    ) in
+    let within : k < length calls = listed_within calls c.args.live.now k c.requires.listed c.index_of.ensures.within in
     let own : c.deref_mut.result.now ≡ open_at calls k = c.deref_mut.ensures.value ∙ at_read calls k _ within in
     let new = c.join.new.self in
     let partner = Some c.args.partner in

@@ -7,6 +7,9 @@ use Rattle.farm_rounds.proofs.Changing.{kept, kept_same, listed_within, first_at
 use Rattle.farm_rounds.proofs.Placed.{paired_at}
 use Rattle.farm_rounds.proofs.acts.part.Goals as goal
 
+pub bounds-calls-index_of : goal.bounds-calls-index_of
+bounds-calls-index_of c = listed_within c.args.calls.now c.args.live.now c.index_of.result c.requires.listed c.index_of.ensures.within
+
 pub part-requires-clause-first : goal.part-requires-clause-first
 part-requires-clause-first c =
     let calls = c.args.calls.now in

@@ -5,6 +5,9 @@ use Rattle.farm_rounds.proofs.Boxes.{at_read}
 use Rattle.farm_rounds.proofs.Changing.{kept, kept_same, listed_within, changed_there, set_number}
 use Rattle.farm_rounds.proofs.acts.set.Goals as goal
 
+pub bounds-calls-index_of : goal.bounds-calls-index_of
+bounds-calls-index_of c = listed_within c.args.calls.now c.args.live.now c.index_of.result c.requires.listed c.index_of.ensures.within
+
 pub returns : goal.returns
 returns c =
     let calls = c.args.calls.now in

@@ -18,18 +18,23 @@ end_fits o ss n ready e within = by o.partner refl
     by None q = let zero : n ≡ 0 = e ∙ ap (end_with ss _) q in omega (arith, zero)
     by (Some d) q = omega (arith, within, ready.bridge d q)
 
-pub begin-requires-clause-end : goal.begin-requires-clause-end
-begin-requires-clause-end c =
+pub begin-requires : goal.begin-requires
+begin-requires c =
     let now = c.loop-at.calls in
     let k = c.loop-at.at in
     let inv = c.loop-at.invariant in
     let l : k < length now = omega (arith, c.loop-at-test.true, inv.changed.long) in
     let own : c.deref_mut.result.now ≡ open_at now k = c.deref_mut.ensures.value ∙ at_read now k _ l in
-    let first : open_at now k ≡ open_at c.args.calls.now k = inv.changed.left k (omega arith) in
-    let ready : IsReady (open_at now k) = subst IsReady (sym first)
+    let same : open_at now k ≡ open_at c.args.calls.now k = inv.changed.left k (omega arith) in
+    let ready : IsReady (open_at now k) = subst IsReady (sym same)
     (All-get_or IsReady (opens_in c.args.calls.now) k no_open (omega (arith, c.loop-at-test.true, opens_long c.args.calls.now)) c.requires.ready) in
-    subst (λ (o : OpenCall). c.bridge_end-end.result ≤ o.job.bridge_end) (sym own)
-    (end_fits (open_at now k) (standings now) _ ready c.bridge_end-end.ensures.end c.bridge_end-end.ensures.within)
+    record {
+      first = ap (λ (o : OpenCall). o.job.phase) own ∙ ready.first;
+      none = ap (λ (o : OpenCall). o.job.io.done) own ∙ ready.none;
+      given = subst (λ (o : OpenCall). o.job.io.given ≡ o.lines.periods) (sym own) ready.given;
+      end = subst (λ (o : OpenCall). c.bridge_end-end.result ≤ o.job.bridge_end) (sym own)
+          (end_fits (open_at now k) (standings now) _ ready c.bridge_end-end.ensures.end c.bridge_end-end.ensures.within);
+    }
 
 pub loop-at-preserved : goal.loop-at-preserved
 loop-at-preserved c =

@@ -9,6 +9,11 @@ use Rattle.farm_rounds.specs.Opened.{ArePaired, Standing, standings, standing_of
 use Rattle.farm_rounds.proofs.Boxes.{at_read, standing_at, standings_long, numbered}
 use Rattle.farm_rounds.proofs.calls.bridge_end.Goals as goal
 
+-- a place in the list of numbers is one among the calls
+paired_within : (live : List ℕ) (bs : List (Box OpenCall)) (k : ℕ) → ArePaired live (standings bs) → k < length live → k < length bs
+paired_within live bs k paired l =
+    omega (arith, l, ap length paired.listed, length-map (standings bs) (λ (s : Standing). s.number), standings_long bs)
+
 pub index_of-other-requires-clause-present : goal.index_of-other-requires-clause-present
 index_of-other-requires-clause-present c =
     let calls = c.args.calls.now in
@@ -16,6 +21,9 @@ index_of-other-requires-clause-present c =
     let partner = ap (λ (s : Standing). s.partner) (standing_at calls c.args.at c.requires.at) ∙ ap (λ (o : OpenCall). o.partner) (sym own) ∙ c.in-Some.is in
     (All-get_or (λ s. (d : ℕ) → s.partner ≡ Some d → (is_among c.args.live.now d ≡ true) × (d ≢ s.number)) (standings calls) c.args.at no_standing
     (omega (arith, standings_long calls, c.requires.at)) c.requires.paired.partners _ partner).0
+
+pub bounds-calls-other : goal.bounds-calls-other
+bounds-calls-other c = paired_within c.args.live.now c.args.calls.now c.index_of-other.result c.requires.paired c.index_of-other.ensures.within
 
 -- the partner's places, by its place in the list
 partner_places : (bs : _) (live : _) (k d : ℕ) → ArePaired live (standings bs) → k < length bs → k < length live → slice_index live k ≡ d →
@@ -34,10 +42,8 @@ returns-in-Some-clause-end c =
     let calls = c.args.calls.now in
     let own : c.deref.result.now ≡ open_at calls c.args.at = c.deref.ensures ∙ ap (λ (b : Box OpenCall). b.value) c.index-calls-at.is ∙ at_read calls c.args.at c.index-calls-at.result c.requires.at in
     let partner : (open_at calls c.args.at).partner ≡ Some c.in-Some.partner = ap (λ (o : OpenCall). o.partner) (sym own) ∙ c.in-Some.is in
-    let long : length c.args.live.now ≡ length calls = ap (λ (ns : List ℕ). length ns) c.requires.paired.listed
-    ∙ length-map (standings calls) (λ (s : Standing). s.number) ∙ standings_long calls in
     let k = c.index_of-other.result in
-    let within : k < length calls = omega (arith, c.index_of-other.ensures.within, long) in
+    let within : k < length calls = paired_within c.args.live.now calls k c.requires.paired c.index_of-other.ensures.within in
     let mine : c.whole.result ≡ whole_in (open_at calls c.args.at).lines = c.whole.ensures.value
     ∙ ap (λ (o : OpenCall). whole_in o.lines) (c.deref-in-Some.ensures ∙ ap (λ (b : Box OpenCall). b.value) c.index-calls-at-in-Some.is ∙ at_read calls c.args.at c.index-calls-at-in-Some.result c.requires.at) in
     let other : c.whole-in-Some.result ≡ (standing_of (standings calls) c.in-Some.partner).whole = c.whole-in-Some.ensures.value

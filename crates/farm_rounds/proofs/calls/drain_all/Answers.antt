@@ -1,4 +1,4 @@
-use Rattle.std.proofs.Common.{◌≡◌, ◌<◌, ◌+◌, sym, ap, ◌∙◌, subst, List, length, arith}
+use Rattle.std.proofs.Common.{◌≡◌, refl, ◌<◌, ◌+◌, sym, ap, ◌∙◌, subst, List, length, arith}
 use Rattle.std.proofs.lemmas.List.{length-set}
 use Rattle.std.proofs.lemmas.List.Elements.{All-get_or}
 use Rattle.round_lines.specs.Seats.{SeatMemory, Drains}
@@ -19,6 +19,16 @@ drain-requires g c =
     let own : c.deref_mut.result.now ≡ open_at c.args.calls.now i = c.deref_mut.ensures.value ∙ at_read now i _ l ∙ inv.left i (omega arith) in
     subst HasBuffers (sym own)
     (All-get_or HasBuffers (opens_in c.args.calls.now) i no_open (omega (arith, c.loop-call-test.true, opens_long c.args.calls.now)) c.requires.fits)
+
+pub loop-call-init : goal.loop-call-init
+loop-call-init g c = record {
+  drains = λ k l. absurd (omega arith);
+  others = λ d side h. refl;
+  same = (refl, λ k l. refl);
+  kept = refl;
+  left = λ k l. refl;
+  long = refl;
+}
 
 pub loop-call-preserved : goal.loop-call-preserved
 loop-call-preserved g c =

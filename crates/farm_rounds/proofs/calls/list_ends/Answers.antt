@@ -1,15 +1,18 @@
-use Rattle.std.proofs.Common.{◌≡◌, ◌+◌, ◌<◌, ℕ, length, Some, None, sym, ap, ◌∙◌, subst, inl, inr, arith, append-nil}
+use Rattle.std.proofs.Common.{◌≡◌, ◌+◌, ◌<◌, ℕ, List, ◌++◌, length, Some, None, sym, ap, ◌∙◌, subst, inl, inr, arith, append-nil}
 use Rattle.std.specs.Global.{Box}
+use Rattle.std.specs.List.{filter_map}
 use Rattle.std.proofs.lemmas.Bool.{cases_lt}
+use Rattle.std.proofs.lemmas.List.{take_all}
+use Rattle.std.proofs.lemmas.List.Elements.{All-from_get_or}
 use Rattle.std.specs.Vec.{vec_len, vec_capacity}
 use Rattle.round_lines.specs.Memory.{end_in_round}
 use Rattle.round_lines.specs.Seats.{SeatMemory}
 use Rattle.round_lines.specs.Rounds.{no_seat, seat_end}
 use Rattle.round_lines.proofs.Listing.{listed_more}
 use Rattle.farm_rounds.specs.declared.open.OpenCall.{OpenCall}
-use Rattle.farm_rounds.specs.Opens.{seats_of, seat_of_open}
-use Rattle.farm_rounds.specs.Opened.{open_at, OctetsFit}
-use Rattle.farm_rounds.proofs.Boxes.{at_read, seats_long}
+use Rattle.farm_rounds.specs.Opens.{opens_in, seats_of, seat_of_open}
+use Rattle.farm_rounds.specs.Opened.{no_open, open_at, OctetsFit}
+use Rattle.farm_rounds.proofs.Boxes.{at_read, opens_long, seats_long}
 use Rattle.farm_rounds.proofs.Listed.{seat_listed}
 use Rattle.farm_rounds.proofs.calls.list_ends.Goals as goal
 use Rattle.farm_rounds.proofs.calls.list_ends.Goals.{in-Some, in_default}
@@ -56,3 +59,13 @@ loop-call-preserved c =
         sound = all;
       }
     ]
+
+pub returns-clause-listed : goal.returns-clause-listed
+returns-clause-listed c =
+    let calls = c.args.calls.now in
+    c.loop-call.invariant.listed ∙ ap (λ (ss : List SeatMemory). c.args.ends.now.items ++ filter_map (seat_end c.args.start) ss)
+    (take_all c.loop-call.call-index (seats_of calls) (omega (arith, seats_long calls, c.loop-call-test.false)))
+
+pub returns-clause-sound : goal.returns-clause-sound
+returns-clause-sound c =
+    All-from_get_or OctetsFit (opens_in c.args.calls.now) no_open (λ k l. c.loop-call.invariant.sound k (omega (arith, l, opens_long c.args.calls.now, c.loop-call-test.false)))

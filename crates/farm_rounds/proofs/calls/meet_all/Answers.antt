@@ -19,23 +19,15 @@ index_of-requires-clause-present c =
     (next_present c.args.calls.now now c.args.live.now k c.in-Some.partner c.requires.paired c.loop-at.invariant l
     (ap (λ (o : OpenCall). o.partner) (sym own) ∙ c.in-Some.is)).0
 
-pub meet-requires-clause-apart : goal.meet-requires-clause-apart
-meet-requires-clause-apart c =
+pub meet-requires : goal.meet-requires
+meet-requires c =
     let now = c.loop-at.calls in
     let k = c.loop-at.at in
     let l : k < length now = omega (arith, c.loop-at-test.true, c.loop-at.invariant.long) in
     let own : c.deref.result.now ≡ open_at now k = c.deref.ensures ∙ at_read now k _ l in
-    (next_meets c.args.calls.now now c.args.live.now k c.index_of.result c.in-Some.partner c.requires.paired c.requires.told c.loop-at.invariant l
-    (ap (λ (o : OpenCall). o.partner) (sym own) ∙ c.in-Some.is) c.index_of.ensures.within c.index_of.ensures.number).apart
-
-pub meet-requires-clause-told : goal.meet-requires-clause-told
-meet-requires-clause-told c =
-    let now = c.loop-at.calls in
-    let k = c.loop-at.at in
-    let l : k < length now = omega (arith, c.loop-at-test.true, c.loop-at.invariant.long) in
-    let own : c.deref.result.now ≡ open_at now k = c.deref.ensures ∙ at_read now k _ l in
-    (next_meets c.args.calls.now now c.args.live.now k c.index_of.result c.in-Some.partner c.requires.paired c.requires.told c.loop-at.invariant l
-    (ap (λ (o : OpenCall). o.partner) (sym own) ∙ c.in-Some.is) c.index_of.ensures.within c.index_of.ensures.number).told
+    let can = next_meets c.args.calls.now now c.args.live.now k c.index_of.result c.in-Some.partner c.requires.paired c.requires.told c.loop-at.invariant l
+    (ap (λ (o : OpenCall). o.partner) (sym own) ∙ c.in-Some.is) c.index_of.ensures.within c.index_of.ensures.number in
+    record { at = l; from = can.from; apart = can.apart; first = can.first; finished = can.finished; told = can.told; none = can.none }
 
 pub begin_second_phase-requires-clause-first : goal.begin_second_phase-requires-clause-first
 begin_second_phase-requires-clause-first c =

@@ -1,9 +1,9 @@
-use Rattle.std.proofs.Common.{◌≡◌, ap, ◌∙◌, sym, subst, List, ℕ}
+use Rattle.std.proofs.Common.{◌≡◌, ap, ◌∙◌, sym, subst, List, ℕ, length}
 use Rattle.std.proofs.lemmas.List.{with_items_is}
 use Rattle.std.specs.Vec.{with_items}
 use Rattle.trau_io.specs.declared.line.Side.{Side}
 use Rattle.trau_io.specs.Lines.{LineState}
-use Rattle.call_pair.specs.Memory.{IoMemory}
+use Rattle.call_pair.specs.Memory.{IoMemory, HaveRoom}
 use Rattle.call_pair.specs.contracts.io.LegIo.{the_view}
 use Rattle.round_lines.specs.Memory.{LinesMemory}
 use Rattle.round_lines.specs.Seats.{Fills, seated}
@@ -18,6 +18,31 @@ fills_read a b p q io jo up pcm up' pcm' eu ep e f =
     subst (λ (j : IoMemory). Fills a b (seat_with p io) (seat_with q j)) (sym e)
     (subst (λ (us : List ℕ). Fills a b (seated p us io.pcm io.down io.out) (seated q up' pcm' io.down io.out)) eu
     (subst (λ (ps : List ℕ). Fills a b (seated p up ps io.down io.out) (seated q up' pcm' io.down io.out)) ep f))
+
+-- buffers of the same lengths have the same room
+same_room : (up pcm up' pcm' out down : List ℕ) (given : ℕ) → length up' ≡ length up → length pcm' ≡ length pcm → HaveRoom up pcm out down given →
+    HaveRoom up' pcm' out down given
+same_room up pcm up' pcm' out down given eu ep r = record {
+  periods = r.periods;
+  enough = r.enough;
+  up_room = eu ∙ r.up_room;
+  pcm_room = ep ∙ r.pcm_room;
+  out_room = r.out_room;
+  down_room = r.down_room;
+}
+
+pub invariant_of-io : goal.invariant_of-io
+invariant_of-io g c =
+    let i = c.io.inside in
+    let read_up = with_items_is i.up c.fill.new.up (c.fill.auto.up ∙ c.deref_mut.ensures.len) in
+    let read_pcm = with_items_is i.pcm c.fill.new.pcm (c.fill.auto.pcm ∙ c.deref_mut-2.ensures.len) in
+    record {
+      number = c.io.invariant.number;
+      room = same_room i.up.items i.pcm.items _ _ i.out.items i.down.items i.given
+          (ap length read_up ∙ c.fill.auto.up ∙ ap length c.deref_mut.ensures.value)
+          (ap length read_pcm ∙ c.fill.auto.pcm ∙ ap length c.deref_mut-2.ensures.value) c.io.invariant.room;
+      within = c.io.invariant.within;
+    }
 
 pub returns-clause-fills : goal.returns-clause-fills
 returns-clause-fills g c =

@@ -1,6 +1,7 @@
-use Rattle.std.proofs.Common.{sym, ap, ◌∙◌, map}
+use Rattle.std.proofs.Common.{sym, ap, ◌∙◌, subst, map}
 use Rattle.std.proofs.lemmas.List.{take_all}
 use Rattle.call_number.specs.CallNumber.{IsCallNumber}
+use Rattle.farm_rounds.specs.Numbers.{IsRising}
 use Rattle.farm_run.specs.Marking.{entry_of}
 use Rattle.farm_run.proofs.Reported.LastEnds.{all_among}
 use Rattle.farm_run.proofs.Marked.Calls.{entry_more}
@@ -21,3 +22,9 @@ pub returns-clause-calls : goal.returns-clause-calls
 returns-clause-calls c =
     c.loop-call.invariant ∙ ap (map (entry_of c.args.stage.now)) (take_all c.loop-call.call-index c.live_calls-live.result.now c.loop-call-test.false
     ∙ c.live_calls-live.ensures.value)
+
+pub returns-in_err-push-clause-rising : goal.returns-in_err-push-clause-rising
+returns-in_err-push-clause-rising c = subst IsRising c.live_calls-live.ensures.value c.live_calls-live.ensures.rising
+
+pub returns-clause-rising : goal.returns-clause-rising
+returns-clause-rising c = subst IsRising c.live_calls-live.ensures.value c.live_calls-live.ensures.rising

@@ -25,6 +25,9 @@ returns-in_err-marked-clause-cut g c =
 pub go_on-requires-clause-stage : goal.go_on-requires-clause-stage
 go_on-requires-clause-stage g c κs lives = c.in_ok-marked.ensures.comes.reaches.stage
 
+pub go_on-requires-clause-rising : goal.go_on-requires-clause-rising
+go_on-requires-clause-rising g c κs lives = c.requires.rising
+
 pub go_on-requires-clause-clock : goal.go_on-requires-clause-clock
 go_on-requires-clause-clock g c κs lives =
     let period : c.mark.inside.period ≡ c.args.mark.now.period = omega (arith, ap (λ (v : MarkView). v.period) c.mark.view_is) in

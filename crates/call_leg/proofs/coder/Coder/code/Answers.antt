@@ -4,6 +4,9 @@ use Rattle.call_leg.specs.Memory.{coder_memory}
 use Rattle.call_leg.proofs.Stepping.{code-step}
 use Rattle.call_leg.proofs.coder.Coder.code.Goals as goal
 
+pub returns-clause-bits : goal.returns-clause-bits
+returns-clause-bits c = c.to_bits.ensures.bits
+
 pub returns-clause-step : goal.returns-clause-step
 returns-clause-step c =
     let f : FitsSigned w16 c.encode-peak.result.2 = search rules in

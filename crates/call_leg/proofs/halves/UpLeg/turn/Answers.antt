@@ -1,4 +1,4 @@
-use Rattle.std.proofs.Common.{sym, subst, ap, ◌∙◌, ℕ, List, ◌∷◌}
+use Rattle.std.proofs.Common.{sym, subst, ap, ◌∙◌, ◌+◌, ℕ, List, ◌∷◌, arith}
 use Rattle.rx_handler.specs.State.{effective_fields}
 use Rattle.call_leg.specs.Uplink.{sighting_of}
 use Rattle.call_leg.specs.Settings.{settings_later, period_with}
@@ -7,6 +7,21 @@ use Rattle.call_leg.specs.contracts.halves.UpLeg.{the_view}
 use Rattle.call_leg.proofs.HalfLaws.{turn-stands, turn-note, turn-plays}
 use Rattle.call_leg.proofs.HalfSteps.{turn-step}
 use Rattle.call_leg.proofs.halves.UpLeg.turn.Goals as goal
+
+pub count-requires : goal.count-requires
+count-requires c =
+    let was = ap (λ (u : UpMemory). u.search.periods) c.self.view_is in
+    omega (arith, c.self.invariant.1, c.requires, was)
+
+pub invariant_of-self : goal.invariant_of-self
+invariant_of-self c =
+    let was = ap (λ (u : UpMemory). u.search.periods) c.self.view_is in (
+      omega (arith, c.feed-yielded.ensures.counted, c.requires, was),
+      omega (arith, c.feed-yielded.ensures.counted, c.count.ensures.once, c.self.invariant.1),
+    )
+
+pub returns-clause-periods : goal.returns-clause-periods
+returns-clause-periods c = c.feed-yielded.ensures.counted ∙ ap (λ (u : UpMemory). u.search.periods + 1) c.self.view_is
 
 pub returns-clause-step : goal.returns-clause-step
 returns-clause-step c =

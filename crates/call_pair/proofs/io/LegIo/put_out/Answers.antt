@@ -1,8 +1,18 @@
-use Rattle.std.proofs.Common.{◌∙◌, ◌*◌, ap, List, ℕ}
+use Rattle.std.proofs.Common.{◌∙◌, ◌+◌, ◌-◌, ◌*◌, ap, refl, List, ℕ}
+use Rattle.std.specs.Vec.{with_items}
+use borrow.Rule.Slice.PartMut.{put_mid}
 use Rattle.call_pair.specs.Memory.{IoMemory}
 use Rattle.call_pair.specs.Periods.{with_out}
-use Rattle.call_pair.proofs.Places.{with_items-written}
+use Rattle.call_pair.specs.contracts.io.LegIo.{the_view}
+use Rattle.call_pair.proofs.Places.{io-stands, length-with_items, with_items-written}
 use Rattle.call_pair.proofs.io.LegIo.put_out.Goals as goal
+
+pub invariant_of-self : goal.invariant_of-self
+invariant_of-self c =
+    let io = the_view c.self.inside in
+    let start = 160 * io.done in
+    let now = with_items c.self.inside.out (put_mid start ((start + 160) - start) c.deref_mut.result.now c.copy_from_slice.new.self) in
+    io-stands io io.up io.pcm now.items io.down c.self.invariant refl refl (length-with_items c.self.inside.out _) refl
 
 pub returns : goal.returns
 returns c =

@@ -1,5 +1,6 @@
-use Rattle.std.proofs.Common.{◌≡◌, ◌∙◌, sym, subst, ℕ, List}
+use Rattle.std.proofs.Common.{◌≡◌, ◌∙◌, ap, sym, subst, ℕ, List}
 use Rattle.std.specs.Global.{Box}
+use Rattle.std.specs.Vec.{with_items}
 use Rattle.std.proofs.lemmas.List.{with_items_is}
 use Rattle.farm_rounds.specs.declared.open.OpenCall.{OpenCall}
 use Rattle.farm_rounds.specs.Memory.{FarmMemory}
@@ -45,3 +46,8 @@ returns-clause-applied c =
     (subst (λ (f : FarmMemory). Applied c.args.act.now f.calls (calls_of c.change.new.calls)) c.self.view_is
     (subst (λ (bs : List (Box OpenCall)). Applied c.args.act.now (calls_of bs) (calls_of c.change.new.calls)) c.deref_mut.ensures.value
     c.change.ensures.applied))
+
+pub returns-clause-others : goal.returns-clause-others
+returns-clause-others c =
+    let calls = calls_of (with_items c.self.inside.calls c.change.new.calls).items in
+    ap (λ (f : FarmMemory). record f { calls = calls }) c.self.view_is

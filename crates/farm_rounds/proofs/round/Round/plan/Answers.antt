@@ -1,4 +1,4 @@
-use Rattle.std.proofs.Common.{◌≡◌, ◌+◌, ◌<◌, ◌≤◌, sym, ap, ◌∙◌, subst, ℕ, List, ◌++◌, length, take, drop, arith}
+use Rattle.std.proofs.Common.{◌≡◌, ◌+◌, ◌<◌, ◌≤◌, refl, sym, ap, ◌∙◌, subst, ℕ, List, ◌++◌, length, take, drop, arith}
 use Rattle.std.specs.Prelude.{map, slice_index}
 use Rattle.std.proofs.lemmas.List.{length-map}
 use Rattle.trau_io.specs.declared.line.Line.{Line}
@@ -12,6 +12,7 @@ use Rattle.farm_rounds.specs.Working.{IsRound}
 use Rattle.farm_rounds.specs.Failed.{AreFailed, AreFailedBefore}
 use Rattle.farm_rounds.proofs.Boxes.{opens_long}
 use Rattle.farm_rounds.proofs.Written.{back}
+use Rattle.farm_rounds.proofs.Placed.{listed_long}
 use Rattle.farm_rounds.specs.Numbers.{IsRising}
 use Rattle.farm_rounds.proofs.Planning.{few_live, kept_all, planned, planned_seat, rising_kept}
 use Rattle.farm_rounds.proofs.Known.{known_planned}
@@ -65,6 +66,29 @@ invariant_of-result c =
           (subst (λ (os : List OpenCall). AreFailedBefore i.failed.items os) (sym (opens c))
           (known_planned i.ended c.args.periods i.live.items (opens_in i.calls.items) i.failed.items c.farm.invariant.0 c.farm.invariant.2)),
     )
+
+pub returns-clause-start : goal.returns-clause-start
+returns-clause-start c = refl
+
+pub returns-clause-ended : goal.returns-clause-ended
+returns-clause-ended c = refl
+
+pub returns-clause-live : goal.returns-clause-live
+returns-clause-live c = ap (λ (f : FarmMemory). f.live) c.farm.view_is
+
+pub returns-clause-failed : goal.returns-clause-failed
+returns-clause-failed c = c.in_ok-reserve.ensures.items ∙ ap (λ (f : FarmMemory). f.failed) c.farm.view_is
+
+pub returns-clause-tallies : goal.returns-clause-tallies
+returns-clause-tallies c = ap (λ (f : FarmMemory). f.tallies) c.farm.view_is
+
+pub returns-clause-number : goal.returns-clause-number
+returns-clause-number c =
+    let i = c.farm.inside in
+    let was = opens_in i.calls.items in
+    ap (λ (os : List OpenCall). length (map seat_of_open os)) (opens c) ∙ length-map (map (open_planned c.args.periods) was) seat_of_open
+    ∙ length-map was (open_planned c.args.periods) ∙ sym (listed_long i.live.items was c.farm.invariant.0.listed)
+    ∙ ap (λ (f : FarmMemory). length f.live) c.farm.view_is
 
 pub returns-clause-seats : goal.returns-clause-seats
 returns-clause-seats c =

@@ -51,6 +51,17 @@ meet_all-requires-clause-told g c =
     subst (λ (os : List OpenCall). All (IsTold os) os) (sym (ap opens_in c.deref_mut-2.ensures.value ∙ told))
     (told_ready i.start i.ended i.live.items (opens_in i.calls.items) c.self.invariant.0)
 
+pub run_pool-halfway-requires-clause-room : goal.run_pool-halfway-requires-clause-room
+run_pool-halfway-requires-clause-room g c κs within =
+    let i = c.self.inside in
+    omega (
+      arith,
+      i.calls.ok.0,
+      opens_long i.calls.items,
+      live_long i.start i.live.items (opens_in i.calls.items) c.self.invariant.0.opened,
+      c.self.invariant.3,
+    )
+
 pub run_pool-calls-requires-clause-room : goal.run_pool-calls-requires-clause-room
 run_pool-calls-requires-clause-room g c κs within =
     let i = c.self.inside in
@@ -123,6 +134,18 @@ invariant_of-result g c =
       subst (λ (os : List OpenCall). AreFailedBefore i.failed.items os) (sym (done g c))
           (known_done i.failed.items (opens_in i.calls.items) c.self.invariant.7),
     )
+
+pub returns-clause-ended : goal.returns-clause-ended
+returns-clause-ended g c = ap (λ (r : RoundMemory). r.ended) c.self.view_is
+
+pub returns-clause-live : goal.returns-clause-live
+returns-clause-live g c = ap (λ (r : RoundMemory). r.live) c.self.view_is
+
+pub returns-clause-failed : goal.returns-clause-failed
+returns-clause-failed g c = ap (λ (r : RoundMemory). r.failed) c.self.view_is
+
+pub returns-clause-tallies : goal.returns-clause-tallies
+returns-clause-tallies g c = ap (λ (r : RoundMemory). r.tallies) c.self.view_is
 
 pub returns-clause-number : goal.returns-clause-number
 returns-clause-number g c =

@@ -5,6 +5,11 @@ use Rattle.fr_long.proofs.Predictions.{one_update}
 use Rattle.fr_long.proofs.Words.{updated-words}
 use Rattle.fr_long.proofs.encoder.LtpHistory.update.Goals as goal
 
+pub returns-clause-step : goal.returns-clause-step
+unfolding updated
+returns-clause-step c =
+    rw (← c.self.view_is) (c.remember.ensures ∙ ap (λ block. drop 40 c.self.inside.dp ++ block) c.reconstructed.ensures)
+
 pub returns-clause-history : goal.returns-clause-history
 unfolding updated
 returns-clause-history c =

@@ -4,3 +4,6 @@ use Rattle.switchboard.proofs.table.Table.has_ended.Goals as goal
 
 pub returns-then-is_some : goal.returns-then-is_some
 returns-then-is_some c = grind (arith, common_steps)
+
+pub returns-else-is_some : goal.returns-else-is_some
+returns-else-is_some c = grind (arith, common_steps)
