@@ -126,9 +126,14 @@ def check_disk(top: Path, crates: Sequence[str]) -> str:
     return f"it needs some {gigabytes(need)} of disk in {tempfile.gettempdir()}"
 
 
+def kept_by(rt: str) -> Path:
+    """The folder beside the toolchain in which it keeps what it proves, if it is one that does."""
+    return Path(rt).resolve().parents[2] / "rattle-kept"
+
+
 def what_is_kept(rt: str) -> Tuple[bool, str]:
-    """Whether the toolchain can keep what it proves, in the folder beside it, by its own rules, and what is printed about it."""
-    kept = Path(rt).resolve().parents[2] / "rattle-kept"
+    """Whether the toolchain can keep what it proves, by its own rules, and what is printed about it."""
+    kept = kept_by(rt)
     try:
         found = kept.lstat()
         usable = stat.S_ISDIR(found.st_mode) and found.st_uid == os.geteuid()
@@ -465,6 +470,8 @@ def build(top: Path, program: str, over_kept: bool) -> int:
     at_once, disk, (keeps, kept) = jobs(), check_disk(top, crates), what_is_kept(found)
     if over_kept and not keeps:
         raise Refusal(kept)
+    if over_kept and not kept_by(found).is_dir():
+        raise Refusal(f"nothing is kept, since there is no {kept_by(found)}: not every toolchain keeps what it proves")
     out = top / "crates" / program / "out"
     out.mkdir(exist_ok=True)
     log, plan = out / "trau.log", plan_of(top, program, at_once)
@@ -498,7 +505,7 @@ def main(words: Sequence[str]) -> int:
     parser = trau_frames.Words(description=__doc__, formatter_class=argparse.RawDescriptionHelpFormatter, allow_abbrev=False)
     parser.add_argument("--top", type=Path, default=TOP, metavar="FOLDER", help="the top of the repository")
     parser.add_argument("--program", default=PROGRAM, metavar="CRATE", help=f"the program's crate ({PROGRAM})")
-    parser.add_argument("--over-kept", action="store_true", help="begin only if the toolchain keeps what it has proved")
+    parser.add_argument("--over-kept", action="store_true", help="begin only if the toolchain has kept what it proved")
     asked = parser.parse_args(words)
     for number in (signal.SIGTERM, signal.SIGHUP):
         signal.signal(number, stop)

@@ -295,6 +295,10 @@ class TheFirstStart(Started):
         with mock.patch.dict(os.environ, self.surroundings), mock.patch.object(build, "check_disk"):
             self.assert_refused(build.main, ["--over-kept", "--top", self.top], "nothing is kept, since ")
 
+    def test_a_toolchain_that_keeps_nothing(self):
+        with mock.patch.dict(os.environ, self.surroundings), mock.patch.object(build, "check_disk"):
+            self.assert_refused(build.main, ["--over-kept", "--top", self.top], "nothing is kept, since there is no ")
+
     def test_broken_off(self):
         with subprocess.Popen(
             [sys.executable, self.top / "tools" / "build.py"],
