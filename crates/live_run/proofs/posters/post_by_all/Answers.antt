@@ -5,6 +5,19 @@ use Rattle.live_run.specs.Posters.{poster_of}
 use Rattle.live_run.proofs.Callers.{all_ready, posters_back}
 use Rattle.live_run.proofs.posters.post_by_all.Goals as goal
 
+pub run_posters-requires-clause-some : goal.run_posters-requires-clause-some
+run_posters-requires-clause-some g c κs within =
+    omega (
+      arith,
+      ap length (c.as_mut_slice.ensures.value ∙ c.in_ok-posters.ensures),
+      length-map c.args.callers.items poster_of,
+      c.requires.callers.count,
+      c.requires.size.some_callers,
+    )
+
+pub run_posters-requires-clause-calls : goal.run_posters-requires-clause-calls
+run_posters-requires-clause-calls g c κs within = c.requires.calls
+
 pub run_posters-requires-clause-ready : goal.run_posters-requires-clause-ready
 run_posters-requires-clause-ready g c κs within =
     let d = c.args.shared.now.drill in

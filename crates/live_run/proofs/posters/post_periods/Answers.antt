@@ -9,6 +9,24 @@ loop-period-init g c = let d = c.args.shared.now.drill in record {
       c.in_ok-draws.ensures.count c.in_ok-draws.ensures.each;
 }
 
+pub post_round-requires-clause-size : goal.post_round-requires-clause-size
+post_round-requires-clause-size g c = c.requires.size
+
+pub post_round-requires-clause-period : goal.post_round-requires-clause-period
+post_round-requires-clause-period g c = omega (arith, c.loop-period-test.true, c.requires.size.periods)
+
+pub post_round-requires-clause-calls : goal.post_round-requires-clause-calls
+post_round-requires-clause-calls g c = c.requires.calls
+
+pub post_round-requires-clause-farm : goal.post_round-requires-clause-farm
+post_round-requires-clause-farm g c = c.loop-period.invariant.farm
+
+pub returns-in_err-post_round-clause-farm : goal.returns-in_err-post_round-clause-farm
+returns-in_err-post_round-clause-farm g c = c.post_round.ensures.farm
+
+pub returns-clause-farm : goal.returns-clause-farm
+returns-clause-farm g c = c.loop-period.invariant.farm
+
 pub post_round-requires-clause-behind : goal.post_round-requires-clause-behind
 post_round-requires-clause-behind g c =
     let d = c.args.shared.now.drill in

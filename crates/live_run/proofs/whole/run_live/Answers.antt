@@ -1,4 +1,5 @@
 use Rattle.std.proofs.Common.{◌≡◌, ◌<◌, ◌-◌, ℕ, List, set, get_or, length, reverse, string_bytes, sym, ap, ◌∙◌, subst, arith}
+use Rattle.std.proofs.Math.ListN.{length-set}
 use Rattle.std.specs.List.{range_with_len, flat_map}
 use Rattle.farm_live.specs.declared.live.Closed.{Closed}
 use Rattle.farm_live.specs.Live.{AreCallers}
@@ -17,6 +18,16 @@ post_by_all-requires-clause-callers g c κs within =
     let made = c.in_ok-live.ensures in
     new_posted d live.inbox live.slots.items callers c.requires.some_calls made.calls.0
     (subst (λ (n : ℕ). AreCallers n d.callers live.slots.items callers) (sym made.calls.1) made.callers)
+
+pub work_rest-requires-clause-size : goal.work_rest-requires-clause-size
+work_rest-requires-clause-size g c = c.requires
+
+pub work_rest-requires-clause-calls : goal.work_rest-requires-clause-calls
+work_rest-requires-clause-calls g c = c.in_ok-live.ensures.calls.0
+
+pub close-closed-requires-clause-some : goal.close-closed-requires-clause-some
+close-closed-requires-clause-some g c =
+    omega (arith, length-set c.in_ok-callers.callers.items 0 c.work_rest.new.caller, c.in_ok-callers.ensures.count, c.requires.some_callers)
 
 pub close-closed-requires-clause-farm : goal.close-closed-requires-clause-farm
 close-closed-requires-clause-farm g c =
