@@ -89,6 +89,7 @@ impl Claims {
         metadata: &Metadata,
     ) -> Result<(), Fault>
         ensures has { IfOk result (λ _. IsFile (file_type metadata.now) → Has (claim_at self.new (index_of_line line.call line.side)) claim) }
+        ensures refused { IfErr result (λ _. self.new ≡ self.old) }
         ensures apart { AreApart self.old → AreApart self.new }
         ensures others { OthersKeep self.old self.new (index_of_line line.call line.side) }
     {
