@@ -2,7 +2,7 @@
 
 import os
 
-SPEECH = os.path.join(os.path.dirname(os.path.dirname(os.path.abspath(__file__))), "crates", "codec_vectors", "data", "speech-en-m3")
+SPEECH = os.path.join(os.path.dirname(os.path.dirname(os.path.abspath(__file__))), "checks", "vectors", "speech-en-m3")
 
 
 class Place:

@@ -4,7 +4,7 @@
 # this library. TRAU_CLIB names a library to use in place of clib/out, which isn't built then.
 set -eu
 top=$(cd "$(dirname "$0")/.." && pwd)
-vectors=$top/crates/codec_vectors/data
+vectors=$top/checks/vectors
 tests=$top/clib/tests
 work=$(mktemp -d)
 trap 'rm -rf "$work"' EXIT

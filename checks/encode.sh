@@ -1,9 +1,9 @@
 #!/bin/sh
-# `trau encode` on recorded Pcm lines: its downlinks against those of libgsm (crates/codec_vectors/README.md).
+# `trau encode` on recorded Pcm lines: its downlinks against those of libgsm (checks/vectors/README.md).
 set -eu
 # shellcheck source=checks/program
 . "$(dirname "$0")/program"
-data=$top/crates/codec_vectors/data
+data=$top/checks/vectors
 cd "$work"
 # shellcheck source=checks/expect
 . "$top/checks/expect"

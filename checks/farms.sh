@@ -16,9 +16,9 @@ lay() {
         ;;
     harsh)
         for call in 1 2 3 4 5; do
-            cp "$top/crates/codec_vectors/data/farm-$call.up" "$work/given/$call.up"
+            cp "$top/checks/vectors/farm-$call.up" "$work/given/$call.up"
         done
-        cp "$top/crates/codec_vectors/data/farm-report.txt" "$work/wanted/report.txt"
+        cp "$top/checks/vectors/farm-report.txt" "$work/wanted/report.txt"
         ;;
     esac
     [ ! -d "$top/checks/farms/$1" ] || for file in "$top/checks/farms/$1"/*; do
@@ -54,8 +54,4 @@ for name in mixed clean harsh mulaw; do
     done <"$top/checks/farms/words.txt"
 done
 
-# The counts that the program codec_vectors compares are those in the report of the harsh farm.
-data=$top/crates/codec_vectors/data
-awk '$1 == "call" { n = $6 - $4 } $1 == "counts" { print n, $4, $6, $8, $10, $12, $14, $16, $18 }' "$data/farm-report.txt" |
-    cmp - "$data/farm-calls.txt" || failed=1
 exit "$failed"

@@ -6,7 +6,7 @@ set -eu
 . "$(dirname "$0")/program"
 data=$top/checks/follow
 harsh=$top/checks/farms/harsh/1.down
-vectors=$top/crates/codec_vectors/data
+vectors=$top/checks/vectors
 cd "$work"
 # shellcheck source=checks/expect
 . "$top/checks/expect"

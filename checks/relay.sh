@@ -14,7 +14,7 @@ python3 "$top/checks/relay.py" 7.up 7.down || failed=1
 
 # The downlink frame of silence, made by hand from the tables, and the uplink frame with the same data bits. Decoded from the
 # reset state, it begins with the samples 8, 0, 0, 8, 8, 8, 16.
-silence=$top/crates/codec_vectors/data/silence.down
+silence=$top/checks/vectors/silence.down
 {
     printf '\000\000\210\000'
     tail -c +5 "$silence" | head -c 34

@@ -14,12 +14,12 @@ same() {
 # The farm's incoming lines, and what a whole run writes.
 mkdir given whole
 for call in 1 2 3 4 5; do
-    cp "$top/crates/codec_vectors/data/farm-$call.up" "given/$call.up"
+    cp "$top/checks/vectors/farm-$call.up" "given/$call.up"
     cp "$top/checks/farms/harsh/$call.pcm" given
     cp "$top/checks/farms/harsh/$call.down" "$top/checks/farms/harsh/$call.out" whole
 done
 orders=$top/checks/farms/harsh/orders.txt
-report=$top/crates/codec_vectors/data/farm-report.txt
+report=$top/checks/vectors/farm-report.txt
 
 # parted NAME OCTETS: each part of a line is in its folder, and no file is made for a line that gets nothing
 parted() {

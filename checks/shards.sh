@@ -19,7 +19,7 @@ lay() {
     harsh)
         cp "$top"/checks/farms/harsh/*.pcm "$top/checks/farms/harsh/orders.txt" "$2"
         for call in 1 2 3 4 5; do
-            cp "$top/crates/codec_vectors/data/farm-$call.up" "$2/$call.up"
+            cp "$top/checks/vectors/farm-$call.up" "$2/$call.up"
         done
         ;;
     esac
@@ -81,7 +81,7 @@ for name in mixed clean mulaw harsh; do
     compare "$name" 9 ""
 done
 # The last of the runs is what is recorded, too.
-cmp "$work/one.report" "$top/crates/codec_vectors/data/farm-report.txt" || failed=1
+cmp "$work/one.report" "$top/checks/vectors/farm-report.txt" || failed=1
 for name in mixed harsh; do
     compare "$name" 2 --copy
     compare "$name" 2 "" --periods 100

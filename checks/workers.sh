@@ -10,10 +10,10 @@ cd "$work/given"
 # lay CALL UP: the recorded uplink and a Pcm line of speech, each repeated up to 500 periods
 lay() {
     for i in 1 2 3 4 5 6 7; do cat "$2"; done | head -c 20000 >"$1.up"
-    for i in 1 2; do cat "$top/crates/codec_vectors/data/speech-en-m3.pcm"; done | head -c 80000 >"$1.pcm"
+    for i in 1 2; do cat "$top/checks/vectors/speech-en-m3.pcm"; done | head -c 80000 >"$1.pcm"
 }
 for call in 1 2 3 4 5; do
-    lay "$call" "$top/crates/codec_vectors/data/farm-$call.up"
+    lay "$call" "$top/checks/vectors/farm-$call.up"
 done
 for call in 6 7 8; do
     lay "$call" "$top/examples/farm/$((call - 5)).up"

@@ -13,7 +13,7 @@ from .frame import WIDTHS, parameters_of_values, values_of
 from .g711 import Law, expand_all
 
 FRAMES = 50  # of a stream, from home
-DATA = Path(__file__).resolve().parents[1] / "crates" / "codec_vectors" / "data"
+DATA = Path(__file__).resolve().parents[1] / "checks" / "vectors"
 RECORDINGS = ("speech-en-m3.pcm", "speech-loud-m7.pcm", "harsh.pcm")
 
 

@@ -13,7 +13,7 @@ from .top import top
 from .trials import TOP
 
 Files = Dict[Path, bytes]
-VECTORS = TOP / "crates/codec_vectors/data"
+VECTORS = TOP / "checks/vectors"
 FARMS = TOP / "checks/farms"
 
 
@@ -69,7 +69,7 @@ def mixed_incoming() -> Tuple[Dict[str, bytes], bytes]:
 
 
 def harsh_incoming() -> Tuple[Dict[str, bytes], bytes]:
-    """The incoming lines and the orders of the harsh farm, whose uplinks are those of codec_vectors."""
+    """The incoming lines and the orders of the harsh farm, whose uplinks are among the vectors."""
     uplinks = {f"{call}.up": (VECTORS / f"farm-{call}.up").read_bytes() for call in range(1, 6)}
     return {**lines_in(FARMS / "harsh"), **uplinks}, (FARMS / "harsh/orders.txt").read_bytes()
 
@@ -86,19 +86,11 @@ def mixed_farm() -> Files:
 
 
 def harsh_farm() -> Files:
-    """checks/farms/harsh; its report and the counts in it stand with the uplinks."""
+    """checks/farms/harsh; its report is with the uplinks."""
     incoming, orders = harsh_incoming()
     ran = run_command(["run"], incoming, orders)
     files = {FARMS / "harsh" / name: octets for name, octets in ran.lines.items()}
-    return {**files, VECTORS / "farm-report.txt": ran.text, VECTORS / "farm-calls.txt": counts_in(ran.text)}
-
-
-def counts_in(report: bytes) -> bytes:
-    """Of each call in a report a line with its periods and its counts of the uplink."""
-    words = [line.split() for line in report.decode().splitlines()]
-    periods = [int(line[5]) - int(line[3]) for line in words if line[0] == "call"]
-    counts = [line[3:18:2] for line in words if line[0] == "counts"]
-    return "".join(f"{number} {' '.join(found)}\n" for number, found in zip(periods, counts)).encode()
+    return {**files, VECTORS / "farm-report.txt": ran.text}
 
 
 def farm_in(folder: Path) -> Files:
@@ -125,6 +117,12 @@ def text_number(folder: Path, number: int) -> Files:
     text = run_command(words_in(folder)[number], {}).text
     summed = folder / f"{number}.cksum"
     return {summed: checksum(text)} if summed.exists() else {folder / f"{number}.txt": text}
+
+
+def program() -> Files:
+    """What the program prints when the toolchain runs it."""
+    folder = TOP / "crates/trau_program"
+    return {folder / "stdout": run_command((folder / "args").read_text().split(), {}).text}
 
 
 # Marks, slots, base stations
@@ -207,7 +205,7 @@ def groups() -> List[Group]:
     periods = sorted(int(path.stem) for path in (TOP / "checks/save").glob("*.mark"))
     farms = [Group(mixed_farm), Group(harsh_farm), Group(farm_in, (FARMS / "clean",)), Group(farm_in, (FARMS / "mulaw",))]
     marks = [Group(saved_sizes, (periods,))] + [Group(mark_at, (period,)) for period in periods]
-    return drills + farms + faults + marks + [Group(followed), Group(slots), Group(codec_answers, (), False)]
+    return drills + farms + faults + marks + [Group(program), Group(followed), Group(slots), Group(codec_answers, (), False)]
 
 
 FOLDERS_OF_TEXTS = (TOP / "checks/drill", TOP / "checks/live")

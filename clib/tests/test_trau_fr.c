@@ -1,4 +1,4 @@
-/* test_trau_fr VECTORS DATA: the library beside recorded answers of libgsm; VECTORS is crates/codec_vectors/data. */
+/* test_trau_fr VECTORS DATA: the library beside recorded answers of libgsm; VECTORS is checks/vectors. */
 #include <stdio.h>
 #include <stdlib.h>
 #include <string.h>

@@ -8,15 +8,23 @@ from array import array
 from pathlib import Path
 
 HERE = Path(__file__).resolve().parent
-VECTORS = HERE.parents[1] / "crates" / "codec_vectors" / "data"
+VECTORS = HERE.parents[1] / "checks" / "vectors"
 sys.path.insert(0, str(HERE.parent))
+sys.path.insert(0, str(HERE.parents[1] / "tools"))
 
 import trau_fr  # noqa: E402
+from trau_frames import bits_of, data_of, gsm_of_data  # noqa: E402
 
 try:
     import numpy
 except ImportError:
     numpy = None
+
+
+def frames_of(line: str) -> bytes:
+    """The speech frames of an aligned TRAU line, 33 octets each."""
+    bits = bits_of((VECTORS / line).read_bytes())
+    return b"".join(gsm_of_data(data_of(bits[at : at + 320])) for at in range(0, len(bits), 320))
 
 
 class Codec(unittest.TestCase):
@@ -35,6 +43,13 @@ class Codec(unittest.TestCase):
     def test_samples_of_libgsm(self) -> None:
         samples = trau_fr.Decoder().decode(self.octets)
         self.assertEqual(samples.tobytes(), (HERE / "data" / "harsh.samples").read_bytes())
+
+    def test_samples_of_random_and_extreme_parameters(self) -> None:
+        recorded = [int(word) for word in (VECTORS / "harsh.samples.txt").read_text().split()]
+        self.assertEqual(list(trau_fr.Decoder().decode(frames_of("harsh.samples.up"))), recorded)
+
+    def test_frame_of_silence(self) -> None:
+        self.assertEqual(trau_fr.Encoder().encode(array("h", [0] * 160)), frames_of("silence.down"))
 
     def test_bytes_and_buffers(self) -> None:
         samples = trau_fr.expand(self.line[:160])
@@ -99,7 +114,10 @@ class Laws(unittest.TestCase):
     def test_compressed(self) -> None:
         samples = array("h", range(-32768, 32768))
         self.assertEqual(trau_fr.compress(samples, "alaw"), (VECTORS / "alaw_compress.bin").read_bytes())
-        self.assertEqual(trau_fr.compress(samples[32768:], "mulaw"), (VECTORS / "mulaw_compress.bin").read_bytes())
+        recorded = (VECTORS / "mulaw_compress.bin").read_bytes()
+        self.assertEqual(trau_fr.compress(samples[32768:], "mulaw"), recorded)
+        # The sample -1 - i has the code of i with the other sign.
+        self.assertEqual(trau_fr.compress(samples[:32768][::-1], "mulaw"), bytes(code ^ 0x80 for code in recorded))
 
 
 if __name__ == "__main__":

@@ -10,7 +10,7 @@ sys.path.insert(0, str(TOP))
 from model.codec import Block, Parameters  # noqa: E402
 from model.frame import Bits, FrameClass, Kind, UpFrame, bits_of_parameters, octets_of, write_up  # noqa: E402
 
-CODEC = TOP / "crates" / "codec_vectors" / "data"
+CODEC = TOP / "checks" / "vectors"
 CHECKS = TOP / "checks"
 
 # The parameters of 160 samples 0 from home, the frames up and down that carry them, and the idle frame down.

@@ -11,7 +11,7 @@ from pathlib import Path
 TOOLS = Path(__file__).resolve().parents[1]
 TOP = TOOLS.parent
 EXAMPLES = TOP / "examples"
-CODEC = TOP / "crates" / "codec_vectors" / "data"
+CODEC = TOP / "checks" / "vectors"
 DATA = TOOLS / "tests" / "data"
 
 sys.path.insert(0, str(TOOLS))
