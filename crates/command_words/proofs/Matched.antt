@@ -1,7 +1,9 @@
 -- From what `clap` says of a parse to the options.
-use Rattle.std.proofs.Common.{◌≡◌, ℕ, ◌^◌, ◌<◌, List, Option, Some, None, sym, ◌∙◌, ap, subst, true}
+use Rattle.std.proofs.Common.{◌≡◌, ℕ, ◌^◌, ◌<◌, List, [], ◌∷◌, inl, inr, Option, Some, None, sym, ◌∙◌, ap, subst, true}
 use Rattle.std.specs.Prelude.{codes}
-use Rattle.clap.specs.Words.{App, Text, HasMatchesOf, is_simple, matches_of, first_value, found_of, first_of}
+use Rattle.clap.specs.Words.{App, Text, HasKind, HasMatchesOf, Kinds, is_simple, kind_of, matches_of, first_value, found_of, first_of}
+use Rattle.clap.specs.declared.error.Error.{Error}
+use Rattle.clap.specs.declared.error.kind.ErrorKind.TheVariants.{OutOfMemory}
 use Rattle.clap.specs.declared.parser.matches.ArgMatches.{ArgMatches}
 use Rattle.clap.proofs.WalkLemmas.{first_value-rows}
 use Rattle.decimal_number.proofs.Numbers.{one_number}
@@ -37,3 +39,9 @@ same_drill_texts v w seed calls s same gives = record {
 pub rows_read : (command : App) → is_simple command ≡ true → (words : List Text) (m : ArgMatches) → HasMatchesOf command words m → (id : Text) →
     first_value (found_of m) id ≡ first_of id (matches_of command words)
 rows_read command simple words m has id = first_value-rows (found_of m) id ∙ ap (first_of id) (has simple).0
+
+-- an error that isn't a lack of memory has a fault of the words
+pub has_fault : (kinds : Kinds) (e : Error) → (kind_of e ≡ OutOfMemory → ⊥) → HasKind kinds e → kinds ≡ [] → ⊥
+has_fault [] e not (inl memory) none = not memory
+has_fault [] e not (inr among) none = among
+has_fault (k ∷ ks) e not has none = cc

@@ -9,7 +9,7 @@ use crate::{Settings, WordsFault};
 use clap::error::ErrorKind;
 use clap::{Arg, ArgAction, ArgMatches, Command};
 use decimal_number::number_of_text;
-use std::alloc::{AllocError, Global};
+use std::alloc::Global;
 
 // An option with a long name and one value.
 fn option<'a>(alloc: Global, name: &'a str) -> Arg<'a>
@@ -27,20 +27,6 @@ fn bare_command<'a>(alloc: Global, name: &'a str) -> Command<'a>
         .no_binary_name(true)
         .disable_help_flag(true)
         .disable_version_flag(true)
-}
-
-// A command with an option for each of these names, in order.
-fn with_options<'a>(
-    alloc: Global,
-    mut command: Command<'a>,
-    names: &[&'a str],
-) -> Result<Command<'a>, AllocError>
-    ensures { IfOk result (λ c. app_of c ≡ fold (λ app name. with_option name.now app) (app_of command.entry) names.now) }
-{
-    for name in names {
-        command = command.arg(option(alloc, name))?;
-    }
-    Ok(command)
 }
 
 // What a command finds in its words. `Usage`: they aren't options of this command, each at most once and with a value.
@@ -76,7 +62,10 @@ pub(crate) fn matches_of<'a>(
         is_simple_and_free (fold (λ app name. with_option name.now app) (bare_app name.entry.now) names.now) ≡ true →
         fault_of (fold (λ app name. with_option name.now app) (bare_app name.entry.now) names.now) (map (λ w. string_bytes w) words.now) ≡ [] → ⊥ }
 {
-    let command = with_options(alloc, bare_command(alloc, name), names)?;
+    let mut command = bare_command(alloc, name);
+    for long in names {
+        command = command.arg(option(alloc, long))?;
+    }
     matches_in(command, words)
 }
 

@@ -59,7 +59,8 @@ pub(crate) fn read_save(alloc: Global, options: &[String]) -> Result<Settings, W
         GivePeriods (map (λ w. string_bytes w) options.now) → ⊥ }
 {
     let read = read_options(alloc, options)?;
-    if read.has_periods {
+    let is_marked = read.has_periods;
+    if is_marked {
         Ok(read.settings)
     } else {
         Err(WordsFault::Usage)

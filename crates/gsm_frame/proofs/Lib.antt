@@ -1,3 +1,4 @@
+mod Carried
 mod Fit
 mod OneFrame
 mod OneNumber

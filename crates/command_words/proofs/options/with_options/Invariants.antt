@@ -1,7 +1,0 @@
-use Rattle.std.proofs.Common.{◌≡◌, fold, take}
-use Rattle.clap.specs.Words.{app_of}
-use Rattle.command_words.specs.Options.{with_option}
-use Rattle.command_words.proofs.options.with_options.Given as goal
-
-abbrev pub invariant-loop-name : goal.invariant-loop-name
-invariant-loop-name l = app_of l.command ≡ fold (λ app name. with_option name.now app) (app_of l.initial.command) (take l.name-index l.names)
