@@ -1,6 +1,6 @@
 //! A round before its calls are processed.
 
-ghost use Rattle.std.specs.Prelude.{◌≡◌, ℕ, ◌+◌, ◌<◌, ◌≤◌, length, Option, Some, slice_index, IfOk, map};
+ghost use Rattle.std.specs.Prelude.{◌≡◌, ℕ, ◌+◌, ◌*◌, ◌<◌, ◌≤◌, [], length, vec_capacity, Option, Some, slice_index, IfOk, map};
 ghost use Rattle.std.specs.Option.{option_map};
 ghost use Rattle.std.specs.List.{filter_map};
 ghost use Rattle.round_lines.specs.Seats.{Fills};
@@ -65,6 +65,31 @@ impl Model for Round {
         × (length r.failed.items + 4 * length r.live.items ≤ vec_capacity r.failed) × AreFailedBefore r.failed.items (opens_in r.calls.items) };
 }
 
+// Takes the memory of a round of `calls` calls: in `failed` for four lines per call, then for an end per call and for the pools of
+// both phases.
+fn take_memory(
+    alloc: Global,
+    failed: &mut Vec<Line>,
+    calls: usize,
+    workers: u32,
+) -> Result<(Vec<CallEnd>, PoolRoom<OpenCall>, PoolRoom<OpenCall>), AllocError>
+    requires calls { calls ≤ 4096 }
+    requires some_workers { 1 ≤ workers }
+    requires few_workers { workers ≤ 64 }
+    ensures kept { failed.new.items ≡ failed.old.items }
+    ensures failed { IfOk result (λ r. length failed.new.items + 4 * calls ≤ vec_capacity failed.new) }
+    ensures none { IfOk result (λ r. r.0.items ≡ []) }
+    ensures ends { IfOk result (λ r. calls ≤ vec_capacity r.0) }
+    ensures first { IfOk result (λ r. r.1 ≡ calls) }
+    ensures second { IfOk result (λ r. r.2 ≡ calls) }
+{
+    failed.reserve(4 * calls)?;
+    let ends = Vec::with_capacity(alloc, calls)?;
+    let first = PoolRoom::reserve(alloc, workers, calls as u32)?;
+    let second = PoolRoom::reserve(alloc, workers, calls as u32)?;
+    Ok((ends, first, second))
+}
+
 impl Round {
     /// Plans a round of `periods` periods, 1 to 250, from period `start` on, for 1 to 64 workers, and takes all its memory.
     /// `start` isn't before the end of the farm's last round, and `start + periods` is at most 4,294,967,295. On an error the
@@ -108,18 +133,17 @@ impl Round {
             ended: _,
         } = farm;
         plan_all(&mut calls, periods)?;
-        failed.reserve(4 * live.len())?;
-        let most = live.len() as u32;
+        let (ends, first, second) = take_memory(alloc, &mut failed, live.len(), workers)?;
         Ok(Round {
             start,
             ended: start + periods,
-            ends: Vec::with_capacity(alloc, live.len())?,
-            first: PoolRoom::reserve(alloc, workers, most)?,
-            second: PoolRoom::reserve(alloc, workers, most)?,
             calls,
             live,
             tallies,
             failed,
+            ends,
+            first,
+            second,
         })
     }
 

@@ -61,13 +61,6 @@ pub(crate) fn run_to_end<R: Threads + Wait + Sync, T: Trunk, G: Gate + Sync>(
     ensures cut { OnErr result ((after : AnyStage) × (after.clock ≤ periods) × Reaches pace.now.batch stage after (T.lines trunk.old) (T.lines trunk.new)) }
     ensures sides { KeepsSides (T.lines trunk.old) (T.lines trunk.new) }
 {
-    let mut last = work_until(rt, alloc, pace, stage, periods, trunk, gate)?;
-    finish(
-        alloc,
-        &mut last.board,
-        &last.farm,
-        &mut last.journal,
-        count,
-        periods,
-    )
+    let last = work_until(rt, alloc, pace, stage, periods, trunk, gate)?;
+    finish(alloc, last, count)
 }

@@ -1,12 +1,13 @@
 //! A run that goes on from a mark.
 
-ghost use Rattle.std.specs.Prelude.{◌≡◌, ◌≤◌, max, IfOk, OnErr};
+ghost use Rattle.std.specs.Prelude.{◌≡◌, ◌≤◌, Some, None, max, IfOk, IfErr, OnErr};
 ghost use Rattle.farm_checkpoint.specs.Marks.{NumbersRise};
 ghost use Rattle.farm_run.specs.Pace.{IsPace};
 ghost use Rattle.farm_run.specs.Runs.{KeepsSides};
 ghost use Rattle.farm_run.specs.Resuming.{Resumes, IsResumeCutShort};
 ghost use Rattle.farm_run.specs.Stages.{IsStage};
 ghost use Rattle.farm_run.specs.Parts.{Compares, ResumesOn, StopsOn};
+ghost use Rattle.farm_run.specs.declared.outgoing.Outgoing.TheVariants.{Written};
 
 use crate::marking::mark_calls;
 use crate::outgoing::Outgoing;
@@ -43,14 +44,29 @@ fn difference(alloc: Global, mark: &Mark, marked: &Stage) -> Result<Option<u32>,
     Ok(mark.differs(&calls))
 }
 
-// Compares the mark with a run of `count` orders that has come to its period and held back all octets. If the mark is the run's
-// own, goes on and writes all that follows.
+// Compares the mark with a run that has come to its period and held back all octets. If the mark is the run's own, the run writes
+// all that follows. If not, the error is the call number.
+fn release(alloc: Global, mark: &Mark, mut marked: Stage) -> Result<Result<Stage, u32>, AllocError>
+    requires rising { NumbersRise mark.now.calls }
+    requires stage { IsStage marked }
+    ensures same { IfOk result (λ compared. IfOk compared (λ released. Compares mark.now marked None × (released ≡ record marked { outgoing = Written }))) }
+    ensures differs { IfOk result (λ compared. IfErr compared (λ call. Compares mark.now marked (Some call))) }
+{
+    let found = difference(alloc, mark, &marked)?;
+    if let Some(call) = found {
+        return Ok(Err(call));
+    }
+    marked.outgoing = Outgoing::Written;
+    Ok(Ok(marked))
+}
+
+// Goes on from the mark's period with a run of `count` orders that has held back all octets before it, if the mark is its own.
 fn go_on<R: Threads + Wait + Sync, T: Trunk, G: Gate + Sync>(
     rt: &R,
     alloc: Global,
     pace: &Pace,
     mark: &Mark,
-    mut marked: Stage,
+    marked: Stage,
     count: usize,
     trunk: &mut T,
     gate: &G,
@@ -64,14 +80,15 @@ fn go_on<R: Threads + Wait + Sync, T: Trunk, G: Gate + Sync>(
     ensures cut { OnErr result (StopsOn pace.now mark.now marked (T.lines trunk.old) (T.lines trunk.new)) }
     ensures sides { KeepsSides (T.lines trunk.old) (T.lines trunk.new) }
 {
-    let found = difference(alloc, mark, &marked)?;
-    if let Some(call) = found {
-        return Ok(Resumed::Differs(call));
+    let compared = release(alloc, mark, marked)?;
+    match compared {
+        Ok(released) => {
+            let periods = mark.period.max(pace.periods);
+            let report = run_to_end(rt, alloc, pace, released, count, periods, trunk, gate)?;
+            Ok(Resumed::Ran(report))
+        }
+        Err(call) => Ok(Resumed::Differs(call)),
     }
-    marked.outgoing = Outgoing::Written;
-    let periods = mark.period.max(pace.periods);
-    let report = run_to_end(rt, alloc, pace, marked, count, periods, trunk, gate)?;
-    Ok(Resumed::Ran(report))
 }
 
 /// Runs these orders over the lines of a trunk from the start, as `run` does, but holds back the octets of the periods before

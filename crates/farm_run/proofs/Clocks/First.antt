@@ -14,7 +14,7 @@ use Rattle.trau_orders.specs.declared.order.Order.{Order}
 use Rattle.trau_orders.specs.Lists.{AreOrders}
 use Rattle.switchboard.specs.Calls.{Done, opened_at}
 use Rattle.switchboard.specs.Ends.{start_of}
-use Rattle.switchboard.specs.State.{State, EndBefore, first_stamp, last_stamp, orders_of}
+use Rattle.switchboard.specs.State.{State, EndBefore, first_stamp, last_stamp, orders_of, new_board}
 use Rattle.switchboard.specs.Open.{open_now, partner_now}
 use Rattle.call_leg.specs.Who.{Who}
 use Rattle.farm_rounds.specs.Calls.{Kept}
@@ -26,6 +26,13 @@ use Rattle.run_spec.proofs.SoFar.{so_far_at_first}
 use Rattle.farm_run.specs.Runs.{TellsFailed, IsRunOver, is_listed}
 use Rattle.farm_run.specs.Standing.{Standing, KnowsListed, HasFlags, never_given}
 use Rattle.farm_run.proofs.Clocks.Meeting.{told_first}
+use Rattle.trau_io.specs.declared.line.Line.{Line}
+use Rattle.farm_rounds.specs.Memory.{FarmMemory, home_memory}
+use Rattle.farm_run.specs.declared.outgoing.Outgoing.{Outgoing}
+use Rattle.farm_run.specs.declared.stage.Stage.{Stage}
+use Rattle.farm_run.specs.Ending.{AreShut}
+use Rattle.farm_run.specs.Journal.{JournalMemory, new_journal}
+use Rattle.farm_run.specs.Stages.{IsFirstStage}
 use Rattle.farm_run.specs.Match.{AtClock, histories_at}
 use Rattle.farm_run.specs.Clock.{LinesAt, WrittenFrom, IsAtClock, NeverFell}
 
@@ -92,6 +99,44 @@ clock_first b orders none untold shut alone = record {
     by : (os : List Order) → IfSome (first_stamp os) (λ s. 0 ≤ s)
     by [] = tt
     by (o ∷ os) = omega arith
+
+-- **A board, a farm and a journal before the first order are the first stage of a run.**
+pub first_stage : (orders : List Order) (outgoing : Outgoing) (s : Stage) → AreOrders orders → s.board ≡ new_board orders → ((t : ℕ) → EndBefore t s.board) →
+    ((c : ℕ) → open_now s.board c ≡ false) → ((c : ℕ) → partner_now s.board c ≡ None) → s.farm ≡ home_memory → CallsStand (λ c. None) s.farm.calls →
+    s.journal ≡ new_journal → s.outgoing ≡ outgoing → s.clock ≡ 0 → IsFirstStage orders outgoing s
+first_stage orders outgoing s are start untold shut alone farm history journal way clock = record {
+  stage = record {
+    clock = subst (λ (t : ℕ). AtClock t s.board s.farm.calls) (sym clock) (subst (λ (ks : List Kept). AtClock 0 s.board ks) (sym none_open)
+        (clock_first s.board (subst AreOrders (sym listed) are) none_done (untold 0) shut alone));
+    shut = subst (λ (j : JournalMemory). AreShut s.board j.ends) (sym journal) (λ c told. absurd (true≢false (sym told)));
+    bridges = omega (arith, ap (λ (j : JournalMemory). length j.bridges) journal);
+    ended = omega (arith, ap (λ (f : FarmMemory). f.ended) farm);
+    knows = subst (λ (ls : List Line). KnowsListed s.board ls) (sym none_failed)
+        (record { opened = λ c side fails. absurd (true≢false (sym fails)); ended = λ c side incoming fails. absurd (true≢false (sym fails)) });
+    few = omega (arith, are.few, ap length listed);
+  };
+  clock = clock;
+  orders = listed;
+  none_done = none_done;
+  untold = untold 0;
+  none_open = none_open;
+  none_failed = none_failed;
+  histories = history;
+  none_noted = journal;
+  way = way;
+}
+  where
+    listed : orders_of s.board ≡ orders
+    listed = ap orders_of start
+
+    none_done : s.board.done ≡ []
+    none_done = ap (λ (b : State). b.done) start
+
+    none_open : s.farm.calls ≡ []
+    none_open = ap (λ (f : FarmMemory). f.calls) farm
+
+    none_failed : s.farm.failed ≡ []
+    none_failed = ap (λ (f : FarmMemory). f.failed) farm
 
 -- **A run begins with no call.**
 pub at_first : (r : Run) (b : State) (calls : List Kept) (periods : ℕ) (lines : ℕ → Side → LineState) (last : Standing) → AreOrders (orders_of b) →

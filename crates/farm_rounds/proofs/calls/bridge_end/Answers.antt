@@ -51,3 +51,10 @@ returns-in-Some-clause-end c =
     ∙ sym (partner_places calls c.args.live.now k c.in-Some.partner c.requires.paired within c.index_of-other.ensures.within c.index_of-other.ensures.number refl) in
     c.min.ensures ∙ ap (λ n. min n c.whole-in-Some.result) mine ∙ ap (λ n. min (whole_in (open_at calls c.args.at).lines) n) other
     ∙ sym (ap (end_with (standings calls) (whole_in (open_at calls c.args.at).lines)) partner)
+
+pub returns-in-Some-clause-within : goal.returns-in-Some-clause-within
+returns-in-Some-clause-within c =
+    let calls = c.args.calls.now in
+    let own : c.deref-in-Some.result.now ≡ open_at calls c.args.at = c.deref-in-Some.ensures ∙ ap (λ (b : Box OpenCall). b.value) c.index-calls-at-in-Some.is
+    ∙ at_read calls c.args.at c.index-calls-at-in-Some.result c.requires.at in
+    omega (arith, c.min.ensures, c.whole.ensures.bound, ap (λ (o : OpenCall). o.lines.periods) own)

@@ -1,10 +1,12 @@
-use Rattle.std.proofs.Common.{◌≡◌, sym, ap, ◌∙◌, subst, ℕ, ◌+◌, ◌≤◌, Option, List, arith}
+use Rattle.std.proofs.Common.{◌≡◌, ◌<◌, refl, sym, ap, ◌∙◌, subst, ℕ, ◌+◌, ◌≤◌, Option, List, arith}
 use Rattle.std.specs.Prelude.{IfSome}
+use Rattle.std.proofs.lemmas.Result.{IfOk-from_err, IfOk-weaker}
 use Rattle.trau_io.specs.declared.line.Side.{Side}
 use Rattle.trau_io.specs.Lines.{LineState}
 use Rattle.farm_rounds.specs.Numbers.{is_among}
 use Rattle.farm_run.specs.Stages.{Reaches}
 use Rattle.farm_run.proofs.Clocks.Idle.{none_among}
+use Rattle.farm_run.proofs.Lines.Cutting.{on_err}
 use Rattle.farm_run.proofs.Clocks.Stepping.{OrdersDone, orders_done, ok_both, orders_more, stage_behind, idle_reaches}
 use Rattle.farm_run.proofs.clock.step.Goals as goal
 
@@ -75,3 +77,32 @@ returns-clause-reaches g c =
     (λ after. Reaches c.args.pace.now.batch c.args.stage after (g.T.Trunk.lines c.args.trunk.now) (g.T.Trunk.lines c.work_round.new.trunk)) c.work_round.result
     (λ after clock reaches. orders_more s b farm j c.requires.stage o c.args.pace.now.batch after before now
     (omega (arith, clock, c.round_periods-periods.ensures.some)) reaches) c.work_round.ensures.clock c.work_round.ensures.reaches
+
+pub returns-in_err-execute_orders : goal.returns-in_err-execute_orders
+returns-in_err-execute_orders g c =
+    let no = c.from_residual.ensures.0 in
+    record {
+      later = IfOk-from_err _ _ no;
+      within = IfOk-from_err _ _ no;
+      reaches = IfOk-from_err _ _ no;
+      cut = on_err _ refl;
+    }
+
+pub returns-then-is_empty-clause-later : goal.returns-then-is_empty-clause-later
+returns-then-is_empty-clause-later g c = c.idle_until.ensures.later
+
+pub returns-then-is_empty-clause-within : goal.returns-then-is_empty-clause-within
+returns-then-is_empty-clause-within g c = c.idle_until.ensures.within
+
+pub returns-clause-later : goal.returns-clause-later
+returns-clause-later g c =
+    IfOk-weaker c.work_round.result (λ after. after.clock ≡ c.args.stage.clock + c.round_periods-periods.result) (λ after. c.args.stage.clock < after.clock)
+    (λ after e. omega (arith, e, c.round_periods-periods.ensures.some)) c.work_round.ensures.clock
+
+pub returns-clause-within : goal.returns-clause-within
+returns-clause-within g c =
+    IfOk-weaker c.work_round.result (λ after. after.clock ≡ c.args.stage.clock + c.round_periods-periods.result) (λ after. after.clock ≤ c.args.until)
+    (λ after e. omega (arith, e, c.round_periods-periods.ensures.within)) c.work_round.ensures.clock
+
+pub returns-clause-cut : goal.returns-clause-cut
+returns-clause-cut g c = c.work_round.ensures.cut

@@ -7,22 +7,22 @@ use Rattle.farm_run.proofs.Reported.LastEnds.{all_among, reported_ok}
 use Rattle.farm_run.proofs.finish.finish.Goals as goal
 
 pub end_all-requires-clause-open : goal.end_all-requires-clause-open
-end_all-requires-clause-open c = all_among (λ d. open_now c.args.board.now d ≡ true) c.live_calls.result.now
-    (λ d q. sym (c.requires.matches.is_open d) ∙ sym (c.live_calls.ensures.calls d) ∙ q)
+end_all-requires-clause-open c = all_among (λ d. open_now c.args.last.board d ≡ true) c.live_calls.result.now
+    (λ d q. sym (c.requires.stage.clock.matches.is_open d) ∙ sym (c.live_calls.ensures.calls d) ∙ q)
 
 pub end_all-requires-clause-numbers : goal.end_all-requires-clause-numbers
 end_all-requires-clause-numbers c = all_among IsCallNumber c.live_calls.result.now
-    (λ d q. c.requires.matches.number d (sym (c.requires.matches.is_open d) ∙ sym (c.live_calls.ensures.calls d) ∙ q))
+    (λ d q. c.requires.stage.clock.matches.number d (sym (c.requires.stage.clock.matches.is_open d) ∙ sym (c.live_calls.ensures.calls d) ∙ q))
 
 pub returns-clause-reports : goal.returns-clause-reports
 returns-clause-reports c =
-    let farm = c.args.farm.now in
+    let farm = c.args.last.farm in
     let calls = c.live_calls.result.now in
     let ended = c.end_all.ensures in
     let h = c.report.ensures in
-    let among : (d : ℕ) → is_among calls d ≡ open_now c.args.board.now d = λ d. c.live_calls.ensures.calls d ∙ c.requires.matches.is_open d in
-    reported_ok c.args.board.now c.end_all.new.board farm.calls farm.tallies c.args.journal.now c.end_all.new.journal calls c.args.orders
-    c.args.periods c.report.result
+    let among : (d : ℕ) → is_among calls d ≡ open_now c.args.last.board d = λ d. c.live_calls.ensures.calls d ∙ c.requires.stage.clock.matches.is_open d in
+    reported_ok c.args.last.board c.end_all.new.board farm.calls farm.tallies c.args.last.journal c.end_all.new.journal calls c.args.orders
+    c.args.last.clock c.report.result
     among c.live_calls.ensures.rising ended.told (ended.none among) ended.noted h.replies h.left h.sorted h.calls h.whole
 
 pub end_all-requires-clause-rising : goal.end_all-requires-clause-rising
@@ -30,9 +30,12 @@ end_all-requires-clause-rising c = c.live_calls.ensures.rising
 
 pub end_all-requires-clause-new : goal.end_all-requires-clause-new
 end_all-requires-clause-new c =
-    new_limits c.args.board.now c.args.journal.now.ends c.args.periods c.live_calls.result.now c.requires.shut
-    (all_among (λ d. open_now c.args.board.now d ≡ true) c.live_calls.result.now
-    (λ d q. sym (c.requires.matches.is_open d) ∙ sym (c.live_calls.ensures.calls d) ∙ q))
+    new_limits c.args.last.board c.args.last.journal.ends c.args.last.clock c.live_calls.result.now c.requires.stage.shut
+    (all_among (λ d. open_now c.args.last.board d ≡ true) c.live_calls.result.now
+    (λ d q. sym (c.requires.stage.clock.matches.is_open d) ∙ sym (c.live_calls.ensures.calls d) ∙ q))
 
 pub returns-clause-failed : goal.returns-clause-failed
 returns-clause-failed c = c.report.ensures.failed
+
+pub end_all-requires-clause-late : goal.end_all-requires-clause-late
+end_all-requires-clause-late c = c.requires.stage.clock.past

@@ -1,4 +1,5 @@
-use Rattle.std.proofs.Common.{◌≡◌, ℕ, ◌≤◌, length, arith}
+use Rattle.std.proofs.Common.{◌≡◌, sym, ◌∙◌, ℕ, ◌≤◌, length, arith}
+use Rattle.std.proofs.lemmas.Result.{IfOk-from_err}
 use Rattle.trau_io.specs.declared.line.Side.{Side}
 use Rattle.trau_io.specs.Lines.{LineState}
 use Rattle.farm_report.specs.View.{ReportView}
@@ -11,6 +12,12 @@ use Rattle.farm_run.specs.Parts.{RunsToEnd}
 use Rattle.farm_run.proofs.Clocks.Stepping.{ok_both}
 use Rattle.farm_run.proofs.Lines.Cutting.{on_err}
 use Rattle.farm_run.proofs.parts.run_to_end.Goals as goal
+
+pub finish-requires-clause-stage : goal.finish-requires-clause-stage
+finish-requires-clause-stage g c = c.in_ok-last.ensures.reaches.stage
+
+pub returns-in_err-last-clause-ends : goal.returns-in_err-last-clause-ends
+returns-in_err-last-clause-ends g c = IfOk-from_err _ _ c.from_residual.ensures.0
 
 pub returns-in_err-last-clause-cut : goal.returns-in_err-last-clause-cut
 returns-in_err-last-clause-cut g c = on_err _ c.in_err-last.ensures.cut
@@ -25,14 +32,14 @@ returns-clause-ends g c =
     let u = c.in_ok-last.last in
     ok_both (λ (report : ReportView). report.failed ≡ c.in_ok-last.last.farm.failed)
     (λ (report : ReportView). (r : Run) (t : ℕ) → IsAtEnd r t c.in_ok-last.last.board c.in_ok-last.last.farm.calls c.in_ok-last.last.farm.tallies
-    c.in_ok-last.last.journal → r.periods ≡ c.args.periods → length r.orders ≡ c.args.count → report ≡ report_of r report.failed)
+    c.in_ok-last.last.journal → r.periods ≡ c.in_ok-last.last.clock → length r.orders ≡ c.args.count → report ≡ report_of r report.failed)
     (λ (report : ReportView). RunsToEnd c.args.pace.now.batch c.args.stage c.args.count c.args.periods before now report) c.finish.result
     (λ report failed reports. record {
       last = u;
       clock = c.in_ok-last.ensures.clock;
       reaches = c.in_ok-last.ensures.reaches;
       failed = failed;
-      reports = reports;
+      reports = λ r t end q. reports r t end (q ∙ sym c.in_ok-last.ensures.clock);
     }) c.finish.ensures.failed c.finish.ensures.reports
 
 pub returns-clause-cut : goal.returns-clause-cut

@@ -1,6 +1,7 @@
 use Rattle.std.proofs.Common.{◌≡◌, ◌+◌, ◌<◌, ◌≤◌, refl, sym, ap, ◌∙◌, subst, ℕ, List, ◌++◌, length, take, drop, arith}
 use Rattle.std.specs.Prelude.{map, slice_index}
 use Rattle.std.proofs.lemmas.List.{length-map}
+use Rattle.std.proofs.lemmas.Result.{IfOk-from_err}
 use Rattle.trau_io.specs.declared.line.Line.{Line}
 use Rattle.round_lines.specs.Rounds.{seat_at}
 use Rattle.farm_rounds.specs.declared.open.OpenCall.{OpenCall}
@@ -18,26 +19,14 @@ use Rattle.farm_rounds.proofs.Planning.{few_live, kept_all, planned, planned_sea
 use Rattle.farm_rounds.proofs.Known.{known_planned}
 use Rattle.farm_rounds.proofs.round.Round.plan.Goals as goal
 
-pub overflow_cast-most : goal.overflow_cast-most
-overflow_cast-most c =
+pub take_memory-requires-clause-calls : goal.take_memory-requires-clause-calls
+take_memory-requires-clause-calls c =
     let i = c.farm.inside in
     let few = few_live i.ended i.live.items (opens_in i.calls.items) c.farm.invariant.0 in
-    record { fits = omega (arith, few, c.len-most.ensures, i.live.ok.0) }
-
-pub reserve-requires-2-clause-jobs : goal.reserve-requires-2-clause-jobs
-reserve-requires-2-clause-jobs c =
-    let i = c.farm.inside in
-    let few = few_live i.ended i.live.items (opens_in i.calls.items) c.farm.invariant.0 in
-    omega (arith, few, c.len-most.ensures, i.live.ok.0)
-
-pub reserve-requires-3-clause-jobs : goal.reserve-requires-3-clause-jobs
-reserve-requires-3-clause-jobs c =
-    let i = c.farm.inside in
-    let few = few_live i.ended i.live.items (opens_in i.calls.items) c.farm.invariant.0 in
-    omega (arith, few, c.len-most.ensures, i.live.ok.0)
+    omega (arith, few, c.len.ensures, i.live.ok.0)
 
 -- the calls of the round
-opens : (c : goal.In_ok-reserve-3) →
+opens : (c : goal.In_ok-ends) →
     opens_in (take c.farm.inside.calls.len (c.plan_all.new.calls ++ drop (length c.plan_all.new.calls) c.farm.inside.calls.items))
     ≡ map (open_planned c.args.periods) (opens_in c.farm.inside.calls.items)
 opens c =
@@ -55,14 +44,14 @@ invariant_of-result c =
     let later : i.ended ≤ c.args.start = omega (arith, ended, c.requires.later) in (
       subst (λ (os : List OpenCall). IsRound c.args.start (c.args.start + c.args.periods) i.live.items os) (sym (opens c))
           (planned i.ended c.args.start c.args.periods i.live.items (opens_in i.calls.items) later c.requires.last c.farm.invariant.0),
-      c.in_ok-with_capacity.ensures.items,
-      omega (arith, c.in_ok-with_capacity.ensures.capacity, c.len-2.ensures, i.live.ok.0),
-      omega (arith, c.in_ok-reserve-2.ensures, c.len-most.ensures, i.live.ok.0),
-      omega (arith, c.in_ok-reserve-3.ensures, c.len-most.ensures, i.live.ok.0),
+      c.in_ok-ends.ensures.none,
+      omega (arith, c.in_ok-ends.ensures.ends, c.len.ensures, i.live.ok.0),
+      omega (arith, c.in_ok-ends.ensures.first, c.len.ensures, i.live.ok.0),
+      omega (arith, c.in_ok-ends.ensures.second, c.len.ensures, i.live.ok.0),
       c.farm.invariant.1,
-      omega (arith, c.in_ok-reserve.ensures.ok, c.in_ok-reserve.ensures.len, ap length c.in_ok-reserve.ensures.items, c.len.ensures, i.live.ok.0, i.failed.ok.0),
+      omega (arith, c.in_ok-ends.ensures.failed, c.len.ensures, i.live.ok.0),
       subst (λ (ls : List Line). AreFailedBefore ls
-          (opens_in (take i.calls.len (c.plan_all.new.calls ++ drop (length c.plan_all.new.calls) i.calls.items)))) (sym c.in_ok-reserve.ensures.items)
+          (opens_in (take i.calls.len (c.plan_all.new.calls ++ drop (length c.plan_all.new.calls) i.calls.items)))) (sym c.take_memory.ensures.kept)
           (subst (λ (os : List OpenCall). AreFailedBefore i.failed.items os) (sym (opens c))
           (known_planned i.ended c.args.periods i.live.items (opens_in i.calls.items) i.failed.items c.farm.invariant.0 c.farm.invariant.2)),
     )
@@ -77,7 +66,7 @@ pub returns-clause-live : goal.returns-clause-live
 returns-clause-live c = ap (λ (f : FarmMemory). f.live) c.farm.view_is
 
 pub returns-clause-failed : goal.returns-clause-failed
-returns-clause-failed c = c.in_ok-reserve.ensures.items ∙ ap (λ (f : FarmMemory). f.failed) c.farm.view_is
+returns-clause-failed c = c.take_memory.ensures.kept ∙ ap (λ (f : FarmMemory). f.failed) c.farm.view_is
 
 pub returns-clause-tallies : goal.returns-clause-tallies
 returns-clause-tallies c = ap (λ (f : FarmMemory). f.tallies) c.farm.view_is
@@ -111,3 +100,35 @@ returns-clause-order c =
 
 pub returns-clause-known : goal.returns-clause-known
 returns-clause-known c = subst (λ (f : FarmMemory). AreFailed f.failed f.calls) c.farm.view_is c.farm.invariant.2
+
+pub returns-in_err-plan_all : goal.returns-in_err-plan_all
+returns-in_err-plan_all c =
+    let no = c.from_residual.ensures.0 in
+    record {
+      start = IfOk-from_err _ _ no;
+      ended = IfOk-from_err _ _ no;
+      live = IfOk-from_err _ _ no;
+      failed = IfOk-from_err _ _ no;
+      tallies = IfOk-from_err _ _ no;
+      number = IfOk-from_err _ _ no;
+      seats = IfOk-from_err _ _ no;
+      order = IfOk-from_err _ _ no;
+      calls = IfOk-from_err _ _ no;
+      known = IfOk-from_err _ _ no;
+    }
+
+pub returns-in_err-ends : goal.returns-in_err-ends
+returns-in_err-ends c =
+    let no = c.from_residual-in_err-ends.ensures.0 in
+    record {
+      start = IfOk-from_err _ _ no;
+      ended = IfOk-from_err _ _ no;
+      live = IfOk-from_err _ _ no;
+      failed = IfOk-from_err _ _ no;
+      tallies = IfOk-from_err _ _ no;
+      number = IfOk-from_err _ _ no;
+      seats = IfOk-from_err _ _ no;
+      order = IfOk-from_err _ _ no;
+      calls = IfOk-from_err _ _ no;
+      known = IfOk-from_err _ _ no;
+    }
