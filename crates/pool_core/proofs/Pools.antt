@@ -6,9 +6,9 @@ use Rattle.std.specs.List.{range_with_len}
 use Rattle.std.proofs.lemmas.List.{length-set, length-replicate, get_or_default}
 use Rattle.std.proofs.lemmas.List.Sums.{sum_by-set}
 use Rattle.pool_core.specs.declared.pool.Waiting.{Waiting}
-use Rattle.pool_core.specs.Machine.{pool_start, dealt, deque, hand, is_empty, can_take, taken, pushed, fills, TakesJob, IsState}
+use Rattle.pool_core.specs.Machine.{pool_start, dealt, deque, hand, is_empty, can_take, taken, pushed, completed, fills, TakesJob, IsState}
 use Rattle.pool_core.specs.Waiting.{jobs_of, deques_of, pool_state, IsFront, IsPool}
-use Rattle.pool_core.proofs.Keeps.{taken_keeps, pushed_keeps}
+use Rattle.pool_core.proofs.Keeps.{taken_keeps, pushed_keeps, completed_keeps}
 use Rattle.pool_core.proofs.Start.{dealt_more, start_state}
 use Rattle.pool_core.proofs.Rows.{jobs_of-append, deque_at, deques_push, jobs_removed, deques_removed, waiting_length}
 
@@ -163,6 +163,34 @@ pushed_pool lens places ws hands finished w job p l e =
       owned = λ k d m. let o = owned_more ws (record { job = job; worker = w }) (length hands) p.owned l k d m in omega arith;
       state = subst IsState (sym (pushed_state lens places ws hands finished w job l e)) (pushed_keeps s w (hand s w) p.state l refl);
     }
+
+-- the job in a hand is done
+pub completed_state : (lens places : List ℕ) (ws : List Waiting) (hands : List (Option ℕ)) (finished : List ℕ) (w job : ℕ) → get_or hands w None ≡ Some job →
+    pool_state lens places ws (set hands w None) (finished ++ job ∷ []) ≡ completed (pool_state lens places ws hands finished) w
+    (hand (pool_state lens places ws hands finished) w)
+completed_state lens places ws hands finished w job e =
+    ap (λ n. record { lens = lens; places = places; deques = deques_of ws n; hands = set hands w None; finished = finished ++ job ∷ [] })
+    (length-set hands w None)
+    ∙ sym (ap (completed (pool_state lens places ws hands finished) w) e)
+
+pub completed_pool : (lens places : List ℕ) (ws : List Waiting) (hands : List (Option ℕ)) (finished : List ℕ) (w job : ℕ) → IsPool lens places ws hands finished →
+    w < length hands → get_or hands w None ≡ Some job → IsPool lens places ws (set hands w None) (finished ++ job ∷ [])
+completed_pool lens places ws hands finished w job p l e =
+    let s = pool_state lens places ws hands finished in
+    let n = length-set hands w None in
+    record {
+      workers = omega (arith, p.workers);
+      owned = λ k d m. let o = p.owned k d m in omega arith;
+      state = subst IsState (sym (completed_state lens places ws hands finished w job e)) (completed_keeps s w (hand s w) p.state l refl);
+    }
+
+-- while a hand holds a job, not all jobs are done
+pub done_room : (lens places : List ℕ) (ws : List Waiting) (hands : List (Option ℕ)) (finished : List ℕ) (w job : ℕ) → IsPool lens places ws hands finished →
+    w < length hands → get_or hands w None ≡ Some job → length finished < length lens
+done_room lens places ws hands finished w job p l e =
+    let b = sum_by-set fills hands w None None l in
+    let c = ap fills e in
+    omega (arith, p.state.all)
 
 -- while a hand holds a job, not all jobs wait
 pub room : (lens places : List ℕ) (ws : List Waiting) (hands : List (Option ℕ)) (finished : List ℕ) (w job : ℕ) → IsPool lens places ws hands finished →
