@@ -1,5 +1,5 @@
 -- Which line has which file: nothing at first, and after one line has claimed one.
-use Rattle.std.proofs.Common.{◌≡◌, ◌≢◌, ◌<◌, ℕ, zero, suc, List, [], ◌∷◌, length, Option, None, Some, All, slice_index_or}
+use Rattle.std.proofs.Common.{◌≡◌, ◌≢◌, ◌<◌, ℕ, zero, suc, List, [], ◌∷◌, length, Option, None, Some, All}
 use Rattle.std.proofs.Common.{arith}
 use Rattle.trau_files.specs.Claims.{AreApart, MayHave, MayShare, claim_at}
 use Rattle.trau_files.specs.declared.trunk.claims.Claim.{Claim}

@@ -1,6 +1,7 @@
 //! The desk over a reader and a writer, as the standard streams are.
-ghost use Rattle.std.specs.Prelude.{◌≡◌};
+ghost use Rattle.std.specs.Prelude.{◌≡◌, ◌≤◌};
 ghost use Rattle.trau_io.specs.Desks.{DeskState};
+ghost use Rattle.trau_io.specs.Lines.{Rose};
 
 use crate::retry::{read_again, write_some};
 use std::io;
@@ -58,22 +59,24 @@ impl<R: Read + Drop, W: Write + Drop> Desk for StdDesk<R, W> {
     fn read(&mut self, buf: &mut [u8]) -> Result<usize, Failed> {
         match read_again(&mut self.input, buf) {
             Ok(count) => Ok(count),
-            Err(fault) => {
-                self.read_faults = self.read_faults.saturating_add(1);
-                self.read_fault = Some(fault);
-                Err(Failed)
-            }
+            Err(fault) => Err(note(&mut self.read_faults, &mut self.read_fault, fault)),
         }
     }
 
     fn write(&mut self, bytes: &[u8]) -> Result<usize, Failed> {
         match write_some(&mut self.output, bytes) {
             Ok(count) => Ok(count),
-            Err(fault) => {
-                self.write_faults = self.write_faults.saturating_add(1);
-                self.write_fault = Some(fault);
-                Err(Failed)
-            }
+            Err(fault) => Err(note(&mut self.write_faults, &mut self.write_fault, fault)),
         }
     }
+}
+
+// Counts a fault, and keeps the system's error. The count stops at its highest value.
+fn note(faults: &mut u64, last: &mut Option<io::Error>, fault: io::Error) -> Failed
+    ensures later { faults.old ≤ faults.new }
+    ensures rose { Rose faults.old faults.new }
+{
+    *faults = faults.saturating_add(1);
+    *last = Some(fault);
+    Failed
 }

@@ -3,7 +3,7 @@
 //! If a signal comes before a read or a write has moved an octet, the system and the standard library return `Interrupted`
 //! and don't try again. Nothing has moved then, so trying again here loses no octet. An operation that had moved some octets
 //! returns their number.
-ghost use Rattle.std.specs.Prelude.{◌<◌, IfOk};
+ghost use Rattle.std.specs.Prelude.{◌<◌, IfOk, IsErr, IsTrue};
 ghost use Rattle.std.specs.Io.{ReadsAtMost, WritesAtMost};
 ghost use Rattle.std.specs.Io.KnownBytes.{ReadConsumes, WriteAppends};
 
@@ -19,10 +19,9 @@ pub fn read_again<R: Read>(reader: &mut R, buf: &mut [u8]) -> io::Result<usize>
     ensures octets { ReadConsumes (R.remaining reader.old) (R.remaining reader.new) result buf.new }
 {
     for _ in 0..TRIES {
-        match reader.read(buf) {
-            Ok(count) => return Ok(count),
-            Err(fault) if fault.kind() == ErrorKind::Interrupted => {}
-            Err(fault) => return Err(fault),
+        let done = reader.read(buf);
+        if !was_interrupted(&done) {
+            return done;
         }
     }
     Err(io::Error::from(ErrorKind::Interrupted))
@@ -34,10 +33,9 @@ fn write_again<W: Write>(writer: &mut W, bytes: &[u8]) -> io::Result<usize>
     ensures octets { WriteAppends (W.contents writer.old) (W.contents writer.new) result bytes.now }
 {
     for _ in 0..TRIES {
-        match writer.write(bytes) {
-            Ok(count) => return Ok(count),
-            Err(fault) if fault.kind() == ErrorKind::Interrupted => {}
-            Err(fault) => return Err(fault),
+        let done = writer.write(bytes);
+        if !was_interrupted(&done) {
+            return done;
         }
     }
     Err(io::Error::from(ErrorKind::Interrupted))
@@ -53,4 +51,11 @@ pub fn write_some<W: Write>(writer: &mut W, bytes: &[u8]) -> io::Result<usize>
         Ok(0) => Err(io::Error::from(ErrorKind::WriteZero)),
         written => written,
     }
+}
+
+// Whether a signal came before an operation had moved an octet.
+fn was_interrupted(done: &io::Result<usize>) -> bool
+    ensures { IsTrue result → IsErr done.now }
+{
+    matches!(done, Err(fault) if fault.kind() == ErrorKind::Interrupted)
 }

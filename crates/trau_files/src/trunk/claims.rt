@@ -69,10 +69,7 @@ impl Claims {
         ensures apart { IfOk result AreApart }
     {
         let recordings = Recordings::new(alloc)?;
-        let mut of_lines = Vec::with_capacity(alloc, LINE_INDICES)?;
-        for _ in 0..LINE_INDICES {
-            of_lines.push_reserved(None);
-        }
+        let of_lines = Vec::from_elem(alloc, None, LINE_INDICES)?;
         Ok(Claims {
             of_lines,
             recordings,

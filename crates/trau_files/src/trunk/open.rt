@@ -54,8 +54,8 @@ impl<'a, R: Files> LineFiles<'a, R> {
         ensures unclaimed { IfOk result (λ f. All (λ claim. claim ≡ None) f.claims) }
         ensures apart { IfOk result (λ f. AreApart f.claims) }
     {
-        let seats = Seats::new(alloc)?;
         let claims = Claims::new(alloc)?;
+        let seats = Seats::new(alloc)?;
         Ok(LineFiles {
             files,
             seats,

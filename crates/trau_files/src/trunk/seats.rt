@@ -66,11 +66,11 @@ impl<F: Drop> Seats<F> {
         ensures number { IfOk result (λ seats. length seats ≡ 256) }
         ensures closed { IfOk result (All (λ seat. seat ≡ None)) }
     {
+        let seat_of = Vec::from_elem(alloc, 0u8, LINE_INDICES)?;
         let mut files = Vec::with_capacity(alloc, SEATS)?;
         for _ in 0..SEATS {
             files.push_reserved(None);
         }
-        let seat_of = Vec::from_elem(alloc, 0u8, LINE_INDICES)?;
         Ok(Seats {
             files,
             seat_of,

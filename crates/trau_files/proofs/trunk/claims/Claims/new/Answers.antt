@@ -1,18 +1,26 @@
-use Rattle.std.proofs.Common.{◌≡◌, ◌+◌, ◌∙◌, Option, None, ap, arith, refl}
-use Rattle.std.proofs.lemmas.List.Elements.{All-push}
+use Rattle.std.proofs.Common.{◌≡◌, ℕ, List, Option, None, Some, All, replicate, refl}
+use Rattle.std.proofs.lemmas.List.Elements.{All-replicate}
 use Rattle.trau_files.specs.declared.trunk.claims.Claim.{Claim}
 use Rattle.trau_files.proofs.Apart.{apart_of_none}
 use Rattle.trau_files.proofs.trunk.claims.Claims.new.Goals as goal
 
-pub push_reserved-requires : goal.push_reserved-requires
-push_reserved-requires c = let old = c.loop.invariant in omega (arith, old.size, old.capacity)
+-- a clone of None is None
+is_none : (IsClone : Option Claim → Type 0) → ((x : Claim) → IsClone (Some x) → ⊥) → (y : Option Claim) → IsClone y → y ≡ None
+is_none IsClone never None clone = refl
+is_none IsClone never (Some x) clone = absurd (never x clone)
 
-pub loop-preserved : goal.loop-preserved
-loop-preserved c = record {
-  size = c.push_reserved.ensures.len ∙ ap (λ n. n + 1) c.loop.invariant.size;
-  capacity = omega (arith, c.push_reserved.ensures.capacity, c.loop.invariant.capacity);
-  each = rw c.push_reserved.ensures.items (All-push (λ (o : Option Claim). o ≡ None) _ _ c.loop.invariant.each refl);
-}
+-- no line has a file
+all_none : (n : ℕ) (claims : List (Option Claim)) → claims ≡ replicate n None → All (λ claim. claim ≡ None) claims
+all_none n claims is = rw is (All-replicate (λ (o : Option Claim). o ≡ None) n None refl)
 
 pub invariant_of-result : goal.invariant_of-result
-invariant_of-result c = (omega (arith, c.loop.invariant.size), apart_of_none c.loop.of_lines.items c.loop.invariant.each)
+invariant_of-result c = (
+  c.in_ok-of_lines.ensures.len,
+  apart_of_none _ (all_none 16388 _ (c.in_ok-of_lines.ensures.items_if_clones_equal (is_none _ (λ x clone. clone)))),
+)
+
+pub returns-clause-none : goal.returns-clause-none
+returns-clause-none c = all_none 16388 _ (c.in_ok-of_lines.ensures.items_if_clones_equal (is_none _ (λ x clone. clone)))
+
+pub returns-clause-apart : goal.returns-clause-apart
+returns-clause-apart c = apart_of_none _ (returns-clause-none c)
