@@ -8,7 +8,6 @@ use call_leg::Leg;
 use rx_handler::Effective;
 use std::alloc::{AllocError, Global};
 use std::process::Abort;
-use std::thread::{Threads, join_mut};
 use trau_alaw::Law;
 use trau_io::Counts;
 use trau_orders::DtxMode;
@@ -130,7 +129,7 @@ static THREE: Counts = Counts {
     made: 3,
 };
 
-// Whether three periods without a frame are like that, with silence on the Out line.
+// Whether three periods in which nothing is found on the uplink are like that, with silence on the Out line.
 fn stays_quiet(leg: &mut Worked, silence: u8) -> bool {
     for down in &QUIET {
         if leg.period_of(&[0; 40], silence) != ([silence; 160], *down) {
@@ -138,15 +137,6 @@ fn stays_quiet(leg: &mut Worked, silence: u8) -> bool {
         }
     }
     leg.counts() == THREE
-}
-
-// Nothing is found on the uplink, on a line with either law.
-#[test]
-fn without_frames_the_call_is_quiet(rt: HostRuntime) {
-    for (call, law, silence) in [(1, Law::A, 0xD5), (4096, Law::Mu, 0xFF)] {
-        let mut leg = new_leg(&rt, rt.alloc(), call, law);
-        assert_row(&rt, call as usize, stays_quiet(&mut leg, silence));
-    }
 }
 
 // The alignment field of a period of good speech, and how its Down octets begin and end.
@@ -191,6 +181,7 @@ fn sends(leg: &mut Worked, shift: &Shift) -> bool {
 }
 
 // Whether each of these periods has such Down octets, and four frames are made in five periods of good speech.
+// Field 39 in period 0, 63 in period 2, 40 in period 3: 312 ones follow frame 0, and frame 1 has 316 bits.
 fn sends_all(leg: &mut Worked) -> bool {
     for shift in &SHIFTS {
         if !sends(leg, shift) {
@@ -199,13 +190,6 @@ fn sends_all(leg: &mut Worked) -> bool {
     }
     let counts = leg.counts();
     counts.made == 4 && counts.good == 5
-}
-
-// Field 39 in period 0, 63 in period 2, 40 in period 3: 312 ones follow frame 0, and frame 1 has 316 bits.
-#[test]
-fn shifts_move_the_frames(rt: HostRuntime) {
-    let mut leg = new_leg(&rt, rt.alloc(), 7, Law::A);
-    assert_row(&rt, 1, sends_all(&mut leg));
 }
 
 // A period of two bridged legs: both uplink halves, the handing over, both downlink halves. Returns the Down octets
@@ -253,21 +237,10 @@ fn go_over_to_a_bridge(a: &mut Worked, b: &mut Worked) -> [u8; 6] {
 fn frames_go_out_in_order(a: &mut Worked, b: &mut Worked) -> bool {
     let within = go_over_to_a_bridge(a, b);
     end_bridge(a, b);
-    let ended = [a.handed(), b.handed()];
+    let ended = (a.handed(), b.handed());
     let behind = [alone(a, b)[4], alone(a, b)[4]];
-    within.ends_with(&[4, 5, 6, 7])
-        && ended == [(6, false), (5, true)]
-        && behind == [8, 9]
-        && b.handed() == (6, false)
-}
-
-// Legs are bridged from period 4 to 10, and the second has octets to skip at the start. So the frames of the first
-// go out one period late, the last of them after the end.
-#[test]
-fn handed_frames_go_out_in_order(rt: HostRuntime) {
-    let mut a = new_leg(&rt, rt.alloc(), 7, Law::A);
-    let mut b = new_leg(&rt, rt.alloc(), 9, Law::A);
-    assert_row(&rt, 1, frames_go_out_in_order(&mut a, &mut b));
+    let in_order = within.ends_with(&[4, 5, 6, 7]) && behind == [8, 9];
+    in_order && (ended, b.handed()) == (((6, false), (5, true)), (6, false))
 }
 
 // A bridge of one period with this octet of the first leg, then a period of both alone. Whether the second leg has
@@ -289,12 +262,27 @@ fn hands_one_each(a: &mut Worked, b: &mut Worked) -> bool {
     hands_one(a, b, 4) && first
 }
 
-// A bridge of one period hands over one frame, and so does the next one, two periods later.
+// The periods of a first bridge. Legs are bridged for six from period 4 on, and the second has octets to skip at the
+// start. So the frames of the first go out one period late, the last of them after the end. A bridge of one period
+// hands over one frame, and so does the next one, two periods later.
+static BRIDGED: [usize; 2] = [6, 1];
+
+// Whether frames are handed over as they should in a bridge of so many periods.
+fn are_handed(a: &mut Worked, b: &mut Worked, periods: usize) -> bool {
+    if periods == 6 {
+        frames_go_out_in_order(a, b)
+    } else {
+        hands_one_each(a, b)
+    }
+}
+
 #[test]
-fn bridges_of_one_period(rt: HostRuntime) {
-    let mut a = new_leg(&rt, rt.alloc(), 7, Law::A);
-    let mut b = new_leg(&rt, rt.alloc(), 9, Law::A);
-    assert_row(&rt, 1, hands_one_each(&mut a, &mut b));
+fn bridges_of_two_legs(rt: HostRuntime) {
+    for periods in &BRIDGED {
+        let mut a = new_leg(&rt, rt.alloc(), 7, Law::A);
+        let mut b = new_leg(&rt, rt.alloc(), 9, Law::A);
+        assert_row(&rt, *periods, are_handed(&mut a, &mut b, *periods));
+    }
 }
 
 // Two periods of good speech in which the exchange speaks. Returns the Out octets of the first, and the Down octets
@@ -305,7 +293,8 @@ fn two_spoken(leg: &mut Worked) -> ([u8; 160], [u8; 40], [u8; 40]) {
     (out, first, second)
 }
 
-// Two periods, a bridge without any, and two more: whether what was heard and sent first comes again.
+// Two periods, a bridge without any, and two more: whether what was heard and sent first comes again. After a bridge
+// without any period the codecs are in their reset state: the next frame is a first one.
 fn goes_home(leg: &mut Worked) -> bool {
     let (home, _, first) = two_spoken(leg);
     leg.begin_bridge();
@@ -314,19 +303,13 @@ fn goes_home(leg: &mut Worked) -> bool {
     again == home && third == first && second != first
 }
 
-// After a bridge without any period the codecs are in their reset state: the next frame is a first one.
-#[test]
-fn a_bridge_without_periods_goes_home(rt: HostRuntime) {
-    let mut leg = new_leg(&rt, rt.alloc(), 5, Law::A);
-    assert_row(&rt, 1, goes_home(&mut leg));
-}
-
 // A period of good speech and a silent exchange: whether its frame has SP 1.
 fn is_speech(leg: &mut Worked) -> bool {
     leg.period(&up(0, 9)).1[38] & 2 == 2
 }
 
-// Five periods below the level and two at level 0: whether only the sixth has SP 0.
+// Five periods with DTX on and each peak below the level, and two at level 0, where no frame is silence: whether only
+// the fifth frame, in the sixth period, has SP 0.
 fn one_is_silence(leg: &mut Worked) -> bool {
     leg.send_silence_below(32767);
     for _ in 0..5 {
@@ -338,32 +321,37 @@ fn one_is_silence(leg: &mut Worked) -> bool {
     !is_speech(leg) && is_speech(leg)
 }
 
-// If DTX is on and each peak is below the level, the fifth frame is the first one with SP 0. At level 0 no frame is
-// silence.
+// What one leg does in its first periods.
+enum First {
+    Quiet { silence: u8 },
+    Shifts,
+    GoesHome,
+    SendsSilence,
+}
+
+static FIRST: [(u32, Law, First); 5] = [
+    (1, Law::A, First::Quiet { silence: 0xD5 }),
+    (4096, Law::Mu, First::Quiet { silence: 0xFF }),
+    (7, Law::A, First::Shifts),
+    (5, Law::A, First::GoesHome),
+    (3, Law::A, First::SendsSilence),
+];
+
+// Whether a new leg does this.
+fn does(leg: &mut Worked, first: &First) -> bool {
+    match first {
+        First::Quiet { silence } => stays_quiet(leg, *silence),
+        First::Shifts => sends_all(leg),
+        First::GoesHome => goes_home(leg),
+        First::SendsSilence => one_is_silence(leg),
+    }
+}
+
+// Each row is named by its call.
 #[test]
-fn silence_by_level(rt: HostRuntime) {
-    let mut leg = new_leg(&rt, rt.alloc(), 3, Law::A);
-    assert_row(&rt, 1, one_is_silence(&mut leg));
-}
-
-// A period of both legs, the first one in another thread: whether their octets are the same.
-fn are_alike_in_threads(rt: &impl Threads, a: &mut Worked, b: &mut Worked) -> bool {
-    let up = up(0, 4);
-    let (one, other) = join_mut(rt, &mut || a.period(&up), &mut || b.period(&up));
-    one == other
-}
-
-// The same for a period before the threads, one in them, and one after them.
-fn stay_alike(rt: &impl Threads, a: &mut Worked, b: &mut Worked) -> bool {
-    let before = a.period(&up(0, 3)) == b.period(&up(0, 3));
-    let within = are_alike_in_threads(rt, a, b);
-    before && within && a.period(&up(0, 5)) == b.period(&up(0, 5))
-}
-
-// Legs that continue in other threads give the same octets.
-#[test]
-fn legs_go_to_other_threads(rt: HostRuntime) {
-    let mut a = new_leg(&rt, rt.alloc(), 1, Law::A);
-    let mut b = new_leg(&rt, rt.alloc(), 1, Law::A);
-    assert_row(&rt, 1, stay_alike(&rt, &mut a, &mut b));
+fn one_leg(rt: HostRuntime) {
+    for (call, law, first) in &FIRST {
+        let mut leg = new_leg(&rt, rt.alloc(), *call, *law);
+        assert_row(&rt, *call as usize, does(&mut leg, first));
+    }
 }

@@ -14,7 +14,10 @@ fn follow(ccu: &mut Ccu, down: &[u8; 40]) -> (Option<u64>, [u8; 40])
     ensures { ccu.new.periods ≡ ccu.old.periods + 1 }
 {
     let heard = ccu.feed(down);
-    let place = heard.second.or(heard.first).map(|found| found.place);
+    let place = match heard.second.or(heard.first) {
+        Some(found) => Some(found.place),
+        None => None,
+    };
     let mut bits = [0; 320];
     ccu.answer(&mut bits);
     let mut up = [0; 40];

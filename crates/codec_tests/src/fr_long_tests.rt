@@ -34,17 +34,13 @@ fn keeps_the_last_used_lag(rt: HostRuntime) {
     );
 }
 
-// Whether a prediction has this lag and this code of a gain.
-fn has_codes(ltp: &Ltp, nc: u8, bc: u8) -> bool {
-    ltp.nc == nc && ltp.bc == bc
-}
-
-// Whether it has this predicted sample, and this sample of the remainder.
-fn has_samples(ltp: &Ltp, place: usize, dpp: i16, place_left: usize, e: i16) -> bool
-    requires place { place < 40 }
-    requires left { place_left < 40 }
+// Whether a prediction has this lag and this code of a gain, and these samples at these places: one that is predicted,
+// and one of the remainder.
+fn predicts(ltp: &Ltp, codes: (u8, u8), dpp: (usize, i16), e: (usize, i16)) -> bool
+    requires place { dpp.0 < 40 }
+    requires left { e.0 < 40 }
 {
-    ltp.dpp[place] == dpp && ltp.e[place_left] == e
+    (ltp.nc, ltp.bc) == codes && ltp.dpp[dpp.0] == dpp.1 && ltp.e[e.0] == e.1
 }
 
 // The history of a block of pulses and a silent one after it.
@@ -61,8 +57,7 @@ fn pulses_before() -> LtpHistory {
 #[test]
 fn takes_the_least_of_equal_lags(rt: HostRuntime) {
     let ltp = pulses_before().predict(&pulse());
-    assert_row(&rt, 1, has_codes(&ltp, 50, 3));
-    assert_row(&rt, 2, ltp.e[0] == 0);
+    assert_row(&rt, 1, predicts(&ltp, (50, 3), (0, 1000), (0, 0)));
 }
 
 // The history of three blocks whose samples are all below 0.
@@ -78,8 +73,7 @@ fn negative_before() -> LtpHistory {
 fn takes_lag_40_where_no_correlation_is_positive(rt: HostRuntime) {
     let history = negative_before();
     let ltp = history.predict(&pulse());
-    assert_row(&rt, 1, has_codes(&ltp, 40, 0));
-    assert_row(&rt, 2, has_samples(&ltp, 0, -1, 0, 1001));
+    assert_row(&rt, 1, predicts(&ltp, (40, 0), (0, -1), (0, 1001)));
 }
 
 // A block with these samples at these places; all others are 0.
@@ -109,10 +103,8 @@ fn predicts_two_blocks_in_turn(rt: HostRuntime) {
     let first = history.predict(&block(&[(0, 1200), (14, -700), (26, 500)]));
     history.update(&first.dpp, &block(&[(1, 300), (26, -100)]));
     let second = history.predict(&block(&[(1, -400), (15, 900)]));
-    assert_row(&rt, 1, has_codes(&first, 117, 2));
-    assert_row(&rt, 2, has_samples(&first, 14, -975, 26, 45));
-    assert_row(&rt, 3, has_codes(&second, 55, 1));
-    assert_row(&rt, 4, has_samples(&second, 16, 105, 29, 341));
+    assert_row(&rt, 1, predicts(&first, (117, 2), (14, -975), (26, 45)));
+    assert_row(&rt, 2, predicts(&second, (55, 1), (16, 105), (29, 341)));
 }
 
 #[test]

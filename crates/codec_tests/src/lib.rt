@@ -19,8 +19,6 @@ mod fr_rpe_tests;
 #[cfg(test)]
 mod fr_short_tests;
 #[cfg(test)]
-mod plain_filters;
-#[cfg(test)]
 mod rows;
 #[cfg(test)]
 mod trau_alaw_tests;

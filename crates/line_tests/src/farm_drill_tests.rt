@@ -23,26 +23,29 @@ fn drilled(
     drill(alloc, seed, calls.min(256), periods.min(1000))
 }
 
-// The sum of what an incoming line gives; None if that isn't exactly `count` octets.
+// Whether an incoming line gives exactly so many octets.
+fn is_whole(trunk: &mut MemTrunk, line: Line, octets: &mut [u8]) -> bool {
+    read_block(trunk, line, octets) == Filled::Whole && trunk.read(line, &mut [0]) == Ok(0)
+}
+
+// The sum of what an incoming line gives; None if that isn't exactly `count` octets, or if memory runs out.
 fn sum_of_line(
     alloc: Global,
     trunk: &mut MemTrunk,
     call: u32,
     side: Side,
     count: usize,
-) -> Result<Option<u32>, AllocError> {
+) -> Option<u32> {
     let line = Line {
         call: call.clamp(1, 4096),
         side,
     };
-    let mut octets = vec![in alloc; 0; count]?;
-    let whole = read_block(trunk, line, &mut octets) == Filled::Whole;
-    let at_end = trunk.read(line, &mut [0]) == Ok(0);
-    Ok(if whole && at_end {
+    let mut octets = vec![in alloc; 0; count].ok()?;
+    if is_whole(trunk, line, &mut octets) {
         Some(sum(&octets))
     } else {
         None
-    })
+    }
 }
 
 // Seed, calls, periods; a call, and the sums of its Up and Pcm line. The Pcm line is quiet for the first 32 periods, then
@@ -56,20 +59,27 @@ static SUMS: [Row; 4] = [
     (4_294_967_295, 6, 140, 6, 4_124_660_262, 114_896_368),
 ];
 
-// Whether a call of a drill has these sums.
-fn has_sums(alloc: Global, row: &Row) -> Result<bool, AllocError> {
-    let (seed, calls, periods, call, up, pcm) = *row;
+// Whether the lines of a call have these sums.
+fn has_sums(alloc: Global, trunk: &mut MemTrunk, row: &Row) -> bool {
+    let (_, _, periods, call, up, pcm) = *row;
     let octets = 40 * periods.min(1000) as usize;
-    let (mut trunk, _text) = drilled(alloc, seed, calls, periods)?;
-    let on_up = sum_of_line(alloc, &mut trunk, call, Side::Up, octets)?;
-    let on_pcm = sum_of_line(alloc, &mut trunk, call, Side::Pcm, 4 * octets)?;
-    Ok(on_up == Some(up) && on_pcm == Some(pcm))
+    let on_up = sum_of_line(alloc, trunk, call, Side::Up, octets);
+    let on_pcm = sum_of_line(alloc, trunk, call, Side::Pcm, 4 * octets);
+    on_up == Some(up) && on_pcm == Some(pcm)
+}
+
+// Whether a drill has a call with these sums.
+fn is_drilled(alloc: Global, row: &Row) -> bool {
+    match drilled(alloc, row.0, row.1, row.2) {
+        Ok((mut trunk, _)) => has_sums(alloc, &mut trunk, row),
+        Err(_) => false,
+    }
 }
 
 #[test]
 fn drills_as_another_program(rt: HostRuntime) {
     for row in &SUMS {
-        assert_row(&rt, row.3 as usize, has_sums(rt.alloc(), row) == Ok(true));
+        assert_row(&rt, row.3 as usize, is_drilled(rt.alloc(), row));
     }
 }
 
