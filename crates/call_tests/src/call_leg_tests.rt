@@ -262,26 +262,32 @@ fn hands_one_each(a: &mut Worked, b: &mut Worked) -> bool {
     hands_one(a, b, 4) && first
 }
 
-// The periods of a first bridge. Legs are bridged for six from period 4 on, and the second has octets to skip at the
-// start. So the frames of the first go out one period late, the last of them after the end. A bridge of one period
-// hands over one frame, and so does the next one, two periods later.
-static BRIDGED: [usize; 2] = [6, 1];
+// What two legs are bridged for.
+enum Bridging {
+    // Six periods from period 4 on. The second leg has octets to skip at the start, so the frames of the first go out one
+    // period late, the last of them after the end.
+    SixPeriods,
+    // One period, and one more two periods later. Each bridge hands over one frame.
+    OnePeriod,
+}
 
-// Whether frames are handed over as they should in a bridge of so many periods.
-fn are_handed(a: &mut Worked, b: &mut Worked, periods: usize) -> bool {
-    if periods == 6 {
-        frames_go_out_in_order(a, b)
-    } else {
-        hands_one_each(a, b)
+static BRIDGES: [(usize, Bridging); 2] = [(6, Bridging::SixPeriods), (1, Bridging::OnePeriod)];
+
+// Whether frames are handed over as they should.
+fn are_handed(a: &mut Worked, b: &mut Worked, bridging: &Bridging) -> bool {
+    match bridging {
+        Bridging::SixPeriods => frames_go_out_in_order(a, b),
+        Bridging::OnePeriod => hands_one_each(a, b),
     }
 }
 
+// Each row is named by the periods of its bridge.
 #[test]
 fn bridges_of_two_legs(rt: HostRuntime) {
-    for periods in &BRIDGED {
+    for (periods, bridging) in &BRIDGES {
         let mut a = new_leg(&rt, rt.alloc(), 7, Law::A);
         let mut b = new_leg(&rt, rt.alloc(), 9, Law::A);
-        assert_row(&rt, *periods, are_handed(&mut a, &mut b, *periods));
+        assert_row(&rt, *periods, are_handed(&mut a, &mut b, bridging));
     }
 }
 
