@@ -3,7 +3,7 @@
 
 use crate::counts::Counts;
 use pool_run::Gate;
-use std::sync::atomic::{AtomicU32, Ordering};
+use std::sync::atomic::{AtomicU64, Ordering};
 use std::thread;
 
 #[derive(Drop)]
@@ -12,7 +12,7 @@ pub(crate) struct Between {
     turns: u32,
     begun: Counts,
     posted: Counts,
-    used_up: AtomicU32,
+    used_up: AtomicU64,
 }
 
 impl Between {
@@ -21,12 +21,12 @@ impl Between {
             turns,
             begun: Counts::zero(),
             posted: Counts::zero(),
-            used_up: AtomicU32::new(0),
+            used_up: AtomicU64::new(0),
         }
     }
 
     // How many waits ended without their condition.
-    pub(crate) fn used_up(&self) -> u32 {
+    pub(crate) fn used_up(&self) -> u64 {
         self.used_up.load(Ordering::SeqCst)
     }
 

@@ -1,46 +1,48 @@
 //! Counts that threads may raise at once, one for each of the calls 1, 2 and 3.
 
-use std::sync::atomic::{AtomicU32, Ordering};
+use std::sync::atomic::{AtomicU64, Ordering};
 
+// A number that is no call's: what is counted of it is wrong.
+pub(crate) const WRONG: u32 = 0;
+
+// They share a word of which each has sixteen bits, those of all other numbers the lowest: what holds counts has one atomic to
+// drop, and not four.
 #[derive(Drop)]
 pub(crate) struct Counts {
-    of_1: AtomicU32,
-    of_2: AtomicU32,
-    of_3: AtomicU32,
-    // Of all other numbers.
-    of_others: AtomicU32,
+    word: AtomicU64,
+}
+
+// The lowest bit of a call's count.
+fn place(call: u32) -> u32 {
+    16 * (call.min(4) % 4)
+}
+
+// A call's count in a word.
+fn count(word: u64, call: u32) -> u32 {
+    ((word >> place(call) % 64) % 65_536) as u32
 }
 
 impl Counts {
     pub(crate) fn zero() -> Counts {
         Counts {
-            of_1: AtomicU32::new(0),
-            of_2: AtomicU32::new(0),
-            of_3: AtomicU32::new(0),
-            of_others: AtomicU32::new(0),
-        }
-    }
-
-    fn of(&self, call: u32) -> &AtomicU32 {
-        match call {
-            1 => &self.of_1,
-            2 => &self.of_2,
-            3 => &self.of_3,
-            _ => &self.of_others,
+            word: AtomicU64::new(0),
         }
     }
 
     // Adds one to the count of a call. Returns the count before.
     pub(crate) fn raise(&self, call: u32) -> u32 {
-        self.of(call).fetch_add(1, Ordering::SeqCst)
+        let one = 1u64 << place(call) % 64;
+        count(self.word.fetch_add(one, Ordering::SeqCst), call)
     }
 
     pub(crate) fn get(&self, call: u32) -> u32 {
-        self.of(call).load(Ordering::SeqCst)
+        count(self.word.load(Ordering::SeqCst), call)
     }
 
     // Whether the calls 1, 2 and 3 have these counts, and no other number was counted.
-    pub(crate) fn are(&self, counts: [u32; 3]) -> bool {
-        [self.get(1), self.get(2), self.get(3)] == counts && self.get(0) == 0
+    pub(crate) fn are(&self, counts: [u16; 3]) -> bool {
+        let [one, two, three] = counts;
+        let word = u64::from(one) << 16 | u64::from(two) << 32 | u64::from(three) << 48;
+        self.word.load(Ordering::SeqCst) == word
     }
 }

@@ -2,9 +2,12 @@
 //! eleventh operation, which gives their end, and are set to fail at the twelfth, which isn't done. Each run is compared with a run
 //! over the octets that were given, in which no operation fails.
 
-use crate::lines::{NONE, line};
+use crate::lines::Octets::Numbered;
+use crate::lines::{ALL, NONE, lay, line};
 use crate::rows::assert_parts;
-use crate::two_calls::{OF_40, OF_160, Outcome, calm, carry_calm, is_written, lay};
+use crate::two_calls::{
+    CUT_40, CUT_160, OF_40, OF_160, OUTGOING, Outcome, calm, carry_calm, is_written,
+};
 use std::alloc::Global;
 use std::process::Abort;
 use std::sync::Wait;
@@ -105,23 +108,32 @@ fn is_incoming(side: Side) -> bool {
     side == Up || side == Pcm
 }
 
+// The lines of both calls. This one has so many octets, and fails at operation `number`.
+fn lines_with(
+    rt: &impl Abort,
+    alloc: Global,
+    row: &Failing,
+    octets: usize,
+    number: u32,
+) -> MemTrunk {
+    let mut trunk = calm(rt, alloc);
+    let cut = match row.side {
+        Up | Down => CUT_40,
+        Pcm | Out => CUT_160,
+    };
+    let laid = (row.call, row.side, Numbered(octets), cut, number);
+    lay(rt, alloc, &mut trunk, &laid, ALL);
+    trunk
+}
+
 // The lines of both calls. This one fails at operation `number`.
 fn failed_at(rt: &impl Abort, alloc: Global, row: &Failing, number: u32) -> MemTrunk {
-    let mut trunk = calm(rt, alloc);
     let octets = match row.side {
         Up => OF_40,
         Pcm => OF_160,
         Down | Out => 0,
     };
-    lay(rt, alloc, &mut trunk, row.call, row.side, octets, number);
-    trunk
-}
-
-// The lines of both calls. This incoming one has only the octets that were given before it failed, and never fails.
-fn given(rt: &impl Abort, alloc: Global, row: &Failing, before: usize) -> MemTrunk {
-    let mut trunk = calm(rt, alloc);
-    lay(rt, alloc, &mut trunk, row.call, row.side, before, NONE);
-    trunk
+    lines_with(rt, alloc, row, octets, number)
 }
 
 fn put(rt: &impl Abort, told: &mut String, text: &str) {
@@ -134,26 +146,50 @@ fn ends_its_call(side: Side, before: usize) -> bool {
     side == Up || side == Pcm && before < OF_160
 }
 
+// How a line of the report goes on before its new end, and that end: its own front and the fault's cause, if it is the line of a
+// call that the fault ends.
+fn ended<'a>(row: &Failing, ends: bool, text: &'a str) -> (&'a str, &'static str) {
+    if !ends || !text.starts_with(row.head) {
+        return (text, "");
+    }
+    match text.split_once(" end ") {
+        Some((front, _)) => (front, row.cause),
+        None => (text, ""),
+    }
+}
+
+// A line of the report, with the failed line before the last one.
+fn put_line(rt: &impl Abort, told: &mut String, row: &Failing, ends: bool, text: &str) {
+    if text.starts_with("end ") {
+        put(rt, told, row.told);
+    }
+    let (front, end) = ended(row, ends, text);
+    put(rt, told, front);
+    put(rt, told, end);
+    put(rt, told, "\n");
+}
+
 // From the report of the run over the octets that were given, the report of the run with the fault: the line is listed before
 // the last line, and its call may end by the fault.
 fn told_of(rt: &impl Abort, alloc: Global, row: &Failing, ends: bool, calm: &[u8]) -> String {
     let calm = str::from_utf8(calm).expect(rt, "text");
     let mut told = String::new(alloc);
     for text in calm.lines() {
-        if text.starts_with("end ") {
-            put(rt, &mut told, row.told);
-        }
-        let ended = ends && text.starts_with(row.head);
-        match text.split_once(" end ") {
-            Some((front, _)) if ended => {
-                put(rt, &mut told, front);
-                put(rt, &mut told, row.cause);
-            }
-            _ => put(rt, &mut told, text),
-        }
-        put(rt, &mut told, "\n");
+        put_line(rt, &mut told, row, ends, text);
     }
     told
+}
+
+// Whether a text is that report.
+fn is_told(
+    rt: &impl Abort,
+    alloc: Global,
+    row: &Failing,
+    ends: bool,
+    text: &[u8],
+    calm: &[u8],
+) -> bool {
+    told_of(rt, alloc, row, ends, calm).as_bytes() == text
 }
 
 // Whether a line got what it got in another run; if it failed, the first `before` octets of that.
@@ -176,11 +212,12 @@ fn has_front(
 
 // Whether each outgoing line has what it should, and the failed one failed once.
 fn have_fronts(trunk: &MemTrunk, other: &MemTrunk, row: &Failing, before: usize) -> bool {
-    has_front(trunk, other, row, before, 7, Down)
-        && has_front(trunk, other, row, before, 7, Out)
-        && has_front(trunk, other, row, before, 9, Down)
-        && has_front(trunk, other, row, before, 9, Out)
-        && trunk.faults(line(row.call, row.side)) == 1
+    for (call, side) in &OUTGOING {
+        if !has_front(trunk, other, row, before, *call, *side) {
+            return false;
+        }
+    }
+    trunk.faults(line(row.call, row.side)) == 1
 }
 
 // Whether a run in which a line fails at operation `number` agrees with the run over the octets that were given.
@@ -194,8 +231,8 @@ fn is_as_given<R: Abort + Threads + Wait + Sync>(
 ) -> bool {
     let run = carry_calm(rt, alloc, failed_at(rt, alloc, row, number));
     let ends = ends_its_call(row.side, before);
-    let told = told_of(rt, alloc, row, ends, given.desk.text());
-    run.is(6, told.as_bytes())
+    (run.status == 6)
+        & is_told(rt, alloc, row, ends, run.desk.text(), given.desk.text())
         & (given.status == 0)
         & have_fronts(&run.trunk, &given.trunk, row, before)
 }
@@ -213,68 +250,74 @@ fn ends_once<R: Abort + Threads + Wait + Sync>(
         & (run.trunk.faults(line(row.call, row.side)) == 0)
 }
 
-// Whether a run in which an incoming line fails at operation `number` agrees with the run over the octets before it.
+// Whether a run in which an incoming line fails at operation `number` agrees with the run over the octets that were given before
+// it, in which nothing fails.
 fn is_as_before<R: Abort + Threads + Wait + Sync>(
     rt: &R,
     alloc: Global,
     row: &Failing,
     number: u32,
+    before: usize,
 ) -> bool {
-    let before = match row.before.get(number as usize) {
-        Some(before) => *before,
-        None => 0,
-    };
-    let given = carry_calm(rt, alloc, given(rt, alloc, row, before));
+    let given = carry_calm(rt, alloc, lines_with(rt, alloc, row, before, NONE));
     is_as_given(rt, alloc, row, number, before, &given)
 }
 
-// How many operations of an incoming line fail as they should, in turn; one more if no read follows its end.
-fn incoming_fails<R: Abort + Threads + Wait + Sync>(
+// How many octets the operations before this one move.
+fn before(row: &Failing, number: u32) -> usize {
+    match row.before.get(number as usize) {
+        Some(before) => *before,
+        None => 0,
+    }
+}
+
+// Whether a line fails at operation `number` as it should. If it is an outgoing one, the incoming lines give all octets.
+fn fails_at<R: Abort + Threads + Wait + Sync>(
     rt: &R,
     alloc: Global,
     row: &Failing,
+    number: u32,
     whole: &Outcome,
-) -> usize {
-    for number in 0..BEHIND_THE_END {
-        if !is_as_before(rt, alloc, row, number) {
-            return number as usize;
-        }
-    }
-    if ends_once(rt, alloc, row, whole) {
-        12
+) -> bool {
+    let before = before(row, number);
+    if is_incoming(row.side) {
+        is_as_before(rt, alloc, row, number, before)
     } else {
-        11
+        is_as_given(rt, alloc, row, number, before, whole)
     }
 }
 
-// How many of the first ten operations of an outgoing line fail as they should, in turn. The incoming lines give all octets.
-fn outgoing_fails<R: Abort + Threads + Wait + Sync>(
-    rt: &R,
-    alloc: Global,
-    row: &Failing,
-    whole: &Outcome,
-) -> usize {
-    for number in 0..10u32 {
-        if !is_as_given(rt, alloc, row, number, row.before[number as usize], whole) {
-            return number as usize;
-        }
-    }
-    10
-}
-
-// The same of any line; 12 if all of an incoming line's operations fail as they should, or all ten of an outgoing line's.
+// How many operations of a line fail as they should, in turn: eleven of an incoming line, and ten of an outgoing one. 12 if all do,
+// and no read follows an incoming line's end.
 fn fails<R: Abort + Threads + Wait + Sync>(
     rt: &R,
     alloc: Global,
     row: &Failing,
     whole: &Outcome,
 ) -> usize {
-    if is_incoming(row.side) {
-        return incoming_fails(rt, alloc, row, whole);
+    let operations = if is_incoming(row.side) {
+        BEHIND_THE_END
+    } else {
+        10
+    };
+    for number in 0..operations {
+        if !fails_at(rt, alloc, row, number, whole) {
+            return number as usize;
+        }
     }
-    match outgoing_fails(rt, alloc, row, whole) {
-        10 => 12,
-        number => number,
+    if !is_incoming(row.side) || ends_once(rt, alloc, row, whole) {
+        12
+    } else {
+        11
+    }
+}
+
+// Asserts it of each line. `whole` is a run in which nothing fails.
+fn each_fails<R: Abort + Threads + Wait + Sync>(rt: &R, alloc: Global, whole: &Outcome) {
+    let mut line = 0usize;
+    for row in &LINES {
+        assert_parts(rt, line, fails(rt, alloc, row, whole), 12);
+        line = line.saturating_add(1);
     }
 }
 
@@ -282,9 +325,5 @@ fn fails<R: Abort + Threads + Wait + Sync>(
 #[test]
 fn each_line_fails_at_each_call(rt: HostRuntime) {
     let whole = carry_calm(&rt, rt.alloc(), calm(&rt, rt.alloc()));
-    let mut line = 0usize;
-    for row in &LINES {
-        assert_parts(&rt, line, fails(&rt, rt.alloc(), row, &whole), 12);
-        line = line.saturating_add(1);
-    }
+    each_fails(&rt, rt.alloc(), &whole);
 }

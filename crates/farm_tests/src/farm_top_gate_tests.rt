@@ -2,6 +2,7 @@
 
 use crate::farm_top_tests::status_over;
 use crate::held::Held;
+use crate::lines::Octets::Usual;
 use crate::lines::{Laid, NONE};
 use crate::paired::Paired;
 use crate::rows::assert_row;
@@ -13,90 +14,18 @@ use trau_io::Side::{Down, Out, Pcm, Up};
 
 // The lines of the calls 1, 2 and 3, with three periods each.
 static LINES: [Laid; 12] = [
-    Laid {
-        call: 1,
-        side: Up,
-        octets: 120,
-        piece: 1000,
-        fails: NONE,
-    },
-    Laid {
-        call: 1,
-        side: Pcm,
-        octets: 480,
-        piece: 1000,
-        fails: NONE,
-    },
-    Laid {
-        call: 1,
-        side: Down,
-        octets: 0,
-        piece: 1000,
-        fails: NONE,
-    },
-    Laid {
-        call: 1,
-        side: Out,
-        octets: 0,
-        piece: 1000,
-        fails: NONE,
-    },
-    Laid {
-        call: 2,
-        side: Up,
-        octets: 120,
-        piece: 1000,
-        fails: NONE,
-    },
-    Laid {
-        call: 2,
-        side: Pcm,
-        octets: 480,
-        piece: 1000,
-        fails: NONE,
-    },
-    Laid {
-        call: 2,
-        side: Down,
-        octets: 0,
-        piece: 1000,
-        fails: NONE,
-    },
-    Laid {
-        call: 2,
-        side: Out,
-        octets: 0,
-        piece: 1000,
-        fails: NONE,
-    },
-    Laid {
-        call: 3,
-        side: Up,
-        octets: 120,
-        piece: 1000,
-        fails: NONE,
-    },
-    Laid {
-        call: 3,
-        side: Pcm,
-        octets: 480,
-        piece: 1000,
-        fails: NONE,
-    },
-    Laid {
-        call: 3,
-        side: Down,
-        octets: 0,
-        piece: 1000,
-        fails: NONE,
-    },
-    Laid {
-        call: 3,
-        side: Out,
-        octets: 0,
-        piece: 1000,
-        fails: NONE,
-    },
+    (1, Up, Usual(120), 1000, NONE),
+    (1, Pcm, Usual(480), 1000, NONE),
+    (1, Down, Usual(0), 1000, NONE),
+    (1, Out, Usual(0), 1000, NONE),
+    (2, Up, Usual(120), 1000, NONE),
+    (2, Pcm, Usual(480), 1000, NONE),
+    (2, Down, Usual(0), 1000, NONE),
+    (2, Out, Usual(0), 1000, NONE),
+    (3, Up, Usual(120), 1000, NONE),
+    (3, Pcm, Usual(480), 1000, NONE),
+    (3, Down, Usual(0), 1000, NONE),
+    (3, Out, Usual(0), 1000, NONE),
 ];
 
 static WORDS: [&str; 5] = ["run", "--workers", "2", "--slice", "1"];
@@ -131,62 +60,14 @@ fn calls_are_stolen_half_done(rt: HostRuntime) {
 
 // The lines of call 1, with three periods, and of call 2, with five.
 static UNEVEN_LINES: [Laid; 8] = [
-    Laid {
-        call: 1,
-        side: Up,
-        octets: 120,
-        piece: 1000,
-        fails: NONE,
-    },
-    Laid {
-        call: 1,
-        side: Pcm,
-        octets: 480,
-        piece: 1000,
-        fails: NONE,
-    },
-    Laid {
-        call: 1,
-        side: Down,
-        octets: 0,
-        piece: 1000,
-        fails: NONE,
-    },
-    Laid {
-        call: 1,
-        side: Out,
-        octets: 0,
-        piece: 1000,
-        fails: NONE,
-    },
-    Laid {
-        call: 2,
-        side: Up,
-        octets: 200,
-        piece: 1000,
-        fails: NONE,
-    },
-    Laid {
-        call: 2,
-        side: Pcm,
-        octets: 800,
-        piece: 1000,
-        fails: NONE,
-    },
-    Laid {
-        call: 2,
-        side: Down,
-        octets: 0,
-        piece: 1000,
-        fails: NONE,
-    },
-    Laid {
-        call: 2,
-        side: Out,
-        octets: 0,
-        piece: 1000,
-        fails: NONE,
-    },
+    (1, Up, Usual(120), 1000, NONE),
+    (1, Pcm, Usual(480), 1000, NONE),
+    (1, Down, Usual(0), 1000, NONE),
+    (1, Out, Usual(0), 1000, NONE),
+    (2, Up, Usual(200), 1000, NONE),
+    (2, Pcm, Usual(800), 1000, NONE),
+    (2, Down, Usual(0), 1000, NONE),
+    (2, Out, Usual(0), 1000, NONE),
 ];
 
 // Runs both calls, by two workers in slices of one period. Returns the status.

@@ -2,109 +2,69 @@
 //! whatever they do.
 
 use crate::between::Between;
-use crate::desk::FailingDesk;
+use crate::cases::{Case, UNUSED, comes_of};
 use crate::farm_top_tests::{carry, status_over};
-use crate::lines::{Laid, NONE, line, trunk_of};
+use crate::lines::{ALL, FAILING, NONE, trunk_of};
 use crate::met::Met;
 use crate::paired::Paired;
 use crate::rows::assert_row;
-use crate::two_calls::carry_out;
+use crate::two_calls::is_told_in_part;
 use pool_run::OpenGate;
 use std::alloc::Global;
 use std::process::Abort;
 use std::sync::Wait;
 use std::thread::Threads;
-use trau_io::MemTrunk;
-use trau_io::Side::{Down, Out, Pcm, Up};
 
 // A live drill, with the sums that another program gives.
-static ONE_PERIOD: &str = "sum 1 out 17406 down 10200
+const ONE_PERIOD: &str = "sum 1 out 17406 down 10200
 sum 2 out 13986 down 10200
 live periods 1 calls 2
 ";
 
-// Lines of call 1 on which each operation fails.
-static FAILING: [Laid; 4] = [
-    Laid {
-        call: 1,
-        side: Up,
-        octets: 400,
-        piece: 10_000,
-        fails: 0,
-    },
-    Laid {
-        call: 1,
-        side: Pcm,
-        octets: 1600,
-        piece: 10_000,
-        fails: 0,
-    },
-    Laid {
-        call: 1,
-        side: Down,
-        octets: 0,
-        piece: 10_000,
-        fails: 0,
-    },
-    Laid {
-        call: 1,
-        side: Out,
-        octets: 0,
-        piece: 10_000,
-        fails: 0,
-    },
-];
+// Drills of one period, by two callers and by one.
+static BY_TWO: Case = Case {
+    words: &["live", "--calls=2", "--callers=2", "--periods=1"],
+    orders: "no orders",
+    lines: &FAILING,
+    desk: [NONE, NONE, 10_000],
+    status: 0,
+    text: ONE_PERIOD,
+    got: &UNUSED,
+};
 
-// Whether no operation was done on these lines.
-fn are_unused(trunk: &MemTrunk) -> bool {
-    for side in [Up, Pcm, Down, Out] {
-        if trunk.faults(line(1, side)) != 0 {
-            return false;
-        }
-    }
-    true
-}
+static BY_ONE: Case = Case {
+    words: &["live", "--calls=2", "--callers=1", "--periods=1"],
+    orders: "no orders",
+    lines: &FAILING,
+    desk: [NONE, NONE, 10_000],
+    status: 0,
+    text: ONE_PERIOD,
+    got: &UNUSED,
+};
 
-// Whether a drill of one period by these callers, at this gate, prints its text and uses no line.
-fn is_told<R: Abort + Threads + Wait + Sync>(
-    rt: &R,
-    alloc: Global,
-    callers: &'static str,
-    gate: &Met,
-) -> bool {
-    let mut trunk = trunk_of(rt, alloc, &FAILING);
-    let words = ["live", "--calls=2", callers, "--periods=1"];
-    let outcome = carry(rt, alloc, &words, &mut trunk, "no orders", NONE, gate);
-    outcome.is(0, ONE_PERIOD) & are_unused(&trunk)
-}
-
-// The same, and whether it passes the gate once for each call, and this many waits of the gate end without their condition.
+// Whether a drill comes out so and passes the gate once for each call, and this many waits of the gate end without their condition.
 fn live_met<R: Abort + Threads + Wait + Sync>(
     rt: &R,
     alloc: Global,
-    callers: &'static str,
+    case: &Case,
     turns: u32,
-    used_up: u32,
+    used_up: u64,
 ) -> bool {
     let gate = Met::new(turns);
-    is_told(rt, alloc, callers, &gate) && gate.passed(1) && gate.used_up() == used_up
+    comes_of(rt, alloc, case, ALL, &gate) && gate.passed(1) && gate.used_up() == used_up
 }
 
 // Neither of two callers can post its period before the other has come to post its own. With a single caller, the first wait
 // ends without its condition, and the rest is done all the same.
 #[test]
 fn both_callers_are_at_work_at_once(rt: HostRuntime) {
-    assert_row(
-        &rt,
-        2,
-        live_met(&rt, rt.alloc(), "--callers=2", 5_000_000, 0),
-    );
-    assert_row(&rt, 1, live_met(&rt, rt.alloc(), "--callers=1", 1000, 1));
+    assert_row(&rt, 2, live_met(&rt, rt.alloc(), &BY_TWO, 5_000_000, 0));
+    assert_row(&rt, 1, live_met(&rt, rt.alloc(), &BY_ONE, 1000, 1));
 }
 
 // Two live drills of two periods by two callers, one of them with this gate: whether they print the same.
 fn live_between<R: Abort + Threads + Wait + Sync>(rt: &R, alloc: Global, gate: &Between) -> bool {
-    let mut trunk = trunk_of(rt, alloc, &FAILING);
+    let mut trunk = trunk_of(rt, alloc, BY_TWO.lines, ALL);
     let words = ["live", "--calls=2", "--callers=2", "--periods=2"];
     let met = carry(rt, alloc, &words, &mut trunk, "", NONE, gate);
     let free = carry(rt, alloc, &words, &mut trunk, "", NONE, &OpenGate);
@@ -127,7 +87,7 @@ fn live_gated<R: Abort + Threads + Wait + Sync>(
     gate: &Paired,
 ) -> u8 {
     let words = ["live", "--calls=2", callers, "--periods=20", "--inbox=1"];
-    status_over(rt, alloc, &words, &FAILING, "", gate)
+    status_over(rt, alloc, &words, BY_TWO.lines, "", gate)
 }
 
 // Whether its status is 0, and each period passes the gate once.
@@ -147,15 +107,8 @@ fn each_period_passes_the_gate_once(rt: HostRuntime) {
     assert_row(&rt, 1, live_paired(&rt, rt.alloc(), "--callers=1"));
 }
 
-// Whether a live drill whose desk fails at its second write ends with status 4 and the text of its first write.
-fn is_told_in_part<R: Abort + Threads + Wait + Sync>(rt: &R, alloc: Global) -> bool {
-    let trunk = trunk_of(rt, alloc, &FAILING);
-    let desk = FailingDesk::new(rt, alloc, "", 0, 1);
-    let words = ["live", "--calls=2", "--periods=1"];
-    carry_out(rt, alloc, &words, trunk, desk).is_cut(1, ONE_PERIOD.as_bytes())
-}
-
 #[test]
 fn the_desk_fails_while_live_is_told(rt: HostRuntime) {
-    assert_row(&rt, 1, is_told_in_part(&rt, rt.alloc()));
+    let words = ["live", "--calls=2", "--periods=1"];
+    assert_row(&rt, 1, is_told_in_part(&rt, rt.alloc(), &words, &BY_TWO));
 }

@@ -1,6 +1,7 @@
 //! The two phases of a round: different workers process the two calls of a bridge at once. No clause says so.
 
 use crate::farm_top_tests::status_over;
+use crate::lines::Octets::Usual;
 use crate::lines::{Laid, NONE};
 use crate::met::Met;
 use crate::rows::assert_row;
@@ -12,62 +13,14 @@ use trau_io::Side::{Down, Out, Pcm, Up};
 
 // The lines of the calls 1 and 2, with three periods each.
 static LINES: [Laid; 8] = [
-    Laid {
-        call: 1,
-        side: Up,
-        octets: 120,
-        piece: 1000,
-        fails: NONE,
-    },
-    Laid {
-        call: 1,
-        side: Pcm,
-        octets: 480,
-        piece: 1000,
-        fails: NONE,
-    },
-    Laid {
-        call: 1,
-        side: Down,
-        octets: 0,
-        piece: 1000,
-        fails: NONE,
-    },
-    Laid {
-        call: 1,
-        side: Out,
-        octets: 0,
-        piece: 1000,
-        fails: NONE,
-    },
-    Laid {
-        call: 2,
-        side: Up,
-        octets: 120,
-        piece: 1000,
-        fails: NONE,
-    },
-    Laid {
-        call: 2,
-        side: Pcm,
-        octets: 480,
-        piece: 1000,
-        fails: NONE,
-    },
-    Laid {
-        call: 2,
-        side: Down,
-        octets: 0,
-        piece: 1000,
-        fails: NONE,
-    },
-    Laid {
-        call: 2,
-        side: Out,
-        octets: 0,
-        piece: 1000,
-        fails: NONE,
-    },
+    (1, Up, Usual(120), 1000, NONE),
+    (1, Pcm, Usual(480), 1000, NONE),
+    (1, Down, Usual(0), 1000, NONE),
+    (1, Out, Usual(0), 1000, NONE),
+    (2, Up, Usual(120), 1000, NONE),
+    (2, Pcm, Usual(480), 1000, NONE),
+    (2, Down, Usual(0), 1000, NONE),
+    (2, Out, Usual(0), 1000, NONE),
 ];
 
 const ORDERS: &str = "0 open 1\n0 open 2\n0 bridge 1 2\n";
@@ -90,7 +43,7 @@ fn run_met<R: Abort + Threads + Wait + Sync>(
     alloc: Global,
     workers: &'static str,
     turns: u32,
-    used_up: u32,
+    used_up: u64,
 ) -> bool {
     let gate = Met::new(turns);
     run_bridged(rt, alloc, workers, &gate) == 0 && gate.used_up() == used_up && gate.passed(6)

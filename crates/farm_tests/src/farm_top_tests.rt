@@ -1,7 +1,9 @@
 //! The commands on one call, with its lines in memory. One operation fails.
 
-use crate::lines::{Laid, NONE, copied, lay, line, numbers, trunk_of};
-use crate::rows::{assert_parts, assert_row};
+use crate::cases::{Case, come};
+use crate::lines::Octets::Usual;
+use crate::lines::{ALL, Laid, NONE, copied, line, numbers, trunk_of};
+use crate::rows::assert_parts;
 use farm_top::farm_top;
 use pool_run::{Gate, OpenGate};
 use std::alloc::Global;
@@ -11,11 +13,15 @@ use std::thread::Threads;
 use trau_io::Side::{Down, Out, Pcm, Up};
 use trau_io::{Desk, MemDesk, MemTrunk, Side, Trunk};
 
+fn push_word(rt: &impl Abort, alloc: Global, words: &mut Vec<String>, text: &str) {
+    let word = String::from_str(alloc, text).expect(rt, "memory");
+    words.push(word).expect(rt, "memory");
+}
+
 fn words_of(rt: &impl Abort, alloc: Global, texts: &[&str]) -> Vec<String> {
     let mut words = Vec::new(alloc);
     for text in texts {
-        let word = String::from_str(alloc, text).expect(rt, "memory");
-        words.push(word).expect(rt, "memory");
+        push_word(rt, alloc, &mut words, text);
     }
     words
 }
@@ -33,15 +39,9 @@ pub(crate) fn status_of<R: Abort + Threads + Wait + Sync, T: Trunk, D: Desk, G: 
     farm_top(rt, alloc, &words, trunk, desk, gate)
 }
 
-// A desk with these orders, and room for this number of octets. This one of its reads and this one of its writes fail.
-pub(crate) fn desk_of(
-    rt: &impl Abort,
-    alloc: Global,
-    orders: &str,
-    read_fails: u32,
-    write_fails: u32,
-    room: u32,
-) -> MemDesk {
+// A desk with these orders: which of its reads and which of its writes fails, and for how many octets it has room.
+pub(crate) fn desk_of(rt: &impl Abort, alloc: Global, orders: &str, desk: [u32; 3]) -> MemDesk {
+    let [read_fails, write_fails, room] = desk;
     let orders = copied(rt, alloc, orders.as_bytes());
     let reads = numbers(rt, alloc, read_fails, 1);
     let writes = numbers(rt, alloc, write_fails, 1);
@@ -79,20 +79,8 @@ pub(crate) fn carry<R: Abort + Threads + Wait + Sync, G: Gate + Sync>(
     fails: u32,
     gate: &G,
 ) -> Outcome {
-    let mut desk = desk_of(rt, alloc, orders, NONE, fails, 10_000);
-    carry_at(rt, alloc, texts, trunk, &mut desk, gate)
-}
-
-// Runs the command of these words at this desk.
-pub(crate) fn carry_at<R: Abort + Threads + Wait + Sync, G: Gate + Sync>(
-    rt: &R,
-    alloc: Global,
-    texts: &[&str],
-    trunk: &mut MemTrunk,
-    desk: &mut MemDesk,
-    gate: &G,
-) -> Outcome {
-    let status = status_of(rt, alloc, texts, trunk, desk, gate);
+    let mut desk = desk_of(rt, alloc, orders, [NONE, fails, 10_000]);
+    let status = status_of(rt, alloc, texts, trunk, &mut desk, gate);
     let text = copied(rt, alloc, desk.text());
     Outcome { status, text }
 }
@@ -106,8 +94,9 @@ pub(crate) fn status_over<R: Abort + Threads + Wait + Sync, G: Gate + Sync>(
     orders: &str,
     gate: &G,
 ) -> u8 {
-    let mut trunk = trunk_of(rt, alloc, lines);
-    carry(rt, alloc, texts, &mut trunk, orders, NONE, gate).status
+    let mut trunk = trunk_of(rt, alloc, lines, ALL);
+    let mut desk = desk_of(rt, alloc, orders, [NONE, NONE, 10_000]);
+    status_of(rt, alloc, texts, &mut trunk, &mut desk, gate)
 }
 
 // Which operation of the incoming lines, of the outgoing lines and of the desk fails.
@@ -116,23 +105,13 @@ type Faults = (u32, u32, u32);
 // The lines of call 7, in chunks: two good frames on Up, two periods and ten octets on Pcm. One operation fails on each incoming
 // line, and one on each outgoing line.
 fn lines(rt: &impl Abort, alloc: Global, cut: u32, incoming: u32, outgoing: u32) -> MemTrunk {
-    let mut trunk = trunk_of(rt, alloc, &[]);
-    for (side, octets, fails) in [
-        (Up, 80, incoming),
-        (Pcm, 330, incoming),
-        (Down, 0, outgoing),
-        (Out, 0, outgoing),
-    ] {
-        let laid = Laid {
-            call: 7,
-            side,
-            octets,
-            piece: cut,
-            fails,
-        };
-        lay(rt, alloc, &mut trunk, &laid);
-    }
-    trunk
+    let lines = [
+        (7, Up, Usual(80), cut, incoming),
+        (7, Pcm, Usual(330), cut, incoming),
+        (7, Down, Usual(0), cut, outgoing),
+        (7, Out, Usual(0), cut, outgoing),
+    ];
+    trunk_of(rt, alloc, &lines, ALL)
 }
 
 // Runs a command on call 7. Returns the outcome, and the lines afterwards.
@@ -292,34 +271,92 @@ fn each_operation_fails_in_turn(rt: HostRuntime) {
     }
 }
 
-// The line's chunk size, the read of the line and the write of the desk that fail, the status and the text.
-type List = (u32, u32, u32, u8, &'static str);
-
-static LISTS: [List; 9] = [
-    (1000, 0, 9, 6, "line 7 up failed\n"),
-    (1000, 1, 9, 6, "0 good\nline 7 up failed\n"),
-    (1000, 2, 9, 6, "0 good\n320 good\nline 7 up failed\n"),
-    (1000, 9, 0, 4, ""),
-    (1000, 9, 1, 4, "0 good\n"),
-    (1000, 9, 2, 4, "0 good\n320 good\n"),
-    (1000, 9, 9, 0, "0 good\n320 good\nframes 2 left 0\n"),
-    (39, 3, 9, 6, "0 good\nline 7 up failed\n"),
-    (39, 9, 9, 0, "0 good\n320 good\nframes 2 left 0\n"),
+// `frames` over an uplink of two frames: which read of the line and which write of the desk fail.
+static LISTS: [Case; 9] = [
+    Case {
+        words: &["frames", "7"],
+        orders: "",
+        lines: &[(7, Up, Usual(80), 1000, 0)],
+        desk: [NONE, NONE, 10_000],
+        status: 6,
+        text: "line 7 up failed\n",
+        got: &[],
+    },
+    Case {
+        words: &["frames", "7"],
+        orders: "",
+        lines: &[(7, Up, Usual(80), 1000, 1)],
+        desk: [NONE, NONE, 10_000],
+        status: 6,
+        text: "0 good\nline 7 up failed\n",
+        got: &[],
+    },
+    Case {
+        words: &["frames", "7"],
+        orders: "",
+        lines: &[(7, Up, Usual(80), 1000, 2)],
+        desk: [NONE, NONE, 10_000],
+        status: 6,
+        text: "0 good\n320 good\nline 7 up failed\n",
+        got: &[],
+    },
+    Case {
+        words: &["frames", "7"],
+        orders: "",
+        lines: &[(7, Up, Usual(80), 1000, NONE)],
+        desk: [NONE, 0, 10_000],
+        status: 4,
+        text: "",
+        got: &[],
+    },
+    Case {
+        words: &["frames", "7"],
+        orders: "",
+        lines: &[(7, Up, Usual(80), 1000, NONE)],
+        desk: [NONE, 1, 10_000],
+        status: 4,
+        text: "0 good\n",
+        got: &[],
+    },
+    Case {
+        words: &["frames", "7"],
+        orders: "",
+        lines: &[(7, Up, Usual(80), 1000, NONE)],
+        desk: [NONE, 2, 10_000],
+        status: 4,
+        text: "0 good\n320 good\n",
+        got: &[],
+    },
+    Case {
+        words: &["frames", "7"],
+        orders: "",
+        lines: &[(7, Up, Usual(80), 1000, NONE)],
+        desk: [NONE, NONE, 10_000],
+        status: 0,
+        text: "0 good\n320 good\nframes 2 left 0\n",
+        got: &[],
+    },
+    Case {
+        words: &["frames", "7"],
+        orders: "",
+        lines: &[(7, Up, Usual(80), 39, 3)],
+        desk: [NONE, NONE, 10_000],
+        status: 6,
+        text: "0 good\nline 7 up failed\n",
+        got: &[],
+    },
+    Case {
+        words: &["frames", "7"],
+        orders: "",
+        lines: &[(7, Up, Usual(80), 39, NONE)],
+        desk: [NONE, NONE, 10_000],
+        status: 0,
+        text: "0 good\n320 good\nframes 2 left 0\n",
+        got: &[],
+    },
 ];
-
-// Whether `frames` lists an uplink of two frames as given if a read of the line or a write of the desk fails.
-fn is_listed<R: Abort + Threads + Wait + Sync>(rt: &R, alloc: Global, list: &List) -> bool {
-    let (cut, read, write, due, text) = list;
-    let faults = (*read, NONE, *write);
-    let (outcome, _trunk) = carry_tool(rt, alloc, "frames", *cut, faults);
-    outcome.is(*due, text)
-}
 
 #[test]
 fn a_list_ends_where_a_call_fails(rt: HostRuntime) {
-    let mut number = 0usize;
-    for list in &LISTS {
-        assert_row(&rt, number, is_listed(&rt, rt.alloc(), list));
-        number = number.saturating_add(1);
-    }
+    assert_parts(&rt, 1, come(&rt, rt.alloc(), &LISTS, ALL), 9);
 }

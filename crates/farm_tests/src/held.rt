@@ -1,8 +1,8 @@
 //! A gate that shows that jobs are stolen half done: jobs of three calls, by two workers.
 
-use crate::counts::Counts;
+use crate::counts::{Counts, WRONG};
 use pool_run::Gate;
-use std::sync::atomic::{AtomicU32, Ordering};
+use std::sync::atomic::{AtomicU64, Ordering};
 use std::thread;
 
 // How often a wait checks its condition.
@@ -17,8 +17,7 @@ pub(crate) struct Held {
     begun: Counts,
     ended: Counts,
     // Of the pair, the one that came first to its second slice; 0 before that.
-    first: AtomicU32,
-    used_up: AtomicU32,
+    first: AtomicU64,
 }
 
 impl Held {
@@ -28,16 +27,13 @@ impl Held {
             other,
             begun: Counts::zero(),
             ended: Counts::zero(),
-            first: AtomicU32::new(0),
-            used_up: AtomicU32::new(0),
+            first: AtomicU64::new(0),
         }
     }
 
     // Whether each of the three calls passed `before` and `after` once for each of its slices, and each wait met its condition.
-    pub(crate) fn each_is_answered(&self, slices: u32) -> bool {
-        self.begun.are([slices; 3])
-            && self.ended.are([slices; 3])
-            && self.used_up.load(Ordering::SeqCst) == 0
+    pub(crate) fn each_is_answered(&self, slices: u16) -> bool {
+        self.begun.are([slices; 3]) && self.ended.are([slices; 3])
     }
 
     // Waits until this many slices of a call were run.
@@ -48,14 +44,14 @@ impl Held {
             }
             thread::yield_now();
         }
-        self.used_up.store(1, Ordering::SeqCst);
+        let _ = self.begun.raise(WRONG);
     }
 
     // Whether this call of the pair is the one that came first to its second slice.
     fn is_first(&self, call: u32) -> bool {
         let taken = self
             .first
-            .compare_exchange(0, call, Ordering::SeqCst, Ordering::SeqCst);
+            .compare_exchange(0, u64::from(call), Ordering::SeqCst, Ordering::SeqCst);
         taken.is_ok()
     }
 }

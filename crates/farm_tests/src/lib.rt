@@ -6,6 +6,8 @@
 #[cfg(test)]
 mod between;
 #[cfg(test)]
+mod cases;
+#[cfg(test)]
 mod counts;
 #[cfg(test)]
 mod desk;

@@ -1,5 +1,6 @@
 //! Lines in memory, and their contents.
 
+use farm_drill::hostile;
 use std::alloc::Global;
 use std::process::Abort;
 use trau_io::{Line, MemTrunk, Side};
@@ -13,15 +14,33 @@ pub(crate) fn line(call: u32, side: Side) -> Line {
 // The number of an operation that is never done.
 pub(crate) const NONE: u32 = 1000;
 
-// A line by its call and side: how many octets are on it, its chunk size, and the number of the operation that fails on it.
-#[derive(Drop)]
-pub(crate) struct Laid {
-    pub(crate) call: u32,
-    pub(crate) side: Side,
-    pub(crate) octets: usize,
-    pub(crate) piece: u32,
-    pub(crate) fails: u32,
+// A large chunk size.
+pub(crate) const ALL: u32 = 10_000;
+
+// What is on a line before a command.
+#[derive(Clone, Copy)]
+pub(crate) enum Octets {
+    // This number of octets: of good uplink frames on an Up line, of silence on any other.
+    Usual(usize),
+    // This number of octets that differ by period and by call.
+    Numbered(usize),
+    // This number of zeros: an uplink without a frame.
+    Zeros(usize),
+    These(&'static [u8]),
+    // A hostile uplink by its kind, 0 to 5, and its periods, at most 1,000.
+    Hostile(u8, u32),
 }
+
+// A line by its call and side: what is on it, its chunk size, and the number of the operation that fails on it.
+pub(crate) type Laid = (u32, Side, Octets, u32, u32);
+
+// Lines of call 1 on which each operation fails.
+pub(crate) const FAILING: [Laid; 4] = [
+    (1, Side::Up, Octets::Usual(400), ALL, 0),
+    (1, Side::Pcm, Octets::Usual(1600), ALL, 0),
+    (1, Side::Down, Octets::Usual(0), ALL, 0),
+    (1, Side::Out, Octets::Usual(0), ALL, 0),
+];
 
 // A good uplink frame whose 260 data bits are those of 160 samples 0 encoded from the initial state, as GSM 08.60 places them.
 // Calculated by hand from the tables.
@@ -46,39 +65,37 @@ pub(crate) fn numbers(rt: &impl Abort, alloc: Global, number: u32, count: usize)
     vec![in alloc; number; count].expect(rt, "memory")
 }
 
-// `count` octets: of good uplink frames for an Up line, of silence for any other.
-fn octets(rt: &impl Abort, alloc: Global, side: Side, count: usize) -> Vec<u8> {
-    let mut octets = filled(rt, alloc, 0xD5, count);
-    if side == Side::Up {
-        for (place, octet) in octets.iter_mut().enumerate() {
-            *octet = UPLINK_FRAME[place % 40];
-        }
+// An octet of a line: of good uplink frames for an Up line, of silence for any other.
+fn usual(side: Side, place: usize) -> u8 {
+    match side {
+        Side::Up => UPLINK_FRAME[place % 40],
+        _ => 0xD5,
     }
-    octets
 }
 
-// Octets that differ by period and by call: good uplink frames with the number of the period in their data bits, or a Pcm line
-// that changes.
-pub(crate) fn numbered(
-    rt: &impl Abort,
-    alloc: Global,
-    side: Side,
-    call: u32,
-    count: usize,
-) -> Vec<u8> {
-    let mut octets = octets(rt, alloc, side, count);
-    for (place, octet) in octets.iter_mut().enumerate() {
-        if side != Side::Up {
-            *octet = (place % 251) as u8 ^ (call % 256) as u8;
-        } else if place % 40 == 5 {
-            *octet = (place / 40 % 256) as u8 ^ (call % 256) as u8;
-        }
+// An octet that differs by period and by call: of good uplink frames with the number of the period in their data bits, or of a
+// Pcm line that changes.
+fn numbered(side: Side, call: u32, place: usize) -> u8 {
+    match (side, place % 40) {
+        (Side::Up, 5) => (place / 40 % 256) as u8 ^ (call % 256) as u8,
+        (Side::Up, _) => usual(side, place),
+        _ => (place % 251) as u8 ^ (call % 256) as u8,
     }
-    octets
+}
+
+// Writes octets of a line, numbered or not.
+fn write(octets: &mut [u8], side: Side, call: u32, are_numbered: bool) {
+    for (place, octet) in octets.iter_mut().enumerate() {
+        *octet = if are_numbered {
+            numbered(side, call, place)
+        } else {
+            usual(side, place)
+        };
+    }
 }
 
 // Sets a line, with these octets on it.
-pub(crate) fn put(
+fn put(
     rt: &impl Abort,
     alloc: Global,
     trunk: &mut MemTrunk,
@@ -93,50 +110,53 @@ pub(crate) fn put(
     set.expect(rt, "memory");
 }
 
-// Sets a line.
-pub(crate) fn lay(rt: &impl Abort, alloc: Global, trunk: &mut MemTrunk, laid: &Laid) {
-    let octets = octets(rt, alloc, laid.side, laid.octets);
-    let line = line(laid.call, laid.side);
-    put(rt, alloc, trunk, line, octets, laid.piece, laid.fails);
-}
-
-// A trunk with these lines.
-pub(crate) fn trunk_of(rt: &impl Abort, alloc: Global, lines: &[Laid]) -> MemTrunk {
-    let mut trunk = MemTrunk::new(alloc).expect(rt, "memory");
-    for laid in lines {
-        lay(rt, alloc, &mut trunk, laid);
-    }
-    trunk
-}
-
-// Sets a line of call 1, with `count` times the same octet.
-fn put_quiet(
+// `count` octets of a line, numbered or not.
+fn written(
     rt: &impl Abort,
     alloc: Global,
-    trunk: &mut MemTrunk,
     side: Side,
-    octet: u8,
+    call: u32,
     count: usize,
-    fails: u32,
-) {
-    let octets = filled(rt, alloc, octet, count);
-    put(rt, alloc, trunk, line(1, side), octets, 10_000, fails);
+    are_numbered: bool,
+) -> Vec<u8> {
+    let mut octets = filled(rt, alloc, 0, count);
+    write(&mut octets, side, call, are_numbered);
+    octets
 }
 
-// The lines of call 1: `up` octets of an uplink without a frame, and `pcm` octets of an idle Pcm line. `fails` says for each side
-// which operation fails on it.
-pub(crate) fn quiet_lines(
-    rt: &impl Abort,
-    alloc: Global,
-    up: usize,
-    pcm: usize,
-    fails: [u32; 4],
-) -> MemTrunk {
-    let mut trunk = trunk_of(rt, alloc, &[]);
-    let [on_up, on_pcm, on_down, on_out] = fails;
-    put_quiet(rt, alloc, &mut trunk, Side::Up, 0, up, on_up);
-    put_quiet(rt, alloc, &mut trunk, Side::Pcm, 0xD5, pcm, on_pcm);
-    put_quiet(rt, alloc, &mut trunk, Side::Down, 0, 0, on_down);
-    put_quiet(rt, alloc, &mut trunk, Side::Out, 0, 0, on_out);
+// What is on a line.
+fn laid(rt: &impl Abort, alloc: Global, side: Side, call: u32, octets: Octets) -> Vec<u8> {
+    match octets {
+        Octets::Usual(count) => written(rt, alloc, side, call, count, false),
+        Octets::Numbered(count) => written(rt, alloc, side, call, count, true),
+        Octets::Zeros(count) => filled(rt, alloc, 0, count),
+        Octets::These(octets) => copied(rt, alloc, octets),
+        Octets::Hostile(kind, periods) => {
+            hostile(alloc, kind.min(5), periods.min(1000)).expect(rt, "memory")
+        }
+    }
+}
+
+// Sets a line, in chunks of at most `cut` octets.
+pub(crate) fn lay(rt: &impl Abort, alloc: Global, trunk: &mut MemTrunk, row: &Laid, cut: u32) {
+    let (call, side, octets, piece, fails) = *row;
+    let octets = laid(rt, alloc, side, call, octets);
+    put(
+        rt,
+        alloc,
+        trunk,
+        line(call, side),
+        octets,
+        cut.min(piece),
+        fails,
+    );
+}
+
+// A trunk with these lines, in chunks of at most `cut` octets.
+pub(crate) fn trunk_of(rt: &impl Abort, alloc: Global, lines: &[Laid], cut: u32) -> MemTrunk {
+    let mut trunk = MemTrunk::new(alloc).expect(rt, "memory");
+    for row in lines {
+        lay(rt, alloc, &mut trunk, row, cut);
+    }
     trunk
 }

@@ -3,7 +3,7 @@
 
 use crate::counts::Counts;
 use pool_run::Gate;
-use std::sync::atomic::{AtomicU32, Ordering};
+use std::sync::atomic::{AtomicU64, Ordering};
 use std::thread;
 
 // Holds the first and the fourth slice of each of the calls 1 and 2 until the same slice of the other has begun. With slices of
@@ -14,7 +14,7 @@ pub(crate) struct Met {
     turns: u32,
     begun: Counts,
     ended: Counts,
-    used_up: AtomicU32,
+    used_up: AtomicU64,
 }
 
 impl Met {
@@ -23,17 +23,17 @@ impl Met {
             turns,
             begun: Counts::zero(),
             ended: Counts::zero(),
-            used_up: AtomicU32::new(0),
+            used_up: AtomicU64::new(0),
         }
     }
 
     // How many waits ended without their condition.
-    pub(crate) fn used_up(&self) -> u32 {
+    pub(crate) fn used_up(&self) -> u64 {
         self.used_up.load(Ordering::SeqCst)
     }
 
     // Whether both calls passed `before` and `after` once for each of their slices.
-    pub(crate) fn passed(&self, slices: u32) -> bool {
+    pub(crate) fn passed(&self, slices: u16) -> bool {
         self.begun.are([slices, slices, 0]) && self.ended.are([slices, slices, 0])
     }
 

@@ -1,14 +1,12 @@
 //! A gate that counts: whether `before` and `after` are called in turn, for each of the calls 1, 2 and 3 by itself.
 
-use crate::counts::Counts;
+use crate::counts::{Counts, WRONG};
 use pool_run::Gate;
-use std::sync::atomic::{AtomicU32, Ordering};
 
 #[derive(Drop)]
 pub(crate) struct Paired {
     begun: Counts,
     ended: Counts,
-    wrong: AtomicU32,
 }
 
 impl Paired {
@@ -16,18 +14,17 @@ impl Paired {
         Paired {
             begun: Counts::zero(),
             ended: Counts::zero(),
-            wrong: AtomicU32::new(0),
         }
     }
 
     // Whether the calls passed this often, each time first `before` and then `after`.
-    pub(crate) fn passed(&self, pairs: [u32; 3]) -> bool {
-        self.wrong.load(Ordering::SeqCst) == 0 && self.begun.are(pairs) && self.ended.are(pairs)
+    pub(crate) fn passed(&self, pairs: [u16; 3]) -> bool {
+        self.begun.are(pairs) && self.ended.are(pairs)
     }
 
     fn expect(&self, is_right: bool) {
         if !is_right {
-            self.wrong.store(1, Ordering::SeqCst);
+            let _ = self.begun.raise(WRONG);
         }
     }
 }

@@ -234,7 +234,7 @@ fn each_slice_is_between<R: Abort + Threads + Wait + Sync>(
     alloc: Global,
     workers: u32,
     slice: u32,
-    slices: [u32; 3],
+    slices: [u16; 3],
 ) -> bool {
     let watched = Watched::new();
     run_watched(rt, alloc, &[3, 5, 4], workers, slice, &watched);

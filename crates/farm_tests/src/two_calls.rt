@@ -1,19 +1,21 @@
 //! Two calls of 30 periods, bridged at period 4, in rounds of at most 7 periods.
 
+use crate::cases::{Case, are_same, have};
 use crate::desk::{FailingDesk, WRITTEN};
 use crate::farm_top_tests::status_of;
-use crate::lines::{NONE, line, numbered, put, trunk_of};
+use crate::lines::Octets::Numbered;
+use crate::lines::{ALL, Laid, NONE, trunk_of};
 use pool_run::OpenGate;
 use std::alloc::Global;
 use std::process::Abort;
 use std::sync::Wait;
 use std::thread::Threads;
 use trau_io::Side::{Down, Out, Pcm, Up};
-use trau_io::{Line, MemTrunk, Side};
+use trau_io::{MemTrunk, Side};
 
 pub(crate) const ORDERS: &str = "0 open 7\n0 open 9\n4 bridge 7 9\n";
 
-static WORDS: [&str; 5] = ["run", "--batch", "7", "--workers", "1"];
+pub(crate) static WORDS: [&str; 5] = ["run", "--batch", "7", "--workers", "1"];
 
 // The octets of 30 periods.
 pub(crate) const OF_40: usize = 1200;
@@ -21,38 +23,24 @@ pub(crate) const OF_40: usize = 1200;
 pub(crate) const OF_160: usize = 4800;
 
 // The most octets that an operation on these lines moves.
-const CUT_40: u32 = 150;
+pub(crate) const CUT_40: u32 = 150;
 
-const CUT_160: u32 = 600;
+pub(crate) const CUT_160: u32 = 600;
 
-// Sets a line with this number of octets, on which this operation fails.
-pub(crate) fn lay(
-    rt: &impl Abort,
-    alloc: Global,
-    trunk: &mut MemTrunk,
-    call: u32,
-    side: Side,
-    octets: usize,
-    fails: u32,
-) {
-    let cut = match side {
-        Up | Down => CUT_40,
-        Pcm | Out => CUT_160,
-    };
-    let octets = numbered(rt, alloc, side, call, octets);
-    put(rt, alloc, trunk, line(call, side), octets, cut, fails);
-}
+static LINES: [Laid; 8] = [
+    (7, Up, Numbered(OF_40), CUT_40, NONE),
+    (7, Pcm, Numbered(OF_160), CUT_160, NONE),
+    (7, Down, Numbered(0), CUT_40, NONE),
+    (7, Out, Numbered(0), CUT_160, NONE),
+    (9, Up, Numbered(OF_40), CUT_40, NONE),
+    (9, Pcm, Numbered(OF_160), CUT_160, NONE),
+    (9, Down, Numbered(0), CUT_40, NONE),
+    (9, Out, Numbered(0), CUT_160, NONE),
+];
 
 // The lines of both calls. No operation fails.
 pub(crate) fn calm(rt: &impl Abort, alloc: Global) -> MemTrunk {
-    let mut trunk = trunk_of(rt, alloc, &[]);
-    for call in &[7, 9] {
-        lay(rt, alloc, &mut trunk, *call, Up, OF_40, NONE);
-        lay(rt, alloc, &mut trunk, *call, Pcm, OF_160, NONE);
-        lay(rt, alloc, &mut trunk, *call, Down, 0, NONE);
-        lay(rt, alloc, &mut trunk, *call, Out, 0, NONE);
-    }
-    trunk
+    trunk_of(rt, alloc, &LINES, ALL)
 }
 
 // The outcome of a run: its status, its desk, and the lines afterwards.
@@ -96,34 +84,34 @@ pub(crate) fn carry_out<R: Abort + Threads + Wait + Sync>(
     }
 }
 
-// The run of both calls.
-pub(crate) fn carry<R: Abort + Threads + Wait + Sync>(
-    rt: &R,
-    alloc: Global,
-    trunk: MemTrunk,
-    desk: FailingDesk,
-) -> Outcome {
-    carry_out(rt, alloc, &WORDS, trunk, desk)
-}
-
 // Runs both calls over these lines, at a desk on which no operation fails.
 pub(crate) fn carry_calm<R: Abort + Threads + Wait + Sync>(
     rt: &R,
     alloc: Global,
     trunk: MemTrunk,
 ) -> Outcome {
-    carry(rt, alloc, trunk, FailingDesk::calm(rt, alloc, ORDERS))
+    let desk = FailingDesk::calm(rt, alloc, ORDERS);
+    carry_out(rt, alloc, &WORDS, trunk, desk)
 }
 
-// Whether a line got the same in two runs.
-fn is_same(trunk: &MemTrunk, other: &MemTrunk, line: Line) -> bool {
-    trunk.written(line) == other.written(line)
-}
+// The outgoing lines.
+pub(crate) static OUTGOING: [(u32, Side); 4] = [(7, Down), (7, Out), (9, Down), (9, Out)];
 
 // Whether the outgoing lines got the same in two runs.
 pub(crate) fn is_written(trunk: &MemTrunk, other: &MemTrunk) -> bool {
-    is_same(trunk, other, line(7, Down))
-        && is_same(trunk, other, line(7, Out))
-        && is_same(trunk, other, line(9, Down))
-        && is_same(trunk, other, line(9, Out))
+    are_same(trunk, other, &OUTGOING)
+}
+
+// Whether the command of these words, over the lines of a case, ends with status 4 and the first write of the case's text if the
+// desk fails at the second.
+pub(crate) fn is_told_in_part<R: Abort + Threads + Wait + Sync>(
+    rt: &R,
+    alloc: Global,
+    words: &[&str],
+    case: &Case,
+) -> bool {
+    let trunk = trunk_of(rt, alloc, case.lines, ALL);
+    let desk = FailingDesk::new(rt, alloc, "", 0, 1);
+    let run = carry_out(rt, alloc, words, trunk, desk);
+    run.is_cut(1, case.text.as_bytes()) & have(&run.trunk, case.got)
 }

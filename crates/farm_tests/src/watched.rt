@@ -1,8 +1,7 @@
 //! A gate, and jobs that count their own slices: what the pool does between `before` and `after`.
 
-use crate::counts::Counts;
+use crate::counts::{Counts, WRONG};
 use pool_run::{Gate, Work};
-use std::sync::atomic::{AtomicU32, Ordering};
 
 // Counts the slices that the jobs of each call have run, and compares the count with how often the call has passed the gate.
 #[derive(Drop)]
@@ -10,7 +9,6 @@ pub(crate) struct Watched {
     run: Counts,
     begun: Counts,
     ended: Counts,
-    wrong: AtomicU32,
 }
 
 impl Watched {
@@ -19,21 +17,17 @@ impl Watched {
             run: Counts::zero(),
             begun: Counts::zero(),
             ended: Counts::zero(),
-            wrong: AtomicU32::new(0),
         }
     }
 
     // Whether each call has run this many slices, each of them between its own `before` and `after`.
-    pub(crate) fn each_is_between(&self, slices: [u32; 3]) -> bool {
-        self.wrong.load(Ordering::SeqCst) == 0
-            && self.run.are(slices)
-            && self.begun.are(slices)
-            && self.ended.are(slices)
+    pub(crate) fn each_is_between(&self, slices: [u16; 3]) -> bool {
+        self.run.are(slices) && self.begun.are(slices) && self.ended.are(slices)
     }
 
     fn expect(&self, is_right: bool) {
         if !is_right {
-            self.wrong.store(1, Ordering::SeqCst);
+            let _ = self.begun.raise(WRONG);
         }
     }
 }
