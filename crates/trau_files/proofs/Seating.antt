@@ -93,6 +93,15 @@ moved_to seats seat_of o seat file was within seated =
     found None put = tt
     found (Some x) put = (seat, put)
 
+-- the file in a seat stays
+pub kept_open : (seats : List (Option OpenLine)) (seat_of : List ℕ) (o : OpenLine) (seat : ℕ) (file : Option OpenLine) → in_seat seats seat ≡ file →
+    file ≡ Some o → seat < length seats → AreSeated seats seat_of →
+    (in_seat (slice_set seats seat file) seat ≡ Some o) × OpenAfter seats (slice_set seats seat file) o.call o.side (Some o)
+kept_open seats seat_of o seat file here is within seated = (
+  set_there seats seat file None within ∙ is,
+  subst (OpenAfter seats (slice_set seats seat file) o.call o.side) is (moved_to seats seat_of o seat file (here ∙ is) within seated),
+)
+
 pub moved_after : {E : Type 0} (seats : List (Option OpenLine)) (seat_of : List ℕ) (seat : ℕ) (old file : Option OpenLine) (result : Result ℕ E) →
     in_seat seats seat ≡ old → seat < length seats → AreSeated seats seat_of →
     IfSome old (λ o. file ≡ file_after o.call o.side o.access o.at result) →

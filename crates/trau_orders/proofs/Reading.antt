@@ -1,12 +1,14 @@
 -- Orders that are read line by line.
 use Rattle.std.proofs.Common.{◌≡◌, ℕ, ◌+◌, ◌-◌, ◌≤◌, ◌<◌, List, [], ◌∷◌, ◌++◌, length, get_or, take, refl, sym, ◌∙◌, ap, subst, arith, append_assoc, append-nil}
-use Rattle.std.proofs.Common.{inl, inr, Some, slice_get, below_more}
+use Rattle.std.proofs.Common.{inl, inr, Some, Result, Ok, Err, slice_get, below_more}
 use Rattle.std.proofs.lemmas.List.{length-append, get_or_append_left, get_or_push, same_lists}
 use Rattle.std.proofs.lemmas.Option.{slice_get_within, get_or_from_slice_get}
 use Rattle.std.proofs.Math.Nat.{eq-or-lt_of_le}
 use Rattle.std.proofs.Math.Seq.{take-append_seam}
 use Rattle.trau_alaw.specs.declared.Law.TheVariants.{A}
 use Rattle.trau_orders.specs.declared.order.What.TheVariants.{OpenCall}
+use Rattle.trau_orders.specs.declared.fault.OrderFault.{OrderFault}
+use Rattle.trau_orders.specs.declared.fault.OrderFault.TheVariants.{Line, TooLong, TooMany}
 use Rattle.trau_orders.specs.declared.order.Order.{Order}
 use Rattle.trau_orders.specs.Grammar.{IsLine}
 use Rattle.trau_orders.specs.Text.{text_lines, AreLines, IsNoEarlier, IsFirstBad}
@@ -148,3 +150,11 @@ pub one_list : (lines : List (List ℕ)) (os ps : List Order) → AreLines lines
 one_list lines os ps are other =
     same_lists os ps (sym are.one_each ∙ other.one_each) (λ k d within. one_order (get_or lines k []) (get_or os k d) (get_or ps k d) (are.spelled k d within)
     (other.spelled k d (omega (arith, within, are.one_each, other.one_each))))
+
+-- what was read isn't a fault
+pub no_fault : {T E : Type 0} (t : T) (e : E) → Ok t ≡ Err e → ⊥
+no_fault t e is = cc
+
+-- a line's fault isn't one of the whole text
+pub not_of_all : {T : Type 0} (n : ℕ) (r : Result T OrderFault) → r ≡ Err (Line n) → (r ≡ Err TooLong → ⊥) × (r ≡ Err TooMany → ⊥)
+not_of_all n r line = (λ is. cc, λ is. cc)

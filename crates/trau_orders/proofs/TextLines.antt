@@ -1,6 +1,7 @@
 -- The lines of a text, the first first.
-use Rattle.std.proofs.Common.{◌≡◌, ◌≢◌, ℕ, List, [], ◌∷◌, ◌++◌, length, eqb, false, refl, ◌∙◌, ap}
+use Rattle.std.proofs.Common.{◌≡◌, ◌≢◌, ◌<◌, ℕ, List, [], ◌∷◌, ◌++◌, length, eqb, false, refl, ◌∙◌, ap, arith}
 use Rattle.std.specs.List.{onto_first}
+use Rattle.std.proofs.lemmas.List.{length-append}
 use Rattle.std.proofs.lemmas.List.Elements.{All-head, All-tail}
 use Rattle.decimal_number.specs.Splits.{Lacks, SplitsAt}
 use Rattle.trau_orders.specs.Text.{text_lines}
@@ -20,6 +21,9 @@ line_ends (b ∷ bs) back lacks =
 -- a text that splits at an LF has the front as its first line
 pub first_line : (text front back : List ℕ) → SplitsAt 10 text front back → text_lines text ≡ front ∷ text_lines back
 first_line text front back at = ap text_lines at.whole ∙ line_ends front back at.front_lacks
+
+pub rest_shorter : (text front back : List ℕ) → SplitsAt 10 text front back → length back < length text
+rest_shorter text front back at = omega (arith, ap length at.whole, length-append front (10 ∷ back))
 
 -- a text without an LF is one line, if it is anything
 pub last_line : (b : ℕ) (bs : List ℕ) → Lacks 10 (b ∷ bs) → text_lines (b ∷ bs) ≡ (b ∷ bs) ∷ []

@@ -203,3 +203,7 @@ other_verb verb a b P differ is other = let same : slice_index a 0 ≡ slice_ind
 pub nothing_ordered : (r : Option What) (P : What → Type 0) → r ≡ None → IfSome r P
 nothing_ordered None P e = tt
 nothing_ordered (Some w) P e = cc
+
+-- three words, each of them known
+pub all_three : (a b c verb call more : List ℕ) → verb ≡ a → call ≡ b → more ≡ c → verb ∷ call ∷ more ∷ [] ≡ a ∷ b ∷ c ∷ []
+all_three a b c verb call more first second third = rw (first, second, third) refl

@@ -1,7 +1,7 @@
 use Rattle.std.proofs.Common.{◌≡◌, ◌+◌, ◌++◌, ◌∷◌, [], length, refl, ap, subst, arith}
 use Rattle.std.proofs.lemmas.Grind.{common_steps}
 use Rattle.trau_orders.specs.Text.{text_lines, IsFirstBad}
-use Rattle.trau_orders.proofs.Reading.{read_more, read_all, read_bad}
+use Rattle.trau_orders.proofs.Reading.{read_more, read_all, read_bad, no_fault, not_of_all}
 use Rattle.trau_orders.proofs.text.orders_of.Goals as goal
 
 pub returns-in_default-next_order-clause-bad : goal.returns-in_default-next_order-clause-bad
@@ -20,3 +20,12 @@ loop-line-preserved c =
 
 pub returns-clause-ok : goal.returns-clause-ok
 returns-clause-ok c = read_all c.args.text.now c.loop-line.rest.now c.loop-line.orders.items c.loop-line.invariant (c.in_default.ensures.none refl)
+
+pub returns-clause-bad : goal.returns-clause-bad
+returns-clause-bad c = λ n is. absurd (no_fault _ _ is)
+
+pub returns-clause-known : goal.returns-clause-known
+returns-clause-known c = (no_fault _ _, no_fault _ _)
+
+pub returns-in_default-next_order-clause-known : goal.returns-in_default-next_order-clause-known
+returns-in_default-next_order-clause-known c = not_of_all _ _ refl

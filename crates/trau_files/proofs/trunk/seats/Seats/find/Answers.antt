@@ -1,6 +1,6 @@
-use Rattle.std.proofs.Common.{◌≡◌, ◌⊎◌, ◌<◌, ◌∙◌, List, Option, None, Some, ap, length, length-set, rules, slice_set, sym, subst}
-use Rattle.trau_files.specs.Files.{AreSeated, OnlyCloses, OpenLine, OpenAfter, in_seat}
-use Rattle.trau_files.proofs.Seating.{IsSeatOf, kept_or_closed, moved_to, none_open, only_closes, seat_read, seated_still, set_there}
+use Rattle.std.proofs.Common.{◌≡◌, ◌⊎◌, ◌<◌, ◌∙◌, List, Option, None, ap, length, length-set, rules, slice_set, sym, subst}
+use Rattle.trau_files.specs.Files.{AreSeated, OnlyCloses, OpenLine, in_seat}
+use Rattle.trau_files.proofs.Seating.{IsSeatOf, kept_open, kept_or_closed, none_open, only_closes, seat_read, seated_still}
 use Rattle.trau_files.proofs.trunk.seats.Seats.find.Given as Given
 use Rattle.trau_files.proofs.trunk.seats.Seats.find.Goals as goal
 use Rattle.trau_files.proofs.trunk.seats.Seats.find.Goals.{After-stands}
@@ -36,18 +36,12 @@ invariant_of-self g c = (c.self.invariant.0, c.self.invariant.1, seated g (goal.
 pub returns-then-stands : goal.returns-then-stands
 returns-then-stands g c =
     let here = seat g (goal.at.returns-then-stands g c).After-stands in
-    let there = c.stands.ensures.stands c.if-stands.true in
-    let kept : in_seat c.self.inside.files.items c.index-seat.result.now ≡ c.stands.new.seat = here.here ∙ sym (c.stands.ensures.same c.if-stands.true) in
-    let moved = moved_to c.self.inside.files.items c.self.inside.seat_of.items
-    (record { call = c.args.line.call; side = c.args.line.side; access = c.args.access; at = c.args.at }) c.index-seat.result.now c.stands.new.seat (kept ∙ there)
-    here.within c.self.invariant.2 in
+    let kept = kept_open c.self.inside.files.items c.self.inside.seat_of.items
+    (record { call = c.args.line.call; side = c.args.line.side; access = c.args.access; at = c.args.at }) c.index-seat.result.now c.stands.new.seat
+    (here.here ∙ sym (c.stands.ensures.same c.if-stands.true)) (c.stands.ensures.stands c.if-stands.true) here.within c.self.invariant.2 in
     record {
-      stands = set_there c.self.inside.files.items c.index-seat.result.now c.stands.new.seat None here.within ∙ there;
-      «open» = λ _. subst (λ (seats : List (Option OpenLine)). OpenAfter seats
-          (slice_set c.self.inside.files.items c.index-seat.result.now c.stands.new.seat) c.args.line.call c.args.line.side
-          (Some (record { call = c.args.line.call; side = c.args.line.side; access = c.args.access; at = c.args.at }))) c.self.view_is
-          (subst (OpenAfter c.self.inside.files.items
-          (slice_set c.self.inside.files.items c.index-seat.result.now c.stands.new.seat) c.args.line.call c.args.line.side) there moved);
+      stands = kept.0;
+      «open» = λ _. rw (sym c.self.view_is) kept.1;
       closed = λ is. cc;
       others = others g (goal.at.returns-then-stands g c).After-stands;
       number = number g (goal.at.returns-then-stands g c).After-stands;
