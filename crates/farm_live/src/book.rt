@@ -87,7 +87,7 @@ impl Book {
         }
         self.history.reserve(1)?;
         let Some(post) = self.inbox.pop_front() else {
-            return Ok(None);
+            unreachable!()
         };
         let entry = period(&mut self.leg, post);
         self.history.push_reserved(entry);

@@ -113,7 +113,7 @@ impl Live {
         } = self;
         let mut others = callers;
         let Some(mut all) = others.pop() else {
-            return closed;
+            unreachable!()
         };
         join_all(slots.as_slice(), &mut all, others);
         close_all(rt, slots.as_slice(), &mut all, closed)

@@ -11,6 +11,15 @@ loop-seat-init c = (
       (omega (arith, seated.one_each)),
 )
 
+pub bounds-slots-k : goal.bounds-slots-k
+bounds-slots-k c =
+    let r = c.requires in
+    let inv = c.loop-seat.invariant in
+    let new = c.pop.new.self.items in
+    let whole = popped new inv.0 c.args.other.seats.items c.loop-seat.seats.items c.in-Some.seat inv.1 c.in-Some.ensures.items in
+    let there = last-lt new inv.0 c.args.other.seats.items c.in-Some.seat c.len-k.result whole (omega (arith, c.len-k.ensures, c.pop.new.self.ok.0)) in
+    omega (arith, there, r.3.one_each)
+
 pub index_mut-requires : goal.index_mut-requires
 index_mut-requires c =
     let r = c.requires in

@@ -1,4 +1,4 @@
-use Rattle.std.proofs.Common.{◌≡◌, List, [], ◌∷◌, ◌++◌, length, sym, ap, ◌∙◌, subst, length-append, arith}
+use Rattle.std.proofs.Common.{◌≡◌, List, [], ◌∷◌, ◌++◌, length, sym, ap, ◌∙◌, subst, length-append, arith, rules}
 use Rattle.call_leg.specs.Settings.{new_settings}
 use Rattle.call_leg.specs.Memory.{periods_of_leg}
 use Rattle.call_leg.specs.Stands.{Stands}
@@ -32,3 +32,6 @@ invariant_of-self-2 c =
 
 pub returns-clause-legal : goal.returns-clause-legal
 returns-clause-legal c = (invariant_of-self-2 c).0
+
+pub returns-in_err-reserve-clause-answer : goal.returns-in_err-reserve-clause-answer
+returns-in_err-reserve-clause-answer c = search rules
