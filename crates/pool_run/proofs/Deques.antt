@@ -4,6 +4,9 @@ use Rattle.std.proofs.lemmas.List.{map-append}
 use mathlib.Core.Option.{some}
 use lib.ListN.{get_elem?}
 use Rattle.crossbeam_deque.specs.Tasks.{Pushes, Takes, Finds, Learns, Forks, Merges}
+use Rattle.crossbeam_deque.specs.Steals.{MatchSteal}
+use Rattle.crossbeam_deque.specs.declared.steal.Steal.{Steal}
+use Rattle.crossbeam_deque.specs.declared.steal.Steal.TheVariants.{Empty, Success, Retry}
 use Rattle.crossbeam_deque.proofs.Lists.{at_set, at_snoc}
 use Rattle.pool_run.specs.declared.deque.View.{View}
 use Rattle.pool_run.specs.declared.deque.Task.{Task}
@@ -117,3 +120,11 @@ module _ {W : Type 0} (finish : W → W) where
             omega (arith, weigh-append h v.pushed w.pushed, weigh-append h v.obtained w.obtained)),
         spent_set vs other spent (λ z. (refl, refl)) mid,
       )
+
+  -- what a steal does to the view, without what it tells of an empty deque
+  pub seen_after : (r : Steal (Task W)) (new old : View W) (Few Moved : Type 0) →
+      MatchSteal r ((new ≡ old) × Few) ((new ≡ old) × Moved) (λ t. new ≡ after_take finish old (t ∷ [])) →
+      MatchSteal r (new ≡ old) (new ≡ old) (λ t. new ≡ after_take finish old (t ∷ []))
+  seen_after Empty new old Few Moved is = is.0
+  seen_after (Success t) new old Few Moved is = is
+  seen_after Retry new old Few Moved is = is.0

@@ -9,8 +9,6 @@ use Rattle.pool_run.specs.declared.deque.View.{View}
 use Rattle.pool_run.specs.declared.deque.Task.{Task}
 use Rattle.pool_run.specs.declared.deque.OneDeque.{OneDeque}
 use Rattle.pool_run.specs.declared.member.Member.{Member}
-use Rattle.pool_run.specs.declared.member.Found.{Found}
-use Rattle.pool_run.specs.declared.member.Found.TheVariants.{Job, Again, Nothing}
 use Rattle.trau_num.specs.Weights.{weigh}
 use Rattle.pool_run.specs.Deque.{entry_of}
 
@@ -62,14 +60,8 @@ module _ {W : Type 0} where
     pub balance : (h : ℕ × W → ℕ) →
         (given finish h new + weigh h (held finish next)) + obtained h old ≡ (given finish h old + weigh h (held finish hand)) + obtained h new
 
-  -- the job that a steal got
+  -- the job that a steal, or a look through the deques, got
   abbrev pub stolen_job : Steal (Task W) → Option (Task W)
   stolen_job (Success t) = Some t
   stolen_job Empty = None
   stolen_job Retry = None
-
-  -- the job that a look through the deques found
-  abbrev pub found_job : Found W → Option (Task W)
-  found_job (Job t) = Some t
-  found_job Again = None
-  found_job Nothing = None

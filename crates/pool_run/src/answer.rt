@@ -46,10 +46,12 @@ fn append_reserved<T: Drop>(list: &mut Vec<T>, more: Vec<T>)
     requires { vec_len list.old + vec_len more ≤ vec_capacity list.old }
     ensures items { list.new.items ≡ list.old.items ++ more.items }
     ensures len { vec_len list.new ≡ vec_len list.old + vec_len more }
-    ensures room { vec_capacity list.new ≡ vec_capacity list.old }
+    ensures room { vec_capacity list.old ≤ vec_capacity list.new }
 {
-    for item in more {
-        list.push_reserved(item);
+    let mut more = more;
+    match list.append(&mut more) {
+        Ok(()) => {}
+        Err(_) => unreachable!(),
     }
 }
 

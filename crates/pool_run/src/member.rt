@@ -2,7 +2,7 @@
 
 ghost use Rattle.std.specs.Prelude.{◌≡◌, ◌+◌, ◌<◌, ◌≤◌, [], ◌∷◌, ◌++◌, length, None, Some, MatchOption};
 ghost use Rattle.pool_run.specs.Deque.{entry_of};
-ghost use Rattle.pool_run.specs.Member.{IsReady, Moves, stolen_job, found_job};
+ghost use Rattle.pool_run.specs.Member.{IsReady, Moves, stolen_job};
 
 use crate::Work;
 use crate::deque::{Knower, Owner, Task, Thief, pop, push, steal};
@@ -18,14 +18,6 @@ pub(crate) struct Member<W: Work> {
     pub(crate) own: Owner<W>,
     pub(crate) passes: Vec<Knower<W>>,
     pub(crate) done: Vec<Task<W>>,
-}
-
-// The result of a look through the deques: a job, none because another worker was faster, or none at all.
-#[derive(Drop)]
-enum Found<W> {
-    Job(Task<W>),
-    Again,
-    Nothing,
 }
 
 fn pop_own<W: Work>(thieves: &[Thief<W>], member: &mut Member<W>) -> Option<Task<W>>
@@ -53,25 +45,25 @@ fn neighbour(me: usize, workers: usize) -> usize
 }
 
 // A job of the worker's own deque, or else of another's. The neighbour's comes first, so that the thieves don't all
-// go to one.
-fn find<W: Work>(thieves: &[Thief<W>], member: &mut Member<W>) -> Found<W>
+// go to one. `Retry` if none was found and another worker was faster somewhere.
+fn find<W: Work>(thieves: &[Thief<W>], member: &mut Member<W>) -> Steal<Task<W>>
     requires { IsReady W.finish thieves.now member.old }
-    ensures { Moves W.finish thieves.now member.old None member.new (found_job result) }
+    ensures { Moves W.finish thieves.now member.old None member.new (stolen_job result) }
 {
     if let Some(task) = pop_own(thieves, member) {
-        return Found::Job(task);
+        return Steal::Success(task);
     }
     let mut again = false;
     let mut other = member.me;
     for _ in 1..thieves.len() {
         other = neighbour(other, thieves.len());
         match steal_at(thieves, member, other) {
-            Steal::Success(task) => return Found::Job(task),
+            Steal::Success(task) => return Steal::Success(task),
             Steal::Retry => again = true,
             Steal::Empty => {}
         }
     }
-    if again { Found::Again } else { Found::Nothing }
+    if again { Steal::Retry } else { Steal::Empty }
 }
 
 // Runs one slice, unless the job is finished.
@@ -124,12 +116,12 @@ fn step<W: Work, G: Gate>(
     let task = match hand {
         Some(task) => task,
         None => match find(thieves, member) {
-            Found::Job(task) => task,
-            Found::Again => {
+            Steal::Success(task) => task,
+            Steal::Retry => {
                 thread::yield_now();
                 return Some(None);
             }
-            Found::Nothing => return None,
+            Steal::Empty => return None,
         },
     };
     let task = advance(task, slice, gate);

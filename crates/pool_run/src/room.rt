@@ -4,7 +4,7 @@ ghost use Rattle.std.specs.Prelude.{◌≡◌, ◌≢◌, ℕ, ◌+◌, ◌<◌,
 ghost use Rattle.crossbeam_deque.specs.Handles.{view};
 ghost use Rattle.pool_run.specs.Member.{IsPassFor};
 ghost use Rattle.pool_run.specs.Pool.{passes_of};
-ghost use Rattle.pool_run.specs.Room.{IsNew, IsUnused, IsRow, RoomLeft};
+ghost use Rattle.pool_run.specs.Room.{IsRoom, IsNew, IsUnused, IsRow, RoomLeft};
 
 use crate::Work;
 use crate::deque::{Knower, Task, Thief, cut_pass, new_owner};
@@ -48,11 +48,9 @@ impl<W: Work> PoolRoom<W> {
     {
         let jobs = most as usize;
         let workers = workers.min(most.max(1)) as usize;
-        let mut members = new_members(alloc, workers, jobs)?;
-        let thieves = new_thieves(alloc, members.as_slice())?;
-        give_rows(alloc, thieves.as_slice(), members.as_mut_slice())?;
         let finished = Vec::with_capacity(alloc, jobs)?;
         let answer = Vec::with_capacity(alloc, jobs)?;
+        let (thieves, members) = new_pool(alloc, workers, jobs)?;
         Ok(PoolRoom {
             most,
             thieves,
@@ -61,6 +59,22 @@ impl<W: Work> PoolRoom<W> {
             answer,
         })
     }
+}
+
+// The handles to steal from new workers, and the workers.
+fn new_pool<W: Work>(
+    alloc: Global,
+    workers: usize,
+    most: usize,
+) -> Result<(Vec<Thief<W>>, Vec<Member<W>>), AllocError>
+    requires some { 0 < workers }
+    requires few { workers ≤ 64 }
+    ensures { IfOk result (λ pool. IsRoom W.finish most pool.0.items pool.1.items) }
+{
+    let mut members = new_members(alloc, workers, most)?;
+    let thieves = new_thieves(alloc, members.as_slice())?;
+    give_rows(alloc, thieves.as_slice(), members.as_mut_slice())?;
+    Ok((thieves, members))
 }
 
 // A worker with an empty deque and no passes.

@@ -1,4 +1,4 @@
-use Rattle.std.proofs.Common.{◌+◌, ◌≤◌, List, ◌∷◌, [], All, vec_len, vec_capacity, refl, subst, sym, ◌∙◌, arith, map, ap}
+use Rattle.std.proofs.Common.{◌+◌, ◌≤◌, List, ◌∷◌, [], All, vec_len, vec_capacity, refl, subst, sym, arith, map, ap}
 use Rattle.std.proofs.lemmas.List.Elements.{All-append}
 use Rattle.std.proofs.lemmas.List.{map-append}
 use Rattle.pool_run.specs.declared.member.Member.{Member}
@@ -71,7 +71,7 @@ loop-member-init g c =
       room =
           subst (λ (ms : List (Member g.row.W.Denot)). vec_len finished + all_given finish (λ _. 1) ms ≤ all_obtained
           (λ _. 1) ms + vec_capacity finished) is c.requires.room;
-      capacity = refl;
+      capacity = omega arith;
     }
 
 pub loop-member-preserved : goal.loop-member-preserved
@@ -102,7 +102,7 @@ loop-member-preserved g c =
             count_tasks finish c.append_reserved.new.list,
             c.append_reserved.ensures.len,
           ));
-      capacity = c.drain.ensures.room ∙ c.append_reserved.ensures.room ∙ old.capacity;
+      capacity = omega (arith, old.capacity, c.append_reserved.ensures.room, c.drain.ensures.room);
     }
 
 pub returns-clause-ended : goal.returns-clause-ended

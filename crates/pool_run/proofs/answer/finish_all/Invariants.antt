@@ -14,5 +14,5 @@ invariant-loop-member g l = record {
       ≡ weigh h (map (entry_of g.W.Work.finish) l.fn.finished.items) + all_given g.W.Work.finish h l.yielded;
   room : vec_len l.finished + all_given g.W.Work.finish (λ _. 1) l.member-iterator.rest.items ≤ all_obtained
       (λ _. 1) l.member-iterator.rest.items + vec_capacity l.fn.finished;
-  capacity : vec_capacity l.finished ≡ vec_capacity l.fn.finished;
+  capacity : vec_capacity l.fn.finished ≤ vec_capacity l.finished;
 }

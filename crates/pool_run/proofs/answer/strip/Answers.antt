@@ -1,7 +1,10 @@
-use Rattle.std.proofs.Common.{◌∷◌, ◌++◌, [], ap, sym, ◌∙◌, arith, length-append}
+use Rattle.std.proofs.Common.{◌∷◌, ◌++◌, [], ap, sym, ◌∙◌, arith, length, length-append, refl}
 use Rattle.std.proofs.lemmas.List.{map-append}
 use Rattle.pool_run.specs.declared.deque.Task.{Task}
 use Rattle.pool_run.proofs.answer.strip.Goals as goal
+
+pub loop-task-init : goal.loop-task-init
+loop-task-init g c = record { jobs = c.requires.empty; len = omega (arith, ap length c.requires.empty, c.args.answer.ok.0); room = refl }
 
 pub loop-task-preserved : goal.loop-task-preserved
 loop-task-preserved g c =

@@ -1,6 +1,9 @@
 use Rattle.std.proofs.Common.{None, refl}
-use Rattle.pool_run.proofs.Members.{moves_trans}
+use Rattle.pool_run.proofs.Members.{moves_refl, moves_trans}
 use Rattle.pool_run.proofs.member.work.Goals as goal
+
+pub loop-init : goal.loop-init
+loop-init g c = moves_refl g.W.Work.finish c.args.thieves.now c.args.member.now None c.requires.ready
 
 pub step-requires-clause-ready : goal.step-requires-clause-ready
 step-requires-clause-ready g c = c.loop.invariant.ready

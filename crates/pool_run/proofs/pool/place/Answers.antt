@@ -1,6 +1,16 @@
-use Rattle.std.proofs.Common.{◌∙◌, arith, vec_len, length-append, [], ◌∷◌, ap, length}
+use Rattle.std.proofs.Common.{◌∙◌, arith, vec_len, length-append, [], ◌∷◌, ap, length, refl}
 use Rattle.pool_run.proofs.Pools.{entries_more}
 use Rattle.pool_run.proofs.pool.place.Goals as goal
+
+pub loop-job-init : goal.loop-job-init
+loop-job-init g c = record {
+  pool = c.requires.pool;
+  room = c.requires.room;
+  left = omega (arith, ap length c.into_iter-job-iterator.ensures.into_iter_gives.0, c.args.jobs.ok.0);
+  number = refl;
+  given = λ h. omega arith;
+  obtained = λ h. refl;
+}
 
 pub place_at-requires-clause-pool : goal.place_at-requires-clause-pool
 place_at-requires-clause-pool g c = c.loop-job.invariant.pool
