@@ -2,6 +2,7 @@
 use crate::rows::assert_row;
 use farm_drill::{Generator, drill, hostile, pcm};
 use std::alloc::{AllocError, Global};
+use std::process::Abort;
 use trau_io::{Filled, Line, MemTrunk, Side, Trunk, read_block};
 
 // The FNV-1a sum of some octets, 32 bits.
@@ -28,8 +29,9 @@ fn is_whole(trunk: &mut MemTrunk, line: Line, octets: &mut [u8]) -> bool {
     read_block(trunk, line, octets) == Filled::Whole && trunk.read(line, &mut [0]) == Ok(0)
 }
 
-// The sum of what an incoming line gives; None if that isn't exactly `count` octets, or if memory runs out.
+// The sum of what an incoming line gives; None if that isn't exactly `count` octets.
 fn sum_of_line(
+    rt: &impl Abort,
     alloc: Global,
     trunk: &mut MemTrunk,
     call: u32,
@@ -40,7 +42,7 @@ fn sum_of_line(
         call: call.clamp(1, 4096),
         side,
     };
-    let mut octets = vec![in alloc; 0; count].ok()?;
+    let mut octets = vec![in alloc; 0; count].expect(rt, "memory");
     if is_whole(trunk, line, &mut octets) {
         Some(sum(&octets))
     } else {
@@ -60,26 +62,24 @@ static SUMS: [Row; 4] = [
 ];
 
 // Whether the lines of a call have these sums.
-fn has_sums(alloc: Global, trunk: &mut MemTrunk, row: &Row) -> bool {
+fn has_sums(rt: &impl Abort, alloc: Global, trunk: &mut MemTrunk, row: &Row) -> bool {
     let (_, _, periods, call, up, pcm) = *row;
     let octets = 40 * periods.min(1000) as usize;
-    let on_up = sum_of_line(alloc, trunk, call, Side::Up, octets);
-    let on_pcm = sum_of_line(alloc, trunk, call, Side::Pcm, 4 * octets);
+    let on_up = sum_of_line(rt, alloc, trunk, call, Side::Up, octets);
+    let on_pcm = sum_of_line(rt, alloc, trunk, call, Side::Pcm, 4 * octets);
     on_up == Some(up) && on_pcm == Some(pcm)
 }
 
 // Whether a drill has a call with these sums.
-fn is_drilled(alloc: Global, row: &Row) -> bool {
-    match drilled(alloc, row.0, row.1, row.2) {
-        Ok((mut trunk, _)) => has_sums(alloc, &mut trunk, row),
-        Err(_) => false,
-    }
+fn is_drilled(rt: &impl Abort, alloc: Global, row: &Row) -> bool {
+    let (mut trunk, _) = drilled(alloc, row.0, row.1, row.2).expect(rt, "memory");
+    has_sums(rt, alloc, &mut trunk, row)
 }
 
 #[test]
 fn drills_as_another_program(rt: HostRuntime) {
     for row in &SUMS {
-        assert_row(&rt, row.3 as usize, is_drilled(rt.alloc(), row));
+        assert_row(&rt, row.3 as usize, is_drilled(&rt, rt.alloc(), row));
     }
 }
 

@@ -3,6 +3,7 @@
 use crate::rows::assert_row;
 use farm_report::{CallLine, Report, SpanLine, write_report};
 use std::alloc::{AllocError, Global};
+use std::process::Abort;
 use switchboard::{Act, Refusal, Reply, Span};
 use trau_alaw::Law;
 use trau_io::{CallEnd, Cause, Counts, Line, Side};
@@ -238,50 +239,62 @@ line 4096 out failed
 end period 4294967295 calls 1 left 4294967295
 ";
 
-// Whether this is the text of a report with these parts.
-fn is_text(
+// The text of a report, without what is proved of it.
+fn text_of(alloc: Global, report: &Report) -> Result<String, AllocError> {
+    write_report(alloc, report)
+}
+
+// Whether this is the text of a report.
+fn is_text(alloc: Global, report: &Report, text: &str) -> bool {
+    match text_of(alloc, report) {
+        Ok(written) => written.as_str() == text,
+        Err(_) => false,
+    }
+}
+
+// The report with these parts.
+fn report_of(
+    rt: &impl Abort,
     alloc: Global,
     replies: &[Reply],
     spans: &[SpanLine],
     calls: &[CallLine],
     failed: &[Line],
     left: u32,
-    text: &str,
-) -> Result<bool, AllocError> {
-    let report = Report {
-        replies: replies.to_vec(alloc)?,
-        spans: spans.to_vec(alloc)?,
-        calls: calls.to_vec(alloc)?,
-        failed: failed.to_vec(alloc)?,
+) -> Report {
+    Report {
+        replies: replies.to_vec(alloc).expect(rt, "memory"),
+        spans: spans.to_vec(alloc).expect(rt, "memory"),
+        calls: calls.to_vec(alloc).expect(rt, "memory"),
+        failed: failed.to_vec(alloc).expect(rt, "memory"),
         left,
-    };
-    Ok(write_report(alloc, &report)?.as_str() == text)
+    }
 }
 
 #[test]
 fn each_reply_and_each_cause(rt: HostRuntime) {
-    let all = is_text(
+    let report = report_of(
+        &rt,
         rt.alloc(),
         &EACH_REPLY,
         &[],
         &EACH_CAUSE,
         &EACH_SIDE,
         1,
-        EACH_TEXT,
     );
-    assert_row(&rt, 1, all == Ok(true));
+    assert_row(&rt, 1, is_text(rt.alloc(), &report, EACH_TEXT));
 }
 
 #[test]
 fn the_greatest_numbers(rt: HostRuntime) {
-    let all = is_text(
+    let report = report_of(
+        &rt,
         rt.alloc(),
         &GREATEST_REPLY,
         &GREATEST_SPAN,
         &GREATEST_CALL,
         &GREATEST_SIDE,
         LAST,
-        GREATEST_TEXT,
     );
-    assert_row(&rt, 1, all == Ok(true));
+    assert_row(&rt, 1, is_text(rt.alloc(), &report, GREATEST_TEXT));
 }

@@ -1,10 +1,9 @@
 //! The search for frames: at any bit, through misses in a row, and while it hunts.
 
-ghost use Rattle.std.specs.Prelude.{◌≡◌, ◌<◌, ◌+◌};
+ghost use Rattle.std.specs.Prelude.{◌≡◌, ◌<◌, ◌+◌, length};
 
-use crate::rows::{assert_row, assert_rows};
+use crate::rows::assert_rows;
 use frame_sync::{FrameSync, Yield};
-use std::process::Abort;
 
 // An uplink frame of good speech, whose octets 2, 4, 6 and so on begin with a sync bit 1; and the same frame without the second
 // of these bits, in which nothing matches.
@@ -57,81 +56,86 @@ fn fed(sync: &mut FrameSync, octets: &[u8; 40]) -> Option<Found>
     }
 }
 
-// Asserts what is found in the first three periods.
-fn assert_fed(rt: &impl Abort, periods: &[[u8; 40]; 3], wanted: [Option<Found>; 3]) {
-    let mut sync = FrameSync::new();
-    let first = fed(&mut sync, &periods[0]);
-    let second = fed(&mut sync, &periods[1]);
-    let third = fed(&mut sync, &periods[2]);
-    assert_row(rt, 0, first == wanted[0]);
-    assert_row(rt, 1, second == wanted[1]);
-    assert_row(rt, 2, third == wanted[2]);
+// The octets of a period.
+#[derive(Clone, Copy)]
+enum Octets {
+    Good,
+    Broken,
+    // The good frame, late by five bits of this octet.
+    Late(u8),
+    // This octet everywhere.
+    All(u8),
 }
 
-// Five bits 0, then frames without gaps: the first ends in period 1.
-#[test]
-fn frames_at_five(rt: HostRuntime) {
-    let periods = [late(0), late(0xFF), late(0xFF)];
-    assert_fed(
-        &rt,
-        &periods,
-        [None, Some(Found::Frame(5)), Some(Found::Frame(325))],
-    );
-}
-
-// What is found period by period. Two misses in a row keep the lock, and the next frame allows two more. The third miss in a
-// row loses it; the hunt from the end of the missed frame on finds the next frame at once.
-static TURNS: [[Found; 8]; 2] = [
-    [
-        Found::Frame(0),
-        Found::Miss(320),
-        Found::Miss(640),
-        Found::Frame(960),
-        Found::Miss(1280),
-        Found::Miss(1600),
-        Found::Miss(1920),
-        Found::Frame(2240),
-    ],
-    [
-        Found::Frame(0),
-        Found::Miss(320),
-        Found::Miss(640),
-        Found::Miss(960),
-        Found::Frame(1280),
-        Found::Miss(1600),
-        Found::Miss(1920),
-        Found::Frame(2240),
-    ],
-];
-
-// The octets in which this is found: a missed frame has a broken sync bit.
-fn octets_of(wanted: Found) -> &'static [u8; 40] {
-    match wanted {
-        Found::Frame(_) => &GOOD,
-        Found::Miss(_) => &BROKEN,
+fn octets_of(octets: Octets) -> [u8; 40] {
+    match octets {
+        Octets::Good => GOOD,
+        Octets::Broken => BROKEN,
+        Octets::Late(before) => late(before),
+        Octets::All(octet) => [octet; 40],
     }
 }
 
+// A period: its octets, and what is found in it.
+type Row = (Octets, Option<Found>);
+
 // In how many periods this is found, before the first in which it isn't.
-fn found_in_turn(turn: &[Found; 8]) -> usize {
+fn found_in_turn(rows: &[Row]) -> usize
+    requires { length rows.now < 100 }
+{
     let mut sync = FrameSync::new();
-    for k in 0..8 {
-        if fed(&mut sync, octets_of(turn[k])) != Some(turn[k]) {
+    for k in 0..rows.len() {
+        let (octets, wanted) = rows[k];
+        if fed(&mut sync, &octets_of(octets)) != wanted {
             return k;
         }
     }
-    8
+    rows.len()
 }
 
-#[test]
-fn misses_in_a_row(rt: HostRuntime) {
-    for turn in &TURNS {
-        assert_rows(&rt, found_in_turn(turn), 8);
-    }
-}
+// Five bits 0, then frames without gaps: the first ends in period 1.
+static LATE: [Row; 3] = [
+    (Octets::Late(0), None),
+    (Octets::Late(0xFF), Some(Found::Frame(5))),
+    (Octets::Late(0xFF), Some(Found::Frame(325))),
+];
+
+// Two misses in a row keep the lock, and the next frame allows two more. The third miss in a row loses it; the hunt from the
+// end of the missed frame on finds the next frame at once. A missed frame has a broken sync bit.
+static MISSES: [[Row; 8]; 2] = [
+    [
+        (Octets::Good, Some(Found::Frame(0))),
+        (Octets::Broken, Some(Found::Miss(320))),
+        (Octets::Broken, Some(Found::Miss(640))),
+        (Octets::Good, Some(Found::Frame(960))),
+        (Octets::Broken, Some(Found::Miss(1280))),
+        (Octets::Broken, Some(Found::Miss(1600))),
+        (Octets::Broken, Some(Found::Miss(1920))),
+        (Octets::Good, Some(Found::Frame(2240))),
+    ],
+    [
+        (Octets::Good, Some(Found::Frame(0))),
+        (Octets::Broken, Some(Found::Miss(320))),
+        (Octets::Broken, Some(Found::Miss(640))),
+        (Octets::Broken, Some(Found::Miss(960))),
+        (Octets::Good, Some(Found::Frame(1280))),
+        (Octets::Broken, Some(Found::Miss(1600))),
+        (Octets::Broken, Some(Found::Miss(1920))),
+        (Octets::Good, Some(Found::Frame(2240))),
+    ],
+];
 
 // Nothing matches while it hunts.
+static HUNT: [Row; 3] = [
+    (Octets::All(0xFF), None),
+    (Octets::All(0), None),
+    (Octets::Broken, None),
+];
+
 #[test]
-fn nothing_is_found_while_it_hunts(rt: HostRuntime) {
-    assert_fed(&rt, &[[0xFF; 40], [0; 40], BROKEN], [None; 3]);
+fn frames_are_found(rt: HostRuntime) {
+    assert_rows(&rt, found_in_turn(&LATE), 3);
+    assert_rows(&rt, found_in_turn(&MISSES[0]), 8);
+    assert_rows(&rt, found_in_turn(&MISSES[1]), 8);
+    assert_rows(&rt, found_in_turn(&HUNT), 3);
 }

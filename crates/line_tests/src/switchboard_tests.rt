@@ -237,26 +237,22 @@ fn reply_at_40(board: &mut Board) -> Option<Reply>
     }
 }
 
-// The same after both calls have ended so.
-fn reply_after_both(board: &mut Board) -> Option<Reply>
-    requires { (t : ℕ) → EndBefore t board.old }
-{
-    if begins(board) && ends_lower(board) {
-        reply_at_40(board)
-    } else {
-        None
-    }
-}
-
 static REFUSED: Reply = Reply {
     order: 4,
     result: Err(Refusal::NotOpen { call: 9 }),
 };
+
+// Whether it is refused after both calls have ended so.
+fn is_refused_after_both(board: &mut Board) -> bool
+    requires { (t : ℕ) → EndBefore t board.old }
+{
+    begins(board) && ends_lower(board) && reply_at_40(board) == Some(REFUSED)
+}
 
 // The ends of a round are reported in call-number order, so an end that is reported later may be earlier.
 #[test]
 fn ends_lower_a_span(rt: HostRuntime) {
     let orders = b"0 open 7\n0 open 9\n0 bridge 7 9\n40 unbridge 9\n";
     let mut board = board_of(&rt, rt.alloc(), orders);
-    assert_row(&rt, 4, reply_after_both(&mut board) == Some(REFUSED));
+    assert_row(&rt, 4, is_refused_after_both(&mut board));
 }

@@ -26,6 +26,20 @@ enum Step {
     Reads(Side, usize, Option<usize>, [u8; 4]),
     // A write of these octets: how many the line takes (None if it fails).
     Writes(Side, &'static [u8], Option<usize>),
+    // Each of 300 Out lines takes this octet, one after the other.
+    EachWrites(u8),
+    // Each of their files holds these octets.
+    EachHolds(&'static [u8]),
+}
+
+// How many octets a read into the start of a buffer gives, at most `most` and one to four; None if it fails.
+fn read(
+    trunk: &mut FileTrunk<'_, HostRuntime>,
+    line: Line,
+    most: usize,
+    octets: &mut [u8; 4],
+) -> Option<usize> {
+    trunk.read(line, &mut octets[..most.max(1).min(4)]).ok()
 }
 
 // Whether a read of at most `most` octets, one to four, has this result and leaves these octets in the buffer.
@@ -36,9 +50,9 @@ fn reads(
     given: Option<usize>,
     octets: &[u8; 4],
 ) -> bool {
-    let mut read = [0; 4];
-    let most = most.max(1).min(4);
-    trunk.read(line, &mut read[..most]).ok() == given && read == *octets
+    let mut buffer = [0; 4];
+    let count = read(trunk, line, most, &mut buffer);
+    (count == given) & (buffer == *octets)
 }
 
 // Whether a write of these octets has this result.
@@ -59,14 +73,47 @@ fn holds(rt: &HostRuntime, name: &str, octets: &[u8]) -> bool {
     }
 }
 
-// Whether a step can be done, and has its result.
-fn is_done(rt: &HostRuntime, trunk: &mut FileTrunk<'_, HostRuntime>, step: &Step) -> bool {
+// Whether the Out lines of 300 calls each take this octet, one after the other.
+fn are_written(trunk: &mut FileTrunk<'_, HostRuntime>, octet: u8) -> bool {
+    let side = Side::Out;
+    for call in 1..=300u32 {
+        if trunk.write(Line { call, side }, &[octet]).ok() != Some(1) {
+            return false;
+        }
+    }
+    true
+}
+
+// How many of the 300 files hold these octets, before the first that doesn't.
+fn held(rt: &HostRuntime, octets: &[u8]) -> usize {
+    let mut count = 0usize;
+    for call in 1..=300u32 {
+        match format!(in rt.alloc(); "{call}.out") {
+            Ok(name) if holds(rt, name.as_str(), octets) => count = count.saturating_add(1),
+            _ => return count,
+        }
+    }
+    count
+}
+
+// Whether a step on files alone can be done, and has its result.
+fn is_done_to_files(rt: &HostRuntime, step: &Step) -> bool {
     match step {
         Step::Make(name, octets) => fs::write(rt, *name, *octets).is_ok(),
         Step::Remove(name) => fs::remove_file(rt, *name).is_ok(),
         Step::Holds(name, octets) => holds(rt, name, octets),
+        Step::EachHolds(octets) => held(rt, octets) == 300,
+        _ => false,
+    }
+}
+
+// Whether a step can be done, and has its result.
+fn is_done(rt: &HostRuntime, trunk: &mut FileTrunk<'_, HostRuntime>, step: &Step) -> bool {
+    match step {
         Step::Reads(side, most, given, octets) => reads(trunk, line(*side), *most, *given, octets),
         Step::Writes(side, octets, taken) => writes(trunk, line(*side), octets, *taken),
+        Step::EachWrites(octet) => are_written(trunk, *octet),
+        _ => is_done_to_files(rt, step),
     }
 }
 
@@ -146,37 +193,17 @@ fn lines_are_files(rt: HostRuntime) {
     assert_rows(&rt, done(&rt, &REMOVED_FILES), 11);
 }
 
-// Whether the Out lines of 300 calls each take this octet, one after the other.
-fn are_written(trunk: &mut FileTrunk<'_, HostRuntime>, octet: u8) -> bool {
-    let side = Side::Out;
-    for call in 1..=300u32 {
-        if trunk.write(Line { call, side }, &[octet]).ok() != Some(1) {
-            return false;
-        }
-    }
-    true
-}
-
-// How many of the 300 files hold these octets, before the first that doesn't.
-fn held(rt: &HostRuntime, octets: &[u8]) -> usize {
-    let mut count = 0usize;
-    for call in 1..=300u32 {
-        match format!(in rt.alloc(); "{call}.out") {
-            Ok(name) if holds(rt, name.as_str(), octets) => count = count.saturating_add(1),
-            _ => return count,
-        }
-    }
-    count
-}
-
 // More lines than files that stay open.
+static MANY_LINES: [Step; 4] = [
+    Step::EachWrites(1),
+    Step::EachWrites(2),
+    Step::EachWrites(3),
+    Step::EachHolds(&[1, 2, 3]),
+];
+
 #[test]
 fn many_lines_are_written_in_turn(rt: HostRuntime) {
-    let mut trunk = FileTrunk::new(rt.alloc(), &rt).expect(&rt, "memory");
-    for octet in 1..=3u8 {
-        assert_row(&rt, usize::from(octet), are_written(&mut trunk, octet));
-    }
-    assert_rows(&rt, held(&rt, &[1, 2, 3]), 300);
+    assert_rows(&rt, done(&rt, &MANY_LINES), 4);
 }
 
 // A stream that is interrupted before each operation that moves octets.

@@ -1,7 +1,8 @@
 //! The trunk and the desk in memory: what they give and take, with which chunk sizes, and where they fail.
 
 use crate::rows::assert_row;
-use std::alloc::{AllocError, Global};
+use std::alloc::Global;
+use std::process::Abort;
 use trau_io::{
     Desk, Failed, Filled, Line, MemDesk, MemTrunk, Side, Trunk, read_block, tell, write_all,
 };
@@ -28,6 +29,7 @@ const OUT: Line = Line {
 
 // Sets a line anew.
 fn set(
+    rt: &impl Abort,
     alloc: Global,
     trunk: &mut MemTrunk,
     line: Line,
@@ -35,22 +37,23 @@ fn set(
     cuts: &[u32],
     fails: &[u32],
     room: u32,
-) -> Result<(), AllocError> {
-    let octets = octets.to_vec(alloc)?;
-    let cuts = cuts.to_vec(alloc)?;
-    let fails = fails.to_vec(alloc)?;
-    trunk.set(alloc, line, octets, cuts, fails, room)
+) {
+    let octets = octets.to_vec(alloc).expect(rt, "memory");
+    let cuts = cuts.to_vec(alloc).expect(rt, "memory");
+    let fails = fails.to_vec(alloc).expect(rt, "memory");
+    let set = trunk.set(alloc, line, octets, cuts, fails, room);
+    set.expect(rt, "memory");
 }
 
 // Up has nine octets, in chunks of 0 (which counts as 1), 2 and 100, and its fourth operation fails. Pcm has ten octets, and
 // Down room for seven, both with chunk sizes.
-fn three_lines(alloc: Global) -> Result<MemTrunk, AllocError> {
-    let mut trunk = MemTrunk::new(alloc)?;
+fn three_lines(rt: &impl Abort, alloc: Global) -> MemTrunk {
+    let mut trunk = MemTrunk::new(alloc).expect(rt, "memory");
     let octets = [1, 2, 3, 4, 5, 6, 7, 8, 9];
-    set(alloc, &mut trunk, UP, &octets, &[0, 2, 100], &[3], 0)?;
-    set(alloc, &mut trunk, PCM, &[7; 10], &[3, 1], &[], 0)?;
-    set(alloc, &mut trunk, DOWN, &[], &[2, 3], &[], 7)?;
-    Ok(trunk)
+    set(rt, alloc, &mut trunk, UP, &octets, &[0, 2, 100], &[3], 0);
+    set(rt, alloc, &mut trunk, PCM, &[7; 10], &[3, 1], &[], 0);
+    set(rt, alloc, &mut trunk, DOWN, &[], &[2, 3], &[], 7);
+    trunk
 }
 
 // The answers to reads of at most four octets.
@@ -83,7 +86,7 @@ fn is_closed(trunk: &mut MemTrunk) -> bool {
 // After the last chunk size, chunks have no limit. All other lines are empty and without room.
 #[test]
 fn a_line_is_read_in_its_cuts(rt: HostRuntime) {
-    let mut trunk = three_lines(rt.alloc()).expect(&rt, "memory");
+    let mut trunk = three_lines(&rt, rt.alloc());
     assert_row(&rt, 1, is_read_in_cuts(&mut trunk));
     assert_row(&rt, 2, is_closed(&mut trunk));
 }
@@ -112,14 +115,16 @@ fn fills_down(trunk: &mut MemTrunk) -> bool {
 
 #[test]
 fn a_whole_transfer_goes_on_over_cuts(rt: HostRuntime) {
-    let mut trunk = three_lines(rt.alloc()).expect(&rt, "memory");
+    let mut trunk = three_lines(&rt, rt.alloc());
     assert_row(&rt, 1, fills_down(&mut trunk));
 }
 
 // A desk with eight octets and room for nine, whose first read and second write fail.
-fn desk(alloc: Global) -> Result<MemDesk, AllocError> {
-    let orders = b"0 open 1".to_vec(alloc)?;
-    MemDesk::new(alloc, orders, [0].to_vec(alloc)?, [1].to_vec(alloc)?, 9)
+fn desk(rt: &impl Abort, alloc: Global) -> MemDesk {
+    let orders = b"0 open 1".to_vec(alloc).expect(rt, "memory");
+    let read_fails = [0].to_vec(alloc).expect(rt, "memory");
+    let write_fails = [1].to_vec(alloc).expect(rt, "memory");
+    MemDesk::new(alloc, orders, read_fails, write_fails, 9).expect(rt, "memory")
 }
 
 // Whether a read of at most six octets has this answer.
@@ -151,7 +156,7 @@ fn is_told_once(desk: &mut MemDesk) -> bool {
 
 #[test]
 fn a_desk_gives_and_takes_as_it_was_told(rt: HostRuntime) {
-    let mut desk = desk(rt.alloc()).expect(&rt, "memory");
+    let mut desk = desk(&rt, rt.alloc());
     assert_row(&rt, 1, is_heard(&mut desk));
     assert_row(&rt, 2, is_told_once(&mut desk));
 }
