@@ -1,6 +1,6 @@
 //! Commands over lines in memory, and what comes of each: all tables of runs have one loop and one comparison.
 
-use crate::farm_top_tests::{desk_of, status_of};
+use crate::farm_top_tests::carry;
 use crate::lines::{ALL, Laid, line, trunk_of};
 use pool_run::{Gate, OpenGate};
 use std::alloc::Global;
@@ -82,9 +82,8 @@ fn run_over<R: Abort + Threads + Wait + Sync, G: Gate + Sync>(
     trunk: &mut MemTrunk,
     gate: &G,
 ) -> bool {
-    let mut desk = desk_of(rt, alloc, case.orders, case.desk);
-    let status = status_of(rt, alloc, case.words, trunk, &mut desk, gate);
-    (status == case.status) & (desk.text() == case.text.as_bytes())
+    let outcome = carry(rt, alloc, case.words, trunk, case.orders, case.desk, gate);
+    outcome.is(case.status, case.text)
 }
 
 // Whether a command comes out as its case says, with this gate for the workers and lines in chunks of at most `cut` octets.

@@ -128,7 +128,7 @@ fn drills_are_those_of_another_program(rt: HostRuntime) {
 #[test]
 fn the_desk_fails_while_a_drill_is_told(rt: HostRuntime) {
     let words = ["drill", "--calls=1", "--periods=1"];
-    assert_row(&rt, 1, is_told_in_part(&rt, rt.alloc(), &words, &DRILLS[0]));
+    assert_row(&rt, 1, is_told_in_part(&rt, rt.alloc(), &words, ONE_PERIOD));
 }
 
 static LIMIT: &str = "order 1 ok
@@ -143,7 +143,7 @@ fn comes_to_the_limit<R: Abort + Threads + Wait + Sync>(rt: &R, alloc: Global) -
     let mut trunk = Endless { written: 0 };
     let words = ["run", "--periods", "5"];
     let status = status_of(rt, alloc, &words, &mut trunk, &mut desk, &OpenGate);
-    status == 0 && desk.text() == LIMIT.as_bytes() && trunk.written == 5 * 200
+    (status == 0) & (desk.text() == LIMIT.as_bytes()) & (trunk.written == 5 * 200)
 }
 
 #[test]

@@ -3,7 +3,7 @@
 
 use crate::between::Between;
 use crate::cases::{Case, UNUSED, comes_of};
-use crate::farm_top_tests::{carry, status_over};
+use crate::farm_top_tests::{CALM, carry, status_over};
 use crate::lines::{ALL, FAILING, NONE, trunk_of};
 use crate::met::Met;
 use crate::paired::Paired;
@@ -64,10 +64,10 @@ fn both_callers_are_at_work_at_once(rt: HostRuntime) {
 
 // Two live drills of two periods by two callers, one of them with this gate: whether they print the same.
 fn live_between<R: Abort + Threads + Wait + Sync>(rt: &R, alloc: Global, gate: &Between) -> bool {
-    let mut trunk = trunk_of(rt, alloc, BY_TWO.lines, ALL);
+    let mut trunk = trunk_of(rt, alloc, &FAILING, ALL);
     let words = ["live", "--calls=2", "--callers=2", "--periods=2"];
-    let met = carry(rt, alloc, &words, &mut trunk, "", NONE, gate);
-    let free = carry(rt, alloc, &words, &mut trunk, "", NONE, &OpenGate);
+    let met = carry(rt, alloc, &words, &mut trunk, "", CALM, gate);
+    let free = carry(rt, alloc, &words, &mut trunk, "", CALM, &OpenGate);
     met.agrees_with(&free, 0)
 }
 
@@ -87,7 +87,7 @@ fn live_gated<R: Abort + Threads + Wait + Sync>(
     gate: &Paired,
 ) -> u8 {
     let words = ["live", "--calls=2", callers, "--periods=20", "--inbox=1"];
-    status_over(rt, alloc, &words, BY_TWO.lines, "", gate)
+    status_over(rt, alloc, &words, &FAILING, "", gate)
 }
 
 // Whether its status is 0, and each period passes the gate once.
@@ -110,5 +110,5 @@ fn each_period_passes_the_gate_once(rt: HostRuntime) {
 #[test]
 fn the_desk_fails_while_live_is_told(rt: HostRuntime) {
     let words = ["live", "--calls=2", "--periods=1"];
-    assert_row(&rt, 1, is_told_in_part(&rt, rt.alloc(), &words, &BY_TWO));
+    assert_row(&rt, 1, is_told_in_part(&rt, rt.alloc(), &words, ONE_PERIOD));
 }

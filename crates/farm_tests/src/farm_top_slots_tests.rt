@@ -115,9 +115,10 @@ static ROWS: [Case; 7] = [
     },
 ];
 
+// The number of an assertion is the chunk size.
 #[test]
 fn slots_are_split_and_merged(rt: HostRuntime) {
-    assert_parts(&rt, 1, come(&rt, rt.alloc(), &ROWS, 1), 7);
-    assert_parts(&rt, 3, come(&rt, rt.alloc(), &ROWS, 3), 7);
-    assert_parts(&rt, 1000, come(&rt, rt.alloc(), &ROWS, 1000), 7);
+    for cut in [1u32, 3, 1000] {
+        assert_parts(&rt, cut as usize, come(&rt, rt.alloc(), &ROWS, cut), 7);
+    }
 }

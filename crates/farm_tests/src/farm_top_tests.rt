@@ -39,8 +39,11 @@ pub(crate) fn status_of<R: Abort + Threads + Wait + Sync, T: Trunk, D: Desk, G: 
     farm_top(rt, alloc, &words, trunk, desk, gate)
 }
 
-// A desk with these orders: which of its reads and which of its writes fails, and for how many octets it has room.
-pub(crate) fn desk_of(rt: &impl Abort, alloc: Global, orders: &str, desk: [u32; 3]) -> MemDesk {
+// A desk on which nothing fails: which of its reads and which of its writes fails, and for how many octets it has room.
+pub(crate) const CALM: [u32; 3] = [NONE, NONE, 10_000];
+
+// A desk with these orders.
+fn desk_of(rt: &impl Abort, alloc: Global, orders: &str, desk: [u32; 3]) -> MemDesk {
     let [read_fails, write_fails, room] = desk;
     let orders = copied(rt, alloc, orders.as_bytes());
     let reads = numbers(rt, alloc, read_fails, 1);
@@ -58,28 +61,28 @@ pub(crate) struct Outcome {
 impl Outcome {
     // Whether a command has this status and this text.
     pub(crate) fn is(&self, status: u8, text: &str) -> bool {
-        self.status == status && self.text.as_slice() == text.as_bytes()
+        (self.status == status) & (self.text.as_slice() == text.as_bytes())
     }
 
     // Whether both have this status and the same text.
     pub(crate) fn agrees_with(&self, other: &Outcome, status: u8) -> bool {
-        self.status == status
-            && other.status == status
-            && self.text.as_slice() == other.text.as_slice()
+        (self.status == status)
+            & (other.status == status)
+            & (self.text.as_slice() == other.text.as_slice())
     }
 }
 
-// Runs the command of these words with these orders, and with a gate for the workers. One write of the desk fails.
+// Runs the command of these words with these orders at such a desk, and with a gate for the workers.
 pub(crate) fn carry<R: Abort + Threads + Wait + Sync, G: Gate + Sync>(
     rt: &R,
     alloc: Global,
     texts: &[&str],
     trunk: &mut MemTrunk,
     orders: &str,
-    fails: u32,
+    desk: [u32; 3],
     gate: &G,
 ) -> Outcome {
-    let mut desk = desk_of(rt, alloc, orders, [NONE, fails, 10_000]);
+    let mut desk = desk_of(rt, alloc, orders, desk);
     let status = status_of(rt, alloc, texts, trunk, &mut desk, gate);
     let text = copied(rt, alloc, desk.text());
     Outcome { status, text }
@@ -95,8 +98,7 @@ pub(crate) fn status_over<R: Abort + Threads + Wait + Sync, G: Gate + Sync>(
     gate: &G,
 ) -> u8 {
     let mut trunk = trunk_of(rt, alloc, lines, ALL);
-    let mut desk = desk_of(rt, alloc, orders, [NONE, NONE, 10_000]);
-    status_of(rt, alloc, texts, &mut trunk, &mut desk, gate)
+    carry(rt, alloc, texts, &mut trunk, orders, CALM, gate).status
 }
 
 // Which operation of the incoming lines, of the outgoing lines and of the desk fails.
@@ -124,6 +126,7 @@ fn carry_tool<R: Abort + Threads + Wait + Sync>(
 ) -> (Outcome, MemTrunk) {
     let (incoming, outgoing, desk) = faults;
     let mut trunk = lines(rt, alloc, cut, incoming, outgoing);
+    let desk = [NONE, desk, 10_000];
     let outcome = carry(rt, alloc, &[tool, "7"], &mut trunk, "", desk, &OpenGate);
     (outcome, trunk)
 }
@@ -238,11 +241,27 @@ fn fails_as_due<R: Abort + Threads + Wait + Sync>(
     let write = due(row, number, 6, row.out_failed, writes);
     let told = due(row, number, 4, "", &[row.sent]);
     leaves(rt, alloc, row, *cut, (number, NONE, NONE), read, all)
-        && leaves(rt, alloc, row, *cut, (NONE, number, NONE), write, all)
-        && leaves(rt, alloc, row, *cut, (NONE, NONE, number), told, all)
+        & leaves(rt, alloc, row, *cut, (NONE, number, NONE), write, all)
+        & leaves(rt, alloc, row, *cut, (NONE, NONE, number), told, all)
 }
 
-// How many operations fail as due, in turn.
+// How many operations fail as due, in turn. `all` is what is sent if none fails.
+fn turn_fails<R: Abort + Threads + Wait + Sync>(
+    rt: &R,
+    alloc: Global,
+    row: &Row,
+    turn: &Turn,
+    all: &[u8],
+) -> usize {
+    for number in 0..turn.1 {
+        if !fails_as_due(rt, alloc, row, turn, number, all) {
+            return number as usize;
+        }
+    }
+    turn.1 as usize
+}
+
+// The same, after a run in which none fails.
 fn failed_as_due<R: Abort + Threads + Wait + Sync>(
     rt: &R,
     alloc: Global,
@@ -250,13 +269,7 @@ fn failed_as_due<R: Abort + Threads + Wait + Sync>(
     turn: &Turn,
 ) -> usize {
     let (_outcome, calm) = carry_tool(rt, alloc, row.tool, turn.0, (NONE, NONE, NONE));
-    let all = calm.written(line(7, row.outgoing));
-    for number in 0..turn.1 {
-        if !fails_as_due(rt, alloc, row, turn, number, all) {
-            return number as usize;
-        }
-    }
-    turn.1 as usize
+    turn_fails(rt, alloc, row, turn, calm.written(line(7, row.outgoing)))
 }
 
 #[test]

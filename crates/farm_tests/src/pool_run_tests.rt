@@ -1,6 +1,6 @@
 //! The pool over jobs that write down how many places remain: each job is finished in its place.
 
-ghost use Rattle.std.specs.Prelude.{◌≡◌, ◌≤◌, length, vec_len};
+ghost use Rattle.std.specs.Prelude.{◌≡◌, ◌≤◌, ◌+◌, length, vec_len};
 
 use crate::held::Held;
 use crate::rows::{assert_parts, assert_row};
@@ -58,31 +58,37 @@ impl Counter {
     }
 }
 
+fn push<T>(rt: &impl Abort, alloc: Global, jobs: &mut Vec<Box<T>>, job: T)
+    ensures { vec_len jobs.new ≡ vec_len jobs.old + 1 }
+{
+    let job = Box::new(alloc, job).expect(rt, "memory");
+    jobs.push(job).expect(rt, "memory");
+}
+
 // Jobs of these numbers of places, with their calls' numbers.
 fn counters(rt: &impl Abort, alloc: Global, jobs: &[(u32, u32)]) -> Vec<Box<Counter>>
     ensures { vec_len result ≡ length jobs.now }
 {
     let mut counters = Vec::new(alloc);
     for job in jobs {
-        let counter = Box::new(alloc, Counter::new(*job)).expect(rt, "memory");
-        counters.push(counter).expect(rt, "memory");
+        push(rt, alloc, &mut counters, Counter::new(*job));
     }
     counters
 }
 
 // The jobs that the pool returns.
-fn run_at_once<R: Abort + Threads + Wait + Sync, G: Gate + Sync>(
+fn run_at_once<R: Abort + Threads + Wait + Sync, W: Work + Send, G: Gate + Sync>(
     rt: &R,
     alloc: Global,
-    jobs: &[(u32, u32)],
+    jobs: Vec<Box<W>>,
     workers: u32,
     slice: u32,
     gate: &G,
-) -> Vec<Box<Counter>>
-    requires { (1 ≤ workers) × (workers ≤ 64) × (1 ≤ slice) × (length jobs.now ≤ 4096) }
+) -> Vec<Box<W>>
+    requires { (1 ≤ workers) × (workers ≤ 64) × (1 ≤ slice) × (vec_len jobs ≤ 4096) }
 {
     let room = PoolRoom::reserve(alloc, workers, jobs.len() as u32).expect(rt, "memory");
-    run_pool(rt, room, counters(rt, alloc, jobs), slice, gate)
+    run_pool(rt, room, jobs, slice, gate)
 }
 
 // Whether a job is finished, by its call's number and what it has written down.
@@ -138,7 +144,7 @@ fn finish<R: Abort + Threads + Wait + Sync>(
     let answer = run_at_once(
         rt,
         alloc,
-        jobs,
+        counters(rt, alloc, jobs),
         workers.clamp(1, 64),
         slice.max(1),
         &OpenGate,
@@ -182,7 +188,8 @@ fn each_wait_is_answered<R: Abort + Threads + Wait + Sync>(
     other: u32,
 ) -> bool {
     let gate = Held::new(one, other);
-    let _answer = run_at_once(rt, alloc, &[(1, 3), (2, 3), (3, 3)], 2, 1, &gate);
+    let jobs = counters(rt, alloc, &[(1, 3), (2, 3), (3, 3)]);
+    let _answer = run_at_once(rt, alloc, jobs, 2, 1, &gate);
     gate.each_is_answered(3)
 }
 
@@ -208,8 +215,7 @@ fn told<'a>(
     let mut call = 0u32;
     for left in places {
         call = call.wrapping_add(1);
-        let job = Box::new(alloc, Told::new(call, *left, watched)).expect(rt, "memory");
-        jobs.push(job).expect(rt, "memory");
+        push(rt, alloc, &mut jobs, Told::new(call, *left, watched));
     }
     jobs
 }
@@ -223,9 +229,8 @@ fn run_watched<R: Abort + Threads + Wait + Sync>(
     slice: u32,
     watched: &Watched,
 ) {
-    let room = PoolRoom::reserve(alloc, workers.clamp(1, 64), 3).expect(rt, "memory");
     let jobs = told(rt, alloc, places, watched);
-    let _answer = run_pool(rt, room, jobs, slice.max(1), watched);
+    let _answer = run_at_once(rt, alloc, jobs, workers.clamp(1, 64), slice.max(1), watched);
 }
 
 // Whether this number of workers runs each slice of three jobs between the slice's own two calls of the gate.

@@ -1,10 +1,10 @@
 //! Two calls of 30 periods, bridged at period 4, in rounds of at most 7 periods.
 
-use crate::cases::{Case, are_same, have};
+use crate::cases::{UNUSED, are_same, have};
 use crate::desk::{FailingDesk, WRITTEN};
 use crate::farm_top_tests::status_of;
 use crate::lines::Octets::Numbered;
-use crate::lines::{ALL, Laid, NONE, trunk_of};
+use crate::lines::{ALL, FAILING, Laid, NONE, trunk_of};
 use pool_run::OpenGate;
 use std::alloc::Global;
 use std::process::Abort;
@@ -102,16 +102,20 @@ pub(crate) fn is_written(trunk: &MemTrunk, other: &MemTrunk) -> bool {
     are_same(trunk, other, &OUTGOING)
 }
 
-// Whether the command of these words, over the lines of a case, ends with status 4 and the first write of the case's text if the
-// desk fails at the second.
+// Whether a command ended with status 4 and the first write of this report, and used no line of call 1.
+fn tells_in_part(run: &Outcome, report: &str) -> bool {
+    run.is_cut(1, report.as_bytes()) & have(&run.trunk, &UNUSED)
+}
+
+// Whether the command of these words tells its report in part if the desk fails at the second write, with lines on which each
+// operation fails.
 pub(crate) fn is_told_in_part<R: Abort + Threads + Wait + Sync>(
     rt: &R,
     alloc: Global,
     words: &[&str],
-    case: &Case,
+    report: &str,
 ) -> bool {
-    let trunk = trunk_of(rt, alloc, case.lines, ALL);
+    let trunk = trunk_of(rt, alloc, &FAILING, ALL);
     let desk = FailingDesk::new(rt, alloc, "", 0, 1);
-    let run = carry_out(rt, alloc, words, trunk, desk);
-    run.is_cut(1, case.text.as_bytes()) & have(&run.trunk, case.got)
+    tells_in_part(&carry_out(rt, alloc, words, trunk, desk), report)
 }
