@@ -59,8 +59,8 @@ pub(crate) fn read_save(alloc: Global, options: &[String]) -> Result<Settings, W
         GivePeriods (map (λ w. string_bytes w) options.now) → ⊥ }
 {
     let read = read_options(alloc, options)?;
-    let is_marked = read.has_periods;
-    if is_marked {
+    let has_periods = read.has_periods;
+    if has_periods {
         Ok(read.settings)
     } else {
         Err(WordsFault::Usage)

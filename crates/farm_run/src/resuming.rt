@@ -44,12 +44,12 @@ fn difference(alloc: Global, mark: &Mark, marked: &Stage) -> Result<Option<u32>,
     Ok(mark.differs(&calls))
 }
 
-// Compares the mark with a run that has come to its period and held back all octets. If the mark is the run's own, the run writes
-// all that follows. If not, the error is the call number.
-fn release(alloc: Global, mark: &Mark, mut marked: Stage) -> Result<Result<Stage, u32>, AllocError>
+// Compares the mark with a run that has come to its period and held back all octets. If the mark is the run's own, gives the run
+// back, which then writes all that follows. If not, the inner error is the least call number that differs.
+fn write_on(alloc: Global, mark: &Mark, mut marked: Stage) -> Result<Result<Stage, u32>, AllocError>
     requires rising { NumbersRise mark.now.calls }
     requires stage { IsStage marked }
-    ensures same { IfOk result (λ compared. IfOk compared (λ released. Compares mark.now marked None × (released ≡ record marked { outgoing = Written }))) }
+    ensures same { IfOk result (λ compared. IfOk compared (λ writing. Compares mark.now marked None × (writing ≡ record marked { outgoing = Written }))) }
     ensures differs { IfOk result (λ compared. IfErr compared (λ call. Compares mark.now marked (Some call))) }
 {
     let found = difference(alloc, mark, &marked)?;
@@ -60,7 +60,8 @@ fn release(alloc: Global, mark: &Mark, mut marked: Stage) -> Result<Result<Stage
     Ok(Ok(marked))
 }
 
-// Goes on from the mark's period with a run of `count` orders that has held back all octets before it, if the mark is its own.
+// Compares the mark with a run of `count` orders that has come to its period and held back all octets. If the mark is the run's
+// own, goes on and writes all that follows. If not, the result has the least call number that differs.
 fn go_on<R: Threads + Wait + Sync, T: Trunk, G: Gate + Sync>(
     rt: &R,
     alloc: Global,
@@ -80,11 +81,11 @@ fn go_on<R: Threads + Wait + Sync, T: Trunk, G: Gate + Sync>(
     ensures cut { OnErr result (StopsOn pace.now mark.now marked (T.lines trunk.old) (T.lines trunk.new)) }
     ensures sides { KeepsSides (T.lines trunk.old) (T.lines trunk.new) }
 {
-    let compared = release(alloc, mark, marked)?;
+    let compared = write_on(alloc, mark, marked)?;
     match compared {
-        Ok(released) => {
+        Ok(writing) => {
             let periods = mark.period.max(pace.periods);
-            let report = run_to_end(rt, alloc, pace, released, count, periods, trunk, gate)?;
+            let report = run_to_end(rt, alloc, pace, writing, count, periods, trunk, gate)?;
             Ok(Resumed::Ran(report))
         }
         Err(call) => Ok(Resumed::Differs(call)),

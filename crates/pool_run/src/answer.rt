@@ -41,7 +41,7 @@ pub(crate) fn finish_all<W: Work, G: Gate>(
     }
 }
 
-// Appends items to a list that has room for them.
+// Appends items to a list that has room for them, which takes no memory.
 fn append_reserved<T: Drop>(list: &mut Vec<T>, more: Vec<T>)
     requires { vec_len list.old + vec_len more ≤ vec_capacity list.old }
     ensures items { list.new.items ≡ list.old.items ++ more.items }

@@ -61,7 +61,7 @@ impl<W: Work> PoolRoom<W> {
     }
 }
 
-// The handles to steal from new workers, and the workers.
+// New workers, each with room for `most` jobs and a pass of each deque, and the handles to steal from them.
 fn new_pool<W: Work>(
     alloc: Global,
     workers: usize,

@@ -71,7 +71,7 @@ impl<R: Read + Drop, W: Write + Drop> Desk for StdDesk<R, W> {
     }
 }
 
-// Counts a fault, and keeps the system's error. The count stops at its highest value.
+// Counts a fault, keeps the system's error, and returns the desk's. The count stops at its highest value.
 fn note(faults: &mut u64, last: &mut Option<io::Error>, fault: io::Error) -> Failed
     ensures later { faults.old ≤ faults.new }
     ensures rose { Rose faults.old faults.new }

@@ -34,14 +34,14 @@ returns-in-Err-clause-resumes g c = λ os first m number.
     m.none m.reaches c.requires.clock found.live found.rising (map (entry_of c.args.marked) c.args.marked.farm.live) refl
     c.in-Err.call (found.some c.in-Err.call refl)
 
--- the run is released as it was, but writes
-abbrev IsReleased : MarkView → Stage → Stage → Type 0
-IsReleased mark marked s = Compares mark marked None × (s ≡ record marked { outgoing = Written })
+-- the mark is the run's own, and the run is as it was, but writes
+abbrev IsWriting : MarkView → Stage → Stage → Type 0
+IsWriting mark marked s = Compares mark marked None × (s ≡ record marked { outgoing = Written })
 
 pub run_to_end-requires-clause-stage : goal.run_to_end-requires-clause-stage
 run_to_end-requires-clause-stage g c κs lives =
     let s = c.requires.stage in
-    let is : IsReleased c.args.mark.now c.args.marked c.in-Ok.released = IfOk-at_ok (IsReleased c.args.mark.now c.args.marked) c.in-Ok.is c.in_ok-compared.ensures.same in
+    let is : IsWriting c.args.mark.now c.args.marked c.in-Ok.writing = IfOk-at_ok (IsWriting c.args.mark.now c.args.marked) c.in-Ok.is c.in_ok-compared.ensures.same in
     let written : IsStage (record c.args.marked { outgoing = Written }) =
     record { clock = s.clock; shut = s.shut; bridges = s.bridges; ended = s.ended; knows = s.knows; few = s.few } in
     subst IsStage (sym is.1) written
@@ -49,14 +49,14 @@ run_to_end-requires-clause-stage g c κs lives =
 pub run_to_end-requires-clause-before : goal.run_to_end-requires-clause-before
 run_to_end-requires-clause-before g c κs lives =
     let period : c.mark.inside.period ≡ c.args.mark.now.period = omega (arith, ap (λ (v : MarkView). v.period) c.mark.view_is) in
-    let is : IsReleased c.args.mark.now c.args.marked c.in-Ok.released = IfOk-at_ok (IsReleased c.args.mark.now c.args.marked) c.in-Ok.is c.in_ok-compared.ensures.same in
+    let is : IsWriting c.args.mark.now c.args.marked c.in-Ok.writing = IfOk-at_ok (IsWriting c.args.mark.now c.args.marked) c.in-Ok.is c.in_ok-compared.ensures.same in
     omega (arith, c.requires.clock, ap (λ (s : Stage). s.clock) is.1, c.max-periods.ensures, period)
 
 pub returns-in_err-report-in-Ok-clause-cut : goal.returns-in_err-report-in-Ok-clause-cut
 returns-in_err-report-in-Ok-clause-cut g c =
     let period : c.mark.inside.period ≡ c.args.mark.now.period = omega (arith, ap (λ (v : MarkView). v.period) c.mark.view_is) in
     let until : c.max-periods.result ≡ max c.args.mark.now.period c.args.pace.now.periods = omega (arith, c.max-periods.ensures, period) in
-    let is : IsReleased c.args.mark.now c.args.marked c.in-Ok.released = IfOk-at_ok (IsReleased c.args.mark.now c.args.marked) c.in-Ok.is c.in_ok-compared.ensures.same in
+    let is : IsWriting c.args.mark.now c.args.marked c.in-Ok.writing = IfOk-at_ok (IsWriting c.args.mark.now c.args.marked) c.in-Ok.is c.in_ok-compared.ensures.same in
     let mid : ℕ → Side → LineState = g.T.Trunk.lines c.args.trunk.now in
     let now : ℕ → Side → LineState = g.T.Trunk.lines c.run_to_end.new.trunk in
     let after = c.in_err-report-in-Ok.ensures.cut in
@@ -71,7 +71,7 @@ pub returns-in_ok-report-in-Ok-clause-resumes : goal.returns-in_ok-report-in-Ok-
 returns-in_ok-report-in-Ok-clause-resumes g c = λ os first m number.
     let period : c.mark.inside.period ≡ c.args.mark.now.period = omega (arith, ap (λ (v : MarkView). v.period) c.mark.view_is) in
     let until : c.max-periods.result ≡ max c.args.mark.now.period c.args.pace.now.periods = omega (arith, c.max-periods.ensures, period) in
-    let is : IsReleased c.args.mark.now c.args.marked c.in-Ok.released = IfOk-at_ok (IsReleased c.args.mark.now c.args.marked) c.in-Ok.is c.in_ok-compared.ensures.same in
+    let is : IsWriting c.args.mark.now c.args.marked c.in-Ok.writing = IfOk-at_ok (IsWriting c.args.mark.now c.args.marked) c.in-Ok.is c.in_ok-compared.ensures.same in
     let mid : ℕ → Side → LineState = g.T.Trunk.lines c.args.trunk.now in
     let now : ℕ → Side → LineState = g.T.Trunk.lines c.run_to_end.new.trunk in
     let x = subst (λ (s : Stage). RunsToEnd c.args.pace.now.batch s c.args.count c.max-periods.result mid now c.in_ok-report-in-Ok.report) is.1

@@ -1,7 +1,7 @@
 use Rattle.std.proofs.Common.{refl, subst, ℕ, Option}
 use Rattle.std.proofs.lemmas.Result.{IfOk-from_err}
 use Rattle.farm_run.specs.Parts.{Compares}
-use Rattle.farm_run.proofs.resuming.release.Goals as goal
+use Rattle.farm_run.proofs.resuming.write_on.Goals as goal
 
 pub returns-in_err-found : goal.returns-in_err-found
 returns-in_err-found c =
