@@ -47,7 +47,9 @@ def rows(path):
 def main():
     vectors, frame = pathlib.Path(sys.argv[1]), bits_of(pathlib.Path(sys.argv[2]).read_bytes()[: FRAME_BITS // 8])
     offsets, lines = rows(vectors / "offsets.txt"), rows(vectors / "lines.txt")
-    places = [(offset,) for offset in range(len(offsets))] + list(LINES)
+    places = [(offset,) for offset in range(FRAME_BITS)] + list(LINES)
+    if [len(row) for row in offsets + lines] != [PERIODS] * len(places):
+        sys.exit(f"search.py: {vectors} hasn't {len(places)} lines of {PERIODS} answers")
     for number, (at, answers) in enumerate(zip(places, offsets + lines), 1):
         pathlib.Path(f"{number}.up").write_bytes(line(frame, at))
         pathlib.Path(f"{number}.txt").write_text(text(answers))

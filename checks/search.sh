@@ -6,12 +6,9 @@ set -eu
 . "$(dirname "$0")/program"
 cd "$work"
 python3 "$top/checks/search.py" "$top/checks/vectors" "$top/examples/7.up"
-number=1
-while [ -e "$number.up" ]; do
+for number in $(seq 323); do
     "$TRAU_PROGRAM" frames "$number" </dev/null >found.txt || fail "frames $number: status $?"
     cmp found.txt "$number.txt" || fail "frames $number"
-    number=$((number + 1))
 done
-[ "$failed" != 0 ] || echo "ok frames of $((number - 1)) lines"
-[ "$number" = 324 ] || fail "there are $((number - 1)) lines"
+[ "$failed" != 0 ] || echo "ok frames of $number lines"
 exit "$failed"

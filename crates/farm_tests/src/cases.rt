@@ -1,4 +1,4 @@
-//! Commands over lines in memory, and what comes of each: all tables of runs have one loop and one comparison.
+//! Commands over lines in memory, and what comes of each: tables of runs that need no second run have one loop and one comparison.
 
 use crate::farm_top_tests::carry;
 use crate::lines::{ALL, Laid, line, trunk_of};
@@ -19,7 +19,7 @@ pub(crate) enum Got {
     Begins(&'static [u8]),
     // Octets with this FNV-1a sum, 32 bits.
     Sum(u32),
-    // Nothing, and no operation was done on the line.
+    // Nothing, on a line on which each operation fails, and none was done.
     Unused,
 }
 
