@@ -34,4 +34,7 @@ class Pace:
 
     def __str__(self):
         least, middle, most = min(self.taken), statistics.median(self.taken), max(self.taken)
-        return f"a loop of {LOOPS:,} steps of Python took {least:.1f} ms of processor time at the least, {middle:.1f} in the middle, {most:.1f} at the most"
+        return (
+            f"a loop of {LOOPS:,} steps of Python took {least:.1f} ms of processor time at the least, {middle:.1f} in the middle, "
+            f"{most:.1f} at the most"
+        )
