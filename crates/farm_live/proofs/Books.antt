@@ -1,5 +1,5 @@
 -- The history of a book.
-use Rattle.std.proofs.Common.{◌≡◌, ℕ, suc, ◌<◌, Bool, true, false, Some, List, [], ◌∷◌, ◌++◌, length, drop, find, slice_get, refl, sym, ap, subst, ◌∙◌, append_assoc}
+use Rattle.std.proofs.Common.{◌≡◌, ℕ, suc, ◌<◌, Bool, true, false, Some, List, [], ◌∷◌, ◌++◌, length, drop, find, refl, sym, ap, subst, ◌∙◌}
 use mathlib.Core.Bool.{cond}
 use lib.ListN.{get_or}
 use Rattle.std.proofs.Math.Seq.{drop-cons}
@@ -11,7 +11,6 @@ use Rattle.call_leg.specs.Memory.{LegMemory}
 use Rattle.call_leg.specs.Stands.{Stands}
 use Rattle.call_leg.specs.Out.{out_of}
 use Rattle.call_leg.specs.Down.{down_now}
-use Rattle.farm_live.specs.declared.post.Post.{Post}
 use Rattle.farm_live.specs.declared.post.Entry.{Entry}
 use Rattle.farm_live.specs.Book.{who_at, HasPeriod, period_of, periods_after, IsWorkedFrom, IsLegal}
 use Rattle.farm_live.specs.Step.{WorksOn}
@@ -38,19 +37,6 @@ leg_one_more call es e old new legal sized stands works =
       subst (λ (ts : List CallPeriod). Stands (who_at call) ts new_settings new)
           (sym (after_one_more [] es e)) w.0,
     )
-
--- ---- the posts that wait
-
--- the first of them goes behind those that were moved
-pub moved : (ls xs : List Post) (x : Post) → slice_get xs 0 ≡ Some x → (ls ++ x ∷ []) ++ drop 1 xs ≡ ls ++ xs
-moved ls [] x is = cc
-moved ls (y ∷ ys) x is =
-    let same : x ≡ y = cc in
-    append_assoc ls (x ∷ []) ys ∙ ap (λ z. ls ++ z ∷ ys) same
-
-pub one-less : (xs : List Post) (x : Post) → slice_get xs 0 ≡ Some x → length xs ≡ suc (length (drop 1 xs))
-one-less [] x is = cc
-one-less (y ∷ ys) x is = refl
 
 -- ---- the search for an entry
 
