@@ -18,14 +18,14 @@ pub carries : (octets larc : List ℕ) (a b c d : Block) (f : Fields) → f.larc
     octets_from octets 5 7 ≡ number_of (values_of a) → octets_from octets 12 7 ≡ number_of (values_of b) →
     octets_from octets 19 7 ≡ number_of (values_of c) → octets_from octets 26 7 ≡ number_of (values_of d) → Carries octets f
 carries octets larc a b c d f same nc bc mc xmaxc xmc head first second third fourth =
-    let row : (j : ℕ) → values_in f j ≡ slice_index (a.nc ∷ b.nc ∷ c.nc ∷ d.nc ∷ []) j ∷ slice_index (a.bc ∷ b.bc ∷ c.bc ∷ d.bc ∷ []) j
+    let block_values : (j : ℕ) → values_in f j ≡ slice_index (a.nc ∷ b.nc ∷ c.nc ∷ d.nc ∷ []) j ∷ slice_index (a.bc ∷ b.bc ∷ c.bc ∷ d.bc ∷ []) j
     ∷ slice_index (a.mc ∷ b.mc ∷ c.mc ∷ d.mc ∷ []) j ∷ slice_index (a.xmaxc ∷ b.xmaxc ∷ c.xmaxc ∷ d.xmaxc ∷ []) j
     ∷ slice_index_or (a.xmc ∷ b.xmc ∷ c.xmc ∷ d.xmc ∷ []) j [] =
     λ j i. slice_index (nc i) j ∷ slice_index (bc i) j ∷ slice_index (mc i) j ∷ slice_index (xmaxc i) j ∷ slice_index_or (xmc i) j [] in
     record {
       head = head ∙ ap (λ l. packed magic larc_widths (λ i. slice_index l i)) (sym same);
-      first = first ∙ ap number_of (sym (row 0));
-      second = second ∙ ap number_of (sym (row 1));
-      third = third ∙ ap number_of (sym (row 2));
-      fourth = fourth ∙ ap number_of (sym (row 3));
+      first = first ∙ ap number_of (sym (block_values 0));
+      second = second ∙ ap number_of (sym (block_values 1));
+      third = third ∙ ap number_of (sym (block_values 2));
+      fourth = fourth ∙ ap number_of (sym (block_values 3));
     }
