@@ -8,10 +8,11 @@ import datetime
 import os
 import pathlib
 import platform
-import re
 import shutil
 import subprocess
 import tempfile
+
+from heading import processor
 
 TOP = os.path.dirname(os.path.dirname(os.path.abspath(__file__)))
 HIDDEN = 'mount --bind "$1" "$2" && shift 2 && exec "$@"'
@@ -46,11 +47,9 @@ def hiding(root, words):
 
 def heading(words, held):
     """The day, the machine with the number of processors that are used, the toolchain and the commit."""
-    with open("/proc/cpuinfo") as lines:
-        names = re.findall(r"^model name\s*:\s*(.*)$", lines.read(), re.M)
     kit = subprocess.run(["rt", "version"], capture_output=True, text=True).stdout.strip()
     commit = subprocess.run(["git", "-C", TOP, "log", "-1", "--format=%h"], capture_output=True, text=True).stdout.strip()
     return (
-        f"On {datetime.date.today().isoformat()}, {held} of {len(names)} processors ({names[0]}), Linux {platform.release()}, "
+        f"On {datetime.date.today().isoformat()}, {held} of {processor()}, Linux {platform.release()}, "
         f"load {os.getloadavg()[0]:.1f} at the start, {kit}, commit {commit}. By `{words}`.\n"
     )

@@ -7,7 +7,12 @@ uplink. A line is twelve periods of ones with this frame at some places.
 import pathlib
 import sys
 
-PERIODS, FRAME_BITS = 12, 320
+sys.dont_write_bytecode = True
+sys.path.insert(0, str(pathlib.Path(__file__).resolve().parents[1] / "tools"))
+
+from trau_frames import FRAME_BITS, bits_of, octets_of  # noqa: E402
+
+PERIODS = 12
 # The places of the frames of the lines in lines.txt.
 LINES = (
     # Five extra bits after the second frame: three misses, and then the search finds the frames again.
@@ -17,14 +22,6 @@ LINES = (
     # A pattern before the first frame: the search locks on it, and loses it after three misses.
     (3, 400, 720, 1040, 1360, 1680, 2000, 2320, 2640, 2960, 3280),
 )
-
-
-def bits_of(octets):
-    return "".join(f"{octet:08b}" for octet in octets)
-
-
-def octets_of(bits):
-    return bytes(int(bits[at : at + 8], 2) for at in range(0, len(bits), 8))
 
 
 def line(frame, places):
