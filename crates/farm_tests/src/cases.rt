@@ -1,6 +1,6 @@
 //! Commands over lines in memory, and what comes of each: tables of runs that need no second run have one loop and one comparison.
 
-use crate::farm_top_tests::carry;
+use crate::commands::{AtDesk, carry};
 use crate::lines::{ALL, Laid, line, trunk_of};
 use pool_run::{Gate, OpenGate};
 use std::alloc::Global;
@@ -36,8 +36,7 @@ pub(crate) struct Case {
     pub(crate) words: &'static [&'static str],
     pub(crate) orders: &'static str,
     pub(crate) lines: &'static [Laid],
-    // Which read and which write of the desk fail, and for how many octets it has room.
-    pub(crate) desk: [u32; 3],
+    pub(crate) desk: AtDesk,
     pub(crate) status: u8,
     pub(crate) text: &'static str,
     pub(crate) got: &'static [(u32, Side, Got)],

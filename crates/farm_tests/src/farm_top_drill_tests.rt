@@ -2,9 +2,11 @@
 
 use crate::cases::Got::Sum;
 use crate::cases::{Case, UNUSED, come};
+use crate::commands::AtDesk::Calm;
+use crate::commands::status_of;
 use crate::desk::FailingDesk;
 use crate::endless::Endless;
-use crate::farm_top_tests::status_of;
+use crate::lines::Laid::{Call, Line};
 use crate::lines::Octets::{Hostile, Usual};
 use crate::lines::{ALL, FAILING, NONE};
 use crate::rows::{assert_parts, assert_row};
@@ -44,7 +46,7 @@ static DRILLS: [Case; 6] = [
         words: &["drill", "--calls", "1", "--periods", "1"],
         orders: "no orders",
         lines: &FAILING,
-        desk: [NONE, NONE, 10_000],
+        desk: Calm,
         status: 0,
         text: ONE_PERIOD,
         got: &UNUSED,
@@ -53,7 +55,7 @@ static DRILLS: [Case; 6] = [
         words: &["drill", "--calls", "2", "--periods", "4"],
         orders: "no orders",
         lines: &FAILING,
-        desk: [NONE, NONE, 10_000],
+        desk: Calm,
         status: 0,
         text: FOUR_PERIODS,
         got: &UNUSED,
@@ -68,7 +70,7 @@ static DRILLS: [Case; 6] = [
         ],
         orders: "no orders",
         lines: &FAILING,
-        desk: [NONE, NONE, 10_000],
+        desk: Calm,
         status: 0,
         text: FOUR_PERIODS,
         got: &UNUSED,
@@ -83,7 +85,7 @@ static DRILLS: [Case; 6] = [
         ],
         orders: "no orders",
         lines: &FAILING,
-        desk: [NONE, NONE, 10_000],
+        desk: Calm,
         status: 0,
         text: FOUR_PERIODS,
         got: &UNUSED,
@@ -98,7 +100,7 @@ static DRILLS: [Case; 6] = [
         ],
         orders: "no orders",
         lines: &FAILING,
-        desk: [NONE, NONE, 10_000],
+        desk: Calm,
         status: 0,
         text: FOUR_PERIODS,
         got: &UNUSED,
@@ -113,7 +115,7 @@ static DRILLS: [Case; 6] = [
         ],
         orders: "no orders",
         lines: &FAILING,
-        desk: [NONE, NONE, 10_000],
+        desk: Calm,
         status: 0,
         text: FOUR_PERIODS,
         got: &UNUSED,
@@ -157,13 +159,8 @@ static HOSTILE: [Case; 7] = [
     Case {
         words: &["run"],
         orders: "0 open 1\n",
-        lines: &[
-            (1, Up, Hostile(0, 10), ALL, NONE),
-            (1, Pcm, Usual(160 * 10), ALL, NONE),
-            (1, Down, Usual(0), ALL, NONE),
-            (1, Out, Usual(0), ALL, NONE),
-        ],
-        desk: [NONE, NONE, 10_000],
+        lines: &[Call(1, Hostile(0, 10), Usual(160 * 10))],
+        desk: Calm,
         status: 0,
         text: "order 1 ok
 call 1 from 0 to 10 end up 0
@@ -175,13 +172,8 @@ end period 10 calls 1 left 0
     Case {
         words: &["run"],
         orders: "0 open 1\n",
-        lines: &[
-            (1, Up, Hostile(1, 10), ALL, NONE),
-            (1, Pcm, Usual(160 * 10), ALL, NONE),
-            (1, Down, Usual(0), ALL, NONE),
-            (1, Out, Usual(0), ALL, NONE),
-        ],
-        desk: [NONE, NONE, 10_000],
+        lines: &[Call(1, Hostile(1, 10), Usual(160 * 10))],
+        desk: Calm,
         status: 0,
         text: "order 1 ok
 call 1 from 0 to 10 end up 0
@@ -193,13 +185,8 @@ end period 10 calls 1 left 0
     Case {
         words: &["run"],
         orders: "0 open 1\n",
-        lines: &[
-            (1, Up, Hostile(2, 10), ALL, NONE),
-            (1, Pcm, Usual(160 * 10), ALL, NONE),
-            (1, Down, Usual(0), ALL, NONE),
-            (1, Out, Usual(0), ALL, NONE),
-        ],
-        desk: [NONE, NONE, 10_000],
+        lines: &[Call(1, Hostile(2, 10), Usual(160 * 10))],
+        desk: Calm,
         status: 0,
         text: "order 1 ok
 call 1 from 0 to 10 end up 0
@@ -211,13 +198,8 @@ end period 10 calls 1 left 0
     Case {
         words: &["run"],
         orders: "0 open 1\n",
-        lines: &[
-            (1, Up, Hostile(3, 100), ALL, NONE),
-            (1, Pcm, Usual(160 * 100), ALL, NONE),
-            (1, Down, Usual(0), ALL, NONE),
-            (1, Out, Usual(0), ALL, NONE),
-        ],
-        desk: [NONE, NONE, 10_000],
+        lines: &[Call(1, Hostile(3, 100), Usual(160 * 100))],
+        desk: Calm,
         status: 0,
         text: "order 1 ok
 call 1 from 0 to 100 end up 0
@@ -229,13 +211,8 @@ end period 100 calls 1 left 0
     Case {
         words: &["run"],
         orders: "0 open 1\n",
-        lines: &[
-            (1, Up, Hostile(4, 10), ALL, NONE),
-            (1, Pcm, Usual(160 * 10), ALL, NONE),
-            (1, Down, Usual(0), ALL, NONE),
-            (1, Out, Usual(0), ALL, NONE),
-        ],
-        desk: [NONE, NONE, 10_000],
+        lines: &[Call(1, Hostile(4, 10), Usual(160 * 10))],
+        desk: Calm,
         status: 0,
         text: "order 1 ok
 call 1 from 0 to 10 end up 0
@@ -247,13 +224,8 @@ end period 10 calls 1 left 0
     Case {
         words: &["run"],
         orders: "0 open 1\n",
-        lines: &[
-            (1, Up, Hostile(5, 10), ALL, NONE),
-            (1, Pcm, Usual(160 * 10), ALL, NONE),
-            (1, Down, Usual(0), ALL, NONE),
-            (1, Out, Usual(0), ALL, NONE),
-        ],
-        desk: [NONE, NONE, 10_000],
+        lines: &[Call(1, Hostile(5, 10), Usual(160 * 10))],
+        desk: Calm,
         status: 0,
         text: "order 1 ok
 call 1 from 0 to 10 end up 0
@@ -265,8 +237,8 @@ end period 10 calls 1 left 0
     Case {
         words: &["frames", "1"],
         orders: "",
-        lines: &[(1, Up, Hostile(4, 10), ALL, NONE)],
-        desk: [NONE, NONE, 10_000],
+        lines: &[Line(1, Up, Hostile(4, 10), ALL, NONE)],
+        desk: Calm,
         status: 0,
         text: "0 good
 320 miss

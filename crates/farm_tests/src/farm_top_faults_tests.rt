@@ -3,7 +3,7 @@
 //! over the octets that were given, in which no operation fails.
 
 use crate::lines::Octets::Numbered;
-use crate::lines::{ALL, NONE, lay, line};
+use crate::lines::{ALL, Laid, NONE, lay, line};
 use crate::rows::assert_parts;
 use crate::two_calls::{
     CUT_40, CUT_160, OF_40, OF_160, OUTGOING, Outcome, calm, carry_calm, is_written,
@@ -121,7 +121,7 @@ fn lines_with(
         Up | Down => CUT_40,
         Pcm | Out => CUT_160,
     };
-    let laid = (row.call, row.side, Numbered(octets), cut, number);
+    let laid = Laid::Line(row.call, row.side, Numbered(octets), cut, number);
     lay(rt, alloc, &mut trunk, &laid, ALL);
     trunk
 }

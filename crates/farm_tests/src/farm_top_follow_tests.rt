@@ -2,6 +2,8 @@
 
 use crate::cases::Got::Front;
 use crate::cases::{Case, come};
+use crate::commands::AtDesk::{Calm, WriteFails};
+use crate::lines::Laid::Line;
 use crate::lines::Octets::These;
 use crate::lines::{ALL, NONE};
 use crate::rows::assert_parts;
@@ -53,10 +55,10 @@ static ROWS: [Case; 8] = [
         words: &["follow", "7", "0"],
         orders: "",
         lines: &[
-            (7, Up, These(&DOWNLINK), 1000, NONE),
-            (7, Down, These(&[]), 1000, NONE),
+            Line(7, Up, These(&DOWNLINK), ALL, NONE),
+            Line(7, Down, These(&[]), ALL, NONE),
         ],
-        desk: [NONE, NONE, 10_000],
+        desk: Calm,
         status: 0,
         text: WHOLE,
         got: &[(7, Down, Front(&ANSWERS, 200))],
@@ -65,10 +67,10 @@ static ROWS: [Case; 8] = [
         words: &["follow", "7", "0"],
         orders: "",
         lines: &[
-            (7, Up, These(&DOWNLINK), 7, NONE),
-            (7, Down, These(&[]), 7, NONE),
+            Line(7, Up, These(&DOWNLINK), 7, NONE),
+            Line(7, Down, These(&[]), 7, NONE),
         ],
-        desk: [NONE, NONE, 10_000],
+        desk: Calm,
         status: 0,
         text: WHOLE,
         got: &[(7, Down, Front(&ANSWERS, 200))],
@@ -77,10 +79,10 @@ static ROWS: [Case; 8] = [
         words: &["follow", "7", "0"],
         orders: "",
         lines: &[
-            (7, Up, These(&DOWNLINK), 1000, 2),
-            (7, Down, These(&[]), 1000, NONE),
+            Line(7, Up, These(&DOWNLINK), ALL, 2),
+            Line(7, Down, These(&[]), ALL, NONE),
         ],
-        desk: [NONE, NONE, 10_000],
+        desk: Calm,
         status: 6,
         text: "320 speech\nline 7 up failed\n",
         got: &[(7, Down, Front(&ANSWERS, 80))],
@@ -90,10 +92,10 @@ static ROWS: [Case; 8] = [
         words: &["follow", "7", "0"],
         orders: "",
         lines: &[
-            (7, Up, These(&DOWNLINK), 1000, NONE),
-            (7, Down, These(&[]), 1000, 1),
+            Line(7, Up, These(&DOWNLINK), ALL, NONE),
+            Line(7, Down, These(&[]), ALL, 1),
         ],
-        desk: [NONE, NONE, 10_000],
+        desk: Calm,
         status: 6,
         text: "line 7 down failed\n",
         got: &[(7, Down, Front(&ANSWERS, 40))],
@@ -102,10 +104,10 @@ static ROWS: [Case; 8] = [
         words: &["follow", "7", "0"],
         orders: "",
         lines: &[
-            (7, Up, These(&DOWNLINK), 1000, NONE),
-            (7, Down, These(&[]), 1000, 3),
+            Line(7, Up, These(&DOWNLINK), ALL, NONE),
+            Line(7, Down, These(&[]), ALL, 3),
         ],
-        desk: [NONE, NONE, 10_000],
+        desk: Calm,
         status: 6,
         text: "320 speech\nline 7 down failed\n",
         got: &[(7, Down, Front(&ANSWERS, 120))],
@@ -114,10 +116,10 @@ static ROWS: [Case; 8] = [
         words: &["follow", "7", "0"],
         orders: "",
         lines: &[
-            (7, Up, These(&DOWNLINK), 1000, NONE),
-            (7, Down, These(&[]), 1000, NONE),
+            Line(7, Up, These(&DOWNLINK), ALL, NONE),
+            Line(7, Down, These(&[]), ALL, NONE),
         ],
-        desk: [NONE, 0, 10_000],
+        desk: WriteFails(0),
         status: 4,
         text: "",
         got: &[(7, Down, Front(&ANSWERS, 80))],
@@ -126,10 +128,10 @@ static ROWS: [Case; 8] = [
         words: &["follow", "7", "0"],
         orders: "",
         lines: &[
-            (7, Up, These(&DOWNLINK), 1000, NONE),
-            (7, Down, These(&[]), 1000, NONE),
+            Line(7, Up, These(&DOWNLINK), ALL, NONE),
+            Line(7, Down, These(&[]), ALL, NONE),
         ],
-        desk: [NONE, 1, 10_000],
+        desk: WriteFails(1),
         status: 4,
         text: "320 speech\n",
         got: &[(7, Down, Front(&ANSWERS, 160))],
@@ -138,10 +140,10 @@ static ROWS: [Case; 8] = [
         words: &["follow", "7", "0"],
         orders: "",
         lines: &[
-            (7, Up, These(&DOWNLINK), 1000, NONE),
-            (7, Down, These(&[]), 1000, NONE),
+            Line(7, Up, These(&DOWNLINK), ALL, NONE),
+            Line(7, Down, These(&[]), ALL, NONE),
         ],
-        desk: [NONE, 3, 10_000],
+        desk: WriteFails(3),
         status: 4,
         text: "320 speech\n952 speech\n1268 speech\n",
         got: &[(7, Down, Front(&ANSWERS, 200))],

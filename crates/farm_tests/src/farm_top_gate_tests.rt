@@ -1,7 +1,8 @@
 //! The workers of a run are several threads, and steal calls half done. No clause says so.
 
-use crate::farm_top_tests::status_over;
+use crate::commands::status_over;
 use crate::held::Held;
+use crate::lines::Laid::Call;
 use crate::lines::Octets::Usual;
 use crate::lines::{Laid, NONE};
 use crate::paired::Paired;
@@ -13,19 +14,10 @@ use std::thread::Threads;
 use trau_io::Side::{Down, Out, Pcm, Up};
 
 // The lines of the calls 1, 2 and 3, with three periods each.
-static LINES: [Laid; 12] = [
-    (1, Up, Usual(120), 1000, NONE),
-    (1, Pcm, Usual(480), 1000, NONE),
-    (1, Down, Usual(0), 1000, NONE),
-    (1, Out, Usual(0), 1000, NONE),
-    (2, Up, Usual(120), 1000, NONE),
-    (2, Pcm, Usual(480), 1000, NONE),
-    (2, Down, Usual(0), 1000, NONE),
-    (2, Out, Usual(0), 1000, NONE),
-    (3, Up, Usual(120), 1000, NONE),
-    (3, Pcm, Usual(480), 1000, NONE),
-    (3, Down, Usual(0), 1000, NONE),
-    (3, Out, Usual(0), 1000, NONE),
+static LINES: [Laid; 3] = [
+    Call(1, Usual(120), Usual(480)),
+    Call(2, Usual(120), Usual(480)),
+    Call(3, Usual(120), Usual(480)),
 ];
 
 static WORDS: [&str; 5] = ["run", "--workers", "2", "--slice", "1"];
@@ -59,15 +51,9 @@ fn calls_are_stolen_half_done(rt: HostRuntime) {
 }
 
 // The lines of call 1, with three periods, and of call 2, with five.
-static UNEVEN_LINES: [Laid; 8] = [
-    (1, Up, Usual(120), 1000, NONE),
-    (1, Pcm, Usual(480), 1000, NONE),
-    (1, Down, Usual(0), 1000, NONE),
-    (1, Out, Usual(0), 1000, NONE),
-    (2, Up, Usual(200), 1000, NONE),
-    (2, Pcm, Usual(800), 1000, NONE),
-    (2, Down, Usual(0), 1000, NONE),
-    (2, Out, Usual(0), 1000, NONE),
+static UNEVEN_LINES: [Laid; 2] = [
+    Call(1, Usual(120), Usual(480)),
+    Call(2, Usual(200), Usual(800)),
 ];
 
 // Runs both calls, by two workers in slices of one period. Returns the status.

@@ -3,7 +3,8 @@
 
 use crate::between::Between;
 use crate::cases::{Case, UNUSED, comes_of};
-use crate::farm_top_tests::{CALM, carry, status_over};
+use crate::commands::AtDesk::Calm;
+use crate::commands::{carry, status_over};
 use crate::lines::{ALL, FAILING, NONE, trunk_of};
 use crate::met::Met;
 use crate::paired::Paired;
@@ -26,7 +27,7 @@ static BY_TWO: Case = Case {
     words: &["live", "--calls=2", "--callers=2", "--periods=1"],
     orders: "no orders",
     lines: &FAILING,
-    desk: [NONE, NONE, 10_000],
+    desk: Calm,
     status: 0,
     text: ONE_PERIOD,
     got: &UNUSED,
@@ -36,7 +37,7 @@ static BY_ONE: Case = Case {
     words: &["live", "--calls=2", "--callers=1", "--periods=1"],
     orders: "no orders",
     lines: &FAILING,
-    desk: [NONE, NONE, 10_000],
+    desk: Calm,
     status: 0,
     text: ONE_PERIOD,
     got: &UNUSED,
@@ -66,8 +67,8 @@ fn both_callers_are_at_work_at_once(rt: HostRuntime) {
 fn live_between<R: Abort + Threads + Wait + Sync>(rt: &R, alloc: Global, gate: &Between) -> bool {
     let mut trunk = trunk_of(rt, alloc, &FAILING, ALL);
     let words = ["live", "--calls=2", "--callers=2", "--periods=2"];
-    let met = carry(rt, alloc, &words, &mut trunk, "", CALM, gate);
-    let free = carry(rt, alloc, &words, &mut trunk, "", CALM, &OpenGate);
+    let met = carry(rt, alloc, &words, &mut trunk, "", Calm, gate);
+    let free = carry(rt, alloc, &words, &mut trunk, "", Calm, &OpenGate);
     met.agrees_with(&free, 0)
 }
 

@@ -1,6 +1,7 @@
 //! The two phases of a round: different workers process the two calls of a bridge at once. No clause says so.
 
-use crate::farm_top_tests::status_over;
+use crate::commands::status_over;
+use crate::lines::Laid::Call;
 use crate::lines::Octets::Usual;
 use crate::lines::{Laid, NONE};
 use crate::met::Met;
@@ -12,15 +13,9 @@ use std::thread::Threads;
 use trau_io::Side::{Down, Out, Pcm, Up};
 
 // The lines of the calls 1 and 2, with three periods each.
-static LINES: [Laid; 8] = [
-    (1, Up, Usual(120), 1000, NONE),
-    (1, Pcm, Usual(480), 1000, NONE),
-    (1, Down, Usual(0), 1000, NONE),
-    (1, Out, Usual(0), 1000, NONE),
-    (2, Up, Usual(120), 1000, NONE),
-    (2, Pcm, Usual(480), 1000, NONE),
-    (2, Down, Usual(0), 1000, NONE),
-    (2, Out, Usual(0), 1000, NONE),
+static LINES: [Laid; 2] = [
+    Call(1, Usual(120), Usual(480)),
+    Call(2, Usual(120), Usual(480)),
 ];
 
 const ORDERS: &str = "0 open 1\n0 open 2\n0 bridge 1 2\n";

@@ -2,6 +2,8 @@
 
 use crate::cases::Got::{Begins, Count, Front};
 use crate::cases::{Case, come, comes_as};
+use crate::commands::AtDesk::{Calm, ReadFails, Room};
+use crate::lines::Laid::{Call, Line};
 use crate::lines::Octets::{These, Usual, Zeros};
 use crate::lines::{ALL, Laid, NONE};
 use crate::rows::{assert_parts, assert_row};
@@ -28,13 +30,8 @@ static ROWS: [Case; 5] = [
     Case {
         words: &["run"],
         orders: "0 open 1\n",
-        lines: &[
-            (1, Up, Zeros(119), ALL, NONE),
-            (1, Pcm, Usual(480), ALL, NONE),
-            (1, Down, Usual(0), ALL, NONE),
-            (1, Out, Usual(0), ALL, NONE),
-        ],
-        desk: [NONE, NONE, 1000],
+        lines: &[Call(1, Zeros(119), Usual(480))],
+        desk: Calm,
         status: 0,
         text: "order 1 ok
 call 1 from 0 to 2 end up 39
@@ -47,13 +44,8 @@ end period 2 calls 1 left 0
     Case {
         words: &["run"],
         orders: "0 open 1\n",
-        lines: &[
-            (1, Up, Zeros(120), ALL, NONE),
-            (1, Pcm, Usual(479), ALL, NONE),
-            (1, Down, Usual(0), ALL, NONE),
-            (1, Out, Usual(0), ALL, NONE),
-        ],
-        desk: [NONE, NONE, 1000],
+        lines: &[Call(1, Zeros(120), Usual(479))],
+        desk: Calm,
         status: 0,
         text: "order 1 ok
 call 1 from 0 to 2 end pcm 159
@@ -67,12 +59,10 @@ end period 2 calls 1 left 0
         words: &["run"],
         orders: "0 open 1\n",
         lines: &[
-            (1, Up, Zeros(120), ALL, NONE),
-            (1, Pcm, Usual(480), ALL, NONE),
-            (1, Down, Usual(0), ALL, NONE),
-            (1, Out, Usual(0), ALL, 0),
+            Call(1, Zeros(120), Usual(480)),
+            Line(1, Out, Usual(0), ALL, 0),
         ],
-        desk: [NONE, NONE, 1000],
+        desk: Calm,
         status: 6,
         text: "order 1 ok
 call 1 from 0 to 3 end up 0
@@ -86,13 +76,8 @@ end period 3 calls 1 left 0
     Case {
         words: &["run"],
         orders: "0 open 1\n",
-        lines: &[
-            (1, Up, Zeros(120), ALL, NONE),
-            (1, Pcm, Usual(480), ALL, NONE),
-            (1, Down, Usual(0), ALL, NONE),
-            (1, Out, Usual(0), ALL, NONE),
-        ],
-        desk: [0, NONE, 1000],
+        lines: &[Call(1, Zeros(120), Usual(480))],
+        desk: ReadFails(0),
         status: 3,
         text: "orders unread\n",
         got: &[(1, Down, Front(&DOWNS, 0)), (1, Out, Front(&SILENCE, 0))],
@@ -101,13 +86,8 @@ end period 3 calls 1 left 0
     Case {
         words: &["run"],
         orders: "0 open 1\n",
-        lines: &[
-            (1, Up, Zeros(120), ALL, NONE),
-            (1, Pcm, Usual(480), ALL, NONE),
-            (1, Down, Usual(0), ALL, NONE),
-            (1, Out, Usual(0), ALL, NONE),
-        ],
-        desk: [NONE, NONE, 5],
+        lines: &[Call(1, Zeros(120), Usual(480))],
+        desk: Room(5),
         status: 4,
         text: "order",
         got: &[
@@ -123,19 +103,11 @@ fn one_call_at_its_limits(rt: HostRuntime) {
 }
 
 // Three calls of 20 periods.
-static OF_THREE: [Laid; 12] = [
-    (7, Up, Usual(20 * 40), ALL, NONE),
-    (7, Pcm, Usual(20 * 160), 400, NONE),
-    (7, Down, Usual(0), ALL, NONE),
-    (7, Out, Usual(0), ALL, NONE),
-    (8, Up, Usual(20 * 40), ALL, NONE),
-    (8, Pcm, Usual(20 * 160), ALL, NONE),
-    (8, Down, Usual(0), ALL, NONE),
-    (8, Out, Usual(0), ALL, NONE),
-    (9, Up, Usual(20 * 40), ALL, NONE),
-    (9, Pcm, Usual(20 * 160), ALL, NONE),
-    (9, Down, Usual(0), ALL, NONE),
-    (9, Out, Usual(0), ALL, NONE),
+static OF_THREE: [Laid; 4] = [
+    Call(7, Usual(20 * 40), Usual(20 * 160)),
+    Line(7, Pcm, Usual(20 * 160), 400, NONE),
+    Call(8, Usual(20 * 40), Usual(20 * 160)),
+    Call(9, Usual(20 * 40), Usual(20 * 160)),
 ];
 
 // The same lines. The second read of Pcm of call 7, after 400 octets, fails, and the first write of Down of call 9.
@@ -143,20 +115,13 @@ static TWO_FAIL: Case = Case {
     words: &["run"],
     orders: "0 open 7\n0 open 8\n0 open 9\n",
     lines: &[
-        (7, Up, Usual(20 * 40), ALL, NONE),
-        (7, Pcm, Usual(20 * 160), 400, 1),
-        (7, Down, Usual(0), ALL, NONE),
-        (7, Out, Usual(0), ALL, NONE),
-        (8, Up, Usual(20 * 40), ALL, NONE),
-        (8, Pcm, Usual(20 * 160), ALL, NONE),
-        (8, Down, Usual(0), ALL, NONE),
-        (8, Out, Usual(0), ALL, NONE),
-        (9, Up, Usual(20 * 40), ALL, NONE),
-        (9, Pcm, Usual(20 * 160), ALL, NONE),
-        (9, Down, Usual(0), ALL, 0),
-        (9, Out, Usual(0), ALL, NONE),
+        Call(7, Usual(20 * 40), Usual(20 * 160)),
+        Line(7, Pcm, Usual(20 * 160), 400, 1),
+        Call(8, Usual(20 * 40), Usual(20 * 160)),
+        Call(9, Usual(20 * 40), Usual(20 * 160)),
+        Line(9, Down, Usual(0), ALL, 0),
     ],
-    desk: [NONE, NONE, 10_000],
+    desk: Calm,
     status: 6,
     text: "order 1 ok
 order 2 ok
@@ -208,13 +173,8 @@ const SHIFTED: [u8; 160] = [
 static OF_SHIFTED: Case = Case {
     words: &["run"],
     orders: "0 open 1\n",
-    lines: &[
-        (1, Up, These(&SHIFTED), ALL, NONE),
-        (1, Pcm, Usual(640), ALL, NONE),
-        (1, Down, Usual(0), ALL, NONE),
-        (1, Out, Usual(0), ALL, NONE),
-    ],
-    desk: [NONE, NONE, 10_000],
+    lines: &[Call(1, These(&SHIFTED), Usual(640))],
+    desk: Calm,
     status: 0,
     text: "order 1 ok
 call 1 from 0 to 4 end up 0

@@ -2,13 +2,12 @@
 
 use crate::cases::Got::Count;
 use crate::cases::{Case, come};
+use crate::commands::AtDesk::Calm;
+use crate::lines::Laid::{Call, Line};
 use crate::lines::Octets::Usual;
 use crate::lines::{ALL, Laid, NONE};
 use crate::rows::assert_parts;
 use trau_io::Side::{Down, Out, Pcm, Up};
-
-// A desk on which nothing fails.
-const CALM: [u32; 3] = [NONE, NONE, 10_000];
 
 const OPEN_7: &str = "0 open 7\n";
 
@@ -17,12 +16,7 @@ const OPEN_BOTH: &str = "0 open 7\n0 open 9\n";
 const BRIDGE: &str = "0 open 7\n0 open 9\n0 bridge 7 9\n";
 
 // 252 periods of call 7, and the report of them.
-const OF_252: [Laid; 4] = [
-    (7, Up, Usual(252 * 40), ALL, NONE),
-    (7, Pcm, Usual(252 * 160), ALL, NONE),
-    (7, Down, Usual(0), ALL, NONE),
-    (7, Out, Usual(0), ALL, NONE),
-];
+const OF_252: [Laid; 1] = [Call(7, Usual(252 * 40), Usual(252 * 160))];
 
 const TEXT_OF_252: &str = "order 1 ok
 call 7 from 0 to 252 end up 0
@@ -36,7 +30,7 @@ static ROWS: [Case; 8] = [
         words: &["run", "--batch", "250"],
         orders: OPEN_7,
         lines: &OF_252,
-        desk: CALM,
+        desk: Calm,
         status: 0,
         text: TEXT_OF_252,
         got: &[
@@ -50,7 +44,7 @@ static ROWS: [Case; 8] = [
         words: &["run", "--batch", "1"],
         orders: OPEN_7,
         lines: &OF_252,
-        desk: CALM,
+        desk: Calm,
         status: 0,
         text: TEXT_OF_252,
         got: &[
@@ -65,12 +59,12 @@ static ROWS: [Case; 8] = [
         words: &["run", "--batch", "3"],
         orders: OPEN_7,
         lines: &[
-            (7, Up, Usual(100), 1, NONE),
-            (7, Pcm, Usual(500), 159, NONE),
-            (7, Down, Usual(0), 33, NONE),
-            (7, Out, Usual(0), 39, NONE),
+            Line(7, Up, Usual(100), 1, NONE),
+            Line(7, Pcm, Usual(500), 159, NONE),
+            Line(7, Down, Usual(0), 33, NONE),
+            Line(7, Out, Usual(0), 39, NONE),
         ],
-        desk: CALM,
+        desk: Calm,
         status: 0,
         text: "order 1 ok
 call 7 from 0 to 2 end up 20
@@ -89,16 +83,10 @@ end period 2 calls 1 left 0
         words: &["run", "--periods", "40"],
         orders: BRIDGE,
         lines: &[
-            (7, Up, Usual(30 * 40 + 13), ALL, NONE),
-            (7, Pcm, Usual(100 * 160), ALL, NONE),
-            (7, Down, Usual(0), ALL, NONE),
-            (7, Out, Usual(0), ALL, NONE),
-            (9, Up, Usual(100 * 40), ALL, NONE),
-            (9, Pcm, Usual(100 * 160), ALL, NONE),
-            (9, Down, Usual(0), ALL, NONE),
-            (9, Out, Usual(0), ALL, NONE),
+            Call(7, Usual(30 * 40 + 13), Usual(100 * 160)),
+            Call(9, Usual(100 * 40), Usual(100 * 160)),
         ],
-        desk: CALM,
+        desk: Calm,
         status: 0,
         text: "order 1 ok
 order 2 ok
@@ -122,16 +110,10 @@ end period 40 calls 2 left 0
         words: &["run", "--batch", "10"],
         orders: BRIDGE,
         lines: &[
-            (7, Up, Usual(3 * 40), ALL, NONE),
-            (7, Pcm, Usual(3 * 160 + 1), ALL, NONE),
-            (7, Down, Usual(0), ALL, NONE),
-            (7, Out, Usual(0), ALL, NONE),
-            (9, Up, Usual(5 * 40), ALL, NONE),
-            (9, Pcm, Usual(2 * 160 + 8), ALL, NONE),
-            (9, Down, Usual(0), ALL, NONE),
-            (9, Out, Usual(0), ALL, NONE),
+            Call(7, Usual(3 * 40), Usual(3 * 160 + 1)),
+            Call(9, Usual(5 * 40), Usual(2 * 160 + 8)),
         ],
-        desk: CALM,
+        desk: Calm,
         status: 0,
         text: "order 1 ok
 order 2 ok
@@ -155,12 +137,10 @@ end period 3 calls 2 left 0
         words: &["run", "--batch", "10"],
         orders: OPEN_7,
         lines: &[
-            (7, Up, Usual(2 * 40), ALL, NONE),
-            (7, Pcm, Usual(4 * 160), 640, 1),
-            (7, Down, Usual(0), ALL, NONE),
-            (7, Out, Usual(0), ALL, NONE),
+            Call(7, Usual(2 * 40), Usual(4 * 160)),
+            Line(7, Pcm, Usual(4 * 160), 640, 1),
         ],
-        desk: CALM,
+        desk: Calm,
         status: 6,
         text: "order 1 ok
 call 7 from 0 to 2 end up 0
@@ -180,16 +160,11 @@ end period 2 calls 1 left 0
         words: &["run", "--batch", "10"],
         orders: OPEN_BOTH,
         lines: &[
-            (7, Up, Usual(20 * 40), ALL, NONE),
-            (7, Pcm, Usual(20 * 160), 400, 1),
-            (7, Down, Usual(0), ALL, NONE),
-            (7, Out, Usual(0), ALL, NONE),
-            (9, Up, Usual(20 * 40), ALL, NONE),
-            (9, Pcm, Usual(20 * 160), ALL, NONE),
-            (9, Down, Usual(0), ALL, NONE),
-            (9, Out, Usual(0), ALL, NONE),
+            Call(7, Usual(20 * 40), Usual(20 * 160)),
+            Line(7, Pcm, Usual(20 * 160), 400, 1),
+            Call(9, Usual(20 * 40), Usual(20 * 160)),
         ],
-        desk: CALM,
+        desk: Calm,
         status: 6,
         text: "order 1 ok
 order 2 ok
@@ -212,12 +187,10 @@ end period 20 calls 2 left 0
         words: &["run", "--batch", "10"],
         orders: OPEN_7,
         lines: &[
-            (7, Up, Usual(20 * 40), ALL, NONE),
-            (7, Pcm, Usual(20 * 160), ALL, NONE),
-            (7, Down, Usual(0), ALL, 0),
-            (7, Out, Usual(0), ALL, NONE),
+            Call(7, Usual(20 * 40), Usual(20 * 160)),
+            Line(7, Down, Usual(0), ALL, 0),
         ],
-        desk: CALM,
+        desk: Calm,
         status: 6,
         text: "order 1 ok
 call 7 from 0 to 20 end up 0

@@ -3,59 +3,35 @@
 
 use crate::cases::Got::Count;
 use crate::cases::{Case, come};
+use crate::commands::AtDesk::{Calm, WriteFails};
+use crate::lines::Laid::{Call, Line};
 use crate::lines::Octets::{Usual, Zeros};
 use crate::lines::{ALL, Laid, NONE};
 use crate::rows::assert_parts;
 use trau_io::Side::{Down, Out, Pcm, Up};
 
 // Three periods of call 1: an uplink without a frame, and an idle Pcm line.
-const OF_3: [Laid; 4] = [
-    (1, Up, Zeros(3 * 40), ALL, NONE),
-    (1, Pcm, Usual(3 * 160), ALL, NONE),
-    (1, Down, Usual(0), ALL, NONE),
-    (1, Out, Usual(0), ALL, NONE),
-];
+const OF_3: [Laid; 1] = [Call(1, Zeros(3 * 40), Usual(3 * 160))];
 
-const OF_4: [Laid; 4] = [
-    (1, Up, Zeros(4 * 40), ALL, NONE),
-    (1, Pcm, Usual(4 * 160), ALL, NONE),
-    (1, Down, Usual(0), ALL, NONE),
-    (1, Out, Usual(0), ALL, NONE),
-];
+const OF_4: [Laid; 1] = [Call(1, Zeros(4 * 40), Usual(4 * 160))];
 
-const OF_9: [Laid; 4] = [
-    (1, Up, Zeros(9 * 40), ALL, NONE),
-    (1, Pcm, Usual(9 * 160), ALL, NONE),
-    (1, Down, Usual(0), ALL, NONE),
-    (1, Out, Usual(0), ALL, NONE),
-];
+const OF_9: [Laid; 1] = [Call(1, Zeros(9 * 40), Usual(9 * 160))];
 
 // The first operation of a line fails.
-const OUT_FAILS: [Laid; 4] = [
-    (1, Up, Zeros(3 * 40), ALL, NONE),
-    (1, Pcm, Usual(3 * 160), ALL, NONE),
-    (1, Down, Usual(0), ALL, NONE),
-    (1, Out, Usual(0), ALL, 0),
+const OUT_FAILS: [Laid; 2] = [
+    Call(1, Zeros(3 * 40), Usual(3 * 160)),
+    Line(1, Out, Usual(0), ALL, 0),
 ];
 
-const UP_FAILS: [Laid; 4] = [
-    (1, Up, Zeros(4 * 40), ALL, 0),
-    (1, Pcm, Usual(4 * 160), ALL, NONE),
-    (1, Down, Usual(0), ALL, NONE),
-    (1, Out, Usual(0), ALL, NONE),
+const UP_FAILS: [Laid; 2] = [
+    Call(1, Zeros(4 * 40), Usual(4 * 160)),
+    Line(1, Up, Zeros(4 * 40), ALL, 0),
 ];
 
-const DOWN_FAILS: [Laid; 4] = [
-    (1, Up, Zeros(4 * 40), ALL, NONE),
-    (1, Pcm, Usual(4 * 160), ALL, NONE),
-    (1, Down, Usual(0), ALL, 0),
-    (1, Out, Usual(0), ALL, NONE),
+const DOWN_FAILS: [Laid; 2] = [
+    Call(1, Zeros(4 * 40), Usual(4 * 160)),
+    Line(1, Down, Usual(0), ALL, 0),
 ];
-
-// A desk on which nothing fails, and one whose first write fails.
-const CALM: [u32; 3] = [NONE, NONE, 10_000];
-
-const FAILS_AT_ONCE: [u32; 3] = [NONE, 0, 10_000];
 
 const SAVE_3: &[&str] = &["save", "--periods", "3"];
 
@@ -80,7 +56,7 @@ static SAVES: [Case; 6] = [
         words: SAVE_3,
         orders: "0 open 1\n",
         lines: &OF_3,
-        desk: CALM,
+        desk: Calm,
         status: 0,
         text: "save 3\ncall 1 from 0 out 102240 down 28958\norders\n",
         got: &[(1, Down, Count(120)), (1, Out, Count(480))],
@@ -90,7 +66,7 @@ static SAVES: [Case; 6] = [
         words: SAVE_3,
         orders: "0 open 1\n3 close 1\n",
         lines: &OF_9,
-        desk: CALM,
+        desk: Calm,
         status: 0,
         text: "save 3\ncall 1 from 0 out 102240 down 28958\norders\n",
         got: &[(1, Down, Count(120)), (1, Out, Count(480))],
@@ -99,7 +75,7 @@ static SAVES: [Case; 6] = [
         words: SAVE_3,
         orders: "0 open 1\n2 close 1\n",
         lines: &OF_9,
-        desk: CALM,
+        desk: Calm,
         status: 0,
         text: "save 3\norders\n",
         got: &[(1, Down, Count(80)), (1, Out, Count(320))],
@@ -109,7 +85,7 @@ static SAVES: [Case; 6] = [
         words: &["save", "--periods", "4294967295"],
         orders: "0 open 1\n",
         lines: &OF_3,
-        desk: CALM,
+        desk: Calm,
         status: 0,
         text: "save 4294967295\norders\n",
         got: &[(1, Down, Count(120)), (1, Out, Count(480))],
@@ -119,7 +95,7 @@ static SAVES: [Case; 6] = [
         words: SAVE_3,
         orders: "0 open 1\n",
         lines: &OUT_FAILS,
-        desk: CALM,
+        desk: Calm,
         status: 6,
         text: "line 1 out failed\n",
         got: &[(1, Down, Count(120)), (1, Out, Count(0))],
@@ -128,7 +104,7 @@ static SAVES: [Case; 6] = [
         words: SAVE_3,
         orders: "0 open 1\n",
         lines: &OF_3,
-        desk: FAILS_AT_ONCE,
+        desk: WriteFails(0),
         status: 4,
         text: "",
         got: &[(1, Down, Count(120)), (1, Out, Count(480))],
@@ -141,7 +117,7 @@ static RESUMES: [Case; 15] = [
         words: RESUME,
         orders: MARKED,
         lines: &OF_4,
-        desk: CALM,
+        desk: Calm,
         status: 0,
         text: REPORT_OF_4,
         got: &[(1, Down, Count(40)), (1, Out, Count(160))],
@@ -151,7 +127,7 @@ static RESUMES: [Case; 15] = [
         words: &["resume", "--periods", "1", "--batch", "2"],
         orders: MARKED,
         lines: &OF_4,
-        desk: CALM,
+        desk: Calm,
         status: 0,
         text: "order 1 ok
 call 1 from 0 to 3 limit
@@ -165,7 +141,7 @@ end period 3 calls 1 left 0
         words: RESUME,
         orders: "save 9\norders\n0 open 1\n",
         lines: &OF_4,
-        desk: CALM,
+        desk: Calm,
         status: 0,
         text: REPORT_OF_4,
         got: &[(1, Down, Count(0)), (1, Out, Count(0))],
@@ -175,7 +151,7 @@ end period 3 calls 1 left 0
         words: RESUME,
         orders: "save 3\ncall 1 from 0 out 102240 down 28957\norders\n0 open 1\n",
         lines: &OF_4,
-        desk: CALM,
+        desk: Calm,
         status: 9,
         text: "save differs 1\n",
         got: &[(1, Down, Count(0)), (1, Out, Count(0))],
@@ -184,7 +160,7 @@ end period 3 calls 1 left 0
         words: RESUME,
         orders: "save 3\ncall 1 from 0 out 102240 down 28958\ncall 2 from 0 out 0 down 0\norders\n0 open 1\n",
         lines: &OF_4,
-        desk: CALM,
+        desk: Calm,
         status: 9,
         text: "save differs 2\n",
         got: &[(1, Down, Count(0)), (1, Out, Count(0))],
@@ -193,7 +169,7 @@ end period 3 calls 1 left 0
         words: RESUME,
         orders: "save 3\norders\n0 open 1\n",
         lines: &OF_4,
-        desk: FAILS_AT_ONCE,
+        desk: WriteFails(0),
         status: 9,
         text: "",
         got: &[(1, Down, Count(0)), (1, Out, Count(0))],
@@ -203,7 +179,7 @@ end period 3 calls 1 left 0
         words: RESUME,
         orders: MARKED,
         lines: &OF_3,
-        desk: CALM,
+        desk: Calm,
         status: 0,
         text: "order 1 ok
 call 1 from 0 to 3 end up 0
@@ -217,7 +193,7 @@ end period 3 calls 1 left 0
         words: RESUME,
         orders: MARKED,
         lines: &UP_FAILS,
-        desk: CALM,
+        desk: Calm,
         status: 9,
         text: "save differs 1\n",
         got: &[(1, Down, Count(0)), (1, Out, Count(0))],
@@ -227,7 +203,7 @@ end period 3 calls 1 left 0
         words: RESUME,
         orders: "save 3\norders\n0 open 1\n2 close 1\n",
         lines: &UP_FAILS,
-        desk: CALM,
+        desk: Calm,
         status: 6,
         text: "order 1 ok
 order 2 refused 2 call 1
@@ -243,7 +219,7 @@ end period 0 calls 1 left 0
         words: RESUME,
         orders: MARKED,
         lines: &DOWN_FAILS,
-        desk: CALM,
+        desk: Calm,
         status: 6,
         text: "order 1 ok
 call 1 from 0 to 4 end up 0
@@ -257,7 +233,7 @@ end period 4 calls 1 left 0
         words: RESUME,
         orders: MARKED,
         lines: &OF_4,
-        desk: FAILS_AT_ONCE,
+        desk: WriteFails(0),
         status: 4,
         text: "",
         got: &[(1, Down, Count(40)), (1, Out, Count(160))],
@@ -267,7 +243,7 @@ end period 4 calls 1 left 0
         words: RESUME,
         orders: "save 03\ncall 1 from 0 out 102240 down 28958\norders\n0 open 1\n",
         lines: &OF_4,
-        desk: CALM,
+        desk: Calm,
         status: 2,
         text: "save line 1\n",
         got: &[(1, Down, Count(0)), (1, Out, Count(0))],
@@ -276,7 +252,7 @@ end period 4 calls 1 left 0
         words: RESUME,
         orders: "save 3\ncall 1 from 3 out 102240 down 28958\norders\n0 open 1\n",
         lines: &OF_4,
-        desk: CALM,
+        desk: Calm,
         status: 2,
         text: "save line 2\n",
         got: &[(1, Down, Count(0)), (1, Out, Count(0))],
@@ -285,7 +261,7 @@ end period 4 calls 1 left 0
         words: RESUME,
         orders: "save 3\ncall 1 from 0 out 102240 down 28958\norders\n0 open 1\n0 open 01\n",
         lines: &OF_4,
-        desk: CALM,
+        desk: Calm,
         status: 2,
         text: "orders line 2\n",
         got: &[(1, Down, Count(0)), (1, Out, Count(0))],
@@ -294,7 +270,7 @@ end period 4 calls 1 left 0
         words: RESUME,
         orders: "",
         lines: &OF_4,
-        desk: CALM,
+        desk: Calm,
         status: 2,
         text: "save line 1\n",
         got: &[(1, Down, Count(0)), (1, Out, Count(0))],

@@ -1,105 +1,19 @@
 //! The commands on one call, with its lines in memory. One operation fails.
 
 use crate::cases::{Case, come};
+use crate::commands::AtDesk::{Calm, WriteFails};
+use crate::commands::{Outcome, carry};
+use crate::lines::Laid::Line;
 use crate::lines::Octets::Usual;
-use crate::lines::{ALL, Laid, NONE, copied, line, numbers, trunk_of};
+use crate::lines::{ALL, NONE, line, trunk_of};
 use crate::rows::assert_parts;
-use farm_top::farm_top;
-use pool_run::{Gate, OpenGate};
+use pool_run::OpenGate;
 use std::alloc::Global;
 use std::process::Abort;
 use std::sync::Wait;
 use std::thread::Threads;
 use trau_io::Side::{Down, Out, Pcm, Up};
-use trau_io::{Desk, MemDesk, MemTrunk, Side, Trunk};
-
-fn push_word(rt: &impl Abort, alloc: Global, words: &mut Vec<String>, text: &str) {
-    let word = String::from_str(alloc, text).expect(rt, "memory");
-    words.push(word).expect(rt, "memory");
-}
-
-fn words_of(rt: &impl Abort, alloc: Global, texts: &[&str]) -> Vec<String> {
-    let mut words = Vec::new(alloc);
-    for text in texts {
-        push_word(rt, alloc, &mut words, text);
-    }
-    words
-}
-
-// The status of the command of these words. It has no contract, so no test carries on what is proved of `farm_top`.
-pub(crate) fn status_of<R: Abort + Threads + Wait + Sync, T: Trunk, D: Desk, G: Gate + Sync>(
-    rt: &R,
-    alloc: Global,
-    texts: &[&str],
-    trunk: &mut T,
-    desk: &mut D,
-    gate: &G,
-) -> u8 {
-    let words = words_of(rt, alloc, texts);
-    farm_top(rt, alloc, &words, trunk, desk, gate)
-}
-
-// A desk on which nothing fails: which of its reads and which of its writes fails, and for how many octets it has room.
-pub(crate) const CALM: [u32; 3] = [NONE, NONE, 10_000];
-
-// A desk with these orders.
-fn desk_of(rt: &impl Abort, alloc: Global, orders: &str, desk: [u32; 3]) -> MemDesk {
-    let [read_fails, write_fails, room] = desk;
-    let orders = copied(rt, alloc, orders.as_bytes());
-    let reads = numbers(rt, alloc, read_fails, 1);
-    let writes = numbers(rt, alloc, write_fails, 1);
-    MemDesk::new(alloc, orders, reads, writes, room).expect(rt, "memory")
-}
-
-// The status and the text of a command.
-#[derive(Drop)]
-pub(crate) struct Outcome {
-    pub(crate) status: u8,
-    text: Vec<u8>,
-}
-
-impl Outcome {
-    // Whether a command has this status and this text.
-    pub(crate) fn is(&self, status: u8, text: &str) -> bool {
-        (self.status == status) & (self.text.as_slice() == text.as_bytes())
-    }
-
-    // Whether both have this status and the same text.
-    pub(crate) fn agrees_with(&self, other: &Outcome, status: u8) -> bool {
-        (self.status == status)
-            & (other.status == status)
-            & (self.text.as_slice() == other.text.as_slice())
-    }
-}
-
-// Runs the command of these words with these orders at such a desk, and with a gate for the workers.
-pub(crate) fn carry<R: Abort + Threads + Wait + Sync, G: Gate + Sync>(
-    rt: &R,
-    alloc: Global,
-    texts: &[&str],
-    trunk: &mut MemTrunk,
-    orders: &str,
-    desk: [u32; 3],
-    gate: &G,
-) -> Outcome {
-    let mut desk = desk_of(rt, alloc, orders, desk);
-    let status = status_of(rt, alloc, texts, trunk, &mut desk, gate);
-    let text = copied(rt, alloc, desk.text());
-    Outcome { status, text }
-}
-
-// Runs the command of these words over these lines, with these orders and this gate for the workers. Returns the status.
-pub(crate) fn status_over<R: Abort + Threads + Wait + Sync, G: Gate + Sync>(
-    rt: &R,
-    alloc: Global,
-    texts: &[&str],
-    lines: &[Laid],
-    orders: &str,
-    gate: &G,
-) -> u8 {
-    let mut trunk = trunk_of(rt, alloc, lines, ALL);
-    carry(rt, alloc, texts, &mut trunk, orders, CALM, gate).status
-}
+use trau_io::{MemTrunk, Side};
 
 // Which operation of the incoming lines, of the outgoing lines and of the desk fails.
 type Faults = (u32, u32, u32);
@@ -108,10 +22,10 @@ type Faults = (u32, u32, u32);
 // line, and one on each outgoing line.
 fn lines(rt: &impl Abort, alloc: Global, cut: u32, incoming: u32, outgoing: u32) -> MemTrunk {
     let lines = [
-        (7, Up, Usual(80), cut, incoming),
-        (7, Pcm, Usual(330), cut, incoming),
-        (7, Down, Usual(0), cut, outgoing),
-        (7, Out, Usual(0), cut, outgoing),
+        Line(7, Up, Usual(80), cut, incoming),
+        Line(7, Pcm, Usual(330), cut, incoming),
+        Line(7, Down, Usual(0), cut, outgoing),
+        Line(7, Out, Usual(0), cut, outgoing),
     ];
     trunk_of(rt, alloc, &lines, ALL)
 }
@@ -126,7 +40,7 @@ fn carry_tool<R: Abort + Threads + Wait + Sync>(
 ) -> (Outcome, MemTrunk) {
     let (incoming, outgoing, desk) = faults;
     let mut trunk = lines(rt, alloc, cut, incoming, outgoing);
-    let desk = [NONE, desk, 10_000];
+    let desk = WriteFails(desk);
     let outcome = carry(rt, alloc, &[tool, "7"], &mut trunk, "", desk, &OpenGate);
     (outcome, trunk)
 }
@@ -289,8 +203,8 @@ static LISTS: [Case; 9] = [
     Case {
         words: &["frames", "7"],
         orders: "",
-        lines: &[(7, Up, Usual(80), 1000, 0)],
-        desk: [NONE, NONE, 10_000],
+        lines: &[Line(7, Up, Usual(80), ALL, 0)],
+        desk: Calm,
         status: 6,
         text: "line 7 up failed\n",
         got: &[],
@@ -298,8 +212,8 @@ static LISTS: [Case; 9] = [
     Case {
         words: &["frames", "7"],
         orders: "",
-        lines: &[(7, Up, Usual(80), 1000, 1)],
-        desk: [NONE, NONE, 10_000],
+        lines: &[Line(7, Up, Usual(80), ALL, 1)],
+        desk: Calm,
         status: 6,
         text: "0 good\nline 7 up failed\n",
         got: &[],
@@ -307,8 +221,8 @@ static LISTS: [Case; 9] = [
     Case {
         words: &["frames", "7"],
         orders: "",
-        lines: &[(7, Up, Usual(80), 1000, 2)],
-        desk: [NONE, NONE, 10_000],
+        lines: &[Line(7, Up, Usual(80), ALL, 2)],
+        desk: Calm,
         status: 6,
         text: "0 good\n320 good\nline 7 up failed\n",
         got: &[],
@@ -316,8 +230,8 @@ static LISTS: [Case; 9] = [
     Case {
         words: &["frames", "7"],
         orders: "",
-        lines: &[(7, Up, Usual(80), 1000, NONE)],
-        desk: [NONE, 0, 10_000],
+        lines: &[Line(7, Up, Usual(80), ALL, NONE)],
+        desk: WriteFails(0),
         status: 4,
         text: "",
         got: &[],
@@ -325,8 +239,8 @@ static LISTS: [Case; 9] = [
     Case {
         words: &["frames", "7"],
         orders: "",
-        lines: &[(7, Up, Usual(80), 1000, NONE)],
-        desk: [NONE, 1, 10_000],
+        lines: &[Line(7, Up, Usual(80), ALL, NONE)],
+        desk: WriteFails(1),
         status: 4,
         text: "0 good\n",
         got: &[],
@@ -334,8 +248,8 @@ static LISTS: [Case; 9] = [
     Case {
         words: &["frames", "7"],
         orders: "",
-        lines: &[(7, Up, Usual(80), 1000, NONE)],
-        desk: [NONE, 2, 10_000],
+        lines: &[Line(7, Up, Usual(80), ALL, NONE)],
+        desk: WriteFails(2),
         status: 4,
         text: "0 good\n320 good\n",
         got: &[],
@@ -343,8 +257,8 @@ static LISTS: [Case; 9] = [
     Case {
         words: &["frames", "7"],
         orders: "",
-        lines: &[(7, Up, Usual(80), 1000, NONE)],
-        desk: [NONE, NONE, 10_000],
+        lines: &[Line(7, Up, Usual(80), ALL, NONE)],
+        desk: Calm,
         status: 0,
         text: "0 good\n320 good\nframes 2 left 0\n",
         got: &[],
@@ -352,8 +266,8 @@ static LISTS: [Case; 9] = [
     Case {
         words: &["frames", "7"],
         orders: "",
-        lines: &[(7, Up, Usual(80), 39, 3)],
-        desk: [NONE, NONE, 10_000],
+        lines: &[Line(7, Up, Usual(80), 39, 3)],
+        desk: Calm,
         status: 6,
         text: "0 good\nline 7 up failed\n",
         got: &[],
@@ -361,8 +275,8 @@ static LISTS: [Case; 9] = [
     Case {
         words: &["frames", "7"],
         orders: "",
-        lines: &[(7, Up, Usual(80), 39, NONE)],
-        desk: [NONE, NONE, 10_000],
+        lines: &[Line(7, Up, Usual(80), 39, NONE)],
+        desk: Calm,
         status: 0,
         text: "0 good\n320 good\nframes 2 left 0\n",
         got: &[],

@@ -8,6 +8,8 @@ mod between;
 #[cfg(test)]
 mod cases;
 #[cfg(test)]
+mod commands;
+#[cfg(test)]
 mod counts;
 #[cfg(test)]
 mod desk;

@@ -31,15 +31,21 @@ pub(crate) enum Octets {
     Hostile(u8, u32),
 }
 
-// A line by its call and side: what is on it, its chunk size, and the number of the operation that fails on it.
-pub(crate) type Laid = (u32, Side, Octets, u32, u32);
+// What is laid before a command. All other lines are empty, and have no room.
+#[derive(Clone, Copy)]
+pub(crate) enum Laid {
+    // The four lines of a call, with these octets on Up and on Pcm. No operation fails, and each moves all that it can.
+    Call(u32, Octets, Octets),
+    // A line by its call and side: what is on it, its chunk size, and the number of the operation that fails on it.
+    Line(u32, Side, Octets, u32, u32),
+}
 
 // Lines of call 1 on which each operation fails.
 pub(crate) const FAILING: [Laid; 4] = [
-    (1, Side::Up, Octets::Usual(400), ALL, 0),
-    (1, Side::Pcm, Octets::Usual(1600), ALL, 0),
-    (1, Side::Down, Octets::Usual(0), ALL, 0),
-    (1, Side::Out, Octets::Usual(0), ALL, 0),
+    Laid::Line(1, Side::Up, Octets::Usual(400), ALL, 0),
+    Laid::Line(1, Side::Pcm, Octets::Usual(1600), ALL, 0),
+    Laid::Line(1, Side::Down, Octets::Usual(0), ALL, 0),
+    Laid::Line(1, Side::Out, Octets::Usual(0), ALL, 0),
 ];
 
 // A good uplink frame whose 260 data bits are those of 160 samples 0 encoded from the initial state, as GSM 08.60 places them.
@@ -83,53 +89,37 @@ fn numbered(side: Side, call: u32, place: usize) -> u8 {
     }
 }
 
-// Writes octets of a line, numbered or not.
-fn write(octets: &mut [u8], side: Side, call: u32, are_numbered: bool) {
-    for (place, octet) in octets.iter_mut().enumerate() {
-        *octet = if are_numbered {
-            numbered(side, call, place)
-        } else {
-            usual(side, place)
-        };
+// An octet of a line by its place.
+fn octet(octets: Octets, side: Side, call: u32, place: usize) -> u8 {
+    match octets {
+        Octets::Usual(_) => usual(side, place),
+        Octets::Numbered(_) => numbered(side, call, place),
+        _ => 0,
     }
 }
 
-// Sets a line, with these octets on it.
-fn put(
-    rt: &impl Abort,
-    alloc: Global,
-    trunk: &mut MemTrunk,
-    line: Line,
-    octets: Vec<u8>,
-    cut: u32,
-    fails: u32,
-) {
-    let cuts = numbers(rt, alloc, cut, 500);
-    let fails = numbers(rt, alloc, fails, 1);
-    let set = trunk.set(alloc, line, octets, cuts, fails, 50_000);
-    set.expect(rt, "memory");
-}
-
-// `count` octets of a line, numbered or not.
-fn written(
+// `count` octets of a line, each by its place.
+fn by_place(
     rt: &impl Abort,
     alloc: Global,
     side: Side,
     call: u32,
+    octets: Octets,
     count: usize,
-    are_numbered: bool,
 ) -> Vec<u8> {
-    let mut octets = filled(rt, alloc, 0, count);
-    write(&mut octets, side, call, are_numbered);
-    octets
+    let mut laid = filled(rt, alloc, 0, count);
+    for (place, each) in laid.iter_mut().enumerate() {
+        *each = octet(octets, side, call, place);
+    }
+    laid
 }
 
 // What is on a line.
-fn laid(rt: &impl Abort, alloc: Global, side: Side, call: u32, octets: Octets) -> Vec<u8> {
+fn octets_of(rt: &impl Abort, alloc: Global, side: Side, call: u32, octets: Octets) -> Vec<u8> {
     match octets {
-        Octets::Usual(count) => written(rt, alloc, side, call, count, false),
-        Octets::Numbered(count) => written(rt, alloc, side, call, count, true),
-        Octets::Zeros(count) => filled(rt, alloc, 0, count),
+        Octets::Usual(count) | Octets::Numbered(count) | Octets::Zeros(count) => {
+            by_place(rt, alloc, side, call, octets, count)
+        }
         Octets::These(octets) => copied(rt, alloc, octets),
         Octets::Hostile(kind, periods) => {
             hostile(alloc, kind.min(5), periods.min(1000)).expect(rt, "memory")
@@ -137,19 +127,56 @@ fn laid(rt: &impl Abort, alloc: Global, side: Side, call: u32, octets: Octets) -
     }
 }
 
-// Sets a line, in chunks of at most `cut` octets.
+// Sets a line with these octets on it, in chunks of at most `cut` octets.
+fn put(
+    rt: &impl Abort,
+    alloc: Global,
+    trunk: &mut MemTrunk,
+    line: Line,
+    octets: Octets,
+    cut: u32,
+    fails: u32,
+) {
+    let octets = octets_of(rt, alloc, line.side, line.call, octets);
+    let cuts = numbers(rt, alloc, cut, 500);
+    let fails = numbers(rt, alloc, fails, 1);
+    let set = trunk.set(alloc, line, octets, cuts, fails, 50_000);
+    set.expect(rt, "memory");
+}
+
+// Sets the four lines of a call, in chunks of at most `cut` octets.
+fn put_call(
+    rt: &impl Abort,
+    alloc: Global,
+    trunk: &mut MemTrunk,
+    call: u32,
+    incoming: (Octets, Octets),
+    cut: u32,
+) {
+    let (up, pcm) = incoming;
+    let nothing = Octets::Zeros(0);
+    put(rt, alloc, trunk, line(call, Side::Up), up, cut, NONE);
+    put(rt, alloc, trunk, line(call, Side::Pcm), pcm, cut, NONE);
+    put(rt, alloc, trunk, line(call, Side::Down), nothing, cut, NONE);
+    put(rt, alloc, trunk, line(call, Side::Out), nothing, cut, NONE);
+}
+
+// Lays what a row says, in chunks of at most `cut` octets.
 pub(crate) fn lay(rt: &impl Abort, alloc: Global, trunk: &mut MemTrunk, row: &Laid, cut: u32) {
-    let (call, side, octets, piece, fails) = *row;
-    let octets = laid(rt, alloc, side, call, octets);
-    put(
-        rt,
-        alloc,
-        trunk,
-        line(call, side),
-        octets,
-        cut.min(piece),
-        fails,
-    );
+    match *row {
+        Laid::Call(call, up, pcm) => put_call(rt, alloc, trunk, call, (up, pcm), cut),
+        Laid::Line(call, side, octets, piece, fails) => {
+            put(
+                rt,
+                alloc,
+                trunk,
+                line(call, side),
+                octets,
+                cut.min(piece),
+                fails,
+            )
+        }
+    }
 }
 
 // A trunk with these lines, in chunks of at most `cut` octets.

@@ -1,8 +1,9 @@
 //! Two calls of 30 periods, bridged at period 4, in rounds of at most 7 periods.
 
 use crate::cases::{UNUSED, are_same, have};
+use crate::commands::status_of;
 use crate::desk::{FailingDesk, WRITTEN};
-use crate::farm_top_tests::status_of;
+use crate::lines::Laid::Line;
 use crate::lines::Octets::Numbered;
 use crate::lines::{ALL, FAILING, Laid, NONE, trunk_of};
 use pool_run::OpenGate;
@@ -28,14 +29,14 @@ pub(crate) const CUT_40: u32 = 150;
 pub(crate) const CUT_160: u32 = 600;
 
 static LINES: [Laid; 8] = [
-    (7, Up, Numbered(OF_40), CUT_40, NONE),
-    (7, Pcm, Numbered(OF_160), CUT_160, NONE),
-    (7, Down, Numbered(0), CUT_40, NONE),
-    (7, Out, Numbered(0), CUT_160, NONE),
-    (9, Up, Numbered(OF_40), CUT_40, NONE),
-    (9, Pcm, Numbered(OF_160), CUT_160, NONE),
-    (9, Down, Numbered(0), CUT_40, NONE),
-    (9, Out, Numbered(0), CUT_160, NONE),
+    Line(7, Up, Numbered(OF_40), CUT_40, NONE),
+    Line(7, Pcm, Numbered(OF_160), CUT_160, NONE),
+    Line(7, Down, Numbered(0), CUT_40, NONE),
+    Line(7, Out, Numbered(0), CUT_160, NONE),
+    Line(9, Up, Numbered(OF_40), CUT_40, NONE),
+    Line(9, Pcm, Numbered(OF_160), CUT_160, NONE),
+    Line(9, Down, Numbered(0), CUT_40, NONE),
+    Line(9, Out, Numbered(0), CUT_160, NONE),
 ];
 
 // The lines of both calls. No operation fails.
