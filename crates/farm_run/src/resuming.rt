@@ -1,13 +1,12 @@
 //! A run that goes on from a mark.
 
-ghost use Rattle.std.specs.Prelude.{◌≡◌, ◌≤◌, Some, None, max, IfOk, IfErr, OnErr};
+ghost use Rattle.std.specs.Prelude.{◌≡◌, ◌≤◌, max, IfOk, OnErr};
 ghost use Rattle.farm_checkpoint.specs.Marks.{NumbersRise};
 ghost use Rattle.farm_run.specs.Pace.{IsPace};
 ghost use Rattle.farm_run.specs.Runs.{KeepsSides};
 ghost use Rattle.farm_run.specs.Resuming.{Resumes, IsResumeCutShort};
 ghost use Rattle.farm_run.specs.Stages.{IsStage};
 ghost use Rattle.farm_run.specs.Parts.{Compares, ResumesOn, StopsOn};
-ghost use Rattle.farm_run.specs.declared.outgoing.Outgoing.TheVariants.{Written};
 
 use crate::marking::mark_calls;
 use crate::outgoing::Outgoing;
@@ -44,30 +43,14 @@ fn difference(alloc: Global, mark: &Mark, marked: &Stage) -> Result<Option<u32>,
     Ok(mark.differs(&calls))
 }
 
-// Compares the mark with a run that has come to its period and held back all octets. If the mark is the run's own, gives the run
-// back, which then writes all that follows. If not, the inner error is the least call number that differs.
-fn write_on(alloc: Global, mark: &Mark, mut marked: Stage) -> Result<Result<Stage, u32>, AllocError>
-    requires rising { NumbersRise mark.now.calls }
-    requires stage { IsStage marked }
-    ensures same { IfOk result (λ compared. IfOk compared (λ writing. Compares mark.now marked None × (writing ≡ record marked { outgoing = Written }))) }
-    ensures differs { IfOk result (λ compared. IfErr compared (λ call. Compares mark.now marked (Some call))) }
-{
-    let found = difference(alloc, mark, &marked)?;
-    if let Some(call) = found {
-        return Ok(Err(call));
-    }
-    marked.outgoing = Outgoing::Written;
-    Ok(Ok(marked))
-}
-
 // Compares the mark with a run of `count` orders that has come to its period and held back all octets. If the mark is the run's
-// own, goes on and writes all that follows. If not, the result has the least call number that differs.
+// own, goes on and writes all that follows.
 fn go_on<R: Threads + Wait + Sync, T: Trunk, G: Gate + Sync>(
     rt: &R,
     alloc: Global,
     pace: &Pace,
     mark: &Mark,
-    marked: Stage,
+    mut marked: Stage,
     count: usize,
     trunk: &mut T,
     gate: &G,
@@ -81,15 +64,14 @@ fn go_on<R: Threads + Wait + Sync, T: Trunk, G: Gate + Sync>(
     ensures cut { OnErr result (StopsOn pace.now mark.now marked (T.lines trunk.old) (T.lines trunk.new)) }
     ensures sides { KeepsSides (T.lines trunk.old) (T.lines trunk.new) }
 {
-    let compared = write_on(alloc, mark, marked)?;
-    match compared {
-        Ok(writing) => {
-            let periods = mark.period.max(pace.periods);
-            let report = run_to_end(rt, alloc, pace, writing, count, periods, trunk, gate)?;
-            Ok(Resumed::Ran(report))
-        }
-        Err(call) => Ok(Resumed::Differs(call)),
+    let found = difference(alloc, mark, &marked)?;
+    if let Some(call) = found {
+        return Ok(Resumed::Differs(call));
     }
+    marked.outgoing = Outgoing::Written;
+    let periods = mark.period.max(pace.periods);
+    let report = run_to_end(rt, alloc, pace, marked, count, periods, trunk, gate)?;
+    Ok(Resumed::Ran(report))
 }
 
 /// Runs these orders over the lines of a trunk from the start, as `run` does, but holds back the octets of the periods before
