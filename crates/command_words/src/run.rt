@@ -58,10 +58,12 @@ pub(crate) fn read_save(alloc: Global, options: &[String]) -> Result<Settings, W
     ensures usage { IsErrOf result WordsFault.Usage → (s : TheSettings) → AreOptions (map (λ w. string_bytes w) options.now) s →
         GivePeriods (map (λ w. string_bytes w) options.now) → ⊥ }
 {
-    let read = read_options(alloc, options)?;
-    let has_periods = read.has_periods;
+    let RunOptions {
+        settings,
+        has_periods,
+    } = read_options(alloc, options)?;
     if has_periods {
-        Ok(read.settings)
+        Ok(settings)
     } else {
         Err(WordsFault::Usage)
     }
