@@ -42,13 +42,12 @@ pub(crate) fn finish_all<W: Work, G: Gate>(
 }
 
 // Appends items to a list that has room for them, which takes no memory.
-fn append_reserved<T: Drop>(list: &mut Vec<T>, more: Vec<T>)
+fn append_reserved<T: Drop>(list: &mut Vec<T>, mut more: Vec<T>)
     requires { vec_len list.old + vec_len more ≤ vec_capacity list.old }
     ensures items { list.new.items ≡ list.old.items ++ more.items }
     ensures len { vec_len list.new ≡ vec_len list.old + vec_len more }
     ensures room { vec_capacity list.old ≤ vec_capacity list.new }
 {
-    let mut more = more;
     match list.append(&mut more) {
         Ok(()) => {}
         Err(_) => unreachable!(),
