@@ -8,6 +8,7 @@ vectors=$top/checks/vectors
 tests=$top/clib/tests
 work=$(mktemp -d)
 trap 'rm -rf "$work"' EXIT
+trap 'exit 130' HUP INT TERM
 failed=0
 
 if ! command -v cc >/dev/null; then

@@ -21,6 +21,7 @@ import difflib
 import os
 import pathlib
 import re
+import shlex
 import shutil
 import subprocess
 import sys
@@ -91,15 +92,11 @@ def commands(session):
     return found
 
 
-def quoted(text):
-    return "'" + text.replace("'", "'\\''") + "'"
-
-
 def script(session):
     """Prints each command and runs it; `$?` is that of the command before."""
     parts = ["back() { return $1; }"]
     for command in commands(session):
-        shown = " ".join(quoted(line) for line in command)
+        shown = " ".join(map(shlex.quote, command))
         parts.append(f"back_to=$?; printf '%s\\n' {shown}; back $back_to")
         parts.append("\n".join(line[2:] for line in command))
     return "\n".join(parts) + "\n"

@@ -9,24 +9,15 @@ set -eu
 lay() {
     rm -rf "$work/given" "$work/wanted"
     mkdir "$work/given" "$work/wanted"
+    lay_farm "$1" "$work/given"
     case $1 in
-    mixed)
-        cp "$top"/examples/farm/*.up "$top"/examples/farm/*.pcm "$top/examples/farm/orders.txt" "$work/given"
-        cp "$top"/examples/farm/wanted/* "$work/wanted"
-        ;;
+    mixed) cp "$top"/examples/farm/wanted/* "$work/wanted" ;;
+    clean | mulaw) cp "$top/checks/farms/$1"/*.down "$top/checks/farms/$1"/*.out "$top/checks/farms/$1/report.txt" "$work/wanted" ;;
     harsh)
-        for call in 1 2 3 4 5; do
-            cp "$top/checks/vectors/farm-$call.up" "$work/given/$call.up"
-        done
+        cp "$top"/checks/farms/harsh/*.down "$top"/checks/farms/harsh/*.out "$work/wanted"
         cp "$top/checks/vectors/farm-report.txt" "$work/wanted/report.txt"
         ;;
     esac
-    [ ! -d "$top/checks/farms/$1" ] || for file in "$top/checks/farms/$1"/*; do
-        case $file in
-        *.up | *.pcm | */orders.txt) cp "$file" "$work/given" ;;
-        *) cp "$file" "$work/wanted" ;;
-        esac
-    done
     cp "$work"/given/* "$work/wanted"
 }
 

@@ -5,7 +5,6 @@ Usage: relay.py UPLINK DOWNLINK
 
 import sys
 
-SYNC = set(range(16)) | set(range(16, 305, 16))
 DATA = [place for place in range(33, 304) if place % 16] + list(range(305, 310))
 CONTROL = dict(zip(range(1, 16), range(17, 32))) | dict(zip(range(16, 22), range(310, 316)))
 SPEECH = {1: 1, 2: 1, 3: 1, 4: 0, 5: 0}
@@ -36,7 +35,7 @@ def downlink_frame(uplink_frame):
 
 def main():
     uplink, downlink = (open(name, "rb").read() for name in sys.argv[1:3])
-    assert len(DATA) == 260 and len(SYNC) == 35
+    assert len(DATA) == 260
     wanted = b"".join(downlink_frame(uplink[i : i + 40]) for i in range(0, len(uplink), 40))
     if wanted != downlink:
         place = next((i for i, (a, b) in enumerate(zip(wanted, downlink)) if a != b), min(len(wanted), len(downlink)))

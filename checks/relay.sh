@@ -96,21 +96,5 @@ text=
 "$top/trau" relay 7 >/dev/full </dev/null || status=$?
 expect "a full standard output" 4 ""
 
-# With less and less memory the program ends with status 5 and its text, until it can't be started at all.
-met=0
-limit=20000
-while [ $limit -gt 2000 ]; do
-    limit=$((limit - 100))
-    status=0
-    text=$(ulimit -v "$limit" && exec "$TRAU_PROGRAM" relay 7 2>/dev/null </dev/null) || status=$?
-    case "$status $text" in
-        "5 no memory") met=$((met + 1)) ;;
-        "0 relay frames 312") ;;
-        *) break ;;
-    esac
-done
-if [ "$met" -gt 0 ]; then echo "ok out of memory ($met limits)"; else
-    fail "out of memory: no limit gave status 5"
-fi
-
+out_of_memory "relay frames 312" /dev/null relay 7
 exit "$failed"

@@ -353,21 +353,8 @@ size "a limit of the size of files" 3.down 512
 size "a limit of the size of files" 3.out 512
 cd ..
 
-# With less and less memory the program ends with status 5 and its text, until it can't be started at all.
 echo '0 open 1' >one
-met=0
-limit=20000
-while [ $limit -gt 2000 ]; do
-    limit=$((limit - 100))
-    status=0
-    (ulimit -v "$limit" && exec "$TRAU_PROGRAM" run) >text 2>/dev/null <one || status=$?
-    case "$status $(cat text)" in
-    "5 no memory") met=$((met + 1)) ;;
-    "0 order 1 ok"*"end period 3 calls 1 left 0") ;;
-    *) break ;;
-    esac
-done
-if [ "$met" -gt 0 ]; then echo "ok out of memory ($met limits)"; else fail "out of memory: no limit gave status 5"; fi
+out_of_memory "order 1 ok*end period 3 calls 1 left 0" one run
 
 # With 8 descriptors, five of them for the 48 lines of twelve calls, report and lines are the same as without that limit. (What whoever
 # started this left open is closed.)

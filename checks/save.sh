@@ -13,11 +13,8 @@ same() {
 
 # The farm's incoming lines, and what a whole run writes.
 mkdir given whole
-for call in 1 2 3 4 5; do
-    cp "$top/checks/vectors/farm-$call.up" "given/$call.up"
-    cp "$top/checks/farms/harsh/$call.pcm" given
-    cp "$top/checks/farms/harsh/$call.down" "$top/checks/farms/harsh/$call.out" whole
-done
+lay_farm harsh given
+cp "$top"/checks/farms/harsh/*.down "$top"/checks/farms/harsh/*.out whole
 orders=$top/checks/farms/harsh/orders.txt
 report=$top/checks/vectors/farm-report.txt
 

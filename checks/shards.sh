@@ -10,21 +10,6 @@ shard() {
     python3 "$top/tools/shard.py" "$@"
 }
 
-# lay NAME FOLDER: the farm's incoming lines and orders
-lay() {
-    mkdir "$2"
-    case $1 in
-    mixed) cp "$top"/examples/farm/*.up "$top"/examples/farm/*.pcm "$top/examples/farm/orders.txt" "$2" ;;
-    clean | mulaw) cp "$top/checks/farms/$1"/*.up "$top/checks/farms/$1"/*.pcm "$top/checks/farms/$1/orders.txt" "$2" ;;
-    harsh)
-        cp "$top"/checks/farms/harsh/*.pcm "$top/checks/farms/harsh/orders.txt" "$2"
-        for call in 1 2 3 4 5; do
-            cp "$top/checks/vectors/farm-$call.up" "$2/$call.up"
-        done
-        ;;
-    esac
-}
-
 # one FOLDER WORDS..: one run, its report and status beside the folder
 one() {
     folder=$1
@@ -64,7 +49,8 @@ compare() {
     name=$1 count=$2 copy=$3
     shift 3
     rm -rf "$work/one"* "$work/farm"* "$work/cut"*
-    lay "$name" "$work/one"
+    mkdir "$work/one"
+    lay_farm "$name" "$work/one"
     trouble "$work/one"
     cp -r "$work/one" "$work/farm"
     one "$work/one" "$@"
