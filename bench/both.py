@@ -6,7 +6,7 @@ import statistics
 
 import farm
 from kernels import DECODE, ENCODE, ours, peer
-from measure import Command, say, text_of, times_once
+from measure import say, text_of, times_once
 from table import hundredth, ratio, table, whole
 
 KINDS = ("x86-64-v2", "x86-64-v3")

@@ -5,9 +5,7 @@ import sys
 from pathlib import Path
 
 sys.path.insert(0, str(Path(__file__).resolve().parents[1] / "tools"))
-from trau_frames import FRAME_OCTETS, PCM_OCTETS, Law, Parameters, bits_of, data_of, gsm_of_data  # noqa: E402
-
-TRAU_OCTETS, ALAW_OCTETS = FRAME_OCTETS, PCM_OCTETS
+from trau_frames import FRAME_OCTETS, Law, Parameters, bits_of, data_of, gsm_of_data  # noqa: E402
 
 
 def blocks(octets, length):
@@ -37,7 +35,7 @@ FRAME_FORMS = {"libgsm": frame_33, "spandsp-33": frame_33, "spandsp-76": frame_7
 
 def frames_for(codec, trau_line):
     """A line of TRAU frames as the frames of a peer's codec."""
-    return b"".join(map(FRAME_FORMS[codec], blocks(trau_line, TRAU_OCTETS)))
+    return b"".join(map(FRAME_FORMS[codec], blocks(trau_line, FRAME_OCTETS)))
 
 
 SAMPLE_OF = [Law.A.expand(octet) for octet in range(256)]

@@ -4,8 +4,9 @@ import collections
 import os
 
 import files
-import frames
+import frames  # puts tools/ on the path
 from measure import Command, difference, least_processor, say
+from trau_frames import FRAME_OCTETS, PCM_OCTETS
 
 PEERS = {
     "libgsm": "libgsm `gsm_{way}`",
@@ -20,9 +21,9 @@ Measured = collections.namedtuple("Measured", "way rows same by_function")
 
 Way = collections.namedtuple("Way", "name side made octets_in")
 
-ENCODE = Way("encode", "pcm", "down", frames.ALAW_OCTETS)
-DECODE = Way("decode", "up", "out", frames.TRAU_OCTETS)
-RELAY = Way("relay", "up", "down", frames.TRAU_OCTETS)
+ENCODE = Way("encode", "pcm", "down", PCM_OCTETS)
+DECODE = Way("decode", "up", "out", FRAME_OCTETS)
+RELAY = Way("relay", "up", "down", FRAME_OCTETS)
 
 
 def ours(bench, way, count):
@@ -77,7 +78,7 @@ def equal_frames(bench, codec, way):
     if way is ENCODE:
         mine, length = frames.frames_for(codec, mine), 76 if codec == "spandsp-76" else 33
     else:
-        theirs, length = frames.alaw_of(theirs), frames.ALAW_OCTETS
+        theirs, length = frames.alaw_of(theirs), PCM_OCTETS
     return frames.equal(mine, theirs, length)
 
 

@@ -8,6 +8,8 @@ import subprocess
 import sys
 import time
 
+GNU_TIME = "/usr/bin/time"
+
 # The mark of one of the instances of a generic function.
 INSTANCE = re.compile(r"::<#[0-9a-f]+>")
 
@@ -86,7 +88,7 @@ def peak_kilobytes(command):
     """The peak of resident memory. GNU time starts the command, since a child of a large process would report the
     parent's peak."""
     report = os.path.join(command.folder, "peak")
-    check(command, start(command, ["/usr/bin/time", "-f", "%M", "-o", report]).wait())
+    check(command, start(command, [GNU_TIME, "-f", "%M", "-o", report]).wait())
     with open(report) as lines:
         return int(lines.read().split()[-1])
 

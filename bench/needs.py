@@ -4,8 +4,10 @@ import os
 import shutil
 import subprocess
 
-PROGRAMS = {"gcc": "gcc", "valgrind": "valgrind", "toast": "libgsm-tools", "untoast": "libgsm-tools"}
-GNU_TIME = "/usr/bin/time"
+from measure import GNU_TIME, say
+
+# Programs, and their Debian packages.
+PROGRAMS = {"gcc": "gcc", "valgrind": "valgrind", GNU_TIME: "time", "toast": "libgsm-tools", "untoast": "libgsm-tools"}
 HEADERS = {"gsm.h": "libgsm1-dev", "spandsp.h": "libspandsp-dev"}
 
 
@@ -15,11 +17,8 @@ def has_header(header):
 
 
 def missing_programs(programs):
-    """Lines that say which of these programs, or GNU time, is missing, and of which Debian package."""
-    lines = [f"{name}: apt-get install {package}" for name, package in programs.items() if not shutil.which(name)]
-    if not os.access(GNU_TIME, os.X_OK):
-        lines.append(f"{GNU_TIME}: apt-get install time")
-    return lines
+    """Lines that say which of these programs is missing, and of which Debian package."""
+    return [f"{name}: apt-get install {package}" for name, package in programs.items() if not shutil.which(name)]
 
 
 def missing_headers():
@@ -32,6 +31,13 @@ def missing_headers():
 def missing():
     """The same of all that bench/run needs."""
     return [*missing_programs(PROGRAMS), *(missing_headers() if shutil.which("gcc") else [])]
+
+
+def say_missing(lines):
+    """Says what is missing by these lines, and returns whether anything is."""
+    for line in lines:
+        say(f"missing: {line}")
+    return bool(lines)
 
 
 def build_peers(source, folder):

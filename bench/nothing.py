@@ -18,11 +18,14 @@ TOP = os.path.dirname(os.path.dirname(os.path.abspath(__file__)))
 HIDDEN = 'mount --bind "$1" "$2" && shift 2 && exec "$@"'
 
 
+def lacking_toolchain():
+    """What is missing on this machine to prove anything, or None."""
+    return None if shutil.which("rt") else "it needs the toolchain's command rt on the path"
+
+
 def lacking():
     """What is missing on this machine for a beginning from nothing, or None."""
-    if not shutil.which("rt"):
-        return "it needs the toolchain's command rt on the path"
-    return "it needs root, to hide what is kept" if os.geteuid() else None
+    return lacking_toolchain() or ("it needs root, to hide what is kept" if os.geteuid() else None)
 
 
 @contextlib.contextmanager
