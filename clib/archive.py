@@ -1,5 +1,5 @@
 #!/usr/bin/env python3
-"""archive.py FOLDER: builds the static library over what `rt ci` has just proved: FOLDER/x86-64-v2.a and FOLDER/x86-64-v3.a.
+"""Builds the static library over what `rt ci` has just proved: FOLDER/x86-64-v2.a and FOLDER/x86-64-v3.a.
 
 Of each crate `rt ci` leaves the statements, in crates/NAME/out/rlib. `rt lib` takes no such library and proves the codec once more, so
 here the toolchain's `rattle` is called: it checks trau_c alone, against these statements, and compiles it. The check for the second kind
@@ -8,6 +8,7 @@ of processor begins with what the first one kept, in this call.
 
 from __future__ import annotations
 
+import argparse
 import os
 import shutil
 import subprocess
@@ -60,9 +61,9 @@ def words(tools: Path, work: str) -> List[str]:
 
 
 def main() -> int:
-    if len(sys.argv) != 2:
-        fail("usage: archive.py FOLDER")
-    to, tools = Path(sys.argv[1]).resolve(), kit()
+    parser = argparse.ArgumentParser(prog="clib/archive.py", description=__doc__, formatter_class=argparse.RawTextHelpFormatter)
+    parser.add_argument("folder", metavar="FOLDER", type=Path, help="the folder of the two files")
+    to, tools = parser.parse_args().folder.resolve(), kit()
     with tempfile.TemporaryDirectory() as work:
         for kind in KINDS:
             command = [str(tools / "bin" / "rattle"), *words(tools, work), f"--cpu={kind}", "-o", str(to / f"{kind}.a")]

@@ -6,7 +6,7 @@ All of it is this project's profile.
 from __future__ import annotations
 
 from itertools import islice
-from typing import Iterator, List, NamedTuple, Sequence
+from typing import Iterator, List, NamedTuple
 
 from . import profile
 from .checkpoint import sum_of

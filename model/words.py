@@ -37,12 +37,11 @@ class Resume(NamedTuple):
 
 
 class Drill(NamedTuple):
-    """`drill`: what its lines are drawn from, and the most periods of a round."""
+    """`drill`: what its lines are drawn from. Its workers, and the most periods of a round, change nothing."""
 
     seed: int
     calls: int
     periods: int
-    batch: int
 
 
 class Live(NamedTuple):
@@ -101,7 +100,7 @@ def _command(name: str, given: Mapping[str, int]) -> Optional[Asked]:
     if "periods" not in given:
         return None
     if name == "drill":
-        return Drill(given["seed"], given["calls"], given["periods"], given["batch"])
+        return Drill(given["seed"], given["calls"], given["periods"])
     if name == "live":
         return Live(given["seed"], given["calls"], given["periods"])
     return {"run": Run, "save": Save, "resume": Resume}[name](given["batch"], given["periods"])

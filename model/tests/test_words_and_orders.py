@@ -30,7 +30,7 @@ class Words(unittest.TestCase):
             ("run", Run(50, profile.MOST_PERIODS)),
             ("resume", Resume(50, profile.MOST_PERIODS)),
             ("save --periods 3", Save(50, 3)),
-            ("drill", Drill(1, 64, 200, 50)),
+            ("drill", Drill(1, 64, 200)),
             ("live", Live(1, 64, 200)),
         ):
             self.assertEqual(asked(words.split()), command, words)
@@ -38,7 +38,7 @@ class Words(unittest.TestCase):
     def test_options(self) -> None:
         words = "run --batch=7 --workers 1 --slice=250 --periods 4294967295"
         self.assertEqual(asked(words.split()), Run(7, profile.MOST_PERIODS))
-        self.assertEqual(asked("drill --seed 0 --calls=256 --periods 1000 --".split()), Drill(0, 256, 1000, 50))
+        self.assertEqual(asked("drill --seed 0 --calls=256 --periods 1000 --".split()), Drill(0, 256, 1000))
         self.assertEqual(asked("live --inbox 1024 --callers 64 --calls 1".split()), Live(1, 1, 200))
         self.assertEqual(asked(["run", "--"]), Run(50, profile.MOST_PERIODS))
 
