@@ -28,6 +28,7 @@ from pathlib import Path
 from typing import Callable, Collection, Dict, FrozenSet, Iterator, List, NoReturn, Optional, Sequence, Set, TextIO, Tuple
 
 import trau_frames
+from side_by_side import number_in, processors
 from tool_ends import tool
 from trau_frames import Refusal
 
@@ -71,23 +72,6 @@ def needed(top: Path, program: str) -> List[str]:
     found = [program]
     for name in found:
         found += [below for below in crates[name] if below not in found]
-    return found
-
-
-def number_in(path: str, place: int = 0) -> Optional[int]:
-    """A number of a small file of the system, or None where there is no such number."""
-    try:
-        return int(Path(path).read_text().split()[place])
-    except (OSError, ValueError, IndexError):
-        return None
-
-
-def processors() -> int:
-    """The processors that may be used: those of this process, or fewer by the quota of its group."""
-    found = len(os.sched_getaffinity(0))
-    quota, period = number_in("/sys/fs/cgroup/cpu.max"), number_in("/sys/fs/cgroup/cpu.max", 1)
-    if quota and period:
-        found = min(found, max(1, quota // period))
     return found
 
 

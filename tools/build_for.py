@@ -10,6 +10,7 @@ HANDLES. It loads the toolchain's own `rt` for that. It makes crates/CRATE/out/C
 
 from __future__ import annotations
 
+import argparse
 import importlib.machinery
 import importlib.util
 import os
@@ -18,12 +19,16 @@ import sys
 from types import ModuleType
 from typing import Sequence
 
+import trau_frames
+from tool_ends import tool
+from trau_frames import Refusal
+
 
 def toolchain() -> ModuleType:
     """The toolchain's command rt, as a module."""
     path = shutil.which("rt")
     if not path:
-        raise FileNotFoundError("the Rattle toolchain's command rt isn't on the path")
+        raise Refusal("the Rattle toolchain's command rt isn't on the path")
     loader = importlib.machinery.SourceFileLoader("toolchain_rt", os.path.realpath(path))
     made = importlib.util.module_from_spec(importlib.util.spec_from_loader(loader.name, loader))
     loader.exec_module(made)
@@ -49,13 +54,15 @@ def build(top: str, crate: str, kind: str) -> int:
     return status
 
 
+@tool("build_for.py", prints=False)
 def main(words: Sequence[str]) -> int:
     """Runs the words of the command line, and returns the exit status."""
-    if len(words) != 3:
-        print("usage: build_for.py TOP CRATE KIND", file=sys.stderr)
-        return 2
-    top, crate, kind = words
-    return build(os.path.realpath(top), crate, kind)
+    parser = trau_frames.Words(description=__doc__, formatter_class=argparse.RawDescriptionHelpFormatter, allow_abbrev=False)
+    parser.add_argument("top", metavar="TOP", help="the top of the repository")
+    parser.add_argument("crate", metavar="CRATE", help="the program's crate")
+    parser.add_argument("kind", metavar="KIND", help="the kind of processor")
+    asked = parser.parse_args(words)
+    return build(os.path.realpath(asked.top), asked.crate, asked.kind)
 
 
 if __name__ == "__main__":

@@ -16,11 +16,10 @@ import trau_frames
 from code_word import FrameKind, Marker
 from rtp_packets import GSM, NAMES, PCMA, PCMU, Packet, chosen, kind_of, library, periods_between, streams_of
 from run_lines import Heard
-from trau_frames import GSM_OCTETS, PCM_OCTETS, Law, Parameters, Refusal, Sort, SpeechControl
+from trau_frames import GSM_OCTETS, PCM_OCTETS, SAMPLES_A_SECOND, Law, Parameters, Refusal, Sort, SpeechControl
 
 LAWS = {PCMA: Law.A, PCMU: Law.MU}
-SAMPLES_A_SECOND = 8000
-FRAME_SAMPLES = 160
+# Time stamps count samples, each of them an octet of a Pcm line.
 SEQUENCES, STAMPS = 1 << 16, 1 << 32
 LONGEST_GAP = 3600 * SAMPLES_A_SECOND
 
@@ -109,7 +108,7 @@ def gap(name: Path, missing: int, units: int, size: int, packet: Packet) -> Iter
 
 def stretches(name: Path, packets: Sequence[Packet], kind: int, counts: Counts) -> Iterator[Stretch]:
     """A stream from its first packet with speech on. Units that overlap with those before are left out."""
-    size = FRAME_SAMPLES if kind == GSM else 1
+    size = PCM_OCTETS if kind == GSM else 1
     first: Optional[int] = None
     place, length, missing = 0, 0, 0
     following = 0
@@ -224,7 +223,7 @@ def sounds_of_uplink(octets: bytes) -> Iterator[Sound]:
     source = trau_frames.RandomSource(1)
     descriptor = trau_frames.SILENCE
     for period, (each, sort, value) in enumerate(zip(yields, sorts, run_lines.heard(sorts))):
-        stamp = period * FRAME_SAMPLES
+        stamp = period * PCM_OCTETS
         if sort is Sort.SID:
             descriptor = Parameters.read(trau_frames.data_of(each.frame))
         if value is Heard.SPEECH:
@@ -283,9 +282,9 @@ def packets_of(stream: int, kind: int, sounds: Iterable[Sound]) -> Iterator[Tupl
     following: Optional[int] = None
     for sequence, sound in enumerate(sounds):
         if sound.payload is not None:
-            marked = following is None or sound.stamp > following + FRAME_SAMPLES // 2
+            marked = following is None or sound.stamp > following + PCM_OCTETS // 2
             yield sound.stamp / SAMPLES_A_SECOND, datagram_of(stream, kind, sequence, marked, sound)
-        following = sound.stamp + FRAME_SAMPLES
+        following = sound.stamp + PCM_OCTETS
 
 
 def capture_of(lines: Sequence[Tuple[Path, bytes]], law: Law) -> Tuple[bytes, str]:

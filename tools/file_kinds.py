@@ -18,6 +18,7 @@ import slots
 import trau_frames
 import wav_files
 from readings import Reading
+from run_texts import FORMS
 from trau_frames import GSM_MAGIC, GSM_OCTETS, Law, Refusal
 
 HEAD_OCTETS = 1 << 16
@@ -121,7 +122,7 @@ def by_wav(head: bytes, size: int) -> Optional[Look]:
     if wav.tag == wav_files.WAV_GSM:
         return Look(Kind.SOUND, f"a WAV file of GSM frames, {form}", "lines.py uplink {} NEW.up")
     said = f"a WAV file, {form}, bits {wav.sample_bits} {WAV_SAMPLES.get(wav.tag, f'of format {wav.tag}')}"
-    is_taken = (wav.channels, wav.samples_a_second) == (1, wav_files.SAMPLES_A_SECOND)
+    is_taken = (wav.channels, wav.samples_a_second) == (1, trau_frames.SAMPLES_A_SECOND)
     is_taken = is_taken and (wav.tag, wav.sample_bits) in wav_files.SAMPLE_KINDS
     return Look(Kind.SOUND, said, "lines.py pcm {} NEW.pcm" if is_taken else SOX)
 
@@ -149,7 +150,7 @@ def by_gsm(head: bytes, size: int) -> Optional[Look]:
     return Look(Kind.GSM, f"{size // GSM_OCTETS} frames of libgsm{cut}", f"lines.py uplink {{}} NEW.up{word}")
 
 
-ORDER_LINE = re.compile(rb"\d+ (?:open|close|bridge|unbridge|level|dtx) [^\n]*")
+ORDER_LINE = re.compile(rb"\d+ (?:%b) [^\n]*" % "|".join(FORMS).encode())
 
 
 def by_text(head: bytes, size: int) -> Optional[Look]:

@@ -57,11 +57,11 @@ def data_of_wav(name: Path, given: bytes, partial: bool) -> Found:
     # sox counts the octet that makes an odd number of octets even.
     octets = wav.data[:-1] if len(wav.data) % size == 1 and wav.data[-1] == 0 else wav.data
     left = len(octets) % size
-    fits = (wav.channels, wav.samples_a_second) == (1, wav_files.SAMPLES_A_SECOND) and len(octets) >= size
+    fits = (wav.channels, wav.samples_a_second) == (1, trau_frames.SAMPLES_A_SECOND) and len(octets) >= size
     if not fits or left and not partial:
         raise Refusal(
             f"{name}: has {wav.samples_a_second} Hz, channels {wav.channels} and {len(wav.data)} octets of GSM frames; needed is"
-            f" {wav_files.SAMPLES_A_SECOND} Hz mono in blocks of {size} octets"
+            f" {trau_frames.SAMPLES_A_SECOND} Hz mono in blocks of {size} octets"
         )
     blocks = (octets[place : place + size] for place in range(0, len(octets) - left, size))
     return Found([data for block in blocks for data in trau_frames.data_of_wav_block(block)], left)

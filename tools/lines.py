@@ -2,10 +2,10 @@
 """Makes recorded lines from common files, and files from lines: frames of libgsm, WAV files, raw A-law and mu-law, slots of E1 recordings
 and captures of network packets. It also says what a file is, and damages uplinks.
 
-A command reads one file and writes another (`idle` reads none, `look` writes none), and prints one line on standard output that says what
-it did. `-` is standard input or standard output; if the file goes to standard output, the line goes to standard error. Each command but
-`look` unpacks a file whose name ends with .gz as it reads it. If a command can't take something, it prints one line on standard error,
-exits with status 2 and writes nothing.
+A command reads one file and writes another (`idle` reads none; `look` and `capture` may read several; `look` writes none), and prints one
+line on standard output that says what it did. `-` is standard input or standard output; if the file goes to standard output, the line goes
+to standard error. Each command but `look` unpacks a file whose name ends with .gz as it reads it. If a command can't take something, it
+prints one line on standard error, exits with status 2 and writes nothing.
 """
 
 from __future__ import annotations
@@ -13,7 +13,6 @@ from __future__ import annotations
 import tool_start  # first, for what comes after it
 
 import argparse
-import re
 import sys
 from array import array
 from pathlib import Path
@@ -31,7 +30,7 @@ import wav_files
 from code_word import Marker
 from file_kinds import Kind
 from tool_ends import FAILED, complain, tool
-from trau_frames import PCM_OCTETS, Law, Refusal
+from trau_frames import PCM_OCTETS, Law, Refusal, number_within
 from wav_files import LAWS_BY_TAG, WAV_LINEAR
 
 
@@ -164,7 +163,7 @@ def slot(words: argparse.Namespace, given: bytes) -> Made:
     return Made(slots.turned(given) if words.lsb_first else given, f"slot octets {len(given)}")
 
 
-MOST_PERIODS = 1_000_000
+MOST_IDLE_PERIODS = 1_000_000
 MOST_SKIPPED = 1 << 40
 
 
@@ -227,17 +226,6 @@ def look(words: argparse.Namespace) -> int:
 # The words of the command line
 
 
-def number_word(least: int, most: int) -> Callable[[str], int]:
-    """Reads a number between these ends."""
-
-    def read(word: str) -> int:
-        if not re.fullmatch(r"\d{1,12}", word, re.ASCII) or not least <= int(word) <= most:
-            raise argparse.ArgumentTypeError(f"'{word}' isn't {least} to {most}")
-        return int(word)
-
-    return read
-
-
 def command(
     commands: argparse._SubParsersAction, made: Command, given: str, new: str, more: str, example: str
 ) -> argparse.ArgumentParser:
@@ -253,7 +241,7 @@ def command(
     added.set_defaults(made=made, runs=make_file)
     if given == "PERIODS":
         added.set_defaults(given=None)
-        added.add_argument("periods", type=number_word(1, MOST_PERIODS), metavar=given, help="the number of periods of 20 ms")
+        added.add_argument("periods", type=number_within(1, MOST_IDLE_PERIODS), metavar=given, help="the number of periods of 20 ms")
     else:
         added.add_argument("given", type=Path, metavar=given, help="the file to read, or - for standard input")
     added.add_argument(
@@ -470,7 +458,9 @@ def add_listen(commands: argparse._SubParsersAction) -> None:
         "speech A silence B idle C other D outside E`.",
         "7.down call.wav",
     )
-    added.add_argument("--trau", metavar="PROGRAM", help="decode by this program and not by the library")
+    added.add_argument(
+        "--trau", type=listening.program_named, metavar="PROGRAM", help="decode by this program and not by the library"
+    )
 
 
 def add_slot(commands: argparse._SubParsersAction) -> None:
@@ -485,14 +475,14 @@ def add_slot(commands: argparse._SubParsersAction) -> None:
         "line.e1 1.pcm --slot 16 --of 32, and then: trau split 1",
     )
     added.add_argument(
-        "--slot", type=number_word(0, slots.MOST_SLOTS - 1), default=0, metavar="N", help="the slot, counted from 0 (default 0)"
+        "--slot", type=number_within(0, slots.MOST_SLOTS - 1), default=0, metavar="N", help="the slot, counted from 0 (default 0)"
     )
     added.add_argument(
-        "--of", type=number_word(1, slots.MOST_SLOTS), default=1, metavar="N", help="the number of slots of the line (default 1)"
+        "--of", type=number_within(1, slots.MOST_SLOTS), default=1, metavar="N", help="the number of slots of the line (default 1)"
     )
     added.add_argument(
         "--skip",
-        type=number_word(0, MOST_SKIPPED),
+        type=number_within(0, MOST_SKIPPED),
         default=0,
         metavar="N",
         help="the number of octets that precede the first one of slot 0 (default 0)",

@@ -24,6 +24,11 @@ def program_beside() -> str:
     return str(beside) if beside.is_file() else "trau"
 
 
+def program_named(word: str) -> str:
+    """The program that a word names, as it is started from other folders: a path becomes a whole one."""
+    return os.path.abspath(word) if "/" in word else word
+
+
 def is_stale(folder: Path) -> bool:
     """Whether what clib/build made in this folder is of other sources than the present ones."""
     build = folder / "build"

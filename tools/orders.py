@@ -23,6 +23,7 @@ from file_kinds import Kind, Look
 from outgoing import said_of_outgoing
 from run_texts import (
     FORMS,
+    INCOMING,
     MOST_CALLS,
     MOST_LEVEL,
     MOST_ORDER_OCTETS,
@@ -31,9 +32,10 @@ from run_texts import (
     NAMES,
     Order,
     read_order,
+    whole_periods,
 )
 from tool_ends import tool
-from trau_frames import FRAME_OCTETS, PCM_OCTETS, Refusal
+from trau_frames import Refusal
 from word_faults import fault_of_number, faults_of_spaces, grouped, shown
 
 # The words after an order's name, as the documents show them; the other orders have only C.
@@ -116,26 +118,19 @@ class Text:
 # The board, which executes the orders
 
 
-PERIOD_OCTETS = {"up": FRAME_OCTETS, "pcm": PCM_OCTETS}
-
-
 def is_unending(path: Path) -> bool:
     """Whether a line is a pipe or a device, whose length nobody knows."""
     return path.exists() and not path.is_file() and not path.is_dir()
 
 
 def periods_of_lines(folder: Path, call: int) -> Dict[str, int]:
-    """How many whole periods each of a call's incoming lines has, if it is a file."""
-    found = {}
-    for side, octets in PERIOD_OCTETS.items():
-        path = folder / f"{call}.{side}"
-        found[side] = path.stat().st_size // octets if path.is_file() else 0
-    return found
+    """How many whole periods each of a call's incoming lines has."""
+    return {side: whole_periods(folder, call, side) for side in INCOMING}
 
 
 def has_unending(folder: Path, call: int) -> bool:
     """Whether an incoming line of a call is a pipe or a device."""
-    return any(is_unending(folder / f"{call}.{side}") for side in PERIOD_OCTETS)
+    return any(is_unending(folder / f"{call}.{side}") for side in INCOMING)
 
 
 def end_by_lines(folder: Path, call: int, stamp: int) -> Optional[int]:
@@ -281,7 +276,7 @@ def remarks_on(orders: Sequence[Order], folder: Optional[Path]) -> Remarks:
         if refusal:
             found.warnings.append((order.number, f"the run will refuse it ({refusal[0]}): {refusal[1]}"))
         elif order.verb == "open" and folder is not None:
-            said = (warning_of_line(folder, order, side) for side in PERIOD_OCTETS)
+            said = (warning_of_line(folder, order, side) for side in INCOMING)
             found.warnings.extend((order.number, each) for each in said if each)
             note = note_on_periods(folder, order)
             found.notes.extend([(order.number, note)] if note else [])

@@ -7,7 +7,7 @@ import re
 from pathlib import Path
 from typing import Iterator, Tuple
 
-OUTGOING = ("down", "out")
+from run_texts import OUTGOING
 
 
 def incoming_files(folder: Path) -> Iterator[Path]:

@@ -52,12 +52,15 @@ def unpacked(path: Path, packed: Iterator[bytes], partial: bool) -> Iterator[byt
     try:
         for block in packed:
             while block:
-                if reader.eof:  # a further part begins, as in packed files that were joined
+                if reader.eof:  # zeros fill the file up, or a further part begins, as in packed files that were joined
+                    block = block.lstrip(b"\0")
+                    if not block:
+                        break
                     reader = zlib.decompressobj(GZIP_WINDOW)
                 yield reader.decompress(block)
                 block = reader.unused_data
     except zlib.error:
-        raise Refusal(f"{path}: its name ends with {PACKED}, and gzip didn't pack it") from None
+        raise Refusal(f"{path}: its name ends with {PACKED}, and gzip didn't pack it, or it is damaged") from None
     if not reader.eof and not partial:
         raise Refusal(f"{path}: ends too early; --partial takes what is there")
 

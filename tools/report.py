@@ -24,13 +24,12 @@ import run_texts
 import sync_losses
 import trau_frames
 from run_lines import HEARDS, Call, Heard, Sent
-from run_texts import SIDES, Report
+from run_texts import OCTETS_OF_SIDE, SIDES, Report
 from side_by_side import Workers, add_processes
 from tool_ends import tool
-from trau_frames import FRAME_BITS, FRAME_OCTETS, PCM_OCTETS, PERIODS_A_SECOND, Refusal
+from trau_frames import FRAME_OCTETS, PERIODS_A_SECOND, Refusal, period_of
 
 Row = Dict[str, Any]
-OCTETS_OF_SIDE = dict(zip(SIDES, (FRAME_OCTETS, PCM_OCTETS, FRAME_OCTETS, PCM_OCTETS)))
 
 
 class Answer(NamedTuple):
@@ -113,13 +112,14 @@ def longest_of(found: Sequence[Tuple[int, int]], start: int) -> Tuple[int, Optio
 
 def unused_periods(folder: Path, call: Call, side: str) -> Optional[int]:
     """How many whole periods an incoming line has after those of its call, or None if there is no line."""
-    name = folder / f"{call.number}.{side}"
-    return name.stat().st_size // OCTETS_OF_SIDE[side] - call.periods() if name.is_file() else None
+    is_there = (folder / f"{call.number}.{side}").is_file()
+    return run_texts.whole_periods(folder, call.number, side) - call.periods() if is_there else None
 
 
 def frames_of_downlink(folder: Path, call: Call) -> Dict[Sent, int]:
-    """How many frames of each kind a call's downlink has."""
-    octets = call.octets(folder, "down")
+    """How many frames of each kind a call's downlink has. One that failed may be missing, a folder or a device, which never ends."""
+    name = folder / f"{call.number}.down"
+    octets = b"" if "down" in call.failed and not name.is_file() else call.octets(folder, "down")
     codes = b"".join(run_lines.sent(made, octets) for made in call.made)
     return {sent: codes.count(code) for code, sent in enumerate(run_lines.SENTS)}
 
@@ -177,9 +177,9 @@ COMPARE_COLUMNS = ("call", "what", "period", "seconds", "octet", "periods", "one
 
 
 def line_of(folder: Path, number: int, side: str) -> Optional[bytes]:
-    """The octets of a line, or None where there is none."""
+    """The octets of a line, or None where there is none, as where a folder or a device has its name."""
     name = folder / f"{number}.{side}"
-    return trau_frames.read_file(name) if name.exists() else None
+    return trau_frames.read_file(name) if name.is_file() else None
 
 
 def periods_that_differ(one: bytes, other: bytes, octets: int) -> List[int]:
@@ -262,11 +262,6 @@ def compare(words: argparse.Namespace) -> Answer:
 SYNC_COLUMNS = ("due", "period", "misses", "broken", "hunted_from", "match", "slip", "found", "found_period")
 
 
-def period_of(place: Optional[int]) -> Optional[int]:
-    """The period, from the line's first, that holds the last bit of a frame at a place."""
-    return None if place is None else (place + FRAME_BITS - 1) // FRAME_BITS
-
-
 def row_of_loss(loss: sync_losses.Loss) -> Row:
     """A loss, for text and CSV: of its first miss the sync bits that broke."""
     return {
@@ -278,7 +273,7 @@ def row_of_loss(loss: sync_losses.Loss) -> Row:
         "match": loss.match,
         "slip": loss.slip(),
         "found": loss.found,
-        "found_period": period_of(loss.found),
+        "found_period": None if loss.found is None else period_of(loss.found),
     }
 
 
@@ -332,39 +327,40 @@ def as_json(answer: Answer) -> str:
 # The words of the command line
 
 
-def parser() -> argparse.ArgumentParser:
-    """The words of the command line."""
-    words = trau_frames.Words(
-        description=__doc__,
-        epilog="example: report.py text report.txt --json",
+def command(
+    commands: argparse._SubParsersAction, made: Callable[[argparse.Namespace], Answer], line: str, more: str
+) -> argparse.ArgumentParser:
+    """Adds a command whose answer `made` gives."""
+    added = commands.add_parser(
+        made.__name__,
+        help=line,
+        description=more,
         formatter_class=argparse.RawDescriptionHelpFormatter,
         allow_abbrev=False,
     )
-    commands = words.add_subparsers(dest="command", required=True, metavar="COMMAND")
+    form = added.add_mutually_exclusive_group()
+    form.add_argument("--json", dest="form", action="store_const", const=as_json, help="JSON instead of a table")
+    form.add_argument("--csv", dest="form", action="store_const", const=as_csv, help="CSV instead of a table")
+    added.set_defaults(made=made, form=as_text)
+    return added
 
-    def command(made: Callable[[argparse.Namespace], Answer], line: str, more: str) -> argparse.ArgumentParser:
-        """Adds a command."""
-        added = commands.add_parser(
-            made.__name__,
-            help=line,
-            description=more,
-            formatter_class=argparse.RawDescriptionHelpFormatter,
-            allow_abbrev=False,
-        )
-        form = added.add_mutually_exclusive_group()
-        form.add_argument("--json", dest="form", action="store_const", const=as_json, help="JSON instead of a table")
-        form.add_argument("--csv", dest="form", action="store_const", const=as_csv, help="CSV instead of a table")
-        added.set_defaults(made=made, form=as_text)
-        return added
 
+def add_text(commands: argparse._SubParsersAction) -> None:
+    """Adds the command `text`: a report."""
     added = command(
+        commands,
         text,
         "a report, checked",
         "Reads a report, and refuses any text that isn't one, octet for octet as the program writes it. The table and CSV have a row\n"
         "for each call; JSON also has the replies to the orders and the bridges.",
     )
     added.add_argument("report", type=Path, metavar="REPORT", help="the text that `trau run` wrote")
+
+
+def add_calls(commands: argparse._SubParsersAction) -> None:
+    """Adds the command `calls`: losses, pauses and comfort noise."""
     added = command(
+        commands,
         calls,
         "losses, pauses and comfort noise of each call",
         "A row for each call of a run. Uplink: periods of speech and of lost speech, the part of the lost ones in both (the frame\n"
@@ -378,7 +374,12 @@ def parser() -> argparse.ArgumentParser:
         "--calls", type=run_texts.calls_named, metavar="CALLS", help="only these calls: parts A and A-B with commas"
     )
     add_processes(added)
+
+
+def add_compare(commands: argparse._SubParsersAction) -> None:
+    """Adds the command `compare`: what differs between two runs."""
     added = command(
+        commands,
         compare,
         "what differs between two runs",
         "A row for each line of the reports, and for each recorded line, that differs between two runs. Of a recorded line: the first\n"
@@ -386,7 +387,12 @@ def parser() -> argparse.ArgumentParser:
     )
     added.add_argument("one", type=Path, metavar="ONE", help="the folder of a run, with its report.txt")
     added.add_argument("other", type=Path, metavar="OTHER", help="the folder of another run")
+
+
+def add_sync(commands: argparse._SubParsersAction) -> None:
+    """Adds the command `sync`: where an uplink lost sync."""
     added = command(
+        commands,
         sync,
         "where and why an uplink lost sync",
         "A row for each loss of an uplink (misses in a row): the bit at which the first frame was due, its period, the number of\n"
@@ -398,6 +404,19 @@ def parser() -> argparse.ArgumentParser:
     added.add_argument(
         "--frames", type=Path, metavar="FILE", help="what `trau frames` printed for the line; refuse the line if it differs"
     )
+
+
+def parser() -> argparse.ArgumentParser:
+    """The words of the command line."""
+    words = trau_frames.Words(
+        description=__doc__,
+        epilog="example: report.py text report.txt --json",
+        formatter_class=argparse.RawDescriptionHelpFormatter,
+        allow_abbrev=False,
+    )
+    commands = words.add_subparsers(dest="command", required=True, metavar="COMMAND")
+    for add in (add_text, add_calls, add_compare, add_sync):
+        add(commands)
     return words
 
 

@@ -12,7 +12,7 @@ from typing import Dict, Iterator, List, NamedTuple, Optional, Sequence
 import run_texts
 import trau_frames
 from octet_columns import Frames, joined, table
-from run_texts import Bridge, Span
+from run_texts import OCTETS_OF_SIDE, OUTGOING, Bridge, Span
 from side_by_side import ALONE, Workers
 from trau_frames import FRAME_BITS, FRAME_OCTETS, PCM_OCTETS, Law, Refusal, Sort, Yield
 from uplink_periods import GOOD, IDLE, SID, SORTS, Asking, by_what_came_before, searched
@@ -177,10 +177,6 @@ def sent(made: Made, octets: bytes) -> bytes:
 # A run
 
 
-# The octets of a period on the outgoing lines.
-OUTGOING = {"down": FRAME_OCTETS, "out": PCM_OCTETS}
-
-
 @dataclass
 class Call:
     """A call as the report describes it and as its uplink is searched. Only the orders show its law."""
@@ -200,7 +196,7 @@ class Call:
     def octets(self, folder: Path, side: str, first: int = 0, last: Optional[int] = None) -> bytes:
         """The octets of a line of this call, from a period of the call on to another, those of its own periods at most."""
         last = self.periods() if last is None else min(last, self.periods())
-        octets = FRAME_OCTETS if side in ("up", "down") else PCM_OCTETS
+        octets = OCTETS_OF_SIDE[side]
         if last <= first:
             return b""
         return trau_frames.read_part(folder / f"{self.number}.{side}", first * octets, (last - first) * octets)
@@ -232,8 +228,8 @@ class Call:
     def check_outgoing(self, folder: Path) -> None:
         """Refuses an outgoing line that hasn't the octets of the call's periods. One that failed may have fewer; one of a call without
         periods is an older one."""
-        for side, octets in OUTGOING.items():
-            name, wanted = folder / f"{self.number}.{side}", self.periods() * octets
+        for side in OUTGOING:
+            name, wanted = folder / f"{self.number}.{side}", self.periods() * OCTETS_OF_SIDE[side]
             if wanted and side not in self.failed and name.is_file() and name.stat().st_size != wanted:
                 raise Refusal(
                     f"{name}: has {name.stat().st_size} octets, and {self.periods()} periods give {wanted}: it is of another run, or of a"

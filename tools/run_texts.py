@@ -13,7 +13,7 @@ from pathlib import Path
 from typing import Dict, List, NamedTuple, Optional, Sequence, Tuple
 
 import trau_frames
-from trau_frames import Law, Refusal
+from trau_frames import FRAME_OCTETS, PCM_OCTETS, Law, Refusal
 
 # What one run takes. A farm of more calls than these is more than one farm.
 MOST_CALLS = 4096
@@ -23,6 +23,8 @@ MOST_ORDERS = 65536
 MOST_ORDER_OCTETS = 1048576
 
 SIDES = ("up", "pcm", "down", "out")
+INCOMING, OUTGOING = SIDES[:2], SIDES[2:]
+OCTETS_OF_SIDE = {"up": FRAME_OCTETS, "pcm": PCM_OCTETS, "down": FRAME_OCTETS, "out": PCM_OCTETS}  # in a period
 YIELDS = ("good", "sid", "invalid", "bad", "idle", "other", "miss", "none")
 
 REFUSALS = {
@@ -35,6 +37,12 @@ REFUSALS = {
     7: "the number was used before",
 }
 REFUSALS_WITH_PARTNER = (3, 6)
+
+
+def whole_periods(folder: Path, call: int, side: str) -> int:
+    """How many whole periods a call's line in a folder has; none if it isn't a file."""
+    line = folder / f"{call}.{side}"
+    return line.stat().st_size // OCTETS_OF_SIDE[side] if line.is_file() else 0
 
 
 def is_whole_number(word: str) -> bool:

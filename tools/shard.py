@@ -21,21 +21,20 @@ import sys
 import tempfile
 from dataclasses import dataclass
 from pathlib import Path
-from typing import Callable, Dict, FrozenSet, Iterator, List, Optional, Sequence, Tuple
+from typing import Dict, FrozenSet, Iterator, List, Optional, Sequence, Tuple
 
 import listening
 import run_texts
 import trau_frames
-from run_texts import MOST_CALLS, MOST_PERIODS, SIDES, Bridge, FailedLine, Order, Reply, Report, Span
+from run_texts import INCOMING, MOST_CALLS, MOST_PERIODS, OUTGOING, SIDES, Bridge, FailedLine, Order, Reply, Report, Span
 from tool_ends import naming, tool
-from trau_frames import FRAME_OCTETS, PCM_OCTETS, Refusal
+from trau_frames import Refusal, number_within
 
 CUT = "cut.json"
 ORDERS = "orders.txt"
 REPORT = "report.txt"
 STATUS = "status"
 SCRIPT = "run.sh"
-INCOMING, OUTGOING = SIDES[:2], SIDES[2:]
 STATUSES_WITH_A_REPORT = (0, 6)
 
 SCRIPT_TEXT = """#!/bin/sh
@@ -66,12 +65,8 @@ def components(orders: Sequence[Order]) -> List[FrozenSet[int]]:
 
 
 def periods_of(folder: Path, call: int) -> int:
-    """How many periods the lines of a call have."""
-    sizes = []
-    for side, octets in zip(INCOMING, (FRAME_OCTETS, PCM_OCTETS)):
-        line = folder / f"{call}.{side}"
-        sizes.append(line.stat().st_size // octets if line.is_file() else 0)
-    return min(sizes)
+    """How many periods both incoming lines of a call have."""
+    return min(run_texts.whole_periods(folder, call, side) for side in INCOMING)
 
 
 @dataclass
@@ -92,21 +87,24 @@ def parts_of(pieces: Sequence[Tuple[int, FrozenSet[int]]], count: int) -> List[P
     return [part for part in parts if part.calls]
 
 
-def lay_line(source: Path, target: Path, side: str, copied: bool) -> None:
-    """Puts a line into a part: a link, which makes an outgoing file too; or a copy of an incoming one."""
-    if not copied:
-        target.symlink_to(Path(os.path.abspath(source)))
-    elif os.path.lexists(source) and not source.is_file():
+def link_line(source: Path, target: Path) -> None:
+    """Puts a link to a line into a part. By a link to an outgoing line that isn't there, the part's run makes it."""
+    target.symlink_to(os.path.abspath(source))
+
+
+def copy_line(source: Path, target: Path, side: str) -> None:
+    """Puts a copy of an incoming line into a part. Of an outgoing one it only refuses what the part's line couldn't replace."""
+    if os.path.lexists(source) and not source.is_file():
         raise Refusal(f"{source}: isn't a file; only links to such lines can be cut, without --copy")
-    elif side in INCOMING and source.is_file():
+    if side in INCOMING and source.is_file():
         with naming(target):
             shutil.copyfile(source, target)
 
 
 def write_new(path: Path, text: str) -> None:
-    """Writes a file of a cut."""
+    """Writes a file of a cut. Names in it may have octets that are no text."""
     with naming(path):
-        path.write_text(text)
+        path.write_bytes(os.fsencode(text))
 
 
 def script_of(words: argparse.Namespace) -> str:
@@ -125,8 +123,11 @@ def lay_part(folder: Path, words: argparse.Namespace, orders: Sequence[Order]) -
     script.chmod(script.stat().st_mode | stat.S_IXUSR | stat.S_IXGRP | stat.S_IXOTH)
     for call in {order.calls[0] for order in orders if order.verb == "open"}:
         for side in SIDES:
-            name = f"{call}.{side}"
-            lay_line(words.folder / name, folder / name, side, words.copy)
+            source, target = (place / f"{call}.{side}" for place in (words.folder, folder))
+            if words.copy:
+                copy_line(source, target, side)
+            else:
+                link_line(source, target)
 
 
 def lay_cut(place: Path, words: argparse.Namespace, orders: Sequence[Order], parts: Sequence[Part]) -> None:
@@ -312,17 +313,6 @@ def merge(words: argparse.Namespace) -> int:
 # The words of the command line
 
 
-def number_within(least: int, most: int) -> Callable[[str], int]:
-    """Reads a number between these ends."""
-
-    def read(word: str) -> int:
-        if not run_texts.is_whole_number(word) or not least <= int(word) <= most:
-            raise argparse.ArgumentTypeError(f"{word} isn't {least:,} to {most:,}")
-        return int(word)
-
-    return read
-
-
 def add_split(commands: argparse._SubParsersAction) -> None:
     """Adds the command `split`."""
     cutting = commands.add_parser(
@@ -344,7 +334,11 @@ def add_split(commands: argparse._SubParsersAction) -> None:
     )
     cutting.add_argument("--copy", action="store_true", help="copy the incoming lines instead of linking them")
     cutting.add_argument(
-        "--trau", default=listening.program_beside(), metavar="PROGRAM", help="the program (default %(default)s)"
+        "--trau",
+        type=listening.program_named,
+        default=listening.program_beside(),
+        metavar="PROGRAM",
+        help="the program (default %(default)s)",
     )
     cutting.add_argument(
         "--workers", type=number_within(1, 64), default=1, metavar="N", help="as of trau run (default 1)"

@@ -10,9 +10,10 @@ import sys
 import time
 from concurrent.futures import Future, ProcessPoolExecutor
 from concurrent.futures.process import BrokenProcessPool
-from typing import Any, Callable, Iterator, List, Sequence, Tuple, TypeVar
+from pathlib import Path
+from typing import Any, Callable, Iterator, List, Optional, Sequence, Tuple, TypeVar
 
-from trau_frames import Refusal
+from trau_frames import Refusal, number_within
 
 MOST_PROCESSES = 64
 LEAST_OCTETS = 8_000_000  # less isn't worth the start of processes, and shows no progress
@@ -22,11 +23,19 @@ SECONDS_BETWEEN_LINES = 10  # where standard error isn't a terminal
 Result = TypeVar("Result")
 
 
+def number_in(path: str, place: int = 0) -> Optional[int]:
+    """A number of a small file of the system, or None where there is no such number."""
+    try:
+        return int(Path(path).read_text().split()[place])
+    except (OSError, ValueError, IndexError):
+        return None
+
+
 def processors() -> int:
-    """How many processors this process may use."""
-    if hasattr(os, "sched_getaffinity"):
-        return len(os.sched_getaffinity(0))
-    return os.cpu_count() or 1
+    """How many processors may be used: those of this process, or fewer by the quota of its group."""
+    found = len(os.sched_getaffinity(0)) if hasattr(os, "sched_getaffinity") else os.cpu_count() or 1
+    quota, period = number_in("/sys/fs/cgroup/cpu.max"), number_in("/sys/fs/cgroup/cpu.max", 1)
+    return min(found, max(1, quota // period)) if quota and period else found
 
 
 def leave_interrupts() -> None:
@@ -103,18 +112,11 @@ class Workers:
 ALONE = Workers(1)
 
 
-def processes_named(word: str) -> int:
-    """The number of processes that a word names."""
-    if not word.isdecimal() or not 1 <= int(word) <= MOST_PROCESSES:
-        raise argparse.ArgumentTypeError(f"{word} isn't 1 to {MOST_PROCESSES}")
-    return int(word)
-
-
 def add_processes(words: argparse.ArgumentParser) -> None:
     """Adds the option --processes."""
     words.add_argument(
         "--processes",
-        type=processes_named,
+        type=number_within(1, MOST_PROCESSES),
         default=min(MOST_PROCESSES, processors()),
         metavar="N",
         help="the number of processes that work side by side (default: one for each processor)",

@@ -24,17 +24,11 @@ from run_lines import Run
 from run_texts import MOST_PERIODS
 from side_by_side import Workers, add_processes
 from tool_ends import tool
-from trau_frames import Refusal
+from trau_frames import Refusal, number_within
 
 MOST_FULL_ROWS = 40
+WIDTHS = 200, 100_000  # the least and the greatest, in pixels
 PICTURES = (".svg", ".html")  # how the names of pictures end
-
-
-def period_named(word: str) -> int:
-    """The period that a word names."""
-    if not run_texts.is_whole_number(word) or int(word) > MOST_PERIODS:
-        raise argparse.ArgumentTypeError(f"{word} isn't 0 to {MOST_PERIODS:,}")
-    return int(word)
 
 
 def shape_of(word: str, calls: int) -> Shape:
@@ -59,16 +53,16 @@ def parser() -> argparse.ArgumentParser:
     words.add_argument("--orders", type=Path, metavar="FILE", help="the orders of the run (default FOLDER/orders.txt)")
     words.add_argument("--report", type=Path, metavar="FILE", help="the report of the run (default FOLDER/report.txt)")
     words.add_argument(
-        "--width", type=int, default=1300, metavar="PIXELS", help="the width of all periods (default 1300)"
+        "--width", type=number_within(*WIDTHS), default=1300, metavar="PIXELS", help="the width of all periods (default 1300)"
     )
     words.add_argument(
         "--calls", type=run_texts.calls_named, metavar="CALLS", help="only these calls: parts A and A-B with commas"
     )
     words.add_argument(
-        "--from", type=period_named, dest="first", metavar="PERIOD", help="the first period to draw"
+        "--from", type=number_within(0, MOST_PERIODS), dest="first", metavar="PERIOD", help="the first period to draw"
     )
     words.add_argument(
-        "--to", type=period_named, dest="last", metavar="PERIOD", help="the period after the last one to draw"
+        "--to", type=number_within(0, MOST_PERIODS), dest="last", metavar="PERIOD", help="the period after the last one to draw"
     )
     words.add_argument(
         "--rows",
@@ -120,10 +114,7 @@ def draw(asked: argparse.Namespace) -> Run:
 @tool("timeline.py")
 def main(words: Sequence[str]) -> int:
     """Runs the words of the command line, and returns the exit status."""
-    reader = parser()
-    asked = reader.parse_args(words)
-    if not 200 <= asked.width <= 100000:
-        reader.error(f"--width {asked.width} isn't 200 to 100000")
+    asked = parser().parse_args(words)
     asked.orders = asked.orders or asked.folder / "orders.txt"
     asked.report = asked.report or asked.folder / "report.txt"
     run = draw(asked)

@@ -13,6 +13,7 @@ from unittest import mock
 
 import trau_words
 
+
 def help_of(name: str, words: Sequence[str] = ()) -> str:
     """The tool's --help when it is started by this name, such as `trau-lines` for lines.py."""
     tool = importlib.import_module(name.split("-")[-1])
@@ -20,9 +21,8 @@ def help_of(name: str, words: Sequence[str] = ()) -> str:
     with mock.patch.object(sys, "argv", [name]), mock.patch.dict(os.environ, COLUMNS="72"), contextlib.redirect_stdout(said):
         with contextlib.suppress(SystemExit):
             tool.main([*words, "--help"])
-    # Examples name the tools as they lie in the repository, and Python 3.9 has another heading than later ones.
-    text = re.sub(r"\b(lines|orders|report|shard|timeline|watch)\.py\b", r"trau-\1", said.getvalue())
-    return text.replace("optional arguments:", "options:")
+    # Python 3.9 has another heading than later ones.
+    return said.getvalue().replace("optional arguments:", "options:")
 
 
 def commands_of(text: str) -> List[str]:
@@ -74,13 +74,3 @@ def man_page(name: str, version: str, date: str) -> str:
         usage, said = help_of(name, [command]).split("\n\n", 1)
         lines += [f".SH {trau_words.escaped(command.upper())}", *as_it_stands(usage[len("usage: ") :]), *body(said)]
     return "\n".join([*lines, ".SH SEE ALSO", ".BR trau (1)"]) + "\n"
-
-
-def main() -> int:
-    """Prints the man page of a tool, to look at."""
-    sys.stdout.write(man_page(sys.argv[1], "trau", ""))
-    return 0
-
-
-if __name__ == "__main__":
-    sys.exit(main())

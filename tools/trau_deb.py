@@ -17,10 +17,12 @@ from pathlib import Path
 from typing import Dict, List, NamedTuple, Tuple
 
 import trau_frames
+import trau_words
 from trau_frames import Refusal
 
 TOP = Path(__file__).resolve().parents[1]
 CHANGELOG = "docs/CHANGELOG.md"
+CHANGE_WIDTH = 74
 HOME = "usr/lib/trau"
 DOCUMENTS = "usr/share/doc/trau"
 MACHINES = {"x86_64": "amd64", "aarch64": "arm64"}
@@ -128,19 +130,9 @@ def changelog(author: str) -> str:
     entries = []
     for version, date, changes in versions():
         day = time.strftime("%a, %d %b %Y 12:00:00 +0000", time.strptime(date, "%Y-%m-%d"))
-        said = "".join("  * " + "\n    ".join(folded(change)) + "\n" for change in changes)
+        said = "".join("  * " + "\n    ".join(trau_words.folded(change, "", CHANGE_WIDTH)) + "\n" for change in changes)
         entries.append(f"trau ({version}) unstable; urgency=medium\n\n{said}\n -- {author}  {day}\n")
     return "\n".join(entries)
-
-
-def folded(words: str, width: int = 74) -> List[str]:
-    """Words in lines of this width at most."""
-    lines = [""]
-    for word in words.split():
-        if lines[-1] and len(lines[-1]) + 1 + len(word) > width:
-            lines.append("")
-        lines[-1] += (" " if lines[-1] else "") + word
-    return lines
 
 
 def zipped(content: bytes) -> bytes:
@@ -192,7 +184,7 @@ def symbols(header: str, version: str) -> str:
     """The functions of the library, each since this version, as dpkg-shlibdeps reads them."""
     names = sorted(set(re.findall(r"\b(trau_\w+)\(", re.sub(r"/\*.*?\*/", "", header, flags=re.S))))
     each = "".join(f" {name}@TRAU_FR_1 {version}\n" for name in ["TRAU_FR_1", *names])
-    return f"libtrau_fr.so.1 libtrau-fr1 #MINVER#\n{each}".replace("#MINVER#", f"(>= {version})")
+    return f"libtrau_fr.so.1 libtrau-fr1 (>= {version})\n{each}"
 
 
 def shared_library(files: Dict[str, bytes], version: str) -> Package:

@@ -1,4 +1,5 @@
-"""What the tools share: TRAU frames and their bits, the search for frames, full rate parameters, A-law and mu-law, and files.
+"""What the tools share: TRAU frames and their bits, the search for frames, full rate parameters, A-law and mu-law, files, and
+the words of command lines.
 
 Bits are texts of the characters 0 and 1, the first bit of a line first. A period is 20 ms: 40 octets of a line of frames,
 160 octets of a line of A-law or mu-law. Scripts of bench/ use this file too.
@@ -13,12 +14,13 @@ import re
 import sys
 from dataclasses import dataclass
 from pathlib import Path
-from typing import Iterable, Iterator, NamedTuple, NoReturn, Optional, TextIO, Tuple
+from typing import Callable, Iterable, Iterator, NamedTuple, NoReturn, Optional, TextIO, Tuple
 
 PERIODS_A_SECOND = 50
 FRAME_BITS = 320
 FRAME_OCTETS = 40
 PCM_OCTETS = 160
+SAMPLES_A_SECOND = PERIODS_A_SECOND * PCM_OCTETS
 
 
 class Refusal(Exception):
@@ -106,6 +108,11 @@ class Sort(enum.Enum):
     NONE = "none"
 
 
+def period_of(place: int) -> int:
+    """The period, counted from the line's start, that holds the last bit of a frame at a place."""
+    return (place + FRAME_BITS - 1) // FRAME_BITS
+
+
 @dataclass(frozen=True)
 class Yield:
     """A frame that the search found at a place in bits, or the miss of one that was due there."""
@@ -126,8 +133,8 @@ class Yield:
         return Sort.SID if read.silence == 2 and not read.bad else Sort.INVALID
 
     def period(self) -> int:
-        """The period, counted from the line's start, that holds the yield's last bit."""
-        return (self.place + FRAME_BITS - 1) // FRAME_BITS
+        """The period that holds the yield's last bit."""
+        return period_of(self.place)
 
 
 MISSES_THAT_UNLOCK = 3
@@ -148,11 +155,6 @@ def search(bits: str) -> Iterator[Yield]:
             place, misses = place + FRAME_BITS, misses + 1
         else:
             return
-
-
-def frames_of_downlink(bits: str) -> Iterator[str]:
-    """The frames of a downlink, wherever they begin, each with its time bits where it has them."""
-    return (found.group() for found in FRAME_OF_DOWNLINK.finditer(bits))
 
 
 # The parameters of a frame, in the standard's order: eight codes of log area ratios, then for each of four blocks the lag,
@@ -400,6 +402,21 @@ def replace_file(path: Path, content: bytes, inputs: Iterable[Path]) -> None:
         except BaseException:
             part.unlink()
             raise
+
+
+# The words of the command line
+
+
+def number_within(least: int, most: int) -> Callable[[str], int]:
+    """Reads a number between these ends, in decimal digits without leading zeros."""
+
+    def read(word: str) -> int:
+        is_number = re.fullmatch("0|[1-9][0-9]*", word) and len(word) <= len(str(most))
+        if not is_number or not least <= int(word) <= most:
+            raise argparse.ArgumentTypeError(f"{word} isn't {least:,} to {most:,}")
+        return int(word)
+
+    return read
 
 
 # A tool in a text: the name of its file, with words after it or alone.

@@ -15,6 +15,7 @@ from typing import Iterable, List, Sequence, Tuple
 
 import trau_frames
 from tool_ends import tool
+from word_faults import grouped
 
 NAME = "trau"
 PURPOSE = "the GSM transcoder and rate adaptor unit, on recorded lines"
@@ -250,11 +251,6 @@ def table(rows: Iterable[Tuple[str, str]]) -> List[str]:
         first, *others = folded(said, (2 + wide) * " ")
         lines += [f"  {name:{wide}}" + first.lstrip(), *others]
     return lines
-
-
-def grouped(number: int) -> str:
-    """A number as the documents write it."""
-    return f"{number:,}"
 
 
 def range_of(option: Option) -> str:

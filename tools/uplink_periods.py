@@ -7,7 +7,7 @@ import re
 from typing import Iterator, List, NamedTuple, Optional, Tuple
 
 from octet_columns import FIRST_BITS, LAST_BITS, Frames, joined, number, table
-from trau_frames import FRAME_BITS, FRAME_OCTETS, IDLE_UP, MISSES_THAT_UNLOCK, SPEECH_UP, Sort
+from trau_frames import FRAME_BITS, FRAME_OCTETS, IDLE_UP, MISSES_THAT_UNLOCK, SPEECH_UP, Sort, period_of
 
 SORTS = tuple(Sort)
 GOOD, SID, INVALID, BAD, IDLE, OTHER, MISS, NONE = range(len(SORTS))  # codes: the places of the sorts in their order
@@ -117,8 +117,8 @@ class Track(NamedTuple):
     fields: bytes
 
     def period(self) -> int:
-        """The period, counted from the line's start, that holds the last bit of the first one."""
-        return (self.place + FRAME_BITS - 1) // FRAME_BITS
+        """The period that holds the last bit of the first one."""
+        return period_of(self.place)
 
 
 def tracks(octets: bytes) -> Iterator[Track]:

@@ -20,14 +20,9 @@ from typing import Any, Dict, List, NamedTuple, Optional, Sequence, Union
 
 import run_texts
 import trau_frames
-from run_texts import MOST_PERIODS, Order
+from run_texts import INCOMING, MOST_PERIODS, OUTGOING, Order, whole_periods
 from tool_ends import complain, tool
-from trau_frames import FRAME_OCTETS, PCM_OCTETS, Refusal
-
-
-def whole_periods(name: Path, octets: int) -> int:
-    """How many whole periods a line has."""
-    return name.stat().st_size // octets if name.is_file() else 0
+from trau_frames import Refusal, number_within
 
 
 def expected_periods(folder: Path, orders: Sequence[Order], periods: int) -> Dict[int, int]:
@@ -42,9 +37,7 @@ def expected_periods(folder: Path, orders: Sequence[Order], periods: int) -> Dic
             closed.setdefault(call, order.stamp)
     expected = {}
     for call, start in opened.items():
-        lines = min(
-            whole_periods(folder / f"{call}.up", FRAME_OCTETS), whole_periods(folder / f"{call}.pcm", PCM_OCTETS)
-        )
+        lines = min(whole_periods(folder, call, side) for side in INCOMING)
         expected[call] = max(0, min(lines, closed.get(call, periods) - start, periods - start))
     return expected
 
@@ -82,7 +75,7 @@ class Watched:
 
     def octets(self) -> int:
         """How many octets are on the outgoing lines of the calls."""
-        lines = (self.folder / f"{call}.{side}" for call in self.expected for side in ("down", "out"))
+        lines = (self.folder / f"{call}.{side}" for call in self.expected for side in OUTGOING)
         return sum(line.stat().st_size for line in lines if line.is_file())
 
     def done(self, call: int, began: float) -> int:
@@ -90,7 +83,7 @@ class Watched:
         line = self.folder / f"{call}.out"
         if not line.is_file() or line.stat().st_mtime < began:
             return 0
-        return min(self.expected[call], whole_periods(line, PCM_OCTETS))
+        return min(self.expected[call], whole_periods(self.folder, call, "out"))
 
     def progress(self) -> Progress:
         """How far this run is."""
@@ -240,7 +233,7 @@ def parser() -> argparse.ArgumentParser:
     words.add_argument("folders", type=Path, nargs="+", metavar="FOLDER", help="the folder of a run; several for several runs")
     words.add_argument("--orders", type=Path, metavar="FILE", help="the orders of the run (default FOLDER/orders.txt)")
     words.add_argument("--report", type=Path, metavar="FILE", help="the report of the run (default FOLDER/report.txt)")
-    words.add_argument("--periods", type=int, default=MOST_PERIODS, metavar="N", help="as of trau run")
+    words.add_argument("--periods", type=number_within(1, MOST_PERIODS), default=MOST_PERIODS, metavar="N", help="as of trau run")
     words.add_argument("--interval", type=float, default=1.0, metavar="SECONDS", help="between two looks (default 1)")
     words.add_argument(
         "--patience",
@@ -263,8 +256,6 @@ def main(words: Sequence[str]) -> int:
     asked = reader.parse_args(words)
     if not 0.01 <= asked.interval <= 3600:
         reader.error(f"--interval {asked.interval} isn't 0.01 to 3600")
-    if not 1 <= asked.periods <= MOST_PERIODS:
-        reader.error(f"--periods {asked.periods} isn't 1 to {MOST_PERIODS:,}")
     if len(asked.folders) > 1 and (asked.orders or asked.report):
         reader.error("--orders and --report are of one folder")
     if not 0.01 <= asked.patience <= 1_000_000:

@@ -9,9 +9,7 @@ from dataclasses import dataclass
 from pathlib import Path
 
 from recordings import command_of_others
-from trau_frames import Law, Refusal, as_started
-
-SAMPLES_A_SECOND = 8000
+from trau_frames import SAMPLES_A_SECOND, Law, Refusal, as_started
 
 WAV_LINEAR, WAV_ALAW, WAV_MULAW, WAV_GSM, WAV_EXTENSIBLE = 1, 6, 7, 0x31, 0xFFFE
 LAWS_BY_TAG = {WAV_ALAW: Law.A, WAV_MULAW: Law.MU}

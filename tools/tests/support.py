@@ -1,4 +1,5 @@
-"""What the tests of the tools share: the repository's folders, a tool's run, and a folder of its own for each test."""
+"""What the tests of the tools share: the repository's folders, a tool's run, a folder of its own for each test, and
+the frames of a downlink."""
 
 import contextlib
 import io
@@ -16,11 +17,18 @@ DATA = TOOLS / "tests" / "data"
 
 sys.path.insert(0, str(TOOLS))
 
+import trau_frames
+
 # Under a limit on the size of files, as some tests set it, Python would keep a part of what it compiles, and every later start would read it.
 os.environ["PYTHONDONTWRITEBYTECODE"] = "1"
 
 # The system's commands, without the toolchain and without anything that is installed by hand.
 PLAIN_PATH = "/usr/bin:/bin"
+
+
+def frames_of_downlink(bits):
+    """The frames of a downlink, wherever they begin, each with its time bits where it has them."""
+    return (found.group() for found in trau_frames.FRAME_OF_DOWNLINK.finditer(bits))
 
 
 def put_python(folder):

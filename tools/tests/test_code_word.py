@@ -7,7 +7,7 @@ import random
 import unittest
 from collections import Counter
 
-from support import CODEC, DATA, EXAMPLES, InFolder
+from support import CODEC, DATA, EXAMPLES, InFolder, frames_of_downlink
 
 import code_word
 import lines
@@ -28,7 +28,7 @@ def with_errors(data, errors, source):
 
 def data_of_line(octets):
     """D1 to D260 of each frame of an uplink or a downlink."""
-    return [trau_frames.data_of(frame) for frame in trau_frames.frames_of_downlink(trau_frames.bits_of(octets))]
+    return [trau_frames.data_of(frame) for frame in frames_of_downlink(trau_frames.bits_of(octets))]
 
 
 def descriptor(source):
@@ -68,7 +68,7 @@ class CodeWord(InFolder):
     def test_descriptors_of_a_downlink(self):
         # The silence descriptors that a run sent, SP 0, have the whole code word, and its comfort noise has none.
         bits = trau_frames.bits_of((EXAMPLES / "farm" / "wanted" / "2.down").read_bytes())
-        for frame in trau_frames.frames_of_downlink(bits):
+        for frame in frames_of_downlink(bits):
             speech = trau_frames.control_of(frame)[15] == "1"
             errors = code_word.errors_of(trau_frames.data_of(frame))
             self.assertTrue(errors >= 16 if speech else errors == 0, errors)

@@ -199,6 +199,14 @@ class SideBySide(InFolder):
         told = "".join(f"adding: {number} of 4 calls\n" for number in (1, 2, 3))
         self.assertEqual((ran.stdout, ran.stderr), ("6\n", told))
 
+    def test_processors(self):
+        with mock.patch.object(os, "sched_getaffinity", lambda _: range(8)):
+            # The processor time of the process's group and the period in which it may take it, or no limit.
+            for limits, wanted in (((400_000, 100_000), 4), ((50_000, 100_000), 1), ((900_000, 100_000), 8), ((None, 100_000), 8)):
+                with mock.patch.object(side_by_side, "number_in", lambda _, place=0: limits[place]):
+                    self.assertEqual(side_by_side.processors(), wanted)
+        self.assertGreaterEqual(side_by_side.processors(), 1)
+
     def test_the_tools_give_the_same(self):
         lay("mixed", self.folder)
         told = []

@@ -11,7 +11,7 @@ import unittest
 from concurrent.futures import ThreadPoolExecutor
 from pathlib import Path
 
-from support import DATA, TOOLS, InFolder
+from support import DATA, PLAIN_PATH, TOOLS, InFolder
 from test_timeline import lay
 
 # Each tool with words for which it prints on standard output; {} is a folder with a run.
@@ -154,6 +154,16 @@ class Ends(InFolder):
         self.assertIn("\nexample: trau-report text report.txt --json\n", self.installed("report.py", "--help")[1])
         said = "trau-watch: none: no run in this folder: there is no orders.txt\n"
         self.assertEqual(self.installed("watch.py", "none"), (1, "", said))
+
+    def test_the_second_program(self):
+        words = [sys.executable, TOOLS / "build_for.py"]
+        ended = subprocess.run([*words, "--help"], capture_output=True, text=True)
+        self.assertEqual((ended.returncode, ended.stderr), (0, ""))
+        self.assertTrue(ended.stdout.startswith("usage: build_for.py [-h] TOP CRATE KIND\n"), ended.stdout)
+        surroundings = {**os.environ, "PATH": PLAIN_PATH}
+        ended = subprocess.run([*words, ".", "trau_program", "x86-64-v3"], capture_output=True, text=True, env=surroundings)
+        said = "build_for.py: the Rattle toolchain's command rt isn't on the path\n"
+        self.assertEqual((ended.returncode, ended.stdout, ended.stderr), (2, "", said))
 
     def test_an_interrupt_while_a_tool_loads(self):
         # A module of the tool that takes long to load, in place of the standard library's.

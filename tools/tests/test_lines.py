@@ -8,7 +8,7 @@ import unittest
 from collections import Counter
 
 import support
-from support import CODEC, DATA, EXAMPLES, InFolder
+from support import CODEC, DATA, EXAMPLES, InFolder, frames_of_downlink
 
 import lines
 import trau_frames
@@ -179,7 +179,7 @@ class Frames(InFolder):
         source = trau_frames.RandomSource(4)
         made = [trau_frames.noise(descriptor, source).bits() for _ in range(22)]
         bits = trau_frames.bits_of((EXAMPLES / "farm" / "wanted" / "2.down").read_bytes())
-        sent = [trau_frames.data_of(frame) for frame in trau_frames.frames_of_downlink(bits)]
+        sent = [trau_frames.data_of(frame) for frame in frames_of_downlink(bits)]
         first = sent.index(made[2])
         self.assertEqual(sent[first : first + 20], made[2:])
 

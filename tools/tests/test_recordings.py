@@ -58,6 +58,17 @@ class Packed(Recorded):
         path = self.path("a.gz", gzip.compress(SPEECH[:660]) + gzip.compress(SPEECH[660:]))
         self.assertEqual(recordings.read_recording(path), SPEECH)
 
+    def test_zeros_that_fill_a_file_up(self):
+        one, other = gzip.compress(SPEECH[:660]), gzip.compress(SPEECH[660:])
+        path = self.path("a.gz", one + bytes(5) + other + bytes(512))
+        for octets in (1, 13, 1 << 20):
+            with mock.patch.object(recordings, "BLOCK_OCTETS", octets):
+                self.assertEqual(recordings.read_recording(path), SPEECH)
+        # Zeros alone, and others than zeros.
+        for content in (bytes(512), one + bytes(5) + b"other"):
+            path = self.path("a.gz", content)
+            self.assert_refused(lines.main, ["uplink", path, self.path("new")], "gzip didn't pack it, or it is damaged")
+
     def test_blocks_of_any_size(self):
         source = random.Random(1)
         self.addCleanup(setattr, recordings, "BLOCK_OCTETS", recordings.BLOCK_OCTETS)
@@ -79,6 +90,9 @@ class Packed(Recorded):
         self.assertGreater(len(octets), 20000)
         path = self.path("b.gz", SPEECH)
         self.assert_refused(lines.main, ["uplink", path, self.path("new")], "b.gz: its name ends with .gz, and gzip didn't pack it")
+        # A wrong bit of the sum at its end.
+        path = self.path("c.gz", packed[:-8] + bytes([packed[-8] ^ 1]) + packed[-7:])
+        self.assert_refused(lines.main, ["pcm", path, self.path("new"), "--raw"], "gzip didn't pack it, or it is damaged")
 
 
 class Partial(Recorded):
@@ -140,8 +154,10 @@ class Slots(Recorded):
         line, new = self.path("line", bytes(64)), self.path("new")
         for words, part in (
             (["--slot", "32", "--of", "32"], "--slot 32: the slots of this line are 0 to 31"),
-            (["--slot", "x"], "'x' isn't 0 to 255"),
-            (["--of", "0"], "'0' isn't 1 to 256"),
+            (["--slot", "x"], "x isn't 0 to 255"),
+            (["--of", "0"], "0 isn't 1 to 256"),
+            (["--skip", 1 << 40], "has no octet of slot 0"),
+            (["--skip", (1 << 40) + 1], "1099511627777 isn't 0 to 1,099,511,627,776"),
             (["--slot", "5", "--of", "8", "--skip", "60"], "has no octet of slot 5"),
         ):
             self.assert_refused(lines.main, ["slot", line, new, *words], part)
@@ -207,7 +223,8 @@ class Listening(Recorded):
         self.assert_refused(lines.main, ["listen", down, new, "--trau", self.folder / "gone"], "gone: No such file")
         fails = self.path("fails", b"#!/bin/sh\necho no memory; exit 5\n")
         fails.chmod(0o755)
-        self.assert_refused(lines.main, ["listen", down, new, "--trau", fails], "fails decode: status 5, no memory")
+        for name in (fails, os.path.relpath(fails)):
+            self.assert_refused(lines.main, ["listen", down, new, "--trau", name], f"{fails} decode: status 5, no memory")
 
 
 if __name__ == "__main__":

@@ -7,7 +7,7 @@ import shutil
 import unittest
 from collections import Counter
 
-from support import EXAMPLES, InFolder
+from support import EXAMPLES, InFolder, frames_of_downlink
 from test_timeline import lay
 
 import report
@@ -110,7 +110,7 @@ class Calls(Told):
                 octets = call.octets(folder, "down")
                 kinds = Counter(run_lines.SENTS[code] for made in call.made for code in run_lines.sent(made, octets))
                 self.assertEqual(kinds[Sent.OTHER], 0)
-                found = list(trau_frames.frames_of_downlink(bits))
+                found = list(frames_of_downlink(bits))
                 self.assertLessEqual(sum(kinds.values()) - len(found), 0)
                 speech = sum(frame[17:22] == trau_frames.SPEECH_DOWN for frame in found)
                 whole = kinds[Sent.SPEECH] + kinds[Sent.SILENCE] + kinds[Sent.HANDED]
@@ -139,6 +139,22 @@ class Calls(Told):
         (folder / "1.pcm").unlink()
         self.assertEqual(self.rows("calls", folder)[0]["unused_pcm"], "")
         self.assertIn("0.3673", self.told("calls", folder))
+
+    def test_a_downlink_that_failed(self):
+        folder = lay_run("mixed", self.folder / "mixed")
+        first, *others = self.rows("calls", folder)
+        wanted = [{**first, **{column: "0" for column in first if column.startswith("down_")}}, *others]
+        down = folder / "1.down"
+        down.unlink()
+        self.assert_refused(report.main, ["calls", folder], "1.down: No such file")
+        text = (folder / "report.txt").read_text()
+        (folder / "report.txt").write_text(text.replace("\nend period", "\nline 1 down failed\nend period"))
+        self.assertEqual(self.rows("calls", folder), wanted)
+        down.mkdir()
+        self.assertEqual(self.rows("calls", folder), wanted)
+        down.rmdir()
+        down.symlink_to("/dev/zero")
+        self.assertEqual(self.rows("calls", folder), wanted)
 
     def test_of_another_run(self):
         folder = lay_run("mixed", self.folder / "mixed")
@@ -176,6 +192,13 @@ class Compared(Told):
         self.assertEqual((out["call"], out["what"], out["period"], out["seconds"]), ("3", "out", "93", "1.86"))
         self.assertEqual((out["octet"], out["periods"], out["one"]), ("3207", "2", ""))
         self.assertEqual((gone["call"], gone["other"]), ("4", "no line"))
+
+    def test_what_is_no_file(self):
+        for name in ("1.out", "2.out"):
+            (self.other / name).unlink()
+        (self.other / "1.out").mkdir()
+        (self.other / "2.out").symlink_to("/dev/null")
+        self.assertEqual([(row["call"], row["other"]) for row in self.compare(1)], [("1", "no line"), ("2", "no line")])
 
     def test_reports(self):
         text = (self.other / "report.txt").read_text()

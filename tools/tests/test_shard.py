@@ -3,6 +3,7 @@ program makes of the parts is compared by checks/shards.sh."""
 
 import os
 import random
+import re
 import shlex
 import unittest
 from collections import Counter
@@ -10,6 +11,7 @@ from collections import Counter
 from support import InFolder
 from test_timeline import lay
 
+import listening
 import run_texts
 import shard
 from run_texts import Report
@@ -107,6 +109,23 @@ class Farms(InFolder):
                     seen[link.name] += 1
                     self.assertEqual(os.readlink(link), str(farm / link.name))
         self.assertEqual(seen, Counter(f"{call}.{side}" for call in range(1, 6) for side in run_texts.SIDES))
+
+    def programs(self, cut):
+        """The program that the script of each part starts, unless TRAU names another one."""
+        scripts = [path.read_bytes() for path in cut.glob("*/run.sh")]
+        return {os.fsdecode(part) for script in scripts for part in re.findall(rb"\|\| program=(.*)", script)}
+
+    def test_the_program_that_parts_run(self):
+        farm = self.lay("clean")
+        self.assertEqual(self.programs(self.split(farm, 3)), {listening.program_beside()})
+        self.assertEqual(self.programs(self.split(farm, 3, "--trau", "trau")), {"trau"})
+        # A part runs in its own folder.
+        beside = os.path.relpath(self.folder / "trau")
+        self.assertEqual(self.programs(self.split(farm, 3, "--trau", beside)), {str(self.folder / "trau")})
+
+    def test_a_program_whose_name_is_no_text(self):
+        name = os.fsdecode(b"/tmp/\xff/trau")
+        self.assertEqual(self.programs(self.split(self.lay("clean"), 3, "--trau", name)), {shlex.quote(name)})
 
     def test_refused_orders_keep_calls_together(self):
         cut = self.split(self.lay("clean"), 9)

@@ -18,7 +18,6 @@ from support import CODEC, EXAMPLES, TOP, InFolder
 import levels
 import looks
 import picture
-import run_lines
 import timeline
 import trau_frames
 from run_lines import Answered, Call, Run

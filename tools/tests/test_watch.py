@@ -108,7 +108,7 @@ class Watching(InFolder):
     def test_refused(self):
         for words, part in (
             ([self.folder, "--interval", "0"], "--interval 0.0 isn't"),
-            ([self.folder, "--periods", "0"], "--periods 0 isn't"),
+            ([self.folder, "--periods", "0"], "--periods: 0 isn't"),
             ([self.folder, "--patience", "0"], "--patience 0.0 isn't"),
             ([self.folder, "--orders", self.folder / "gone"], "No such file"),
             ([self.folder, self.folder, "--orders", "x"], "are of one folder"),

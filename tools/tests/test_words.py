@@ -10,6 +10,7 @@ from support import TOOLS, TOP, InFolder
 
 import orders
 import trau_words
+from word_faults import grouped
 
 DOCS = TOP / "docs"
 
@@ -40,7 +41,7 @@ class Documents(unittest.TestCase):
             text = (DOCS / "commands" / f"{command}.md").read_text()
             found = {name: values for name, *values in rows(text, ["`(--\\w+)`", "([\\d,]+) to ([\\d,]+)", "([\\d,]+)"])}
             wanted = {
-                option.name: [trau_words.grouped(number) for number in (option.least, option.most, option.default)]
+                option.name: [grouped(number) for number in (option.least, option.most, option.default)]
                 for option in options
             }
             self.assertEqual(found, wanted, command)
