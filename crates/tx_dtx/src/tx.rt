@@ -12,12 +12,18 @@ use crate::sid::sid;
 use std::marker::Model;
 use trau_params::{Params, Trace};
 
+// From this frame of a pause on, each one becomes a SID.
+const DESCRIBED_FROM: u8 = 5;
+
+// A pause has a hangover if this many frames, or more, have passed since the last SID was made.
+const HANGOVER_AFTER: u8 = 24;
+
 /// The state of the transmit side of one call.
 #[derive(Drop)]
 pub struct Tx {
-    // The number of inactive frames in a row, 5 at most.
+    // The number of inactive frames in a row, counted up to DESCRIBED_FROM.
     run: u8,
-    // The number of frames since the last SID was made, 24 at most; 24 if none was made.
+    // The number of frames since the last SID was made, counted up to HANGOVER_AFTER; HANGOVER_AFTER if none was made.
     elapsed: u8,
     // Whether the last pause has a hangover.
     hangs: bool,
@@ -59,7 +65,11 @@ fn is_active(peak: i16, level: i16, on: bool) -> bool
 fn hangs_at(run: u8, elapsed: u8, hangs: bool) -> bool
     ensures { result ≡ hangs_at run elapsed hangs }
 {
-    if run == 1 { elapsed > 23 } else { hangs }
+    if run == 1 {
+        elapsed >= HANGOVER_AFTER
+    } else {
+        hangs
+    }
 }
 
 impl Tx {
@@ -74,7 +84,7 @@ impl Tx {
         };
         Tx {
             run: 0,
-            elapsed: 24,
+            elapsed: HANGOVER_AFTER,
             hangs: false,
             sid: Params::new([0; 8], [0; 4], [0; 4], [0; 4], [0; 4], [[0; 13]; 4]),
             last: none,
@@ -88,14 +98,14 @@ impl Tx {
         ensures { self.new ≡ after_active self.old }
     {
         self.run = 0;
-        self.elapsed = (self.elapsed + 1).min(24);
+        self.elapsed = (self.elapsed + 1).min(HANGOVER_AFTER);
     }
 
     // Takes an inactive frame, makes a SID from it and the three frames before it, and sends the SID.
     fn describe(&mut self, t: &Trace) -> (Params, bool)
         ensures { described self.old (measures_of t.now) ≡ (sent_frame result.0 result.1, self.new) }
     {
-        self.run = 5;
+        self.run = DESCRIBED_FROM;
         self.elapsed = 0;
         self.sid = sid(t, &self.last, &self.second_last, &self.third_last);
         (self.sid, false)
@@ -107,7 +117,7 @@ impl Tx {
         ensures { early self.old run (fields_of p.now) ≡ (sent_frame result.0 result.1, self.new) }
     {
         self.run = run;
-        self.elapsed = (self.elapsed + 1).min(24);
+        self.elapsed = (self.elapsed + 1).min(HANGOVER_AFTER);
         self.hangs = hangs_at(run, self.elapsed, self.hangs);
         if self.hangs {
             return (*p, true);
@@ -120,8 +130,8 @@ impl Tx {
     fn pause(&mut self, p: &Params, t: &Trace) -> (Params, bool)
         ensures { paused self.old (fields_of p.now) (measures_of t.now) ≡ (sent_frame result.0 result.1, self.new) }
     {
-        let run = (self.run + 1).min(5);
-        if run == 5 {
+        let run = (self.run + 1).min(DESCRIBED_FROM);
+        if run == DESCRIBED_FROM {
             return self.describe(t);
         }
         self.hold(run, p)
