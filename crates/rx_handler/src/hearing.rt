@@ -8,8 +8,9 @@ ghost use Rattle.rx_handler.specs.Step.{missed_after, fall_after, state_after_lo
 ghost use Rattle.rx_handler.specs.Memory.{Speech};
 ghost use Rattle.rx_handler.specs.State.{state_of};
 
-use crate::state::{APPROACH_STEPS, FALL_FROM_MISSED, Fall, Pause, SILENT_AFTER, SinceGood, State};
-use rx_noise::mix;
+use crate::state::{FALL_FROM_MISSED, Fall, Pause, SinceGood, State};
+use rx_muting::SILENT_AFTER;
+use rx_noise::{APPROACH_STEPS, mix};
 use trau_frame::{Class, Kind, UpFrame};
 use trau_params::Params;
 

@@ -5,12 +5,6 @@ ghost use Rattle.rx_handler.specs.Profile.{silent_after, approach_steps, fall_fr
 
 use trau_params::Params;
 
-/// Counts of periods since good speech, and of the periods of a fall, stop here. `rx_subst` and `rx_noise` give silence for it.
-pub(crate) const SILENT_AFTER: u8 = 17;
-
-/// The step with which noise has reached a silence descriptor. It takes one in each period (`rx_noise`).
-pub(crate) const APPROACH_STEPS: u8 = 8;
-
 /// The number of missed descriptors with which the level of noise begins to fall.
 pub(crate) const FALL_FROM_MISSED: u8 = 2;
 

@@ -7,14 +7,17 @@ ghost use Rattle.rx_noise.specs.Mix.{mixed, all_mixed, mix_of};
 
 use trau_params::Params;
 
+/// In how many steps noise approaches a silence descriptor, one in each period (this project's profile).
+pub const APPROACH_STEPS: u8 = 8;
+
 // One code after `i` of the eight steps. It is below each limit that both codes are below.
 fn code(old: u8, new: u8, i: u8) -> u8
     requires steps { i ≤ 8 }
     ensures value { result ≡ mixed i old new }
     ensures fits { (n : ℕ) → old < n → new < n → result < n }
 {
-    let sum = u16::from(old) * u16::from(8 - i) + u16::from(new) * u16::from(i);
-    (sum / 8) as u8
+    let sum = u16::from(old) * u16::from(APPROACH_STEPS - i) + u16::from(new) * u16::from(i);
+    (sum / u16::from(APPROACH_STEPS)) as u8
 }
 
 // The ratios after `i` of the eight steps.

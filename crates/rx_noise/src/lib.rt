@@ -17,5 +17,5 @@ mod excitation;
 pub mod laws;
 mod noise;
 
-pub use approach::mix;
+pub use approach::{APPROACH_STEPS, mix};
 pub use noise::noise_frame;

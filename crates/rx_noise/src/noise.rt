@@ -6,12 +6,9 @@ ghost use Rattle.rx_muting.specs.Draws.{state_after, draw_of};
 ghost use Rattle.rx_noise.specs.Noise.{noise_of, noise_draws};
 
 use crate::excitation::excitation;
-use rx_muting::lowered;
+use rx_muting::{SILENT_AFTER, lowered};
 use trau_num::Draw;
 use trau_params::{Params, silence};
-
-// The fall at which noise becomes silence.
-const SILENT: u8 = 17;
 
 /// The noise frame of the silence descriptor `sid`, whose level has fallen for `fall` periods; 17 stands for 17 or
 /// more. It has the descriptor's ratios, lags of 40 and 120 in turn, 0 as the code of each gain, and the descriptor's
@@ -23,7 +20,7 @@ pub fn noise_frame(sid: &Params, fall: u8, draw: &mut Draw) -> Params
     ensures fields { fields_of result ≡ noise_of (fields_of sid.now) fall (draw_of draw.old.r) }
     ensures source { draw.new.r ≡ state_after draw.old.r (noise_draws fall) }
 {
-    if fall == SILENT {
+    if fall == SILENT_AFTER {
         return silence();
     }
     let (mc, xmc) = excitation(draw);

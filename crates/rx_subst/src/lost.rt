@@ -6,12 +6,9 @@ ghost use Rattle.trau_params.specs.Widths.{mc_width, FitWidth};
 ghost use Rattle.rx_muting.specs.Draws.{state_after, draw_of};
 ghost use Rattle.rx_subst.specs.Lost.{random_grids, muted_of, lost_of, lost_draws};
 
-use rx_muting::lowered;
+use rx_muting::{SILENT_AFTER, lowered};
 use trau_num::Draw;
 use trau_params::{Params, silence};
-
-// The number of the lost period whose frame is silence.
-const SILENT: u8 = 17;
 
 /// The frame for the `n`-th lost period after the good frame `last`; 17 stands for the 17th and each later one. In the
 /// first it is the good frame itself. From the second on the codes of its block maxima (xmaxc) are lowered by 4 for
@@ -26,7 +23,7 @@ pub fn lost_frame(last: &Params, n: u8, draw: &mut Draw) -> Params
 {
     match n {
         1 => *last,
-        SILENT => silence(),
+        SILENT_AFTER => silence(),
         _ => muted(last, n - 1, draw),
     }
 }

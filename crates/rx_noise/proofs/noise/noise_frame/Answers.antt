@@ -5,9 +5,9 @@ use Rattle.rx_noise.specs.Noise.{noise_at, noise_draws}
 use Rattle.rx_noise.proofs.Falls.{noise_of-falling}
 use Rattle.rx_noise.proofs.noise.noise_frame.Goals as goal
 
-pub returns-then-fall-eq-SILENT-clause-source : goal.returns-then-fall-eq-SILENT-clause-source
+pub returns-then-fall-eq-SILENT_AFTER-clause-source : goal.returns-then-fall-eq-SILENT_AFTER-clause-source
 unfolding state_after
-returns-then-fall-eq-SILENT-clause-source c = ap (λ f. state_after c.args.draw.now.r (noise_draws f)) (sym c.if-fall-eq-SILENT.true)
+returns-then-fall-eq-SILENT_AFTER-clause-source c = ap (λ f. state_after c.args.draw.now.r (noise_draws f)) (sym c.if-fall-eq-SILENT_AFTER.true)
 
 pub returns-clause-fields : goal.returns-clause-fields
 unfolding noise_at
