@@ -1,9 +1,9 @@
 -- What is read of the first 316 bits of a frame, by the number in C1 to C5.
-use Rattle.std.proofs.Common.{◌≡◌, ℕ, ◌*◌, true, Some, None, List, get_or, refl, sym, ap, ◌∙◌, arith}
+use Rattle.std.proofs.Common.{◌≡◌, ℕ, ◌*◌, true, Some, None, List, refl, sym, ap, ◌∙◌, arith}
 use Rattle.std.specs.Prelude.{◌==◌}
 use Rattle.std.proofs.lemmas.Bool.{ne_eqb}
 use Rattle.trau_frame.specs.declared.frames.DownFrame.TheVariants.{Idle, Speech}
-use Rattle.trau_frame.specs.Role.{place_of_role}
+use Rattle.trau_frame.specs.Role.{Control, bit_with}
 use Rattle.trau_frame.specs.Frame.{Synced, number_in, data_of}
 use Rattle.trau_frame.specs.Match.{bit_in, is_match, frame_at}
 use Rattle.trau_frame.proofs.Places.{synced}
@@ -26,11 +26,11 @@ pub said-idle : (w bits : List ℕ) (o n : ℕ) → Alike bits (frame_at (bit_in
     Some Idle ≡ down_frame_in (frame_at (bit_in w) o)
 said-idle w bits o n h e is = ap (λ k. frame_by k bits) (sym is) ∙ said-by bits n e ∙ read-alike bits (frame_at (bit_in w) o) h
 
-pub said-speech : (w bits d : List ℕ) (o n : ℕ) → Alike bits (frame_at (bit_in w) o) → n ≡ number_in bits 1 5 → n ≡ 28 → d ≡ data_of bits →
-    Some (Speech d (get_or bits 310 0 == 1)) ≡ down_frame_in (frame_at (bit_in w) o)
-unfolding place_of_role
-said-speech w bits d o n h e is same_data =
-    ap (λ x. Some (Speech x (get_or bits 310 0 == 1))) same_data ∙
+pub said-speech : (w bits d : List ℕ) (o n sp : ℕ) → Alike bits (frame_at (bit_in w) o) → n ≡ number_in bits 1 5 → n ≡ 28 → d ≡ data_of bits →
+    sp ≡ bit_with bits (Control 16) → Some (Speech d (sp == 1)) ≡ down_frame_in (frame_at (bit_in w) o)
+said-speech w bits d o n sp h e is same_data same_sp =
+    ap (λ x. Some (Speech x (sp == 1))) same_data ∙
+    ap (λ b. Some (Speech (data_of bits) (b == 1))) same_sp ∙
     ap (λ k. frame_by k bits) (sym is) ∙ said-by bits n e ∙ read-alike bits (frame_at (bit_in w) o) h
 
 pub said-neither : (w bits : List ℕ) (o n : ℕ) → Alike bits (frame_at (bit_in w) o) → n ≡ number_in bits 1 5 → (n ≡ 14 → ⊥) → (n ≡ 28 → ⊥) →

@@ -9,6 +9,7 @@ ghost use Rattle.ccu_end.specs.Asked.{last_of, offset_of, field_for, speech_in, 
 ghost use Rattle.ccu_end.specs.Step.{wait_next, waits_over, field_now};
 
 use crate::finds::{Found, Heard};
+use crate::frame::READ_BITS;
 use trau_frame::{Class, DownFrame, Kind, UpFrame};
 
 // A request waits no longer than to the eighth frame.
@@ -42,7 +43,7 @@ pub(crate) fn wait_over(waiting: Option<u8>, low: u64, heard: &Heard) -> Option<
     let Some(second) = heard.second else {
         return waiting;
     };
-    wait_next(waiting, first.place + 316, second.place)
+    wait_next(waiting, first.place + READ_BITS as u64, second.place)
 }
 
 /// The last of the frames of a period.

@@ -4,6 +4,7 @@ ghost use Rattle.std.specs.Prelude.{◌≡◌, ◌≤◌, ◌↔◌, IsTrue, IfS
 ghost use Rattle.trau_frame.specs.Match.{bit_in, is_match};
 ghost use Rattle.ccu_end.specs.Window.{NoMatch};
 
+use crate::frame::READ_BITS;
 use trau_frame::{ones_match, zeros_match};
 
 // Whether the sync bits match those of a frame at index `o`, all 35.
@@ -20,7 +21,7 @@ pub(crate) fn find_match(window: &[u8; 640], first: usize) -> Option<usize>
     ensures found { IfSome result (λ o. (first ≤ o) × (o ≤ 324) × NoMatch window.now first o × (is_match (bit_in window.now) o ≡ true)) }
     ensures none { IfNone result (NoMatch window.now first 325) }
 {
-    for o in first..325 {
+    for o in first..640 - READ_BITS + 1 {
         if matches_at(window, o) {
             return Some(o);
         }

@@ -8,7 +8,7 @@ ghost use Rattle.ccu_end.specs.Window.{IsNext, NoneNext, AreNext, low_after};
 
 use crate::asking::{answer_with, field_where, last_of, wait_over};
 use crate::finds::{Found, Heard};
-use crate::frame::read_down;
+use crate::frame::{READ_BITS, read_down};
 use crate::hunt::find_match;
 use frame_sync::two_periods;
 use std::marker::Model;
@@ -55,10 +55,10 @@ fn take_next(window: &[u8; 640], base: u64, low: &mut u64) -> Option<Found>
     ensures none { IfNone result (NoneNext window.now base low.old (base + 5) × (low.new ≡ low.old)) }
     ensures are_bits { IfSome result HaveBits }
 {
-    let first = (*low).max(base.saturating_sub(315));
+    let first = (*low).max(base.saturating_sub(READ_BITS as u64 - 1));
     let o = find_match(window, (first + 320 - base) as usize)?;
     let place = base + o as u64 - 320;
-    *low = place + 316;
+    *low = place + READ_BITS as u64;
     Some(Found {
         place,
         frame: read_down(window, o),

@@ -1,7 +1,19 @@
-//! Frames of both directions.
+//! Frames of both directions, and the numbers in their bits C1 to C5 (this project's profile, modelled on GSM 08.60).
 
 ghost use Rattle.std.specs.Prelude.{◌≤◌};
 ghost use Rattle.trau_bits.specs.Bits.{AreBits};
+
+/// C1 to C5 of a speech frame of an uplink.
+pub const SPEECH_UP: u8 = 0b00010;
+
+/// C1 to C5 of an idle speech frame of an uplink.
+pub const IDLE_SPEECH_UP: u8 = 0b10000;
+
+/// C1 to C5 of a speech frame of a downlink.
+pub const SPEECH_DOWN: u8 = 0b11100;
+
+/// C1 to C5 of an idle speech frame of a downlink.
+pub const IDLE_SPEECH_DOWN: u8 = 0b01110;
 
 /// What a frame carries, by its bits C1 to C5.
 #[derive(Clone, Copy, PartialEq, Eq)]

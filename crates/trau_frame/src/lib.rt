@@ -21,7 +21,10 @@ mod rows;
 mod sync;
 mod writing;
 
-pub use frames::{Class, DownFrame, Kind, UpFrame};
+pub use frames::{
+    Class, DownFrame, IDLE_SPEECH_DOWN, IDLE_SPEECH_UP, Kind, SPEECH_DOWN, SPEECH_UP, UpFrame,
+};
 pub use reading::{pattern, read_up};
+pub use rows::control;
 pub use sync::{ones_match, sync_matches, zeros_match};
 pub use writing::{write_down, write_up};

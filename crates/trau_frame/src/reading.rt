@@ -6,7 +6,7 @@ ghost use Rattle.trau_frame.specs.Role.{Control, bit_with};
 ghost use Rattle.trau_frame.specs.Frame.{Synced, number_in, data_of};
 ghost use Rattle.trau_frame.specs.UpFrame.{kind_by, class_at, kind_of, class_of, Says};
 
-use crate::frames::{Class, Kind, UpFrame};
+use crate::frames::{Class, IDLE_SPEECH_UP, Kind, SPEECH_UP, UpFrame};
 use crate::rows::{control, data};
 
 // Whether control bit C`c` is 1.
@@ -48,8 +48,8 @@ fn kind(pattern: u8) -> Kind
     ensures { result ≡ kind_by pattern }
 {
     match pattern {
-        0b00010 => Kind::Speech,
-        0b10000 => Kind::Idle,
+        SPEECH_UP => Kind::Speech,
+        IDLE_SPEECH_UP => Kind::Idle,
         _ => Kind::Other,
     }
 }

@@ -7,14 +7,14 @@ ghost use Rattle.trau_frame.specs.DownFrame.{HasBits, down_bits, down_control, d
 ghost use Rattle.trau_frame.specs.UpBits.{up_pattern, bfi_of, sid_code_of, up_control_bit, up_control, up_bits};
 ghost use Rattle.trau_frame.specs.UpFrame.{up_words_of};
 
-use crate::frames::{Class, DownFrame, Kind, UpFrame};
+use crate::frames::{Class, DownFrame, IDLE_SPEECH_UP, Kind, SPEECH_UP, UpFrame};
 use crate::rows::write_frame;
 
-// C1 to C21 of an idle frame.
+// C1 to C21 of an idle frame. The first five are those of IDLE_SPEECH_DOWN.
 const IDLE_CONTROL: [u8; 21] = [
     0, 1, 1, 1, 0, 0, 0, 0, 0, 0, 0, 1, 1, 1, 1, 1, 1, 1, 1, 1, 1,
 ];
-// C1 to C21 of a speech frame with SP 1.
+// C1 to C21 of a speech frame with SP 1. The first five are those of SPEECH_DOWN.
 const SPEECH_CONTROL: [u8; 21] = [
     1, 1, 1, 0, 0, 0, 0, 0, 0, 0, 0, 1, 1, 1, 1, 1, 1, 1, 1, 1, 1,
 ];
@@ -55,8 +55,8 @@ fn up_pattern(kind: Kind) -> u8
     ensures { result ≡ up_pattern kind }
 {
     match kind {
-        Kind::Speech => 0b00010,
-        Kind::Idle => 0b10000,
+        Kind::Speech => SPEECH_UP,
+        Kind::Idle => IDLE_SPEECH_UP,
         Kind::Other => 0b11111,
     }
 }

@@ -12,8 +12,8 @@ returns-in-14-clause-value c =
 
 pub returns-in-28-clause-value : goal.returns-in-28-clause-value
 returns-in-28-clause-value c =
-    said-speech c.args.window.now c.frame_from-bits.result c.read_up.result.d c.args.o c.pattern.result c.frame_from-bits.ensures.same
-    c.pattern.ensures c.in-28.is c.read_up.ensures.data_bits
+    said-speech c.args.window.now c.frame_from-bits.result c.read_up.result.d c.args.o c.pattern.result c.control.result
+    c.frame_from-bits.ensures.same c.pattern.ensures c.in-28.is c.read_up.ensures.data_bits c.control.ensures.value
 
 pub returns-in_default-clause-value : goal.returns-in_default-clause-value
 returns-in_default-clause-value c =
