@@ -1,27 +1,12 @@
-//! A block of a frame, and the number of its 56 bits.
+//! A block of a frame from the number of its 56 bits, and this number (RFC 3551, section 4.5.8.1).
 
 ghost use Rattle.std.specs.Prelude.{◌≡◌, ◌^◌, ◌<◌, slice_index};
-ghost use Rattle.trau_params.specs.Bits260.{block_values};
 ghost use Rattle.trau_params.specs.Block.{values_of};
 ghost use Rattle.trau_params.specs.Widths.{block_widths, pulse_widths, xmc_width, FitWidth};
 ghost use Rattle.gsm_frame.specs.Packed.{packed};
 
 use crate::octets::split;
-use trau_params::{Block, Params};
-
-/// Block `j` of a frame.
-pub(crate) fn block_of(params: &Params, j: usize) -> Block
-    requires { j < 4 }
-    ensures { values_of result ≡ block_values params.now j }
-{
-    Block {
-        nc: params.nc[j],
-        bc: params.bc[j],
-        mc: params.mc[j],
-        xmaxc: params.xmaxc[j],
-        xmc: params.xmc[j],
-    }
-}
+use trau_params::Block;
 
 /// The number of a block's 56 bits.
 #[tactic(auto, unfolding(crate::specs::Packed::packed_from))]

@@ -5,7 +5,7 @@ ghost use Rattle.trau_params.specs.Fields.{fields_of};
 ghost use Rattle.trau_params.specs.Widths.{larc_widths, FitLarc};
 ghost use Rattle.gsm_frame.specs.Packed.{magic, packed, Carries};
 
-use crate::block::{block_of, block_of_number, number_of_block};
+use crate::block::{block_of_number, number_of_block};
 use crate::octets::{five_octets, number_of_five, number_of_seven, seven_octets, split};
 use trau_params::Params;
 
@@ -37,10 +37,10 @@ pub fn pack(params: &Params) -> [u8; 33]
     ensures begins { slice_index result 0 / 16 ≡ magic }
 {
     let h = five_octets(head(&params.larc));
-    let a = seven_octets(number_of_block(&block_of(params, 0)));
-    let b = seven_octets(number_of_block(&block_of(params, 1)));
-    let c = seven_octets(number_of_block(&block_of(params, 2)));
-    let d = seven_octets(number_of_block(&block_of(params, 3)));
+    let a = seven_octets(number_of_block(&params.block(0)));
+    let b = seven_octets(number_of_block(&params.block(1)));
+    let c = seven_octets(number_of_block(&params.block(2)));
+    let d = seven_octets(number_of_block(&params.block(3)));
     [
         h[0], h[1], h[2], h[3], h[4], a[0], a[1], a[2], a[3], a[4], a[5], a[6], b[0], b[1], b[2],
         b[3], b[4], b[5], b[6], c[0], c[1], c[2], c[3], c[4], c[5], c[6], d[0], d[1], d[2], d[3],

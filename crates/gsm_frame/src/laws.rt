@@ -3,29 +3,17 @@
 ghost use Rattle.std.specs.Prelude.{◌≡◌, ◌/◌, ◌↔◌, ◌<◌, ℕ, List, length, All, IfSome, IsSome, slice_index};
 ghost use Rattle.trau_params.specs.Bits260.{SameFields};
 ghost use Rattle.trau_params.specs.Fields.{Fields, fields_of};
-ghost use Rattle.trau_params.specs.Shape.{HasShape};
 ghost use Rattle.gsm_frame.specs.Packed.{magic, Carries};
 
-use crate::block::block_of;
 use crate::frame::{pack, unpack};
 use trau_params::Params;
-
-// The lengths of the arrays, for proofs. The length of a row of pulses is known only after the row is read.
-fn shape(params: Params)
-    ensures { HasShape params }
-{
-    let _first = block_of(&params, 0);
-    let _second = block_of(&params, 1);
-    let _third = block_of(&params, 2);
-    let _fourth = block_of(&params, 3);
-}
 
 /// Octets carry at most one frame.
 pub fn one_frame(one: Params, other: Params)
     ensures { (octets : List ℕ) → Carries octets (fields_of one) → Carries octets (fields_of other) → SameFields one other }
 {
-    shape(one);
-    shape(other);
+    one.shape();
+    other.shape();
 }
 
 /// At most one list of 33 octets carries a frame.

@@ -1,4 +1,4 @@
-//! Two frames of parameters and their 65 octets in WAV49.
+//! Two frames of parameters and their 65 octets in WAV49 (format 49 of RIFF WAVE, least significant bit first).
 
 ghost use Rattle.std.specs.Prelude.{◌≡◌, ◌+◌, ◌≤◌, ◌++◌, take, drop};
 ghost use Rattle.trau_bits.specs.Bits.{AreBits};

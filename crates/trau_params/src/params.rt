@@ -123,8 +123,9 @@ impl Params {
         Params::of_blocks(read_larc(bits), first, second, third, fourth)
     }
 
-    /// The lengths of the arrays, for proofs. The length of a row of pulses is known only after the row is read.
-    pub(crate) fn shape(self)
+    /// The lengths of the arrays, for proofs: 8 ratios, each other parameter of 4 blocks, 13 pulses of a block (GSM 06.10,
+    /// table 1.1). The length of a row of pulses is known only after the row is read.
+    pub fn shape(self)
         ensures { HasShape self }
     {
         let _first = self.block(0);
@@ -133,7 +134,8 @@ impl Params {
         let _fourth = self.block(3);
     }
 
-    fn block(&self, j: usize) -> Block
+    /// Block `j` of the frame, 0 to 3: its lag, gain, grid and maximum, and its 13 pulses (GSM 06.10, table 1.1).
+    pub fn block(&self, j: usize) -> Block
         requires { j < 4 }
         ensures { values_of result ≡ block_values self.now j }
     {
