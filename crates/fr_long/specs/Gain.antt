@@ -1,4 +1,4 @@
--- The coded gain of a block (GSM 06.10, section 4.2.11).
+-- The gain that a code stands for, on both sides (GSM 06.10, sections 4.2.12 and 4.3.2).
 use Rattle.std.specs.Prelude.{ℕ, ℤ, pos, List, [], ◌∷◌}
 use Rattle.trau_num.specs.Num.{entry}
 

@@ -1,4 +1,4 @@
--- Exponent and mantissa of a block maximum (GSM 06.10, section 4.2.15).
+-- Exponent and mantissa of a block maximum (GSM 06.10, sections 4.2.15 and 4.2.16).
 use Rattle.std.specs.Prelude.{ℕ, ◌+◌, ◌-◌, ◌*◌, ◌/◌, zero, suc, ℤ, pos, neg_ℤ, ◌-ℤ◌, unsigned_abs, if◌then◌else◌, nat_le, ◌==◌, List, [], ◌∷◌}
 use Rattle.trau_num.specs.Num.{entry}
 use Rattle.fr_rpe.specs.declared.scale.Scale.{Scale}

@@ -1,4 +1,4 @@
-//! Exponent and mantissa of a block maximum (GSM 06.10, section 4.2.15).
+//! Exponent and mantissa of a block maximum (GSM 06.10, sections 4.2.15 and 4.2.16).
 
 ghost use Rattle.std.specs.Prelude.{◌≡◌, ℕ, ◌<◌, ◌≤◌, pos, neg_ℤ, ◌≤ℤ◌};
 
