@@ -30,9 +30,9 @@ pub struct CallEnd {
 pub struct Counts {
     /// Good speech frames.
     pub good: u64,
-    /// Speech frames of class Sid: valid silence frames.
+    /// Speech frames with a valid silence descriptor.
     pub sid: u64,
-    /// Speech frames of class InvalidSid.
+    /// Speech frames with an invalid one: SID 1 or 3, or SID 2 in a bad frame.
     pub invalid: u64,
     /// Unusable speech frames.
     pub bad: u64,
