@@ -8,7 +8,7 @@ use trau_params::Params;
 /// The number of missed descriptors with which the level of noise begins to fall.
 pub(crate) const FALL_FROM_MISSED: u8 = 2;
 
-/// The last good frame and how many periods ago it came: 0 in its own, counted up to SILENT_AFTER.
+/// The last good frame and how many periods ago it came: 0 in its own, counted up to SILENT_AFTER of `rx_muting`.
 #[derive(Clone, Copy)]
 pub(crate) struct SinceGood {
     pub(crate) last: Params,
@@ -21,7 +21,7 @@ pub(crate) struct SinceGood {
 pub(crate) struct Fall {
     /// Descriptors missed since the latest one, counted up to FALL_FROM_MISSED.
     pub(crate) missed_sids: u8,
-    /// For how many periods the level has fallen, counted up to SILENT_AFTER.
+    /// For how many periods the level has fallen, counted up to SILENT_AFTER of `rx_muting`.
     pub(crate) periods: u8,
     ghost missed_stops: { missed_sids ≤ fall_from_missed },
     ghost periods_stop: { periods ≤ silent_after },
@@ -34,7 +34,7 @@ pub(crate) struct Pause {
     pub(crate) from: Params,
     /// The latest descriptor.
     pub(crate) sid: Params,
-    /// How many steps are done, 1 to APPROACH_STEPS.
+    /// How many steps are done, 1 to APPROACH_STEPS of `rx_noise`.
     pub(crate) step: u8,
     /// How far the level has fallen.
     pub(crate) fall: Fall,
