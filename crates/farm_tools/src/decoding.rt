@@ -15,7 +15,6 @@ use crate::uplink::good_data;
 use arrayvec::ArrayString;
 use block_lines::{BlockMachine, Shape, ToolEnd, run_command};
 use fr_decoder::Decoder;
-use std::alloc::Global;
 use trau_alaw::{Law, compress_all};
 use trau_io::{Desk, Side, Trunk};
 use trau_params::Params;
@@ -96,7 +95,7 @@ fn decode_octets(decoder: &mut Decoder, d: &[u8; 260], octets: &mut [u8; 160])
 /// octets (G.711) of its samples, decoded from the reset state over all blocks so far (GSM 06.10). It stops as `relay`
 /// does, and prints `decode frames N`, `decode refused N` or `line C SIDE failed`. It doesn't allocate, and never ends
 /// with `Memory`.
-pub fn decode<T: Trunk, D: Desk>(_alloc: Global, call: u32, trunk: &mut T, desk: &mut D) -> ToolEnd
+pub fn decode<T: Trunk, D: Desk>(call: u32, trunk: &mut T, desk: &mut D) -> ToolEnd
     requires { IsCallNumber call }
     ensures runs { CommandRuns decode_machine (T.lines trunk.old) (T.lines trunk.new) (D.desk desk.old) (D.desk desk.new) call result }
     ensures causes { Causes decode_machine (T.lines trunk.old) (T.lines trunk.new) (D.desk desk.old) (D.desk desk.new) call (status_of result) }

@@ -12,7 +12,6 @@ use arrayvec::ArrayString;
 use block_lines::{BlockMachine, Shape, ToolEnd, run_command};
 use fr_encoder::Encoder;
 use itoa::Buffer;
-use std::alloc::Global;
 use trau_alaw::{Law, expand_all};
 use trau_frame::DownFrame;
 use trau_io::{Desk, Side, Trunk};
@@ -99,7 +98,7 @@ fn encode_frame(encoder: &mut Encoder, block: &[u8], bits: &mut [u8; 320], frame
 /// of their samples, encoded from the reset state over all blocks so far (GSM 06.10), with SP 1. No block is refused.
 /// After 4,294,967,295 blocks nothing more is read. It prints `encode frames N left R`, R being the octets after the last
 /// whole block, or `line C SIDE failed`. It doesn't allocate, and never ends with `Refused` or `Memory`.
-pub fn encode<T: Trunk, D: Desk>(_alloc: Global, call: u32, trunk: &mut T, desk: &mut D) -> ToolEnd
+pub fn encode<T: Trunk, D: Desk>(call: u32, trunk: &mut T, desk: &mut D) -> ToolEnd
     requires { IsCallNumber call }
     ensures runs { CommandRuns encode_machine (T.lines trunk.old) (T.lines trunk.new) (D.desk desk.old) (D.desk desk.new) call result }
     ensures causes { Causes encode_machine (T.lines trunk.old) (T.lines trunk.new) (D.desk desk.old) (D.desk desk.new) call (status_of result) }

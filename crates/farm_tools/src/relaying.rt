@@ -8,7 +8,6 @@ use crate::text::{refusal_text, taken_text};
 use crate::uplink::good_data;
 use arrayvec::ArrayString;
 use block_lines::{BlockMachine, Shape, ToolEnd, run_command};
-use std::alloc::Global;
 use trau_frame::DownFrame;
 use trau_io::{Desk, Side, Trunk};
 
@@ -82,7 +81,7 @@ impl BlockMachine for Relaying {
 /// frame or that the line's end cuts short, at the line's end, after 4,294,967,295 blocks, or at a fault. At the end
 /// it prints one line of text: `relay frames N`, `relay refused N` or `line C SIDE failed`. It doesn't allocate, and
 /// never ends with `Memory`.
-pub fn relay<T: Trunk, D: Desk>(_alloc: Global, call: u32, trunk: &mut T, desk: &mut D) -> ToolEnd
+pub fn relay<T: Trunk, D: Desk>(call: u32, trunk: &mut T, desk: &mut D) -> ToolEnd
     requires { IsCallNumber call }
     ensures runs { CommandRuns relay_machine (T.lines trunk.old) (T.lines trunk.new) (D.desk desk.old) (D.desk desk.new) call result }
     ensures causes { Causes relay_machine (T.lines trunk.old) (T.lines trunk.new) (D.desk desk.old) (D.desk desk.new) call (status_of result) }

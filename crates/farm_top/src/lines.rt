@@ -9,33 +9,25 @@ ghost use Rattle.farm_top.specs.Lines.{CommandEnds, MergeEnds};
 
 use crate::top::status_of_end;
 use farm_tools::{Tool, ToolEnd, decode, encode, frames, relay};
-use std::alloc::Global;
 use trau_io::{Desk, Trunk};
 use trau_submux::{merge, split};
 
 // Runs a tool.
-fn run_tool<T: Trunk, D: Desk>(
-    alloc: Global,
-    tool: Tool,
-    call: u32,
-    trunk: &mut T,
-    desk: &mut D,
-) -> ToolEnd
+fn run_tool<T: Trunk, D: Desk>(tool: Tool, call: u32, trunk: &mut T, desk: &mut D) -> ToolEnd
     requires { IsCallNumber call }
     ensures runs { CommandRuns (machine_of tool) (T.lines trunk.old) (T.lines trunk.new) (D.desk desk.old) (D.desk desk.new) call result }
     ensures causes { Causes (machine_of tool) (T.lines trunk.old) (T.lines trunk.new) (D.desk desk.old) (D.desk desk.new) call (status_of result) }
     ensures clean { Leaves (machine_of tool) (T.lines trunk.old) (T.lines trunk.new) (D.desk desk.old) (D.desk desk.new) call (status_of result) }
 {
     match tool {
-        Tool::Relay => relay(alloc, call, trunk, desk),
-        Tool::Decode => decode(alloc, call, trunk, desk),
-        Tool::Encode => encode(alloc, call, trunk, desk),
+        Tool::Relay => relay(call, trunk, desk),
+        Tool::Decode => decode(call, trunk, desk),
+        Tool::Encode => encode(call, trunk, desk),
     }
 }
 
 /// Runs a tool, and returns the status.
 pub(crate) fn carry_tool<T: Trunk, D: Desk>(
-    alloc: Global,
     tool: Tool,
     call: u32,
     trunk: &mut T,
@@ -44,21 +36,16 @@ pub(crate) fn carry_tool<T: Trunk, D: Desk>(
     requires { IsCallNumber call }
     ensures { CommandEnds (machine_of tool) (T.lines trunk.old) (T.lines trunk.new) (D.desk desk.old) (D.desk desk.new) call result }
 {
-    let end = run_tool(alloc, tool, call, trunk, desk);
+    let end = run_tool(tool, call, trunk, desk);
     status_of_end(end)
 }
 
 /// Lists the frames of a call's uplink, and returns the status.
-pub(crate) fn carry_frames<T: Trunk, D: Desk>(
-    alloc: Global,
-    call: u32,
-    trunk: &mut T,
-    desk: &mut D,
-) -> u8
+pub(crate) fn carry_frames<T: Trunk, D: Desk>(call: u32, trunk: &mut T, desk: &mut D) -> u8
     requires { IsCallNumber call }
     ensures { CommandEnds frames_machine (T.lines trunk.old) (T.lines trunk.new) (D.desk desk.old) (D.desk desk.new) call result }
 {
-    let end = frames(alloc, call, trunk, desk);
+    let end = frames(call, trunk, desk);
     status_of_end(end)
 }
 
