@@ -34,4 +34,5 @@ mod top;
 
 pub use command_words::{Asked, LiveSettings, Settings, WordsFault, read_words};
 pub use laws::a_saved_mark_is_taken;
+pub use status::{NO_MEMORY, USAGE};
 pub use top::farm_top;

@@ -4,7 +4,7 @@
 pub(crate) const DONE: u8 = 0;
 
 /// The words aren't those of a command.
-pub(crate) const USAGE: u8 = 1;
+pub const USAGE: u8 = 1;
 
 /// A line of the orders, or of the mark before them, isn't in its grammar.
 pub(crate) const ORDERS_REFUSED: u8 = 2;
@@ -16,7 +16,7 @@ pub(crate) const DESK_READ_FAULT: u8 = 3;
 pub(crate) const DESK_WRITE_FAULT: u8 = 4;
 
 /// Memory ran out.
-pub(crate) const NO_MEMORY: u8 = 5;
+pub const NO_MEMORY: u8 = 5;
 
 /// A line failed.
 pub(crate) const LINE_FAILED: u8 = 6;

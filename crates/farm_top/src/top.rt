@@ -10,7 +10,7 @@ ghost use Rattle.farm_top.specs.Top.{CarriesAsked, IsInRange};
 ghost use Rattle.farm_top.specs.Words.{AreCommand, AsksForDrill, AsksForLive, AsksForResume, AsksForRun, AsksForSave, TakeOptions, spelled};
 
 use crate::drill::drill_farm;
-use crate::farm::{no_memory, run_farm};
+use crate::farm::{no_memory, refuse, run_farm};
 use crate::follow::carry_follow;
 use crate::lines::{carry_frames, carry_merge, carry_split, carry_tool};
 use crate::live::live_farm;
@@ -25,7 +25,7 @@ use run_spec::laws::a_run_is_joined_of_two;
 use std::alloc::Global;
 use std::sync::Wait;
 use std::thread::Threads;
-use trau_io::{Desk, Trunk, tell};
+use trau_io::{Desk, Trunk};
 use trau_orders::one_answer;
 
 /// The status of a tool's end.
@@ -163,10 +163,7 @@ pub fn farm_top<R: Threads + Wait + Sync, T: Trunk, D: Desk, G: Gate + Sync>(
     a_run_is_joined_of_two();
     match read_words(alloc, words) {
         Ok(asked) => carry_out(rt, alloc, asked, trunk, desk, gate),
-        Err(WordsFault::Usage) => {
-            let _ = tell(desk, b"usage\n");
-            USAGE
-        }
+        Err(WordsFault::Usage) => refuse(desk, b"usage\n", USAGE),
         Err(WordsFault::Memory) => no_memory(desk),
     }
 }

@@ -11,7 +11,7 @@ ghost use Rattle.farm_top.specs.Farm.{TextOut};
 ghost use Rattle.trau_program.specs.declared.Refusal.TheVariants.{NoMemory};
 ghost use Rattle.trau_program.specs.Refusals.{status_of, text_of};
 
-use farm_top::farm_top;
+use farm_top::{NO_MEMORY, USAGE, farm_top};
 use pool_run::OpenGate;
 use std::alloc::AllocError;
 use std::io::{ErrorKind, Read, Write};
@@ -37,8 +37,8 @@ impl Refusal {
         ensures { result ≡ status_of self }
     {
         match self {
-            Refusal::NotText => 1,
-            Refusal::NoMemory => 5,
+            Refusal::NotText => USAGE,
+            Refusal::NoMemory => NO_MEMORY,
         }
     }
 
