@@ -9,32 +9,36 @@ ghost use Rattle.farm_report.specs.Lines.{report_text};
 ghost use Rattle.farm_report.specs.Sums.{sum_line};
 
 use crate::trunk::DrillTrunk;
-use farm_report::{CallLine, Report, sum, write_report};
+use farm_report::{CallLine, Report, put_sums, sum, write_report};
 use std::alloc::{AllocError, Global};
 use trau_io::{Line, Side};
 
 // Appends the sums of a call's outgoing lines to a text.
-fn put_sum(text: &mut String, trunk: &DrillTrunk, call: u32) -> Result<(), AllocError>
+fn put_call(text: &mut String, trunk: &DrillTrunk, call: u32) -> Result<(), AllocError>
     requires { IsCallNumber call }
     ensures { OnOk result (string_bytes text.new ≡ string_bytes text.old ++
         sum_line call (unwrap_or (known_lines trunk.now call Out).written []) (unwrap_or (known_lines trunk.now call Down).written [])) }
 {
-    let side = Side::Out;
-    let out = sum(trunk.written(Line { call, side }));
-    let side = Side::Down;
-    let down = sum(trunk.written(Line { call, side }));
-    farm_report::put_sums(text, call, out, down)
+    let out = sum(trunk.written(Line {
+        call,
+        side: Side::Out,
+    }));
+    let down = sum(trunk.written(Line {
+        call,
+        side: Side::Down,
+    }));
+    put_sums(text, call, out, down)
 }
 
 // Appends the sums of these calls, in their order.
-fn put_sums(text: &mut String, trunk: &DrillTrunk, calls: &[CallLine]) -> Result<(), AllocError>
+fn put_calls(text: &mut String, trunk: &DrillTrunk, calls: &[CallLine]) -> Result<(), AllocError>
     requires { All (λ line. IsCallNumber line.end.call) calls.now }
     ensures { OnOk result (string_bytes text.new ≡ string_bytes text.old ++ flat_map (λ line.
         sum_line line.end.call (unwrap_or (known_lines trunk.now line.end.call Out).written [])
         (unwrap_or (known_lines trunk.now line.end.call Down).written [])) calls.now) }
 {
     for line in calls {
-        put_sum(text, trunk, line.end.call)?;
+        put_call(text, trunk, line.end.call)?;
     }
     Ok(())
 }
@@ -51,6 +55,6 @@ pub(crate) fn text_of(
         (unwrap_or (known_lines trunk.now line.end.call Down).written [])) report.now.calls) }
 {
     let mut text = write_report(alloc, report)?;
-    put_sums(&mut text, trunk, &report.calls)?;
+    put_calls(&mut text, trunk, &report.calls)?;
     Ok(text)
 }

@@ -4,7 +4,7 @@ use Rattle.std.specs.List.{flat_map}
 use Rattle.trau_io.specs.declared.line.Side.TheVariants.{Down, Out}
 use Rattle.farm_report.specs.Sums.{sum_line}
 use Rattle.drill_run.specs.Rooms.{known_lines}
-use Rattle.drill_run.proofs.sums.put_sums.Given as goal
+use Rattle.drill_run.proofs.sums.put_calls.Given as goal
 
 abbrev pub invariant-loop-line : goal.invariant-loop-line
 invariant-loop-line l = string_bytes l.text ≡ string_bytes l.initial.text ++ flat_map (λ line.
