@@ -60,6 +60,7 @@ pub enum WordsFault {
     /// They ask for nothing.
     #[error("usage")]
     Usage,
+    /// Out of memory.
     #[error("no memory")]
     Memory,
 }

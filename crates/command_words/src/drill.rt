@@ -10,9 +10,11 @@ use crate::{Settings, WordsFault};
 use clap::ArgMatches;
 use std::alloc::Global;
 
-const MOST_CALLS: u32 = 256;
+/// The most calls of a drill, and of a live drill.
+pub(crate) const MOST_CALLS: u32 = 256;
 
-const MOST_PERIODS: u32 = 1000;
+/// The most periods of a drill, and of each call of a live drill.
+pub(crate) const MOST_PERIODS: u32 = 1000;
 
 /// What a drill is made of.
 #[derive(Clone, Copy)]

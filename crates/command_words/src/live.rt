@@ -6,6 +6,7 @@ ghost use Rattle.command_words.specs.declared.live.LiveSettings.{LiveSettings as
 ghost use Rattle.command_words.specs.Live.{GivesLive, AreLiveOptions};
 
 use crate::WordsFault;
+use crate::drill::{MOST_CALLS, MOST_PERIODS};
 use crate::options::{matches_of, value};
 use clap::ArgMatches;
 use std::alloc::Global;
@@ -31,8 +32,8 @@ fn live_of(matches: &ArgMatches<'_>) -> Option<LiveSettings>
 {
     Some(LiveSettings {
         seed: value(matches, "seed", 0, u32::MAX, 1)?,
-        calls: value(matches, "calls", 1, 256, 64)?,
-        periods: value(matches, "periods", 1, 1000, 200)?,
+        calls: value(matches, "calls", 1, MOST_CALLS, 64)?,
+        periods: value(matches, "periods", 1, MOST_PERIODS, 200)?,
         callers: value(matches, "callers", 1, 64, 4)?,
         inbox: value(matches, "inbox", 1, 1024, 8)?,
     })

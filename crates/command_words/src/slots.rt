@@ -4,10 +4,11 @@ ghost use Rattle.command_words.specs.declared.asked.Asked.{Asked as OneAsked};
 ghost use Rattle.command_words.specs.Slots.{AsksSlot, IsSlotOn};
 
 use crate::Asked;
+use call_number::LAST_CALL;
 use decimal_number::number_of_text;
 
 // The last call that three more follow.
-const HIGHEST_SLOT: u32 = 4093;
+const HIGHEST_SLOT: u32 = LAST_CALL - 3;
 
 // The command of this name on a slot.
 fn slot_named(name: &str, call: u32) -> Option<Asked>
