@@ -32,8 +32,8 @@ impl Model for Journal {
     ghost invariant = { λ j. IsJournal j.calls.items j.ends.items j.bridges.items × (NUMBERS ≤ vec_capacity j.ends) × (65536 ≤ vec_capacity j.bridges) };
 }
 
-// The most orders of a run, and so the most bridges: an order makes at most one.
-const ORDERS: usize = 65536;
+// The most orders of a run, a limit of `trau_orders` (`MOST_LINES`), and so the most bridges: an order makes at most one.
+const MOST_ORDERS: usize = 65536;
 
 const NOT_OPENED: Opening = Opening {
     from: 0,
@@ -47,7 +47,7 @@ impl Journal {
     {
         let calls = vec![in alloc; NOT_OPENED; NUMBERS]?;
         let ends = Vec::with_capacity(alloc, NUMBERS)?;
-        let bridges = Vec::with_capacity(alloc, ORDERS)?;
+        let bridges = Vec::with_capacity(alloc, MOST_ORDERS)?;
         Ok(Journal {
             calls,
             ends,
@@ -99,18 +99,12 @@ impl Journal {
         ensures { self.new ≡ settled call sent self.old }
     {
         if let Some(place) = self.calls[call as usize].bridge {
-            let bridge = self.bridges[place];
-            self.bridges[place] = if call == bridge.a {
-                BridgeNote {
-                    sent_by_a: sent,
-                    ..bridge
-                }
+            let bridge = &mut self.bridges[place];
+            if call == bridge.a {
+                bridge.sent_by_a = sent;
             } else {
-                BridgeNote {
-                    sent_by_b: sent,
-                    ..bridge
-                }
-            };
+                bridge.sent_by_b = sent;
+            }
         }
     }
 
