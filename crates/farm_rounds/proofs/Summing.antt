@@ -4,6 +4,7 @@ use Rattle.std.proofs.Common.{arith, inl, inr}
 use Rattle.std.proofs.Math.ListN.{set}
 use Rattle.std.proofs.lemmas.Bool.{cases_lt}
 use Rattle.std.proofs.lemmas.List.{get_or_default, get_or-set_same, get_or-set_other}
+use Rattle.trau_io.specs.declared.line.Line.{Line}
 use Rattle.trau_io.specs.declared.line.Side.{Side}
 use Rattle.trau_io.specs.declared.line.Side.TheVariants.{Up, Pcm, Down, Out}
 use Rattle.trau_io.specs.Indices.{number_of_side, index_of_line}
@@ -63,16 +64,24 @@ added_elsewhere sums old call at b side same here c s other =
     ∙ ap (λ (xs : List ℕ). sum_in xs c s) same
 
 -- both lines of a seat, one after the other
-pub both_added : (seat : SeatMemory) (a b d : ℕ → Side → ℕ) (c : ℕ) → c ≡ seat.lines.call →
-    b c Down ≡ (a c Down + sum (down_given seat)) % 2 ^ 32 → ((e : ℕ) (s : Side) → (e ≡ c → s ≡ Down → ⊥) → b e s ≡ a e s) →
-    d c Out ≡ (b c Out + sum (out_given seat)) % 2 ^ 32 → ((e : ℕ) (s : Side) → (e ≡ c → s ≡ Out → ⊥) → d e s ≡ b e s) → AddsSeat seat a d
-both_added seat a b d c is down first out second = record {
-  down = subst (λ (n : ℕ). d n Down ≡ (a n Down + sum (down_given seat)) % 2 ^ 32) is (second c Down (λ p q. other_side (sym q)) ∙ down);
-  out =
-      subst (λ (n : ℕ). d n Out ≡ (a n Out + sum (out_given seat)) % 2 ^ 32) is
-      (out ∙ ap (λ (n : ℕ). (n + sum (out_given seat)) % 2 ^ 32) (first c Out (λ p q. other_side q)));
-  others = λ e s none. second e s (λ p q. none (p ∙ is) (subst IsOutgoing (sym q) tt)) ∙ first e s (λ p q. none (p ∙ is) (subst IsOutgoing (sym q) tt));
-}
+pub both_added : (seat : SeatMemory) (a b d : ℕ → Side → ℕ) (l m : Line) → l.call ≡ seat.lines.call → l.side ≡ Down → m.call ≡ seat.lines.call →
+    m.side ≡ Out → b l.call l.side ≡ (a l.call l.side + sum (down_given seat)) % 2 ^ 32 →
+    ((e : ℕ) (s : Side) → (e ≡ l.call → s ≡ l.side → ⊥) → b e s ≡ a e s) →
+    d m.call m.side ≡ (b m.call m.side + sum (out_given seat)) % 2 ^ 32 → ((e : ℕ) (s : Side) → (e ≡ m.call → s ≡ m.side → ⊥) → d e s ≡ b e s) →
+    AddsSeat seat a d
+both_added seat a b d l m l_call l_side m_call m_side down first out second =
+    let c = seat.lines.call in
+    let down_added : b c Down ≡ (a c Down + sum (down_given seat)) % 2 ^ 32 =
+    subst (λ (n : ℕ). b n Down ≡ (a n Down + sum (down_given seat)) % 2 ^ 32) l_call
+    (subst (λ (s : Side). b l.call s ≡ (a l.call s + sum (down_given seat)) % 2 ^ 32) l_side down) in
+    let out_added : d c Out ≡ (b c Out + sum (out_given seat)) % 2 ^ 32 =
+    subst (λ (n : ℕ). d n Out ≡ (b n Out + sum (out_given seat)) % 2 ^ 32) m_call
+    (subst (λ (s : Side). d m.call s ≡ (b m.call s + sum (out_given seat)) % 2 ^ 32) m_side out) in record {
+      down = second c Down (λ p q. other_side (sym (q ∙ m_side))) ∙ down_added;
+      out = out_added ∙ ap (λ (n : ℕ). (n + sum (out_given seat)) % 2 ^ 32) (first c Out (λ p q. other_side (q ∙ l_side)));
+      others = λ e s none. second e s (λ p q. none (p ∙ m_call) (subst IsOutgoing (sym (q ∙ m_side)) tt))
+          ∙ first e s (λ p q. none (p ∙ l_call) (subst IsOutgoing (sym (q ∙ l_side)) tt));
+    }
   where
     other_side : Out ≡ Down → ⊥
     other_side same = absurd (cc)

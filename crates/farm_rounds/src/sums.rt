@@ -61,21 +61,8 @@ impl Sums {
         requires { Fits call.now.lines.periods call.now.job.io.up call.now.job.io.pcm call.now.job.io.down call.now.job.io.out }
         ensures { AddsSeat (seat_of_open call.now) (sum_in self.old) (sum_in self.new) }
     {
-        let number = call.lines.call();
         let (down, out) = call.outgoing();
-        self.add(
-            Line {
-                call: number,
-                side: Side::Down,
-            },
-            down,
-        );
-        self.add(
-            Line {
-                call: number,
-                side: Side::Out,
-            },
-            out,
-        );
+        self.add(call.lines.line(Side::Down), down);
+        self.add(call.lines.line(Side::Out), out);
     }
 }

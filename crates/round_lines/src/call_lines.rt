@@ -168,7 +168,7 @@ impl CallLines {
     }
 
     /// The line of its call with this side.
-    pub(crate) fn line(&self, side: Side) -> Line
+    pub fn line(&self, side: Side) -> Line
         ensures call { result.call ≡ self.now.call }
         ensures side { result.side ≡ side }
     {
