@@ -1,5 +1,5 @@
 -- What acts make of the calls and of their partners.
-use Rattle.std.proofs.Common.{◌≡◌, ◌≢◌, refl, sym, ap, ◌∙◌, subst, ℕ, ℤ, ◌<◌, true, false, Option, Some, None, List, [], ◌∷◌, length, map, arith, inl, inr}
+use Rattle.std.proofs.Common.{◌≡◌, ◌≢◌, refl, sym, ap, ◌∙◌, subst, ℕ, ℤ, ◌<◌, true, false, Option, Some, None, List, [], ◌∷◌, length, map, arith, inl, inr, ◌⊎◌}
 use Rattle.std.specs.Prelude.{◌==◌, if◌then◌else◌, slice_set, slice_index, is_some}
 use Rattle.std.specs.Option.{option_map, option_and_then}
 use Rattle.std.specs.List.{All}
@@ -14,7 +14,7 @@ use Rattle.call_pair.specs.declared.call_job.Phase.TheVariants.{First}
 use Rattle.farm_rounds.specs.declared.open.OpenCall.{OpenCall}
 use Rattle.farm_rounds.specs.Numbers.{IsRising, is_among}
 use Rattle.farm_rounds.specs.Calls.{Call, Kept, kept_in, call_in, partner_in}
-use Rattle.farm_rounds.specs.Acts.{changed, put_at, bridged_call, parted, set_by, IsOpen, Applied}
+use Rattle.farm_rounds.specs.Acts.{changed, put_at, bridged_call, parted, set_by, ActFits, IsOpen, Applied}
 use Rattle.farm_rounds.specs.Opens.{opens_in, kept_of, IsOpenCall}
 use Rattle.farm_rounds.specs.Opened.{open_at, no_open, AreListed, IsChanged}
 use Rattle.farm_rounds.proofs.Boxes.{opens_long}
@@ -202,7 +202,7 @@ unbridged_applied a b before mid now apart oa ob m n = record {
 }
 
 -- .. or the level of a call is set, ..
-pub level_applied : (a : Act) (call : ℕ) (level : ℤ) (before now : List OpenCall) → a ≡ act.LevelSet call level →
+level_applied : (a : Act) (call : ℕ) (level : ℤ) (before now : List OpenCall) → a ≡ act.LevelSet call level →
     IsChanged call (λ k. kept (set_by a k.call) k.partner) before now → Applied a (map kept_of before) (map kept_of now)
 level_applied a call level before now e =
     subst (λ (x : Act). IsChanged call (λ k. kept (set_by x k.call) k.partner) before now → Applied x (map kept_of before) (map kept_of now)) (sym e)
@@ -212,7 +212,7 @@ level_applied a call level before now e =
     })
 
 -- .. or when DTX is on
-pub mode_applied : (a : Act) (call : ℕ) (mode : DtxMode) (before now : List OpenCall) → a ≡ act.DtxSet call mode →
+mode_applied : (a : Act) (call : ℕ) (mode : DtxMode) (before now : List OpenCall) → a ≡ act.DtxSet call mode →
     IsChanged call (λ k. kept (set_by a k.call) k.partner) before now → Applied a (map kept_of before) (map kept_of now)
 mode_applied a call mode before now e =
     subst (λ (x : Act). IsChanged call (λ k. kept (set_by x k.call) k.partner) before now → Applied x (map kept_of before) (map kept_of now)) (sym e)
@@ -220,3 +220,17 @@ mode_applied a call mode before now e =
       calls = calls_changed call _ before now m (set_by (act.DtxSet call mode)) (λ k. refl);
       partners = partners_kept call _ before now m (λ k. refl);
     })
+
+-- .. or whichever of the two an act sets
+abbrev pub IsSetting : Act → ℕ → Type 0
+IsSetting a call = ((level : ℤ) × (a ≡ act.LevelSet call level)) ⊎ ((mode : DtxMode) × (a ≡ act.DtxSet call mode))
+
+pub set_applied : (a : Act) (call : ℕ) (before now : List OpenCall) → IsSetting a call →
+    IsChanged call (λ k. kept (set_by a k.call) k.partner) before now → Applied a (map kept_of before) (map kept_of now)
+set_applied a call before now (inl l) = level_applied a call l.0 before now l.1
+set_applied a call before now (inr m) = mode_applied a call m.0 before now m.1
+
+-- .. of a call that is open
+pub set_open : (ks : List Kept) (a : Act) (call : ℕ) → IsSetting a call → ActFits ks a → IsOpen ks call
+set_open ks a call (inl l) fits = (subst (ActFits ks) l.1 fits).0
+set_open ks a call (inr m) fits = subst (ActFits ks) m.1 fits

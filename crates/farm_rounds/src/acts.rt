@@ -95,8 +95,7 @@ pub(crate) fn change(calls: &mut [Box<OpenCall>], live: &[u32], act: &Act)
             part(calls, live, a);
             part(calls, live, b);
         }
-        Act::LevelSet { call, .. } => set(calls, live, call, act),
-        Act::DtxSet { call, .. } => set(calls, live, call, act),
+        Act::LevelSet { call, .. } | Act::DtxSet { call, .. } => set(calls, live, call, act),
     }
 }
 

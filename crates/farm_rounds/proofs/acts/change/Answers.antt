@@ -4,7 +4,7 @@ use Rattle.switchboard.specs.declared.act.Act.{Act}
 use Rattle.switchboard.specs.declared.act.Act.TheVariants as act
 use Rattle.farm_rounds.specs.Acts.{ActFits, Applied}
 use Rattle.farm_rounds.specs.Opens.{opens_in, calls_of}
-use Rattle.farm_rounds.proofs.Changing.{listed_open, listed_from, bridged_applied, unbridged_applied, level_applied, mode_applied}
+use Rattle.farm_rounds.proofs.Changing.{listed_open, listed_from, bridged_applied, unbridged_applied, set_applied, set_open}
 use Rattle.farm_rounds.proofs.Mutual.{partner_open, still_paired, sound_after}
 use Rattle.farm_rounds.proofs.acts.change.Goals as goal
 
@@ -104,33 +104,16 @@ returns-in-Bridged-clause-applied c =
 
 pub set-requires-clause-there : goal.set-requires-clause-there
 set-requires-clause-there c =
-    let fits = subst (ActFits (calls_of c.args.calls.now)) c.in-LevelSet.is c.requires.fits in
-    listed_open c.args.live.now (opens_in c.args.calls.now) c.in-LevelSet.call c.requires.sound.1.listed fits.0
-
-pub set-requires-in-DtxSet-clause-there : goal.set-requires-in-DtxSet-clause-there
-set-requires-in-DtxSet-clause-there c =
-    let fits = subst (ActFits (calls_of c.args.calls.now)) c.in-DtxSet.is c.requires.fits in
-    listed_open c.args.live.now (opens_in c.args.calls.now) c.in-DtxSet.call c.requires.sound.1.listed fits
+    listed_open c.args.live.now (opens_in c.args.calls.now) c.in-LevelSet.call c.requires.sound.1.listed
+    (set_open (calls_of c.args.calls.now) c.args.act.now c.in-LevelSet.call c.in-LevelSet.is c.requires.fits)
 
 pub returns-in-LevelSet-clause-applied : goal.returns-in-LevelSet-clause-applied
 returns-in-LevelSet-clause-applied c =
-    level_applied c.args.act.now c.in-LevelSet.call _ (opens_in c.args.calls.now) (opens_in c.set.new.calls) c.in-LevelSet.is c.set.ensures
+    set_applied c.args.act.now c.in-LevelSet.call (opens_in c.args.calls.now) (opens_in c.set.new.calls) c.in-LevelSet.is c.set.ensures
 
 pub returns-in-LevelSet-clause-sound : goal.returns-in-LevelSet-clause-sound
 returns-in-LevelSet-clause-sound c most s =
     let before = opens_in c.args.calls.now in
     let now = opens_in c.set.new.calls in
     sound_after most c.args.live.now c.args.act.now before now c.requires.fits s
-    (level_applied c.args.act.now c.in-LevelSet.call _ before now c.in-LevelSet.is c.set.ensures) c.set.ensures.numbers (c.set.ensures.each most s.each)
-
-pub returns-in-DtxSet-clause-applied : goal.returns-in-DtxSet-clause-applied
-returns-in-DtxSet-clause-applied c =
-    mode_applied c.args.act.now c.in-DtxSet.call _ (opens_in c.args.calls.now) (opens_in c.set-in-DtxSet.new.calls) c.in-DtxSet.is c.set-in-DtxSet.ensures
-
-pub returns-in-DtxSet-clause-sound : goal.returns-in-DtxSet-clause-sound
-returns-in-DtxSet-clause-sound c most s =
-    let before = opens_in c.args.calls.now in
-    let now = opens_in c.set-in-DtxSet.new.calls in
-    sound_after most c.args.live.now c.args.act.now before now c.requires.fits s
-    (mode_applied c.args.act.now c.in-DtxSet.call _ before now c.in-DtxSet.is c.set-in-DtxSet.ensures) c.set-in-DtxSet.ensures.numbers
-    (c.set-in-DtxSet.ensures.each most s.each)
+    (set_applied c.args.act.now c.in-LevelSet.call before now c.in-LevelSet.is c.set.ensures) c.set.ensures.numbers (c.set.ensures.each most s.each)
