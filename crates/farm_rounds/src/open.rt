@@ -186,8 +186,7 @@ impl OpenCall {
             has_failed(self.lines.out()),
         );
         self.lines = CallLines::new(self.lines.call(), periods, down_failed, out_failed);
-        self.job.plan(periods, self.partner.is_some())?;
-        Ok(())
+        self.job.plan(periods, self.partner.is_some())
     }
 
     /// Reads its incoming lines into its buffers.
