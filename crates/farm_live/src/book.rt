@@ -95,12 +95,12 @@ impl Book {
     }
 
     /// The entry of a caller's post with this number.
-    pub(crate) fn find(&self, of: u32, number: u32) -> Option<Entry>
-        ensures { result ≡ find (is_of_post of number) self.now.history }
+    pub(crate) fn find(&self, caller: u32, number: u32) -> Option<Entry>
+        ensures { result ≡ find (is_of_post caller number) self.now.history }
     {
         for k in 0..self.history.len() {
             let entry = &self.history[k];
-            if is_of_post(entry, of, number) {
+            if is_of_post(entry, caller, number) {
                 return Some(*entry);
             }
         }
@@ -139,8 +139,8 @@ fn period(leg: &mut Leg, post: Post) -> Entry
     Entry { post, out, down }
 }
 
-fn is_of_post(entry: &Entry, of: u32, number: u32) -> bool
-    ensures { result ≡ is_of_post of number entry.now }
+fn is_of_post(entry: &Entry, caller: u32, number: u32) -> bool
+    ensures { result ≡ is_of_post caller number entry.now }
 {
-    entry.post.caller == of && entry.post.number == number
+    entry.post.caller == caller && entry.post.number == number
 }

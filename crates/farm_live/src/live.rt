@@ -99,8 +99,8 @@ impl Live {
     }
 
     /// Ends the farm of these callers, at least one and all of this farm. Waits for each book. Returns each call's
-    /// history and the posts that remain in its inbox, in call-number order. Takes no memory. Each caller's posts are among the entries and then among the remaining
-    /// posts, each once and in order.
+    /// history and the posts that remain in its inbox, in call-number order. Takes no memory. Each caller's posts are
+    /// among the entries and then among the remaining posts, each once and in order.
     pub fn close<R: Wait>(self, rt: &R, callers: Vec<Caller>) -> Vec<Closed>
         requires some { 0 < length callers.items }
         requires farm { AreAllSeated self.inbox self.slots.items callers.items }

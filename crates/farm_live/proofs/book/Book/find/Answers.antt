@@ -6,7 +6,7 @@ use Rattle.farm_live.proofs.book.Book.find.Goals as goal
 
 pub returns-then-is_of_post : goal.returns-then-is_of_post
 returns-then-is_of_post c =
-    let p = is_of_post c.args.of c.args.number in
+    let p = is_of_post c.args.caller c.args.number in
     let es = c.self.inside.history.items in
     let seen : es ≡ c.args.self.now.history = ap (λ (b : BookState). b.history) c.self.view_is in
     let so_far = subst (λ (l : List Entry). find p (drop c.loop-k.k l) ≡ find p l) (sym seen) c.loop-k.invariant in
@@ -16,7 +16,7 @@ returns-then-is_of_post c =
 
 pub loop-k-preserved : goal.loop-k-preserved
 loop-k-preserved c =
-    let p = is_of_post c.args.of c.args.number in
+    let p = is_of_post c.args.caller c.args.number in
     let es = c.self.inside.history.items in
     let seen : es ≡ c.args.self.now.history = ap (λ (b : BookState). b.history) c.self.view_is in
     let so_far = subst (λ (l : List Entry). find p (drop c.loop-k.k l) ≡ find p l) (sym seen) c.loop-k.invariant in
