@@ -74,12 +74,11 @@ fn drain<W: Work, G: Gate>(own: &mut Owner<W>, finished: &mut Vec<Task<W>>, slic
 }
 
 // Runs a job to its end.
-fn run_out<W: Work, G: Gate>(task: Task<W>, slice: u32, gate: &G) -> Task<W>
+fn run_out<W: Work, G: Gate>(mut task: Task<W>, slice: u32, gate: &G) -> Task<W>
     requires { 1 ≤ slice }
     ensures entry { entry_of W.finish result ≡ entry_of W.finish task }
     ensures ended { IsEnded W.finish result }
 {
-    let mut task = task;
     run_to_end(&mut *task.job, slice, gate);
     task
 }
@@ -94,22 +93,20 @@ pub(crate) fn in_order<W: Work>(finished: Vec<Task<W>>, answer: Vec<Box<W>>) -> 
     strip(by_number(finished), answer)
 }
 
-fn by_number<W>(tasks: Vec<Task<W>>) -> Vec<Task<W>>
+fn by_number<W>(mut tasks: Vec<Task<W>>) -> Vec<Task<W>>
     ensures same { IsPermutation tasks.items result.items }
     ensures order { IsNonDecreasingBy (λ t. t.number) result.items }
 {
-    let mut tasks = tasks;
     tasks.sort_unstable_by_key(|task| task.number);
     tasks
 }
 
 // The jobs without their numbers.
-fn strip<W: Work>(tasks: Vec<Task<W>>, answer: Vec<Box<W>>) -> Vec<Box<W>>
+fn strip<W: Work>(tasks: Vec<Task<W>>, mut answer: Vec<Box<W>>) -> Vec<Box<W>>
     requires empty { answer.items ≡ [] }
     requires room { vec_len tasks ≤ vec_capacity answer }
     ensures { result.items ≡ map (λ t. t.job) tasks.items }
 {
-    let mut answer = answer;
     for task in tasks {
         answer.push_reserved(task.job);
     }

@@ -67,11 +67,10 @@ fn find<W: Work>(thieves: &[Thief<W>], member: &mut Member<W>) -> Steal<Task<W>>
 }
 
 // Runs one slice, unless the job is finished.
-fn advance<W: Work, G: Gate>(task: Task<W>, slice: u32, gate: &G) -> Task<W>
+fn advance<W: Work, G: Gate>(mut task: Task<W>, slice: u32, gate: &G) -> Task<W>
     requires { 1 ≤ slice }
     ensures { entry_of W.finish result ≡ entry_of W.finish task }
 {
-    let mut task = task;
     if !task.job.finished() {
         run_slice(&mut *task.job, slice, gate);
     }
