@@ -1,5 +1,5 @@
 //! A whole command by a block machine.
-ghost use Rattle.std.specs.Prelude.{◌≡◌, ◌≢◌, ◌+◌, ◌≤◌, ℕ, List, [], length};
+ghost use Rattle.std.specs.Prelude.{◌≡◌, ◌≢◌, ◌+◌, ◌++◌, ◌≤◌, ℕ, List, [], codes, decimal, length};
 ghost use Rattle.call_number.specs.CallNumber.{IsCallNumber};
 ghost use Rattle.trau_io.specs.Texts.{failed_text};
 ghost use Rattle.block_lines.specs.Machines.{RefusesNone};
@@ -25,6 +25,22 @@ pub fn failed_line(call: u32, side: Side) -> ArrayString<64>
     text.push_str(" ");
     text.push_str(side.word());
     text.push_str(" failed\n");
+    text
+}
+
+/// The last line of text of a line that was read to its end: these words, then how many were taken and how many octets are left,
+/// as `split octets 1600 left 3` for the words `split octets `. It doesn't allocate.
+pub fn left_line(words: &str, count: u64, left: u32) -> ArrayString<64>
+    requires { length words.now ≤ 14 }
+    ensures { result.bytes ≡ words.now ++ (decimal count ++ (codes " left " ++ (decimal left ++ codes "\n"))) }
+{
+    let mut digits = Buffer::new();
+    let mut text = ArrayString::new();
+    text.push_str(words);
+    text.push_str(digits.format(count));
+    text.push_str(" left ");
+    text.push_str(digits.format(left));
+    text.push_str("\n");
     text
 }
 

@@ -16,6 +16,6 @@ mod end;
 mod machine;
 mod run;
 
-pub use command::{failed_line, run_command};
+pub use command::{failed_line, left_line, run_command};
 pub use end::{RunEnd, ToolEnd};
 pub use machine::{BlockMachine, Shape};

@@ -1,7 +1,6 @@
 //! The texts of the command `follow`.
 
-ghost use Rattle.std.specs.Prelude.{◌≡◌, ◌≤◌, ℕ, length};
-ghost use Rattle.ccu_end.specs.declared.recording.FollowEnd.TheVariants.{Done};
+ghost use Rattle.std.specs.Prelude.{◌≡◌, ◌≤◌, length};
 ghost use Rattle.ccu_end.specs.Heard.{frames_of};
 ghost use Rattle.ccu_end.specs.Told.{word_of, line_of, lines_of};
 ghost use Rattle.ccu_end.specs.Tool.{last_text};
@@ -9,7 +8,7 @@ ghost use Rattle.ccu_end.specs.Tool.{last_text};
 use crate::finds::{Found, Heard};
 use crate::recording::FollowEnd;
 use arrayvec::ArrayString;
-use block_lines::failed_line;
+use block_lines::{failed_line, left_line};
 use itoa::Buffer;
 use trau_frame::DownFrame;
 use trau_io::Side;
@@ -55,26 +54,12 @@ pub(crate) fn lines(heard: &Heard) -> ArrayString<64>
     text
 }
 
-// The last line of text of a line that was read to its end: the numbers of frames found and of octets left.
-fn done_line(frames: u64, left: u32) -> ArrayString<64>
-    ensures { (call : ℕ) → result.bytes ≡ last_text call (Done frames left) }
-{
-    let mut digits = Buffer::new();
-    let mut text = ArrayString::new();
-    text.push_str("follow frames ");
-    text.push_str(digits.format(frames));
-    text.push_str(" left ");
-    text.push_str(digits.format(left));
-    text.push_str("\n");
-    text
-}
-
 /// The last line of text; empty if the desk failed.
 pub(crate) fn last_line(call: u32, end: FollowEnd) -> ArrayString<64>
     ensures { result.bytes ≡ last_text call end }
 {
     match end {
-        FollowEnd::Done(frames, left) => done_line(frames, left),
+        FollowEnd::Done(frames, left) => left_line("follow frames ", frames, left),
         FollowEnd::ReadFailed => failed_line(call, Side::Up),
         FollowEnd::WriteFailed => failed_line(call, Side::Down),
         FollowEnd::DeskFailed => ArrayString::new(),

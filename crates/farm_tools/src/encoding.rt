@@ -9,9 +9,8 @@ ghost use Rattle.farm_tools.specs.Machines.{encode_machine};
 
 use crate::downlink::pack_frame;
 use arrayvec::ArrayString;
-use block_lines::{BlockMachine, Shape, ToolEnd, run_command};
+use block_lines::{BlockMachine, Shape, ToolEnd, left_line, run_command};
 use fr_encoder::Encoder;
-use itoa::Buffer;
 use trau_alaw::{Law, expand_all};
 use trau_frame::DownFrame;
 use trau_io::{Desk, Side, Trunk};
@@ -64,14 +63,7 @@ impl BlockMachine for Encoding {
     }
 
     fn done_text(&self, blocks: u32, left: u32) -> ArrayString<64> {
-        let mut digits = Buffer::new();
-        let mut text = ArrayString::new();
-        text.push_str("encode frames ");
-        text.push_str(digits.format(blocks));
-        text.push_str(" left ");
-        text.push_str(digits.format(left));
-        text.push_str("\n");
-        text
+        left_line("encode frames ", u64::from(blocks), left)
     }
 
     // No block is refused.

@@ -3,9 +3,8 @@ ghost use Rattle.frame_listing.specs.Machine.{ListingStands};
 
 use crate::text::write_line;
 use arrayvec::ArrayString;
-use block_lines::{BlockMachine, Shape};
+use block_lines::{BlockMachine, Shape, left_line};
 use frame_sync::FrameSync;
-use itoa::Buffer;
 use trau_io::Side;
 
 /// The block machine of `frames`: the search after all periods so far, the number of its yields, and the text for the last period.
@@ -77,14 +76,7 @@ impl BlockMachine for Listing {
     }
 
     fn done_text(&self, _blocks: u32, left: u32) -> ArrayString<64> {
-        let mut digits = Buffer::new();
-        let mut text = ArrayString::new();
-        text.push_str("frames ");
-        text.push_str(digits.format(self.yields));
-        text.push_str(" left ");
-        text.push_str(digits.format(left));
-        text.push_str("\n");
-        text
+        left_line("frames ", u64::from(self.yields), left)
     }
 
     // No period is refused.

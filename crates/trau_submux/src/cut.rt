@@ -2,12 +2,11 @@
 ghost use Rattle.std.specs.Prelude.{◌≡◌, ◌≢◌, ◌/◌, ◌<◌, ◌≤◌, ℕ, [], length, slice_index_or, take};
 ghost use Rattle.block_lines.specs.Command.{Causes, CommandRuns, Leaves, status_of};
 ghost use Rattle.trau_submux.specs.Channels.{channel};
-ghost use Rattle.trau_submux.specs.Splits.{split_machine, split_text, whole_groups};
+ghost use Rattle.trau_submux.specs.Splits.{split_machine, whole_groups};
 
 use crate::four::split4;
 use arrayvec::ArrayString;
-use block_lines::{BlockMachine, Shape, ToolEnd, run_command};
-use itoa::Buffer;
+use block_lines::{BlockMachine, Shape, ToolEnd, left_line, run_command};
 use trau_io::{Desk, Side, Trunk};
 
 /// The block machine of `split`: the channels of the last block. It keeps nothing else from block to block.
@@ -36,20 +35,6 @@ fn cut_block(block: &[u8], subs: &mut [[u8; 40]; 4])
         Some(slot) => split4(slot, subs),
         None => split4(&filled(block), subs),
     }
-}
-
-// The last line of text.
-fn text_of(octets: u64, left: u32) -> ArrayString<64>
-    ensures { result.bytes ≡ split_text octets left }
-{
-    let mut digits = Buffer::new();
-    let mut text = ArrayString::new();
-    text.push_str("split octets ");
-    text.push_str(digits.format(octets));
-    text.push_str(" left ");
-    text.push_str(digits.format(left));
-    text.push_str("\n");
-    text
 }
 
 impl BlockMachine for Splitting {
@@ -88,7 +73,8 @@ impl BlockMachine for Splitting {
     }
 
     fn done_text(&self, blocks: u32, left: u32) -> ArrayString<64> {
-        text_of(160 * blocks as u64 + (left / 4 * 4) as u64, left % 4)
+        let cut = 160 * blocks as u64 + (left / 4 * 4) as u64;
+        left_line("split octets ", cut, left % 4)
     }
 
     // No block is refused.
