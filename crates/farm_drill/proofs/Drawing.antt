@@ -5,9 +5,13 @@ use Rattle.std.proofs.lemmas.List.FromFn.{length-map-range_with_len, get_or-map-
 use Rattle.std.proofs.lemmas.Grind.{same_number_lists}
 use Rattle.farm_drill.specs.Draws.{next, draw_state, first_draw, first_loud_draw}
 
-pub state-first : (seed call : ℕ) → draw_state seed call 0 ≡ (seed * 4096 + call) % 2 ^ 32
+-- the numbers of 32 bits that wrap at each operation are those that wrap once
+pub state-first : (seed call : ℕ) → (seed * 4096 % 2 ^ 32 + call) % 2 ^ 32 ≡ draw_state seed call 0
 unfolding draw_state
-state-first seed call = refl
+state-first seed call = omega arith
+
+pub wrapped-next : (x : ℕ) → (x * 1664525 % 2 ^ 32 + 1013904223) % 2 ^ 32 ≡ next x
+wrapped-next x = omega arith
 
 pub state-more : (seed call n : ℕ) → draw_state seed call (n + 1) ≡ next (draw_state seed call n)
 unfolding draw_state

@@ -1,8 +1,8 @@
 -- The text of orders, as it is written.
-use Rattle.std.proofs.Common.{◌≡◌, ◌≢◌, ℕ, ◌+◌, ◌-◌, ◌/◌, ◌%◌, true, false, List, [], ◌∷◌, ◌++◌, map, refl, sym, ap, ◌∙◌}
+use Rattle.std.proofs.Common.{◌≡◌, ℕ, ◌+◌, ◌-◌, ◌/◌, true, false, List, [], ◌∷◌, ◌++◌, map, refl, sym, ap, ◌∙◌, arith}
 use Rattle.std.specs.Prelude.{codes, decimal, filter}
 use Rattle.std.specs.List.{range_with_len}
-use Rattle.std.proofs.lemmas.Bool.{eq-eqb, ne_eqb}
+use Rattle.std.proofs.lemmas.Fmt.{decimal_digit}
 use Rattle.std.proofs.lemmas.List.{append-nil, append_assoc, map-append}
 use Rattle.std.proofs.lemmas.List.Concat.{flat_map-append}
 use Rattle.std.proofs.lemmas.List.Elements.{filter-append}
@@ -13,9 +13,11 @@ use Rattle.farm_drill.proofs.Octets.{range-more}
 
 -- ---- the line of each kind of order
 
-pub opening-text : (call : ℕ) → order_text (opening call) ≡ decimal 0 ++ (codes " open " ++ (decimal call ++ codes "\n"))
+pub opening-text : (call : ℕ) → order_text (opening call) ≡ codes "0 open " ++ (decimal call ++ codes "\n")
 unfolding order_line
-opening-text call = append_assoc (decimal 0) (codes " open " ++ decimal call) (codes "\n")
+opening-text call =
+    append_assoc (decimal 0) (codes " open " ++ decimal call) (codes "\n")
+    ∙ ap (λ (d : List ℕ). d ++ (codes " open " ++ (decimal call ++ codes "\n"))) (decimal_digit 0 (omega arith))
 
 pub bridging-text : (periods call : ℕ) →
     order_text (bridging periods call) ≡ decimal (periods / 4) ++ (codes " bridge " ++ (decimal call ++ (codes " " ++ (decimal (call + 1) ++ codes "\n"))))
@@ -43,11 +45,11 @@ unfolding text_of
 text-append os ps = flat_map-append order_text os ps
 
 -- the line of a call that is bridged, and none of one that isn't
-pub one_bridged : (f : ℕ → Order) (call : ℕ) → call % 4 ≡ 1 → text_of (map f (filter is_bridged (call ∷ []))) ≡ order_text (f call)
-one_bridged f call is = let e : is_bridged call ≡ true = eq-eqb (call % 4) 1 is in rw e (text-one (f call))
+pub one_bridged : (f : ℕ → Order) (call : ℕ) → is_bridged call ≡ true → text_of (map f (filter is_bridged (call ∷ []))) ≡ order_text (f call)
+one_bridged f call is = rw is (text-one (f call))
 
-pub none_bridged : (f : ℕ → Order) (call : ℕ) → call % 4 ≢ 1 → text_of (map f (filter is_bridged (call ∷ []))) ≡ []
-none_bridged f call not = let e : is_bridged call ≡ false = ne_eqb (call % 4) 1 not in rw e text-none
+pub none_bridged : (f : ℕ → Order) (call : ℕ) → is_bridged call ≡ false → text_of (map f (filter is_bridged (call ∷ []))) ≡ []
+none_bridged f call not = rw not text-none
 
 -- ---- one call more
 

@@ -7,6 +7,7 @@ ghost use Rattle.farm_drill.specs.Draws.{draw_state, draw, draws, drawn_bits};
 /// The generator of a call, after some number of draws.
 #[derive(Drop)]
 pub struct Generator {
+    // The state, of which the next draw makes the next one.
     x: u32,
 }
 
@@ -17,7 +18,7 @@ impl Generator {
         ensures { result.x ≡ draw_state seed call 0 }
     {
         Generator {
-            x: ((seed as u64 * 4096 + call as u64) % 4_294_967_296) as u32,
+            x: seed.wrapping_mul(4096).wrapping_add(call),
         }
     }
 
@@ -26,8 +27,8 @@ impl Generator {
         ensures now { (seed call n : ℕ) → self.old.x ≡ draw_state seed call n → self.new.x ≡ draw_state seed call (n + 1) }
         ensures draw { (seed call n : ℕ) → self.old.x ≡ draw_state seed call n → result ≡ draw seed call n }
     {
-        self.x = ((1_664_525 * self.x as u64 + 1_013_904_223) % 4_294_967_296) as u32;
-        (self.x / 16_777_216) as u8
+        self.x = self.x.wrapping_mul(1_664_525).wrapping_add(1_013_904_223);
+        (self.x >> 24) as u8
     }
 
     /// Fills the octets with the next draws.

@@ -86,7 +86,7 @@ fn zero(align: u8) -> [u8; 320]
     good(align, zero_data())
 }
 
-// The bits of a period of a line of kind 4.
+// The bits of a period of a line of cut frames.
 fn cut(period: u32) -> [u8; 320]
     requires { period ≤ 1000 }
     ensures value { result ≡ cut_bits period }

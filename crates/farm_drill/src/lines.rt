@@ -11,10 +11,11 @@ use crate::periods::{pcm, uplink};
 use std::alloc::{AllocError, Global};
 use trau_io::{Line, MemTrunk, Side};
 
-// Octets of an outgoing line in a period of 20 ms.
-const DOWN_OCTETS: u32 = 40;
+// Octets of the Up line, and of the Down line, in a period of 20 ms.
+const STATION_OCTETS: u32 = 40;
 
-const OUT_OCTETS: u32 = 160;
+// Octets of the Pcm line, and of the Out line, in a period.
+const EXCHANGE_OCTETS: u32 = 160;
 
 // The octets of a call's incoming lines.
 #[derive(Drop)]
@@ -30,8 +31,8 @@ fn draw_lines(alloc: Global, seed: u32, call: u32, periods: u32) -> Result<Incom
     ensures up { IfOk result (λ lines. lines.up.items ≡ up_line seed call periods) }
     ensures pcm { IfOk result (λ lines. lines.pcm.items ≡ pcm_line seed call periods) }
 {
-    let mut up_octets = Vec::with_capacity(alloc, 40 * periods as usize)?;
-    let mut pcm_octets = Vec::with_capacity(alloc, 160 * periods as usize)?;
+    let mut up_octets = Vec::with_capacity(alloc, (STATION_OCTETS * periods) as usize)?;
+    let mut pcm_octets = Vec::with_capacity(alloc, (EXCHANGE_OCTETS * periods) as usize)?;
     let mut generator = Generator::new(seed, call);
     for period in 0..periods {
         up_octets.extend_from_slice(&uplink(&mut generator, period))?;
@@ -74,7 +75,7 @@ pub(crate) fn set_call(
     ensures { OnOk result (AreDrilled seed (call - 1) periods trunk.old → AreDrilled seed call periods trunk.new) }
 {
     let Incoming { up, pcm } = draw_lines(alloc, seed, call, periods)?;
-    let (down, out) = (DOWN_OCTETS * periods, OUT_OCTETS * periods);
+    let (down, out) = (STATION_OCTETS * periods, EXCHANGE_OCTETS * periods);
     set_line(trunk, alloc, call, Side::Up, up, 1)?;
     set_line(trunk, alloc, call, Side::Pcm, pcm, 1)?;
     set_line(trunk, alloc, call, Side::Down, Vec::new(alloc), down)?;

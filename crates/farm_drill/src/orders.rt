@@ -10,8 +10,14 @@ use std::alloc::{AllocError, Global};
 fn put_opening(text: &mut String, call: u32) -> Result<(), AllocError>
     ensures { OnOk result (string_bytes text.new ≡ string_bytes text.old ++ order_text (opening call)) }
 {
-    let stamp = 0u32;
-    write!(text, "{stamp} open {call}\n")
+    write!(text, "0 open {call}\n")
+}
+
+// Whether the call is bridged with the next one, if there is one.
+fn has_bridge(call: u32) -> bool
+    ensures { result ≡ is_bridged call }
+{
+    call % 4 == 1
 }
 
 // The order that begins the call's bridge, if it has one.
@@ -19,7 +25,7 @@ fn put_bridging(text: &mut String, periods: u32, call: u32) -> Result<(), AllocE
     requires { call ≤ 256 }
     ensures { OnOk result (string_bytes text.new ≡ string_bytes text.old ++ text_of (map (bridging periods) (filter is_bridged (call ∷ [])))) }
 {
-    if call % 4 != 1 {
+    if !has_bridge(call) {
         return Ok(());
     }
     write!(text, "{} bridge {call} {}\n", periods / 4, call + 1)
@@ -29,7 +35,7 @@ fn put_bridging(text: &mut String, periods: u32, call: u32) -> Result<(), AllocE
 fn put_unbridging(text: &mut String, periods: u32, call: u32) -> Result<(), AllocError>
     ensures { OnOk result (string_bytes text.new ≡ string_bytes text.old ++ text_of (map (unbridging periods) (filter is_bridged (call ∷ [])))) }
 {
-    if call % 4 != 1 {
+    if !has_bridge(call) {
         return Ok(());
     }
     write!(text, "{} unbridge {call}\n", periods / 2)

@@ -6,10 +6,10 @@ use Rattle.farm_drill.specs.Orders.{bridging}
 use Rattle.farm_drill.proofs.Texts.{bridging-text, one_bridged, none_bridged}
 use Rattle.farm_drill.proofs.orders.put_bridging.Goals as goal
 
-pub returns-then-call-ne1 : goal.returns-then-call-ne1
-returns-then-call-ne1 c =
+pub returns-then-not-has_bridge : goal.returns-then-not-has_bridge
+returns-then-not-has_bridge c =
     sym (append-nil (string_bytes c.args.text.now))
-    ∙ ap (λ (t : List ℕ). string_bytes c.args.text.now ++ t) (sym (none_bridged (bridging c.args.periods) c.args.call c.if-call-ne1.true))
+    ∙ ap (λ (t : List ℕ). string_bytes c.args.text.now ++ t) (sym (none_bridged (bridging c.args.periods) c.args.call (sym c.has_bridge.ensures ∙ c.if-not-has_bridge.true)))
 
 pub returns : goal.returns
 returns c =
@@ -18,4 +18,4 @@ returns c =
     search rules in
     on_ok_weaker c.write.result
     (λ h. h ∙ ap (λ (t : List ℕ). string_bytes c.args.text.now ++ t)
-    (sym (one_bridged (bridging c.args.periods) c.args.call c.if-call-ne1.false ∙ bridging-text c.args.periods c.args.call))) put
+    (sym (one_bridged (bridging c.args.periods) c.args.call (sym c.has_bridge.ensures ∙ c.if-not-has_bridge.false) ∙ bridging-text c.args.periods c.args.call))) put

@@ -7,5 +7,5 @@ use Rattle.farm_drill.proofs.orders.put_opening.Goals as goal
 pub returns : goal.returns
 returns c =
     let put : OnOk c.write.result (string_bytes c.write.new.self ≡ string_bytes c.args.text.now
-    ++ (decimal 0 ++ (codes " open " ++ (decimal c.args.call ++ codes "\n")))) = search rules in
+    ++ (codes "0 open " ++ (decimal c.args.call ++ codes "\n"))) = search rules in
     on_ok_weaker c.write.result (λ h. h ∙ ap (λ (t : List ℕ). string_bytes c.args.text.now ++ t) (sym (opening-text c.args.call))) put

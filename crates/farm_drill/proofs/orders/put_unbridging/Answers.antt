@@ -6,10 +6,10 @@ use Rattle.farm_drill.specs.Orders.{unbridging}
 use Rattle.farm_drill.proofs.Texts.{unbridging-text, one_bridged, none_bridged}
 use Rattle.farm_drill.proofs.orders.put_unbridging.Goals as goal
 
-pub returns-then-call-ne1 : goal.returns-then-call-ne1
-returns-then-call-ne1 c =
+pub returns-then-not-has_bridge : goal.returns-then-not-has_bridge
+returns-then-not-has_bridge c =
     sym (append-nil (string_bytes c.args.text.now))
-    ∙ ap (λ (t : List ℕ). string_bytes c.args.text.now ++ t) (sym (none_bridged (unbridging c.args.periods) c.args.call c.if-call-ne1.true))
+    ∙ ap (λ (t : List ℕ). string_bytes c.args.text.now ++ t) (sym (none_bridged (unbridging c.args.periods) c.args.call (sym c.has_bridge.ensures ∙ c.if-not-has_bridge.true)))
 
 pub returns : goal.returns
 returns c =
@@ -17,4 +17,4 @@ returns c =
     ++ (decimal (c.args.periods / 2) ++ (codes " unbridge " ++ (decimal c.args.call ++ codes "\n")))) = search rules in
     on_ok_weaker c.write.result
     (λ h. h ∙ ap (λ (t : List ℕ). string_bytes c.args.text.now ++ t)
-    (sym (one_bridged (unbridging c.args.periods) c.args.call c.if-call-ne1.false ∙ unbridging-text c.args.periods c.args.call))) put
+    (sym (one_bridged (unbridging c.args.periods) c.args.call (sym c.has_bridge.ensures ∙ c.if-not-has_bridge.false) ∙ unbridging-text c.args.periods c.args.call))) put

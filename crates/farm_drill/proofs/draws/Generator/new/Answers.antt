@@ -1,6 +1,5 @@
-use Rattle.std.proofs.Common.{sym}
 use Rattle.farm_drill.proofs.Drawing.{state-first}
 use Rattle.farm_drill.proofs.draws.Generator.new.Goals as goal
 
 pub returns : goal.returns
-returns c = sym (state-first c.args.seed c.args.call)
+returns c = state-first c.args.seed c.args.call
