@@ -1,5 +1,7 @@
 -- The lines of a text, the first first.
-use Rattle.std.proofs.Common.{◌≡◌, ◌≢◌, ◌<◌, ℕ, List, [], ◌∷◌, ◌++◌, length, eqb, false, refl, ◌∙◌, ap, arith}
+use Rattle.std.proofs.Common.{◌≡◌, ◌≢◌, ◌<◌, ℕ, List, [], ◌∷◌, ◌++◌, length, Option, None, Some, eqb, false, refl, ◌∙◌, ap, arith}
+use Rattle.std.specs.Prelude.{IfSome, IsNone}
+use Rattle.std.specs.Option.{option_or}
 use Rattle.std.specs.List.{onto_first}
 use Rattle.std.proofs.lemmas.List.{length-append}
 use Rattle.std.proofs.lemmas.List.Elements.{All-head, All-tail}
@@ -40,3 +42,12 @@ only_line (b ∷ bs) lacks some = last_line b bs lacks
 pub no_line : text_lines [] ≡ []
 unfolding text_lines
 no_line = refl
+
+-- by whether the first of two options is there
+pub of_or : {X : Type 0} (r : Option X) (x : X) (P Q : X → Type 0) → IfSome r P → (IsNone r → Q x) → ((y : X) → P y → Q y) → IfSome (option_or r (Some x)) Q
+of_or None x P Q found otherwise on = otherwise refl
+of_or (Some y) x P Q found otherwise on = on y found
+
+pub some_of_or : {X : Type 0} (r : Option X) (x : X) → IsNone (option_or r (Some x)) → ⊥
+some_of_or None x none = cc
+some_of_or (Some y) x none = cc

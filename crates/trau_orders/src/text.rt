@@ -19,10 +19,7 @@ fn split_line(text: &[u8]) -> Option<(&[u8], &[u8])>
     if text.is_empty() {
         return None;
     }
-    match split_at_octet(text, b'\n') {
-        Some((line, after)) => Some((line, after)),
-        None => Some((text, &[])),
-    }
+    split_at_octet(text, b'\n').or(Some((text, &[])))
 }
 
 /// The number of lines.

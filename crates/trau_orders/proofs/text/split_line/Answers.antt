@@ -1,18 +1,18 @@
-use Rattle.std.proofs.Common.{◌∷◌, ◌∙◌, length, refl, ap, sym, rules}
+use Rattle.std.proofs.Common.{◌∷◌, ◌∙◌, length, ap, sym, arith}
 use Rattle.std.proofs.lemmas.Bool.{eqb-false}
-use Rattle.trau_orders.proofs.TextLines.{first_line, rest_shorter, only_line, no_line}
+use Rattle.trau_orders.proofs.TextLines.{first_line, rest_shorter, only_line, no_line, of_or, some_of_or}
 use Rattle.trau_orders.proofs.text.split_line.Goals as goal
 
-pub returns-in-Some-clause-some : goal.returns-in-Some-clause-some
-returns-in-Some-clause-some c = first_line c.args.text.now c.in-Some.line.now c.in-Some.after.now c.in-Some.ensures.some
+pub returns-clause-some : goal.returns-clause-some
+returns-clause-some c = rw c.or.ensures (of_or c.split_at_octet.result _ _ _ c.split_at_octet.ensures.some
+    (λ none. only_line c.args.text.now (c.split_at_octet.ensures.none none) (eqb-false (length c.args.text.now) 0 (sym c.if-is_empty.ensures))
+    ∙ ap (λ ls. c.args.text.now ∷ ls) (sym no_line))
+    (λ parts at. first_line c.args.text.now parts.0.now parts.1.now at))
 
-pub returns-in-None-clause-some : goal.returns-in-None-clause-some
-returns-in-None-clause-some c =
-    only_line c.args.text.now (c.in-None.ensures.none refl) (eqb-false (length c.args.text.now) 0 (sym c.if-is_empty.ensures))
-    ∙ ap (λ ls. c.args.text.now ∷ ls) (sym no_line)
+pub returns-clause-shorter : goal.returns-clause-shorter
+returns-clause-shorter c = rw c.or.ensures (of_or c.split_at_octet.result _ _ _ c.split_at_octet.ensures.some
+    (λ none. omega (arith, eqb-false (length c.args.text.now) 0 (sym c.if-is_empty.ensures)))
+    (λ parts at. rest_shorter c.args.text.now parts.0.now parts.1.now at))
 
-pub returns-in-None-clause-none : goal.returns-in-None-clause-none
-returns-in-None-clause-none c = search rules
-
-pub returns-in-Some-clause-shorter : goal.returns-in-Some-clause-shorter
-returns-in-Some-clause-shorter c = rest_shorter c.args.text.now c.in-Some.line.now c.in-Some.after.now c.in-Some.ensures.some
+pub returns-clause-none : goal.returns-clause-none
+returns-clause-none c = rw c.or.ensures (λ none. absurd (some_of_or c.split_at_octet.result _ none))
