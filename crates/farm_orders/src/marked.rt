@@ -13,7 +13,8 @@ use std::alloc::Global;
 use trau_io::Desk;
 use trau_orders::Orders;
 
-const MOST_OCTETS: usize = 1_310_720;
+// The most octets of a mark and the orders after it.
+const MOST_MARKED_OCTETS: usize = 1_310_720;
 
 /// A mark, and the orders after it.
 #[derive(Drop)]
@@ -58,6 +59,6 @@ pub fn read_marked_orders<D: Desk>(alloc: Global, desk: &mut D) -> Result<Marked
     // If the desk's text is known, the answer is the one to the whole text, or the desk failed.
     ensures told { (text : List ℕ) → (D.desk desk.old).to_come ≡ Some text → AnswersMarkedTold text result }
 {
-    let text = read_text(alloc, desk, MOST_OCTETS)?;
+    let text = read_text(alloc, desk, MOST_MARKED_OCTETS)?;
     marked_of(alloc, &text)
 }

@@ -8,9 +8,7 @@ use crate::OrdersFault;
 use crate::text::read_text;
 use std::alloc::Global;
 use trau_io::Desk;
-use trau_orders::Orders;
-
-const MOST_OCTETS: usize = 1_048_576;
+use trau_orders::{MOST_OCTETS, Orders};
 
 /// The orders of a whole text.
 pub(crate) fn orders_of(alloc: Global, text: &[u8]) -> Result<Orders, OrdersFault>

@@ -18,5 +18,5 @@ mod text;
 
 pub use fault::OrderFault;
 pub use laws::one_answer;
-pub use list::Orders;
+pub use list::{MOST_LINES, MOST_OCTETS, Orders};
 pub use order::{DtxMode, Order, What};

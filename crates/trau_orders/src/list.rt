@@ -10,9 +10,11 @@ use crate::{Order, OrderFault};
 use std::alloc::Global;
 use std::marker::Model;
 
-const MOST_OCTETS: usize = 1_048_576;
+/// The most octets of a text of orders.
+pub const MOST_OCTETS: usize = 1_048_576;
 
-const MOST_LINES: usize = 65_536;
+/// The most lines of a text of orders.
+pub const MOST_LINES: usize = 65_536;
 
 /// The orders of a run, at most 65,536, with stamps that don't fall. Contracts see them as a list.
 #[derive(Drop)]
