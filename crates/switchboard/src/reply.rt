@@ -54,7 +54,7 @@ impl Table {
                 self.close(call, stamp);
             }
             Ok(Act::Bridged { a, b }) => self.join(a, b, stamp),
-            Ok(Act::Unbridged { a, b: _ }) => self.part(a, stamp),
+            Ok(Act::Unbridged { a, .. }) => self.part(a, stamp),
             Ok(Act::LevelSet { .. }) | Ok(Act::DtxSet { .. }) | Err(_) => {}
         }
     }
