@@ -28,8 +28,8 @@ pub fn failed_line(call: u32, side: Side) -> ArrayString<64>
     text
 }
 
-/// The last line of text of a line that was read to its end: these words, then how many were taken and how many octets are left,
-/// as `split octets 1600 left 3` for the words `split octets `. It doesn't allocate.
+/// The last line of text of a line that was read to its end: these words, at most 14 octets, then how many were taken and how many
+/// octets are left, as `split octets 1600 left 3` for the words `split octets `. It doesn't allocate.
 pub fn left_line(words: &str, count: u64, left: u32) -> ArrayString<64>
     requires { length words.now ≤ 14 }
     ensures { result.bytes ≡ words.now ++ (decimal count ++ (codes " left " ++ (decimal left ++ codes "\n"))) }

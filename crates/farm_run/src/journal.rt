@@ -10,6 +10,7 @@ use call_number::NUMBERS;
 use std::alloc::{AllocError, Global};
 use std::marker::Model;
 use trau_io::CallEnd;
+use trau_orders::MOST_LINES;
 
 /// What the report needs to know of the past: an entry for each call number, and the ends of calls and the bridges, each in the
 /// order in which they came.
@@ -32,9 +33,6 @@ impl Model for Journal {
     ghost invariant = { λ j. IsJournal j.calls.items j.ends.items j.bridges.items × (NUMBERS ≤ vec_capacity j.ends) × (65536 ≤ vec_capacity j.bridges) };
 }
 
-// The most orders of a run, a limit of `trau_orders` (`MOST_LINES`), and so the most bridges: an order makes at most one.
-const MOST_ORDERS: usize = 65536;
-
 const NOT_OPENED: Opening = Opening {
     from: 0,
     bridge: None,
@@ -47,7 +45,8 @@ impl Journal {
     {
         let calls = vec![in alloc; NOT_OPENED; NUMBERS]?;
         let ends = Vec::with_capacity(alloc, NUMBERS)?;
-        let bridges = Vec::with_capacity(alloc, MOST_ORDERS)?;
+        // An order makes at most one bridge.
+        let bridges = Vec::with_capacity(alloc, MOST_LINES)?;
         Ok(Journal {
             calls,
             ends,

@@ -31,7 +31,7 @@ pub(crate) enum Octets {
     Hostile(u8, u32),
 }
 
-// What is laid before a command. All other lines are empty, and have no room.
+// What is laid before a command, in place of what earlier rows laid on the same lines. All other lines are empty, and have no room.
 #[derive(Clone, Copy)]
 pub(crate) enum Laid {
     // The four lines of a call, with these octets on Up and on Pcm. No operation fails, and each moves all that it can.
