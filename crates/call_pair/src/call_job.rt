@@ -76,6 +76,9 @@ impl Model for CallJob {
     }) (vec_capacity j.notes) (vec_capacity j.partner) };
 }
 
+// What `plan` takes for a place of a bridged call beside its octets: a note, and a frame of its partner.
+const _: () = prove!(size_of::<UpNote>() + size_of::<Effective>() <= 256);
+
 impl CallJob {
     /// The job of a new call with this number and law, at rest.
     pub fn new(alloc: Global, call: u32, law: Law) -> Result<CallJob, AllocError>

@@ -164,7 +164,8 @@ impl Round {
     }
 
     /// Processes the round: the workers of its pool process its calls in slices of `slice` periods, at least 1. Each slice
-    /// passes the gate. The function waits for the workers; that it returns isn't proved.
+    /// passes the gate. The function waits for the workers; that it returns isn't proved. Call `fill` before it: without it
+    /// no line has given an octet, and each call ends at the round's start for want of its uplink.
     pub fn work<R: Threads + Wait + Sync, G: Gate + Sync>(
         self,
         rt: &R,

@@ -2,7 +2,7 @@
 ghost use Rattle.std.specs.Prelude.{◌≡◌, ◌≢◌, ◌≤◌};
 ghost use Rattle.call_number.specs.CallNumber.{IsCallNumber};
 ghost use Rattle.block_lines.specs.Command.{Causes, CommandRuns, Leaves, status_of};
-ghost use Rattle.frame_listing.specs.Machine.{frames_machine};
+ghost use Rattle.frame_listing.specs.Machine.{PrintsAllYields, frames_machine};
 
 use block_lines::{ToolEnd, run_command};
 use frame_listing::Listing;
@@ -19,6 +19,9 @@ pub fn frames<T: Trunk, D: Desk>(call: u32, trunk: &mut T, desk: &mut D) -> Tool
     ensures causes { Causes frames_machine (T.lines trunk.old) (T.lines trunk.new) (D.desk desk.old) (D.desk desk.new) call (status_of result) }
     ensures clean { Leaves frames_machine (T.lines trunk.old) (T.lines trunk.new) (D.desk desk.old) (D.desk desk.new) call (status_of result) }
     ensures never_refused { status_of result ≢ 8 }
+
+    // What `frames_machine` prints of the periods are all yields of their bits as one list.
+    ensures yields { PrintsAllYields }
 {
     let mut listing = Listing::new();
     run_command(&mut listing, call, trunk, desk)

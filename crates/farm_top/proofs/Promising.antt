@@ -12,6 +12,7 @@ use Rattle.farm_tools.specs.declared.tool.Tool.{Tool}
 use Rattle.farm_tools.specs.declared.tool.Tool.TheVariants.{Encode}
 use Rattle.farm_tools.specs.Machines.{machine_of}
 use Rattle.frame_listing.specs.Machine.{frames_machine}
+use Rattle.frame_listing.proofs.Whole.{prints_all}
 use Rattle.trau_submux.specs.Splits.{split_machine}
 use Rattle.block_lines.specs.Machines.{Machine, RefusesNone}
 use Rattle.block_lines.proofs.Ending.{never_refused}
@@ -106,6 +107,7 @@ module _ (words : List (List ℕ)) (before now : ℕ → Side → LineState) (de
   line_promise a meant done = record {
     command = tool_carried words a meant before now desk desk' status done;
     frames = listing_carried words a meant before now desk desk' status done;
+    yields = prints_all;
     split = split_carried words a meant before now desk desk' status done;
     merge = merge_carried words a meant before now desk desk' status done;
     follow = follow_carried words a meant before now desk desk' status done;
@@ -124,6 +126,7 @@ module _ (words : List (List ℕ)) (before now : ℕ → Side → LineState) (de
   none_promised tool frames split merge follow = record {
     command = λ t c asks. absurd (tool t c asks);
     frames = λ c asks. absurd (frames c asks);
+    yields = prints_all;
     split = λ c asks. absurd (split c asks);
     merge = λ c asks. absurd (merge c asks);
     follow = λ c want asks. absurd (follow c want asks);

@@ -14,7 +14,7 @@ use Rattle.farm_run.specs.Resuming.{IsResumeCutShort}
 use Rattle.farm_tools.specs.declared.tool.Tool.{Tool}
 use Rattle.farm_tools.specs.declared.tool.Tool.TheVariants.{Encode}
 use Rattle.farm_tools.specs.Machines.{machine_of}
-use Rattle.frame_listing.specs.Machine.{frames_machine}
+use Rattle.frame_listing.specs.Machine.{PrintsAllYields, frames_machine}
 use Rattle.trau_submux.specs.Splits.{split_machine}
 use Rattle.command_words.specs.declared.asked.Settings.{Settings}
 use Rattle.command_words.specs.declared.live.LiveSettings.{LiveSettings}
@@ -117,6 +117,8 @@ pub record LinePromise (words : List (List ℕ)) (before now : ℕ → Side → 
   -- to the first refused one, and of the octets left at its end, and `merge` and `follow` what their definitions say.
   pub command : (t : Tool) (c : ℕ) → AsksFor words t c → CommandEnds (machine_of t) before now desk desk' c status
   pub frames : (c : ℕ) → AsksForFrames words c → CommandEnds frames_machine before now desk desk' c status
+  -- what `frames` prints of the line's periods are all yields of their bits
+  pub yields : PrintsAllYields
   pub split : (c : ℕ) → AsksForSplit words c → CommandEnds split_machine before now desk desk' c status
   -- `encode`, `frames` and `split` refuse no block
   pub never_refused : (c : ℕ) → AsksFor words Encode c ⊎ AsksForFrames words c ⊎ AsksForSplit words c → status ≢ 8

@@ -1,2 +1,3 @@
 -- Lemmas on listings.
 pub mod Periods
+pub mod Whole
