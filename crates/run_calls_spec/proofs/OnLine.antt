@@ -1,5 +1,5 @@
 -- Where the bits of a frame stand on the Down line.
-use Rattle.std.proofs.Common.{◌≡◌, refl, sym, ap, ◌∙◌, subst, ℕ, zero, suc, ◌+◌, ◌-◌, ◌*◌, ◌<◌, ◌≤◌, Some, List, [], ◌∷◌, ◌++◌, length, reverse, replicate}
+use Rattle.std.proofs.Common.{◌≡◌, refl, sym, ap, ◌∙◌, subst, ℕ, zero, suc, ◌+◌, ◌-◌, ◌*◌, ◌<◌, ◌≤◌, Some, List, [], ◌∷◌, ◌++◌, length, take, reverse, replicate}
 use Rattle.std.proofs.Common.{get_or, inl, inr, arith, append_assoc, length-append}
 use Rattle.std.specs.Prelude.{Bool, true, nat_lt, is_some}
 use Rattle.std.specs.List.{AllByRecursion, flat_map, zip}
@@ -15,6 +15,7 @@ use Rattle.switchboard.specs.Calls.{opened_at}
 use Rattle.down_framer.specs.Made.{octets_to_next, frame_on_line}
 use Rattle.down_framer.specs.ByNumber.{NumberedFrame, when, numbered_start}
 use Rattle.down_framer.proofs.Store.{length-frame_on_line}
+use Rattle.down_framer.proofs.Timing.{octets_of-bounds}
 use Rattle.call_spec.specs.Call.{Call, periods}
 use Rattle.call_spec.specs.Down.{first_frames, frame_by_number, made_among, frames_of_call, down_frames, bits_on_line, line, down}
 use Rattle.call_spec.specs.Whole.{IsWhole}
@@ -23,7 +24,7 @@ use Rattle.call_spec.proofs.Sending.{zip-more}
 use Rattle.run_spec.specs.Run.{Run, done_in, start_in, end_in}
 use Rattle.run_spec.proofs.Lists.{each_passes}
 use Rattle.run_calls_spec.specs.Whole.{whole_call}
-use Rattle.run_calls_spec.specs.Sent.{frame_count, frame_as_sent, frame_place, Sends}
+use Rattle.run_calls_spec.specs.Sent.{frame_count, frame_as_sent, frame_place, made_bits, Sends}
 use Rattle.run_calls_spec.proofs.Periods.{is_whole, count_periods}
 use Rattle.run_calls_spec.proofs.Items.{bridged_lies}
 use Rattle.run_calls_spec.proofs.Places.{shift_allowed, unshifted}
@@ -155,3 +156,32 @@ whole_on_line items long r c t x j a s more =
     let next : (frame_by_number call (suc j)).start ≡ (frame_by_number call j).start + 160 =
     ap (λ shift. (frame_by_number call j).start + octets_to_next shift) (unshifted call j (t - start_in r c) (handed_carried items r c t x j a s)) in
     omega (arith, later, next)
+
+-- ---- what stays unwritten
+
+-- frames that begin in the call's periods end at most 156 octets after them
+next_near : (call : Call) (n m : ℕ) → ((j : ℕ) → j < m → when (frame_by_number call j).start < n) → numbered_start (first_frames call m) ≤ 160 * n + 156
+next_near call n zero h = omega arith
+next_near call n (suc m) h =
+    let last = h m (omega arith) in
+    let more = octets_of-bounds (frame_by_number call m).shift (shift_allowed call m) in
+    omega (arith, last, more.1)
+
+-- **At most 632 bits more are made than the line has.**
+pub few_unwritten : AreLong → (r : Run) (c : ℕ) → AreOrders r.orders → is_some (opened_at c (done_in r)) ≡ true →
+    length (made_bits r c) ≤ length (down (whole_call r c)) + 632
+few_unwritten long r c a o =
+    let call = whole_call r c in
+    let whole = is_whole r c a o in
+    let n = frame_count r c in
+    let made : length (made_bits r c) ≡ 320 + 2 * numbered_start (first_frames call n) =
+    ap (λ fs. length (line call fs)) (made_first call whole) ∙ length-line call n in
+    near (numbered_start (first_frames call n)) (end_in r c - start_in r c) (periods call) (length (down call)) (length (made_bits r c)) made
+    (next_near call (periods call) n (λ j l. made_within call j whole l)) (count_periods r c) (long r c a o)
+  where
+    near : (next n k long made : ℕ) → made ≡ 320 + 2 * next → next ≤ 160 * k + 156 → k ≡ n → long ≡ 320 * n → made ≤ long + 632
+    near next n k long made m l e o = omega arith
+
+-- **The line is the first of the bits that are made.**
+pub line_front_of_made : (r : Run) (c : ℕ) → down (whole_call r c) ≡ take (320 * (end_in r c - start_in r c)) (made_bits r c)
+line_front_of_made r c = ap (λ n. take (320 * n) (made_bits r c)) (count_periods r c)

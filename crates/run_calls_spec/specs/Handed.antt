@@ -1,5 +1,5 @@
 -- What is handed over in the bridges of a run, and that it goes out (this project's profile).
-use Rattle.std.specs.Prelude.{◌≡◌, ◌≤◌, ◌<◌, ◌↔◌, ℕ, ◌+◌, ◌-◌, ◌*◌, true, Some, None, List, length, map, slice_index, Contains}
+use Rattle.std.specs.Prelude.{◌≡◌, ◌≤◌, ◌<◌, ◌↔◌, ℕ, ◌+◌, ◌-◌, ◌*◌, true, Some, None, List, length, map, take, slice_index, Contains}
 use Rattle.trau_params.specs.Bits260.{bits260}
 use Rattle.trau_io.specs.declared.line.Line.{Line}
 use Rattle.trau_frame.specs.declared.frames.DownFrame.TheVariants.{Speech}
@@ -14,7 +14,7 @@ use Rattle.call_spec.specs.Down.{frame_by_number, down}
 use Rattle.run_spec.specs.Run.{Run, spans_in, start_in, end_in, other_in, IsOpened}
 use Rattle.run_spec.specs.Facts.{sent_by, span_line, report_of}
 use Rattle.run_calls_spec.specs.Whole.{span_for, whole_call, IsBridged, item_for, yield_on, frame_on}
-use Rattle.run_calls_spec.specs.Sent.{frame_count, sent_frames, frame_as_sent, frame_place, made_in, CarriesHanded, Sends, WaitsUnsent, IsFirstOfSpan}
+use Rattle.run_calls_spec.specs.Sent.{frame_count, sent_frames, frame_as_sent, frame_place, made_bits, made_in, CarriesHanded, Sends, WaitsUnsent, IsFirstOfSpan}
 use Rattle.run_calls_spec.specs.Sent.{frames_with, HasOtherItems, DiffersInItems}
 
 -- What a call is handed in the periods of a bridge: its partner's effective frames, as 260 bits, and nothing else.
@@ -49,6 +49,9 @@ pub record GoesOut (r : Run) : Type 0 where
   -- is the last frame made
   pub begins : (c j : ℕ) → IsOpened r c → j < frame_count r c → frame_place r c j ≤ length (down (whole_call r c))
   pub whole : (c t : ℕ) (x : Span) (j : ℕ) → Sends r c t x j → j + 1 < frame_count r c → frame_place r c j + 320 ≤ length (down (whole_call r c))
+  -- the Down line has the first of the bits that are made for it; at most 632 more are made, which stay unwritten
+  pub front : (c : ℕ) → down (whole_call r c) ≡ take (320 * (end_in r c - start_in r c)) (made_bits r c)
+  pub unwritten : (c : ℕ) → IsOpened r c → length (made_bits r c) ≤ length (down (whole_call r c)) + 632
   -- no frame carries anything else
   pub only : (c j h : ℕ) → (frame_by_number (whole_call r c) j).carries ≡ Some h →
       (x : Span) × IsBridged r c (start_in r c + h) x × CarriesHanded r c (start_in r c + h) x j

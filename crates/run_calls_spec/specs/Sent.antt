@@ -8,7 +8,7 @@ use Rattle.switchboard.specs.declared.act.Span as board
 use Rattle.down_framer.specs.ByNumber.{when}
 use Rattle.call_spec.specs.Call.{Call, Span, item_at}
 use Rattle.call_spec.specs.Out.{out}
-use Rattle.call_spec.specs.Down.{without_items, frame_by_number, frames_of_call, HasItem, down_frames, down}
+use Rattle.call_spec.specs.Down.{without_items, frame_by_number, frames_of_call, HasItem, down_frames, line, down}
 use Rattle.run_spec.specs.Run.{Run, start_in}
 use Rattle.run_spec.specs.Facts.{carries_in}
 use Rattle.run_calls_spec.specs.Whole.{span_for, whole_call, IsBridged}
@@ -33,6 +33,10 @@ frame_as_sent r c j = sent_as (whole_call r c) j
 
 abbrev pub frame_place : Run → ℕ → ℕ → ℕ
 frame_place r c j = frame_begin (whole_call r c) j
+
+-- the bits that are made for its Down line: 320 ones, then each frame with what its shift adds or leaves out
+abbrev pub made_bits : Run → ℕ → List ℕ
+made_bits r c = line (whole_call r c) (frames_of_call (whole_call r c))
 
 -- the period of the run in which it is made
 abbrev pub made_in : Run → ℕ → ℕ → ℕ

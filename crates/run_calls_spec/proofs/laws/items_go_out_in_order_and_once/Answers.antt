@@ -5,7 +5,7 @@ use Rattle.run_spec.specs.Run.{other_in}
 use Rattle.run_calls_spec.specs.Whole.{frame_on, span_for, whole_call}
 use Rattle.run_calls_spec.proofs.Carried.{carried_only}
 use Rattle.run_calls_spec.proofs.Going.{handed_goes, handed_soon, one_waits, sent_counted, one_lost, frames_told, all_told}
-use Rattle.run_calls_spec.proofs.OnLine.{handed_on_line, begins_on_line, whole_on_line}
+use Rattle.run_calls_spec.proofs.OnLine.{handed_on_line, begins_on_line, whole_on_line, line_front_of_made, few_unwritten}
 use Rattle.run_calls_spec.proofs.Places.{first_made}
 use Rattle.run_calls_spec.proofs.Sent.{each_sent, sent_handed, handed_place, handed_in_order, handed_once}
 use Rattle.run_calls_spec.proofs.laws.items_go_out_in_order_and_once.Goals as goal
@@ -26,6 +26,8 @@ returns-clause-goes g =
       on_line = λ c t x j k. handed_on_line items r c t x j k are;
       begins = λ c j opened. begins_on_line long r c j are opened;
       whole = λ c t x j. whole_on_line items long r c t x j are;
+      front = λ c. line_front_of_made r c;
+      unwritten = λ c opened. few_unwritten long r c are opened;
       only = λ c j h. carried_only r c j h are;
       first = λ c x. first_made (whole_call r c) (span_for r c x);
       place = λ c t x first j. handed_place r c t x first j are;
