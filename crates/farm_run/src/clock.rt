@@ -1,6 +1,6 @@
 //! The clock of a run: it goes from the orders of a period to a round of periods, and on to a later clock.
 
-ghost use Rattle.std.specs.Prelude.{◌≡◌, ◌<◌, ◌≤◌, ◌+◌, ℕ, is_some, IfOk, IfSome, OnErr};
+ghost use Rattle.std.specs.Prelude.{◌≡◌, ◌≢◌, ◌<◌, ◌≤◌, ◌+◌, ◌-◌, ℕ, [], min, is_some, unwrap_or, IfOk, IfSome, OnErr};
 ghost use Rattle.switchboard.specs.State.{first_stamp};
 ghost use Rattle.farm_rounds.specs.Calls.{call_in};
 ghost use Rattle.farm_rounds.specs.Numbers.{is_among};
@@ -19,17 +19,11 @@ use std::sync::Wait;
 use std::thread::Threads;
 use trau_io::Trunk;
 
-// The number of periods of the next round: at most a batch, and it passes neither the next order nor period `until`.
+// The number of periods of the next round: a batch, or those up to the next order or to period `until` if they are fewer.
 fn round_periods(pace: &Pace, clock: u32, until: u32, next: Option<u32>) -> u32
-    requires pace { IsPace pace.now }
     requires clock { clock < until }
     requires next { IfSome next (λ s. clock < s) }
-    ensures some { 1 ≤ result }
-    ensures few { result ≤ 250 }
-    ensures batch { result ≤ pace.now.batch }
-    ensures within { clock + result ≤ until }
-    ensures last { clock + result ≤ 4294967295 }
-    ensures clear { IfSome next (λ s. clock + result ≤ s) }
+    ensures { result ≡ min pace.now.batch (min (unwrap_or next until) until - clock) }
 {
     let periods = pace.batch.min(until - clock);
     match next {
@@ -38,7 +32,8 @@ fn round_periods(pace: &Pace, clock: u32, until: u32, next: Option<u32>) -> u32
     }
 }
 
-// Processes a round of `periods` periods of the open calls. It runs out of memory only before it reads or writes a line.
+// Processes a round of `periods` periods of the open calls, of which there is one at least. It runs out of memory only before it
+// reads or writes a line.
 fn work_round<R: Threads + Wait + Sync, T: Trunk, G: Gate + Sync>(
     rt: &R,
     alloc: Global,
@@ -50,12 +45,15 @@ fn work_round<R: Threads + Wait + Sync, T: Trunk, G: Gate + Sync>(
 ) -> Result<Stage, AllocError>
     requires pace { IsPace pace.now }
     requires stage { IsStage stage }
+    requires open { stage.farm.live ≢ [] }
     requires live { (c : ℕ) → is_among stage.farm.live c ≡ is_some (call_in stage.farm.calls c) }
     requires some { 1 ≤ periods }
     requires few { periods ≤ pace.now.batch }
     requires within { stage.clock + periods ≤ 4294967295 }
     requires clear { IfSome (first_stamp stage.board.left) (λ s. stage.clock + periods ≤ s) }
     ensures clock { IfOk result (λ after. after.clock ≡ stage.clock + periods) }
+    ensures ended { IfOk result (λ after. after.farm.ended ≡ stage.clock + periods) }
+    ensures left { IfOk result (λ after. after.board.left ≡ stage.board.left) }
     ensures reaches { IfOk result (λ after. Reaches pace.now.batch stage after (T.lines trunk.old) (T.lines trunk.new)) }
     ensures cut { OnErr result (T.lines trunk.new ≡ T.lines trunk.old) }
 {
@@ -82,12 +80,8 @@ fn work_round<R: Threads + Wait + Sync, T: Trunk, G: Gate + Sync>(
 }
 
 // The next clock if no call is open: at the next order, or at period `until` if that comes first.
-fn idle_until(clock: u32, until: u32, next: Option<u32>) -> u32
-    requires clock { clock < until }
-    requires next { IfSome next (λ s. clock < s) }
-    ensures later { clock < result }
-    ensures within { result ≤ until }
-    ensures clear { IfSome next (λ s. result ≤ s) }
+fn idle_until(until: u32, next: Option<u32>) -> u32
+    ensures { result ≡ min (unwrap_or next until) until }
 {
     match next {
         Some(stamp) => stamp.min(until),
@@ -109,6 +103,13 @@ fn step<R: Threads + Wait + Sync, T: Trunk, G: Gate + Sync>(
     requires pace { IsPace pace.now }
     requires stage { IsStage stage }
     requires before { stage.clock < until }
+
+    // It goes towards the next order or `until`, whichever comes first: all the way if it processed no round, and otherwise by a
+    // batch at most.
+    ensures idle { IfOk result (λ after. after.farm.ended ≡ stage.farm.ended →
+        after.clock ≡ min (unwrap_or (first_stamp after.board.left) until) until) }
+    ensures round { IfOk result (λ after. after.farm.ended ≢ stage.farm.ended →
+        after.clock ≡ stage.clock + min pace.now.batch (min (unwrap_or (first_stamp after.board.left) until) until - stage.clock)) }
     ensures later { IfOk result (λ after. stage.clock < after.clock) }
     ensures within { IfOk result (λ after. after.clock ≤ until) }
     ensures reaches { IfOk result (λ after. Reaches pace.now.batch stage after (T.lines trunk.old) (T.lines trunk.new)) }
@@ -124,7 +125,7 @@ fn step<R: Threads + Wait + Sync, T: Trunk, G: Gate + Sync>(
     )?;
     let next = stage.board.next_stamp();
     if stage.farm.live_calls().is_empty() {
-        stage.clock = idle_until(clock, until, next);
+        stage.clock = idle_until(until, next);
         return Ok(stage);
     }
     let periods = round_periods(pace, clock, until, next);

@@ -1,7 +1,7 @@
 -- The clock of a run goes on where no call is open.
 use Rattle.std.proofs.Common.{◌≡◌, refl, sym, ap, ◌∙◌, subst, ℕ, ◌+◌, ◌-◌, ◌*◌, ◌<◌, ◌≤◌, Bool, true, false, not, ◌&&◌, Option, Some, None, List, [], ◌∷◌}
 use Rattle.std.proofs.Common.{◌++◌, length, drop, inl, inr, arith}
-use Rattle.std.specs.Prelude.{◌==◌, is_some, IfSome}
+use Rattle.std.specs.Prelude.{◌==◌, min, is_some, unwrap_or, IfSome}
 use Rattle.std.proofs.lemmas.Bool.{eqb-true}
 use Rattle.trau_io.specs.declared.line.Side.{Side}
 use Rattle.trau_io.specs.declared.line.Side.TheVariants.{Up, Pcm, Down, Out}
@@ -39,6 +39,27 @@ clock_on t u b calls a l n = record {
     by : (o : Option ℕ) → IfSome o (λ at. at < t) → IfSome o (λ at. at < u)
     by None h = tt
     by (Some at) h = omega arith
+
+-- The lesser of the next order's stamp and the limit comes later, and passes neither.
+pub goes_to : (t until u : ℕ) (next stamp : Option ℕ) → u ≡ min (unwrap_or next until) until → next ≡ stamp → t < until → IfSome stamp (λ s. t < s) →
+    (t < u) × (u ≤ until) × IfSome stamp (λ s. u ≤ s)
+goes_to t until u next stamp is same l later =
+    by stamp (subst (λ (o : Option ℕ). u ≡ min (unwrap_or o until) until) same is) later
+  where
+    by : (o : Option ℕ) → u ≡ min (unwrap_or o until) until → IfSome o (λ s. t < s) → (t < u) × (u ≤ until) × IfSome o (λ s. u ≤ s)
+    by None is later = (omega (arith, is, l), omega (arith, is), tt)
+    by (Some s) is later = (omega (arith, is, l, later), omega (arith, is), omega (arith, is))
+
+-- A round of a batch, or of the periods up to there, has some periods and doesn't pass it.
+pub goes_by : (batch t until n : ℕ) (next stamp : Option ℕ) → n ≡ min batch (min (unwrap_or next until) until - t) → next ≡ stamp → 1 ≤ batch → t < until →
+    IfSome stamp (λ s. t < s) → (1 ≤ n) × (n ≤ batch) × (t + n ≤ until) × IfSome stamp (λ s. t + n ≤ s)
+goes_by batch t until n next stamp is same some l later =
+    by stamp (subst (λ (o : Option ℕ). n ≡ min batch (min (unwrap_or o until) until - t)) same is) later
+  where
+    by : (o : Option ℕ) → n ≡ min batch (min (unwrap_or o until) until - t) → IfSome o (λ s. t < s) →
+        (1 ≤ n) × (n ≤ batch) × (t + n ≤ until) × IfSome o (λ s. t + n ≤ s)
+    by None is later = (omega (arith, is, l, some), omega (arith, is), omega (arith, is, l), tt)
+    by (Some s) is later = (omega (arith, is, l, later, some), omega (arith, is), omega (arith, is, l), omega (arith, is, later))
 
 module _ (r : Run) (t u : ℕ) (b : State) (calls : List Kept) (last : Standing) (first now : ℕ → Side → LineState) (at : IsAtClock r t b calls last first now)
     (l : t ≤ u) (w : u ≤ r.periods)

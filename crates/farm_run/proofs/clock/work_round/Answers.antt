@@ -22,7 +22,7 @@ use Rattle.farm_run.specs.Standing.{Standing, standing, StandingGoesOn, HasFlags
 use Rattle.farm_run.proofs.Noted.Knowing.{known_round}
 use Rattle.farm_run.proofs.Listed.Round.{listed_back}
 use Rattle.farm_run.proofs.Listed.Behind.{knows_after, goes_after, meets_run}
-use Rattle.farm_run.proofs.Told.Boards.{told_done, told_orders}
+use Rattle.farm_run.proofs.Told.Boards.{told_done, told_left, told_orders}
 use Rattle.farm_run.proofs.Worked.Making.{IsMade, made_octets, made_open, made_partners, made_stands, made_tallies}
 use Rattle.farm_run.proofs.Worked.Facts as parts
 use Rattle.farm_run.proofs.Worked.Round.{FilledRound, WorkedRound}
@@ -155,6 +155,9 @@ round g c =
 pub returns-clause-clock : goal.returns-clause-clock
 returns-clause-clock g c = refl
 
+pub returns-clause-left : goal.returns-clause-left
+returns-clause-left g c = ap (λ (s : State). s.left) c.tell_ends.ensures.told ∙ told_left c.args.stage.board c.ends.result.now
+
 -- where the run goes on, the round is one of it
 in_run : (g : Over) (c : goal.After-settle-farm g) (r : Run) (first : _) (last : Standing) → c.args.stage.clock + c.args.periods ≤ r.periods →
     IsAtClock r c.args.stage.clock c.args.stage.board c.args.stage.farm.calls last first (g.T.Trunk.lines c.args.trunk.now) →
@@ -258,6 +261,8 @@ returns-in_err-round g c =
     let no = c.from_residual.ensures.0 in
     record {
       clock = IfOk-from_err _ _ no;
+      ended = IfOk-from_err _ _ no;
+      left = IfOk-from_err _ _ no;
       reaches = IfOk-from_err _ _ no;
       cut = on_err _ refl;
     }
