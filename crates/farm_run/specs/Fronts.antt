@@ -10,7 +10,7 @@ use Rattle.trau_orders.specs.Lists.{AreOrders}
 use Rattle.round_lines.specs.Rounds.{IsIncoming}
 use Rattle.run_spec.specs.Run.{Run, end_in, IsOpened, cause_in, worked_to}
 use Rattle.run_spec.specs.Lines.{out_of_call, down_of_call}
-use Rattle.farm_run.specs.Runs.{AreFailures, HasWritten, IsCutOff, IsReadTo, IsReadWhole, IsRunOver, AreTold, KeepsSides, OnlyOpenedFail, ReadsOn}
+use Rattle.farm_run.specs.Runs.{AreFailures, FailedBy, HasWritten, IsCutOff, IsReadTo, IsReadWhole, IsRunOver, AreTold, KeepsSides, OnlyOpenedFail, ReadsOn}
 
 -- An outgoing line has gained a prefix of these octets, maybe all; if it failed, a proper prefix, as in a run that came to its
 -- end.
@@ -38,8 +38,9 @@ pub record StopsAt (r : Run) (t : ℕ) (fails : ℕ → Side → Bool) (before n
   -- the call of an incoming line that failed ended before t, by its lines and not by an order
   pub over : (c : ℕ) (s : Side) → IsIncoming s → fails c s ≡ true → (end_in r c < t) × (IsCutOff (cause_in r c) → ⊥)
 
--- A run of these orders that ran out of memory. There is no report, so `fails` says which lines failed.
-pub record IsCutShort (orders : List Order) (periods : ℕ) (before now : ℕ → Side → LineState) : Type 0 where
+-- A run of these orders, in rounds of at most `batch` periods, that ran out of memory. There is no report, so `fails` says which lines
+-- failed.
+pub record IsCutShort (orders : List Order) (batch periods : ℕ) (before now : ℕ → Side → LineState) : Type 0 where
   -- the lines that failed
   pub fails : ℕ → Side → Bool
   pub told : AreFailures fails before now
@@ -53,7 +54,9 @@ pub record IsCutShort (orders : List Order) (periods : ℕ) (before now : ℕ �
   pub clock : ℕ
   pub within : clock ≤ periods
   pub stops : (r : Run) → IsRunOver orders periods fails before now r → StopsAt r clock fails before now
-  -- each line that failed is one of a call that the run opens
+  -- each line that failed is one of a call that the run opens; an incoming one gave fewer octets than its call takes up to some
+  -- period, at most a batch after the call's end and not after `clock`
   pub opened : (r : Run) → IsRunOver orders periods fails before now r → OnlyOpenedFail r fails
+  pub short : (r : Run) → IsRunOver orders periods fails before now r → FailedBy r batch clock fails
   -- if the orders are in range and the contents of the incoming lines are known, such a run exists
   pub there : AreOrders orders → AreTold before → (r : Run) × IsRunOver orders periods fails before now r

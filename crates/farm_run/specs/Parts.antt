@@ -89,4 +89,4 @@ ResumesOn pace mark count marked before now resumed = (orders : List Order) (fir
 -- or runs out of memory from there on
 abbrev pub StopsOn : Pace → MarkView → Stage → (ℕ → Side → LineState) → (ℕ → Side → LineState) → Type 0
 StopsOn pace mark marked before now = (orders : List Order) (first : ℕ → Side → LineState) → HeldTo orders pace.batch first before marked →
-    IsResumeCutShort orders (max mark.period pace.periods) mark first now
+    IsResumeCutShort orders pace.batch (max mark.period pace.periods) mark first now

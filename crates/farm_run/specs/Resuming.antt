@@ -20,7 +20,7 @@ use Rattle.farm_run.specs.declared.pace.Pace.{Pace}
 use Rattle.farm_run.specs.declared.resuming.Resumed.{Resumed}
 use Rattle.farm_run.specs.declared.resuming.Resumed.TheVariants.{Ran, Differs}
 use Rattle.farm_run.specs.Runs.{TellsFailed, AreFailures, KeepsSides, ReadsOn, AreTold, IsRunOver, IsCutOff, IsReadTo, IsReadWhole, HasWritten, OnlyOpenedFail}
-use Rattle.farm_run.specs.Runs.{FailedShort, is_listed}
+use Rattle.farm_run.specs.Runs.{FailedBy, FailedShort, is_listed}
 use Rattle.farm_run.specs.Fronts.{HasFront}
 
 -- What a run leaves on the lines if the outgoing octets of the periods before `from` are held back.
@@ -47,7 +47,8 @@ pub record ResumesRun (orders : List Order) (pace : Pace) (mark : MarkView) (bef
   pub reports : (r : Run) → IsRunOver orders (max mark.period pace.periods) (is_listed report.failed) before now r → report ≡ report_of r report.failed
   -- the run to the mark's period has the mark's calls
   pub same_mark : (r : Run) → IsRunOver orders mark.period (is_listed report.failed) before now r → marked_calls r ≡ mark.calls
-  -- each line that failed is one of a call that the run opened, and each incoming one failed short of what a round takes of it
+  -- each line that failed is one of a call that the run opened; an incoming one gave fewer octets than its call takes up to some
+  -- period, at most a batch after the call's end
   pub opened : (r : Run) → IsRunOver orders (max mark.period pace.periods) (is_listed report.failed) before now r →
       OnlyOpenedFail r (is_listed report.failed)
   pub short : (r : Run) → IsRunOver orders (max mark.period pace.periods) (is_listed report.failed) before now r →
@@ -74,7 +75,8 @@ pub record FindsDifference (orders : List Order) (pace : Pace) (mark : MarkView)
       (c : ℕ) → IsOpened r c → is_listed failed c Pcm ≡ false → IsCutOff (cause_in r c) → IsReadTo (now c Pcm) (160 * length (periods_in r c)) (r.lines c).pcm
   -- the lines of calls that it doesn't open are unchanged
   pub others : (r : Run) → IsRunOver orders mark.period (is_listed failed) before now r → (c : ℕ) (s : Side) → (IsOpened r c → ⊥) → now c s ≡ before c s
-  -- each line that failed is one of a call that the run opened, and each incoming one failed short of what a round takes of it
+  -- each line that failed is one of a call that the run opened; an incoming one gave fewer octets than its call takes up to some
+  -- period, at most a batch after the call's end
   pub opened : (r : Run) → IsRunOver orders mark.period (is_listed failed) before now r → OnlyOpenedFail r (is_listed failed)
   pub short : (r : Run) → IsRunOver orders mark.period (is_listed failed) before now r → FailedShort r pace.batch (is_listed failed)
   -- if the orders are in range and the contents of the incoming lines are known, such a run exists
@@ -108,8 +110,9 @@ pub record StopsFrom (r : Run) (from t : ℕ) (fails : ℕ → Side → Bool) (b
   -- the call of an incoming line that failed ended before t, by its lines and not by an order
   pub over : (c : ℕ) (s : Side) → IsIncoming s → fails c s ≡ true → (end_in r c < t) × (IsCutOff (cause_in r c) → ⊥)
 
--- A resumed run of these orders that ran out of memory. There is no report, so `fails` says which lines failed.
-pub record IsResumeCutShort (orders : List Order) (periods : ℕ) (mark : MarkView) (before now : ℕ → Side → LineState) : Type 0 where
+-- A resumed run of these orders, in rounds of at most `batch` periods, that ran out of memory. There is no report, so `fails` says which
+-- lines failed.
+pub record IsResumeCutShort (orders : List Order) (batch periods : ℕ) (mark : MarkView) (before now : ℕ → Side → LineState) : Type 0 where
   -- the lines that failed
   pub fails : ℕ → Side → Bool
   pub told : AreFailures fails before now
@@ -123,8 +126,10 @@ pub record IsResumeCutShort (orders : List Order) (periods : ℕ) (mark : MarkVi
   pub clock : ℕ
   pub within : clock ≤ periods
   pub stops : (r : Run) → IsRunOver orders periods fails before now r → StopsFrom r mark.period clock fails before now
-  -- each line that failed is one of a call that the run opens
+  -- each line that failed is one of a call that the run opens; an incoming one gave fewer octets than its call takes up to some
+  -- period, at most a batch after the call's end and not after `clock`
   pub opened : (r : Run) → IsRunOver orders periods fails before now r → OnlyOpenedFail r fails
+  pub short : (r : Run) → IsRunOver orders periods fails before now r → FailedBy r batch clock fails
   -- if the run up to the mark's period hasn't the mark's calls, each outgoing line is unchanged, its counts included
   pub held : (r : Run) → IsRunOver orders mark.period fails before now r → marked_calls r ≢ mark.calls →
       (c : ℕ) (s : Side) → IsOutgoing s → now c s ≡ before c s

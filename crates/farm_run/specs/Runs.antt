@@ -111,20 +111,24 @@ pub record Leaves (r : Run) (fails : ℕ → Side → Bool) (before now : ℕ �
 abbrev pub OnlyOpenedFail : Run → (ℕ → Side → Bool) → Type 0
 OnlyOpenedFail r fails = (c : ℕ) (s : Side) → fails c s ≡ true → IsOpened r c
 
--- An incoming line failed while a round was read, with the run's periods from `from` on and before `until`. Its call ended in this
--- round because of its lines, not by an order. In all, the line gave fewer octets than the call's periods before `until` take
--- (`octets` each).
+-- A line of a call that ended from period `from` of the run on and before `until`, because of its lines and not by an order. In
+-- all, the line gave fewer octets than the call's periods before `until` take (`octets` each).
 pub record FailedIn (r : Run) (c octets : ℕ) (line : List ℕ) (from until : ℕ) : Type 0 where
   pub begun : from ≤ end_in r c
   pub over : end_in r c < until
-  pub within : until ≤ r.periods
   pub by_lines : IsCutOff (cause_in r c) → ⊥
   pub short : length line < octets * (until - start_in r c)
 
--- each incoming line that failed did so in a round of at most `batch` periods
-pub record FailedShort (r : Run) (batch : ℕ) (fails : ℕ → Side → Bool) : Type 0 where
-  pub up : (c : ℕ) → fails c Up ≡ true → (from : ℕ) × (until : ℕ) × (until ≤ from + batch) × FailedIn r c 40 (r.lines c).up from until
-  pub pcm : (c : ℕ) → fails c Pcm ≡ true → (from : ℕ) × (until : ℕ) × (until ≤ from + batch) × FailedIn r c 160 (r.lines c).pcm from until
+-- each incoming line that failed is such a line, for some `from` and `until`, at most `batch` periods apart and not after period t
+pub record FailedBy (r : Run) (batch t : ℕ) (fails : ℕ → Side → Bool) : Type 0 where
+  pub up : (c : ℕ) → fails c Up ≡ true →
+      (from : ℕ) × (until : ℕ) × (until ≤ from + batch) × (until ≤ t) × FailedIn r c 40 (r.lines c).up from until
+  pub pcm : (c : ℕ) → fails c Pcm ≡ true →
+      (from : ℕ) × (until : ℕ) × (until ≤ from + batch) × (until ≤ t) × FailedIn r c 160 (r.lines c).pcm from until
+
+-- the same in a run that came to its end
+abbrev pub FailedShort : Run → ℕ → (ℕ → Side → Bool) → Type 0
+FailedShort r batch fails = FailedBy r batch r.periods fails
 
 -- A run of these orders, whatever fails.
 pub record Runs (orders : List Order) (pace : Pace) (before now : ℕ → Side → LineState) (report : ReportView) : Type 0 where
@@ -136,7 +140,8 @@ pub record Runs (orders : List Order) (pace : Pace) (before now : ℕ → Side �
   -- lines and report are those of the run of these orders over what the lines gave
   pub leaves : (r : Run) → IsRunOver orders pace.periods (is_listed report.failed) before now r → Leaves r (is_listed report.failed) before now
   pub reports : (r : Run) → IsRunOver orders pace.periods (is_listed report.failed) before now r → report ≡ report_of r report.failed
-  -- each line that failed is one of a call that the run opened, and each incoming one failed short of what a round takes of it
+  -- each line that failed is one of a call that the run opened; an incoming one gave fewer octets than its call takes up to some
+  -- period, at most a batch after the call's end
   pub opened : (r : Run) → IsRunOver orders pace.periods (is_listed report.failed) before now r → OnlyOpenedFail r (is_listed report.failed)
   pub short : (r : Run) → IsRunOver orders pace.periods (is_listed report.failed) before now r → FailedShort r pace.batch (is_listed report.failed)
   -- if the orders are in range and the contents of the incoming lines are known, such a run exists

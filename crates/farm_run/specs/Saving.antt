@@ -27,7 +27,8 @@ pub record Saves (orders : List Order) (pace : Pace) (before now : ℕ → Side 
   -- lines and mark are those of the run of these orders over what the lines gave
   pub leaves : (r : Run) → IsRunOver orders pace.periods (is_listed saved.failed) before now r → Leaves r (is_listed saved.failed) before now
   pub marks : (r : Run) → IsRunOver orders pace.periods (is_listed saved.failed) before now r → saved.mark ≡ mark_of r
-  -- each line that failed is one of a call that the run opened, and each incoming one failed short of what a round takes of it
+  -- each line that failed is one of a call that the run opened; an incoming one gave fewer octets than its call takes up to some
+  -- period, at most a batch after the call's end
   pub opened : (r : Run) → IsRunOver orders pace.periods (is_listed saved.failed) before now r → OnlyOpenedFail r (is_listed saved.failed)
   pub short : (r : Run) → IsRunOver orders pace.periods (is_listed saved.failed) before now r → FailedShort r pace.batch (is_listed saved.failed)
   -- if the orders are in range and the contents of the incoming lines are known, such a run exists

@@ -94,7 +94,7 @@ pub fn resume<R: Threads + Wait + Sync, T: Trunk, G: Gate + Sync>(
     // If memory ran out, the run stopped at one period. Each outgoing line that didn't fail has gained exactly the octets of the
     // periods from the mark's on and before that one; a line that failed, a proper prefix of them. If the mark isn't the run's, all
     // outgoing lines are unchanged.
-    ensures cut { OnErr result (IsResumeCutShort orders (max mark.now.period pace.now.periods) mark.now (T.lines trunk.old) (T.lines trunk.new)) }
+    ensures cut { OnErr result (IsResumeCutShort orders pace.now.batch (max mark.now.period pace.now.periods) mark.now (T.lines trunk.old) (T.lines trunk.new)) }
 
     // Incoming lines are only read and outgoing lines only written, even if memory runs out.
     ensures sides { KeepsSides (T.lines trunk.old) (T.lines trunk.new) }

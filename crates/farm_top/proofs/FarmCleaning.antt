@@ -39,12 +39,12 @@ module _ (text_of : Run → List TheLine → List ℕ) (good : GoodOrBad) (one :
   what = taken good one done before now desk desk' status orders told carried
 
   ran_of : (t : Taken (List Order) done orders desk) → ToldOrCut text_of s before now desk' status orders t.read →
-      Ran ⊎ (IsCutShort orders s.periods before now × (status ≡ 5))
+      Ran ⊎ (IsCutShort orders s.batch s.periods before now × (status ≡ 5))
   ran_of t (inl ran) = inl (record { read = t.read; written = t.written; write_faults = t.write_faults; all_read = t.all_read; run = ran })
   ran_of t (inr (cut, ends)) = inr (cut, ends.status_is)
 
   ran_or_cut : Taken (List Order) done orders desk ⊎ NotTaken before now desk desk' status →
-      Ran ⊎ ((IsCutShort orders s.periods before now × (status ≡ 5)) ⊎ NotTaken before now desk desk' status)
+      Ran ⊎ ((IsCutShort orders s.batch s.periods before now × (status ≡ 5)) ⊎ NotTaken before now desk desk' status)
   ran_or_cut (inl t) = elim (ran_of t (comes t.read t.done)) [
     | inl ran ↦ inl ran
     | inr cut ↦ inr (inl cut)
@@ -106,11 +106,11 @@ module _ (text_of : Run → List TheLine → List ℕ) (good : GoodOrBad) (one :
       (run.headline r (subst (λ (ls : List TheLine). IsRunOver orders s.periods (is_listed ls) before now r) (sym e) over))
 
   -- **The run was cut short.**
-  pub cut_short : IsCutShort orders s.periods before now
+  pub cut_short : IsCutShort orders s.batch s.periods before now
   cut_short = elim (ran_or_cut what) [
     | inl ran ↦ cut_whole text_of orders s before now ran.read desk' status (orders_known (text_lines told.text) orders told.within.1 told.spelled) ran.run
     | inr (inl cut) ↦ cut.0
-    | inr (inr none) ↦ cut_none orders s.periods before now none.stay
+    | inr (inr none) ↦ cut_none orders s.batch s.periods before now none.stay
   ]
 
   module _ (calm : IsCalmRun before now desk desk') where
@@ -184,7 +184,7 @@ module _ (good : GoodOrBad) (one : SpellsOneList) (s : Settings) (before now : �
   run_headline due none carried = headline report_told good one s (RunsOrders s before now desk' status) before now desk desk' status orders told
       (told_by_run s before now desk' status orders) carried due none
 
-  pub run_cut_short : CarriesRun s before now desk desk' status → IsCutShort orders s.periods before now
+  pub run_cut_short : CarriesRun s before now desk desk' status → IsCutShort orders s.batch s.periods before now
   run_cut_short carried = cut_short report_told good one s (RunsOrders s before now desk' status) before now desk desk' status orders told
       (told_by_run s before now desk' status orders) carried
 
@@ -211,7 +211,7 @@ module _ (good : GoodOrBad) (one : SpellsOneList) (s : Settings) (before now : �
   save_headline due none carried = headline mark_told good one s (SavesOrders s before now desk' status) before now desk desk' status orders told
       (told_by_save s before now desk' status orders) carried due none
 
-  pub save_cut_short : CarriesSave s before now desk desk' status → IsCutShort orders s.periods before now
+  pub save_cut_short : CarriesSave s before now desk desk' status → IsCutShort orders s.batch s.periods before now
   save_cut_short carried = cut_short mark_told good one s (SavesOrders s before now desk' status) before now desk desk' status orders told
       (told_by_save s before now desk' status orders) carried
 

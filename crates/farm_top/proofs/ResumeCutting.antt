@@ -11,7 +11,7 @@ use Rattle.farm_checkpoint.specs.Marks.{MarkView}
 use Rattle.farm_orders.specs.declared.marked.MarkedOrders.{MarkedOrders}
 use Rattle.run_spec.specs.Run.{worked_to}
 use Rattle.run_spec.specs.Lines.{out_of_call, down_of_call}
-use Rattle.farm_run.specs.Runs.{is_listed}
+use Rattle.farm_run.specs.Runs.{FailedBy, is_listed}
 use Rattle.farm_run.specs.Resuming.{IsResumeCutShort, StopsFrom}
 use Rattle.farm_run.proofs.Lines.Stopping.{stops_all_from}
 use Rattle.farm_run.proofs.Marked.Resumption.{unbegun_cut}
@@ -23,7 +23,7 @@ use Rattle.farm_top.proofs.ToldRuns.{front_whole}
 -- a run that was carried to its end has what it has where it is cut short
 pub cut_whole : (marked : MarkedOrders) (s : Settings) (before now : ℕ → Side → LineState) (desk desk' : DeskState) (status : ℕ) →
     AreOrders marked.orders → ResumesAndTells marked s before now desk desk' status →
-    IsResumeCutShort marked.orders (max marked.mark.period s.periods) marked.mark before now
+    IsResumeCutShort marked.orders s.batch (max marked.mark.period s.periods) marked.mark before now
 cut_whole marked s before now desk desk' status are ran =
     let report = ran.report in
     let from = marked.mark.period in
@@ -48,14 +48,15 @@ cut_whole marked s before now desk desk' status are ran =
           (stops_all_from r (subst (λ (os : List Order). AreOrders os) (sym over.same_orders) are) s.batch (is_listed report.failed) before now
           (ran.resumes.short r over) from (ran.resumes.leaves r over));
       opened = ran.resumes.opened;
+      short = λ r over. subst (λ (n : ℕ). FailedBy r s.batch n (is_listed report.failed)) over.same_periods (ran.resumes.short r over);
     }
 
 -- no line was used
-pub cut_none_from : (orders : List Order) (periods : ℕ) (mark : MarkView) (before now : ℕ → Side → LineState) → AllStay before now →
-    IsResumeCutShort orders periods mark before now
-cut_none_from orders periods mark before now stay =
+pub cut_none_from : (orders : List Order) (batch periods : ℕ) (mark : MarkView) (before now : ℕ → Side → LineState) → AllStay before now →
+    IsResumeCutShort orders batch periods mark before now
+cut_none_from orders batch periods mark before now stay =
     let same : before ≡ now = λ i. λ c. λ side. sym (stay c side) i in
-    subst (IsResumeCutShort orders periods mark before) same (unbegun_cut orders periods mark before)
+    subst (IsResumeCutShort orders batch periods mark before) same (unbegun_cut orders batch periods mark before)
 
 -- the status of a run that was carried to its end
 pub due_of : (failed : List TheLine) (text : List ℕ) (read desk' : DeskState) (status : ℕ) → TellsRun failed text read desk' status → status ≡ 9 → ⊥

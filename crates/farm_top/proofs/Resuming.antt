@@ -100,7 +100,7 @@ module _ (good : GoodOrBad) (one : SpellsOneList) (mark_good : NotGoodAndBad) (o
 
   -- or there was no memory, or the desk failed while it was read
   abbrev Else : Type 0
-  Else = (IsResumeCutShort orders (max mark.period s.periods) mark before now × (status ≡ 5)) ⊎ NotTaken before now desk desk' status
+  Else = (IsResumeCutShort orders s.batch (max mark.period s.periods) mark before now × (status ≡ 5)) ⊎ NotTaken before now desk desk' status
 
   what_of : (t : Taken MarkedOrders (ResumesOrders s before now desk' status) both desk) → ResumesOrders s before now desk' status both t.read →
       Ran ⊎ Found ⊎ Else
@@ -175,12 +175,12 @@ module _ (good : GoodOrBad) (one : SpellsOneList) (mark_good : NotGoodAndBad) (o
   ]
 
   -- **The run was cut short.**
-  pub cut_short : status ≡ 5 → IsResumeCutShort orders (max mark.period s.periods) mark before now
+  pub cut_short : status ≡ 5 → IsResumeCutShort orders s.batch (max mark.period s.periods) mark before now
   cut_short five = elim what [
     | inl ran ↦ cut_whole both s before now ran.read desk' status (orders_known (text_lines told.rest) orders told.within.1 told.spelled) ran.done
     | inr (inl found) ↦ (let is = found.done.ends.status_is in absurd (omega (arith, five, is)))
     | inr (inr (inl cut)) ↦ cut.0
-    | inr (inr (inr none)) ↦ cut_none_from orders (max mark.period s.periods) mark before now none.stay
+    | inr (inr (inr none)) ↦ cut_none_from orders s.batch (max mark.period s.periods) mark before now none.stay
   ]
 
   -- **What a run to the mark's period writes and what was gained here are together what one run writes.**

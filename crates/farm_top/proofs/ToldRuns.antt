@@ -12,7 +12,7 @@ use Rattle.trau_orders.specs.Lists.{AreOrders}
 use Rattle.run_spec.specs.Run.{Run}
 use Rattle.run_spec.specs.Lines.{out_of_call, down_of_call}
 use Rattle.farm_report.specs.Lines.{report_text}
-use Rattle.farm_run.specs.Runs.{AreTold, FailedShort, IsRunOver, HasWritten, KeepsSides, Leaves, OnlyOpenedFail, ReadsOn, TellsFailed, is_listed}
+use Rattle.farm_run.specs.Runs.{AreTold, FailedBy, FailedShort, IsRunOver, HasWritten, KeepsSides, Leaves, OnlyOpenedFail, ReadsOn, TellsFailed, is_listed}
 use Rattle.farm_run.specs.Fronts.{HasFront, IsCutShort, StopsAt}
 use Rattle.farm_run.proofs.Lines.Cutting.{cut_first}
 use Rattle.farm_run.proofs.Lines.Stopping.{stops_all}
@@ -42,7 +42,7 @@ pub record ToldRun (text_of : Run → List TheLine → List ℕ) (orders : List 
 abbrev pub ToldOrCut : (Run → List TheLine → List ℕ) → Settings → (ℕ → Side → LineState) → (ℕ → Side → LineState) → DeskState → ℕ → List Order → DeskState →
     Type 0
 ToldOrCut text_of s before now desk' status orders read =
-    ToldRun text_of orders s before now read desk' status ⊎ (IsCutShort orders s.periods before now × LacksMemory read desk' status)
+    ToldRun text_of orders s before now read desk' status ⊎ (IsCutShort orders s.batch s.periods before now × LacksMemory read desk' status)
 
 pub told_by_run : (s : Settings) (before now : ℕ → Side → LineState) (desk' : DeskState) (status : ℕ) (orders : List Order) (read : DeskState) →
     RunsOrders s before now desk' status orders read → ToldOrCut report_told s before now desk' status orders read
@@ -90,15 +90,16 @@ front_whole false first now octets w = (length octets, subst (Appends first.writ
 front_whole true first now octets w = w
 
 -- no line was used
-pub cut_none : (orders : List Order) (periods : ℕ) (before now : ℕ → Side → LineState) → AllStay before now → IsCutShort orders periods before now
-cut_none orders periods before now stay =
+pub cut_none : (orders : List Order) (batch periods : ℕ) (before now : ℕ → Side → LineState) → AllStay before now →
+    IsCutShort orders batch periods before now
+cut_none orders batch periods before now stay =
     let same : before ≡ now = λ i. λ c. λ side. sym (stay c side) i in
-    subst (IsCutShort orders periods before) same (cut_first orders periods before)
+    subst (IsCutShort orders batch periods before) same (cut_first orders batch periods before)
 
 -- a run that was carried to its end has what it has where it is cut short
 pub cut_whole : (text_of : Run → List TheLine → List ℕ) (orders : List Order) (s : Settings) (before now : ℕ → Side → LineState) (read desk' : DeskState)
     (status : ℕ) → AreOrders orders →
-    ToldRun text_of orders s before now read desk' status → IsCutShort orders s.periods before now
+    ToldRun text_of orders s before now read desk' status → IsCutShort orders s.batch s.periods before now
 cut_whole text_of orders s before now read desk' status are ran = record {
   fails = is_listed ran.failed;
   told = ran.told.failures;
@@ -118,4 +119,5 @@ cut_whole text_of orders s before now read desk' status are ran = record {
       (stops_all r (subst (λ (os : List Order). AreOrders os) (sym over.same_orders) are) s.batch (is_listed ran.failed) before now (ran.short r over)
       (ran.leaves r over));
   opened = ran.opened;
+  short = λ r over. subst (λ (n : ℕ). FailedBy r s.batch n (is_listed ran.failed)) over.same_periods (ran.short r over);
 }

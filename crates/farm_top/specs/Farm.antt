@@ -99,7 +99,7 @@ pub record ReadsAndFollows (done : List Order → DeskState → Type 0) (before 
 -- the orders are run to the end, or memory ran out
 abbrev pub RunsOrders : Settings → (ℕ → Side → LineState) → (ℕ → Side → LineState) → DeskState → ℕ → List Order → DeskState → Type 0
 RunsOrders s before now desk' status orders read =
-    RunsAndTells orders (pace_of s) before now read desk' status ⊎ (IsCutShort orders s.periods before now × LacksMemory read desk' status)
+    RunsAndTells orders (pace_of s) before now read desk' status ⊎ (IsCutShort orders s.batch s.periods before now × LacksMemory read desk' status)
 
 -- a whole command `run`, whatever fails
 abbrev pub RunsFarm : Settings → (ℕ → Side → LineState) → (ℕ → Side → LineState) → DeskState → DeskState → ℕ → Type 0

@@ -49,7 +49,7 @@ pub record RunPromise (s : Settings) (before now : ℕ → Side → LineState) (
       RunEnded orders s before now desk desk' status
   -- if memory ran out, the run stopped at one period: each outgoing line has gained exactly the octets of the periods before it, or,
   -- if it failed, a proper prefix of these; the lines of calls that the run doesn't open are unchanged
-  pub run_cut_short : (orders : List Order) → TellsOrders orders desk → status ≡ 5 → IsCutShort orders s.periods before now
+  pub run_cut_short : (orders : List Order) → TellsOrders orders desk → status ≡ 5 → IsCutShort orders s.batch s.periods before now
   -- if no line's fault is counted, the lines have exactly what the run gives them
   pub run_leaves : (orders : List Order) → TellsOrders orders desk → NoneRose before now → (status ≡ 0) ⊎ (status ≡ 4) →
       (r : Run) → IsRunOver orders s.periods none_fails before now r → Leaves r none_fails before now
@@ -69,7 +69,7 @@ pub record SavePromise (s : Settings) (before now : ℕ → Side → LineState) 
       (r : Run) → IsRunOver orders s.periods none_fails before now r → CleanSave r before now desk desk' status
   pub save_ended : (orders : List Order) → TellsOrders orders desk → (status ≡ 0) ⊎ (status ≡ 4) ⊎ (status ≡ 6) →
       SaveEnded orders s before now desk desk' status
-  pub save_cut_short : (orders : List Order) → TellsOrders orders desk → status ≡ 5 → IsCutShort orders s.periods before now
+  pub save_cut_short : (orders : List Order) → TellsOrders orders desk → status ≡ 5 → IsCutShort orders s.batch s.periods before now
   pub save_leaves : (orders : List Order) → TellsOrders orders desk → NoneRose before now → (status ≡ 0) ⊎ (status ≡ 4) →
       (r : Run) → IsRunOver orders s.periods none_fails before now r → Leaves r none_fails before now
   pub save_headline : (orders : List Order) → TellsOrders orders desk → NoneRose before now → (status ≡ 0) ⊎ (status ≡ 4) →
@@ -92,7 +92,7 @@ pub record ResumePromise (s : Settings) (before now : ℕ → Side → LineState
   pub resume_differs : (mark : MarkView) (orders : List Order) → TellsMarked mark orders desk → status ≡ 9 →
       ResumeDiffers mark orders s before now desk desk'
   pub resume_cut_short : (mark : MarkView) (orders : List Order) → TellsMarked mark orders desk → status ≡ 5 →
-      IsResumeCutShort orders (max mark.period s.periods) mark before now
+      IsResumeCutShort orders s.batch (max mark.period s.periods) mark before now
   -- If no line's fault is counted: any run of the same orders to the mark's period, over lines whose incoming ones tell the same
   -- (that of `save`, by `save_leaves`), is this run, cut at this period. What it leaves on a line, followed by what was gained here,
   -- is what the whole run writes there.

@@ -55,7 +55,7 @@ abbrev pub ResumesOrders : Settings → (ℕ → Side → LineState) → (ℕ �
 ResumesOrders s before now desk' status read desk =
     ResumesAndTells read s before now desk desk' status
     ⊎ FindsAndTells read s before now desk desk' status
-    ⊎ (IsResumeCutShort read.orders (end_after read s) read.mark before now × LacksMemory desk desk' status)
+    ⊎ (IsResumeCutShort read.orders s.batch (end_after read s) read.mark before now × LacksMemory desk desk' status)
 
 -- what follows the reading: either this, or the mark or the orders are refused and no line is used
 abbrev pub FollowsMarked : Settings → Result MarkedOrders MarkedFault → (ℕ → Side → LineState) → (ℕ → Side → LineState) → DeskState → DeskState → ℕ → Type 0

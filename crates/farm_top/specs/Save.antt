@@ -37,7 +37,7 @@ pub record SavesAndTells (orders : List Order) (pace : Pace) (before now : ℕ �
 -- the orders are run to the end, or memory ran out
 abbrev pub SavesOrders : Settings → (ℕ → Side → LineState) → (ℕ → Side → LineState) → DeskState → ℕ → List Order → DeskState → Type 0
 SavesOrders s before now desk' status orders read =
-    SavesAndTells orders (pace_of s) before now read desk' status ⊎ (IsCutShort orders s.periods before now × LacksMemory read desk' status)
+    SavesAndTells orders (pace_of s) before now read desk' status ⊎ (IsCutShort orders s.batch s.periods before now × LacksMemory read desk' status)
 
 -- a whole command `save`, whatever fails; the reading of the orders and their refusal are those of `run`
 abbrev pub SavesFarm : Settings → (ℕ → Side → LineState) → (ℕ → Side → LineState) → DeskState → DeskState → ℕ → Type 0

@@ -10,7 +10,7 @@ use Rattle.farm_run.specs.declared.outgoing.Outgoing.{Outgoing}
 use Rattle.farm_run.specs.declared.stage.Stage.{Stage}
 use Rattle.farm_run.specs.Noted.{IsKnown}
 use Rattle.farm_run.specs.Outgoing.{is_held, is_summed, sum_to}
-use Rattle.farm_run.specs.Runs.{TellsFailed, KeepsSides, ReadsOn, IsRunOver, FailedShort, is_listed}
+use Rattle.farm_run.specs.Runs.{TellsFailed, KeepsSides, ReadsOn, IsRunOver, FailedBy, is_listed}
 use Rattle.farm_run.specs.Stages.{IsStage, IsFirstStage, Reaches, SumsAt}
 use Rattle.farm_run.specs.Standing.{Standing, standing, StandingGoesOn}
 use Rattle.farm_run.specs.Clock.{NeverFell, IsAtClock, WrittenFrom}
@@ -95,7 +95,7 @@ pub record GoneTo (orders : List Order) (batch : ℕ) (first now : ℕ → Side 
   pub known : (r : Run) (last : Standing) → IsRunOver orders r.periods last.listed first last.lines r → u.clock ≤ r.periods →
       StandingGoesOn (standing u.board u.farm.failed now) last → IsKnown r u.clock u.board u.farm.tallies u.journal
   pub short : (r : Run) (last : Standing) → IsRunOver orders r.periods last.listed first last.lines r → u.clock ≤ r.periods →
-      StandingGoesOn (standing u.board u.farm.failed now) last → FailedShort r batch (is_listed u.farm.failed)
+      StandingGoesOn (standing u.board u.farm.failed now) last → FailedBy r batch u.clock (is_listed u.farm.failed)
 
 -- the run's clock is 0 before its first order
 at_start : (orders : List Order) (o : Outgoing) (s : Stage) (lines : ℕ → Side → LineState) (r : Run) (last : Standing) → IsFirstStage orders o s →
@@ -120,7 +120,7 @@ gone_first orders batch o s lines f = record {
   known = λ r last run within on.
       subst (λ (t : ℕ). IsKnown r t s.board s.farm.tallies s.journal) (sym f.clock)
       (known_start r s.board s.farm.tallies s.journal f.untold f.none_done f.none_noted);
-  short = λ r last run within on. subst (λ (ls : List Line). FailedShort r batch (is_listed ls)) (sym f.none_failed) (short_none r batch);
+  short = λ r last run within on. subst (λ (ls : List Line). FailedBy r batch s.clock (is_listed ls)) (sym f.none_failed) (short_none r batch s.clock);
 }
 
 -- **It goes on.**

@@ -14,10 +14,11 @@ use Rattle.farm_run.specs.Ending.{AreShut}
 use Rattle.farm_run.specs.Journal.{JournalMemory}
 use Rattle.farm_run.specs.Match.{AtClock, FollowsRun}
 use Rattle.farm_run.specs.Noted.{Noted}
-use Rattle.farm_run.specs.Runs.{TellsFailed, FailedShort, is_listed}
+use Rattle.farm_run.specs.Runs.{TellsFailed, FailedBy, is_listed}
 use Rattle.farm_run.specs.Stages.{IsStage, OpenedBefore, Reaches}
 use Rattle.farm_run.specs.Standing.{Standing, standing, is_over, KnowsListed}
 use Rattle.farm_run.specs.Clock.{IsAtClock, WrittenFrom}
+use Rattle.farm_run.proofs.Worked.Short.{short_later}
 use Rattle.farm_run.proofs.Clocks.First.{fell_none}
 use Rattle.farm_run.proofs.Clocks.Idle.{clock_on, goes_on, written_on, none_alive}
 use Rattle.farm_run.proofs.Noted.Knowing.{known_idle}
@@ -119,7 +120,7 @@ module _ (s : Stage) (b : State) (farm : FarmMemory) (j : JournalMemory) (stage 
         (subst (λ (ls : List Line). WrittenFrom r from s.clock (is_listed ls) first before) (sym o.failed) wrote);
     sums = λ summed r first last flags within on at sums. h.sums summed r first last flags within on (here r first last within at) sums;
     short = λ r first last flags within on at short. h.short r first last flags within on (here r first last within at)
-        (subst (λ (ls : List Line). FailedShort r batch (is_listed ls)) (sym o.failed) short);
+        (subst (λ (ls : List Line). FailedBy r batch s.clock (is_listed ls)) (sym o.failed) short);
   }
     where
       under : (r : Run) → u.clock ≤ r.periods → s.clock < r.periods
@@ -157,7 +158,7 @@ idle_reaches batch s u lines stage later clear none = record {
       (shut r first last at) from (is_listed s.farm.failed) wrote;
   sums = λ summed r first last flags within on at sums. sums_on r s.clock u s.board s.farm.calls last first lines at later within clear
       (shut r first last at) _ sums;
-  short = λ r first last flags within on at short. short;
+  short = λ r first last flags within on at short. short_later r batch s.clock u (is_listed s.farm.failed) later short;
 }
   where
     shut : (r : Run) (first : ℕ → Side → LineState) (last : Standing) → IsAtClock r s.clock s.board s.farm.calls last first lines → (c : ℕ) →

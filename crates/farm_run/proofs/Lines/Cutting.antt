@@ -14,7 +14,7 @@ use Rattle.farm_rounds.specs.Calls.{Kept}
 use Rattle.farm_checkpoint.specs.Marks.{MarkView}
 use Rattle.run_spec.specs.Run.{Run, done_in, end_in, worked_to}
 use Rattle.run_spec.specs.Mark.{marked_calls}
-use Rattle.farm_run.specs.Runs.{TellsFailed, KeepsSides, ReadsOn, IsRunOver, OnlyOpenedFail, is_listed}
+use Rattle.farm_run.specs.Runs.{TellsFailed, KeepsSides, ReadsOn, IsRunOver, OnlyOpenedFail, FailedBy, is_listed}
 use Rattle.farm_run.specs.Standing.{Standing, standing, KnowsListed}
 use Rattle.farm_run.specs.Fronts.{HasFront, LeavesFronts, IsCutShort}
 use Rattle.farm_run.specs.Resuming.{IsResumeCutShort}
@@ -25,6 +25,7 @@ use Rattle.farm_run.proofs.Clocks.First.{tells_none, lines_at_first, written_fir
 use Rattle.farm_run.proofs.Clocks.Last.{all_out, all_down}
 use Rattle.farm_run.proofs.Lines.Sides.{sides_none}
 use Rattle.farm_run.proofs.Lines.Stopping.{FailBefore, only_opened, stops_at, stops_from, stops_before}
+use Rattle.farm_run.proofs.Worked.Short.{short_none}
 use Rattle.farm_run.proofs.Lines.Gaining.{out_front, down_front, out_front_from, down_front_from}
 
 -- what holds whatever came out holds of an error
@@ -53,13 +54,14 @@ fronts_at r t b calls failed first now at wrote = record {
     least e s = omega arith
 
 -- **A run that ends at a clock is cut short there.**
-pub cut_at : (os : List Order) (periods t : ℕ) (b : State) (calls : List Kept) (failed : List Line) (first now : ℕ → Side → LineState) →
+pub cut_at : (os : List Order) (batch periods t : ℕ) (b : State) (calls : List Kept) (failed : List Line) (first now : ℕ → Side → LineState) →
     t ≤ periods → KnowsListed b failed → TellsFailed first now failed → KeepsSides first now → ReadsOn first now →
     ((r : Run) → IsRunOver os r.periods (is_listed failed) first now r → periods ≤ r.periods → IsAtClock r t b calls (standing b failed now) first now) →
     ((r : Run) → IsRunOver os r.periods (is_listed failed) first now r → periods ≤ r.periods → WrittenFrom r 0 t (is_listed failed) first now) →
     ((r : Run) → IsRunOver os r.periods (is_listed failed) first now r → periods ≤ r.periods → FailBefore r t (is_listed failed)) →
-    IsCutShort os periods first now
-cut_at os periods t b calls failed first now within knows tells sides reads goes wrote fail = record {
+    ((r : Run) → IsRunOver os r.periods (is_listed failed) first now r → periods ≤ r.periods → FailedBy r batch t (is_listed failed)) →
+    IsCutShort os batch periods first now
+cut_at os batch periods t b calls failed first now within knows tells sides reads goes wrote fail short = record {
   fails = is_listed failed;
   told = tells.failures;
   sides = sides;
@@ -80,6 +82,10 @@ cut_at os periods t b calls failed first now within knows tells sides reads goes
       let is = subst (λ (p : ℕ). IsRunOver os p (is_listed failed) first now r) (sym e) run in
       let here = goes r is (omega (arith, e)) in
       only_opened r t b failed here.follows.so_far knows;
+  short = λ r run.
+      let e = run.same_periods in
+      let is = subst (λ (p : ℕ). IsRunOver os p (is_listed failed) first now r) (sym e) run in
+      short r is (omega (arith, e));
   there = λ are told. there_is os periods (is_listed failed) first now are
       (λ c s n i. let octets = told c s n i in let k = reads c s octets.0 i octets.1 in (octets.0, k.0, octets.1, k.1));
 }
@@ -89,8 +95,8 @@ abbrev pub none_yet : (ℕ → Side → LineState) → Standing
 none_yet lines = record { over = λ c. false; listed = is_listed []; lines = lines }
 
 -- **So is one that didn't begin.**
-pub cut_first : (os : List Order) (periods : ℕ) (lines : ℕ → Side → LineState) → IsCutShort os periods lines lines
-cut_first os periods lines = record {
+pub cut_first : (os : List Order) (batch periods : ℕ) (lines : ℕ → Side → LineState) → IsCutShort os batch periods lines lines
+cut_first os batch periods lines = record {
   fails = is_listed [];
   told = (tells_none lines).failures;
   sides = sides_none lines;
@@ -105,20 +111,22 @@ cut_first os periods lines = record {
   within = omega arith;
   stops = λ r run. stops_at r 0 (none_yet lines) lines lines (lines_at_first r os periods lines (none_yet lines) run) (λ c s i l. cc) (written_first r 0 lines);
   opened = λ r run c s l. cc;
+  short = λ r run. short_none r batch 0;
 }
 
 -- ---- a resumed run
 
 -- **So is one that wrote nothing yet.**
-pub cut_before : (os : List Order) (periods t : ℕ) (mark : MarkView) (over : ℕ → Bool) (failed : List Line) (first now : ℕ → Side → LineState) →
+pub cut_before : (os : List Order) (batch periods t : ℕ) (mark : MarkView) (over : ℕ → Bool) (failed : List Line) (first now : ℕ → Side → LineState) →
     t ≤ periods → t ≤ mark.period → TellsFailed first now failed → KeepsSides first now → ReadsOn first now →
     HoldsBack (is_listed []) (is_listed failed) first now →
     ((r : Run) → IsRunOver os periods (is_listed failed) first now r → OnlyOpenedFail r (is_listed failed)) →
     ((r : Run) → IsRunOver os periods (is_listed failed) first now r →
     LinesAt r t (record { over = over; listed = is_listed failed; lines = now }) first now) →
     ((r : Run) → IsRunOver os periods (is_listed failed) first now r → FailBefore r t (is_listed failed)) →
-    IsResumeCutShort os periods mark first now
-cut_before os periods t mark over failed first now within early tells sides reads back opened at fail = record {
+    ((r : Run) → IsRunOver os periods (is_listed failed) first now r → FailedBy r batch t (is_listed failed)) →
+    IsResumeCutShort os batch periods mark first now
+cut_before os batch periods t mark over failed first now within early tells sides reads back opened at fail short = record {
   fails = is_listed failed;
   told = tells.failures;
   sides = sides;
@@ -132,6 +140,7 @@ cut_before os periods t mark over failed first now within early tells sides read
   within = within;
   stops = λ r run. stops_before r t (record { over = over; listed = is_listed failed; lines = now }) first now (at r run) (fail r run) mark.period early back;
   opened = opened;
+  short = short;
   held = λ r run differs. back.lines;
   there = λ are told n. there_is os n (is_listed failed) first now are
       (λ c s n i. let octets = told c s n i in let k = reads c s octets.0 i octets.1 in (octets.0, k.0, octets.1, k.1));
@@ -143,15 +152,16 @@ cut_before os periods t mark over failed first now within early tells sides read
         (0, subst (λ (l : LineState). Appends was.written l.written []) (sym e) (Appends-nil was.written))
 
 -- **So is one that stops at a clock behind the mark's period, where the mark is the run's.**
-pub cut_behind : (os : List Order) (periods : ℕ) (mark : MarkView) (t : ℕ) (b : State) (calls : List Kept) (failed : List Line)
+pub cut_behind : (os : List Order) (batch periods : ℕ) (mark : MarkView) (t : ℕ) (b : State) (calls : List Kept) (failed : List Line)
     (first now : ℕ → Side → LineState) → mark.period ≤ t → t ≤ periods → KnowsListed b failed →
     TellsFailed first now failed → KeepsSides first now → ReadsOn first now →
     ((r : Run) → IsRunOver os mark.period (is_listed failed) first now r → marked_calls r ≡ mark.calls) →
     ((r : Run) → IsRunOver os r.periods (is_listed failed) first now r → periods ≤ r.periods → IsAtClock r t b calls (standing b failed now) first now) →
     ((r : Run) → IsRunOver os r.periods (is_listed failed) first now r → periods ≤ r.periods → WrittenFrom r mark.period t (is_listed failed) first now) →
     ((r : Run) → IsRunOver os r.periods (is_listed failed) first now r → periods ≤ r.periods → FailBefore r t (is_listed failed)) →
-    IsResumeCutShort os periods mark first now
-cut_behind os periods mark t b calls failed first now behind within knows tells sides reads same goes wrote fail = record {
+    ((r : Run) → IsRunOver os r.periods (is_listed failed) first now r → periods ≤ r.periods → FailedBy r batch t (is_listed failed)) →
+    IsResumeCutShort os batch periods mark first now
+cut_behind os batch periods mark t b calls failed first now behind within knows tells sides reads same goes wrote fail short = record {
   fails = is_listed failed;
   told = tells.failures;
   sides = sides;
@@ -182,6 +192,10 @@ cut_behind os periods mark t b calls failed first now behind within knows tells 
       let is = subst (λ (p : ℕ). IsRunOver os p (is_listed failed) first now r) (sym e) run in
       let here = goes r is (omega (arith, e)) in
       only_opened r t b failed here.follows.so_far knows;
+  short = λ r run.
+      let e = run.same_periods in
+      let is = subst (λ (p : ℕ). IsRunOver os p (is_listed failed) first now r) (sym e) run in
+      short r is (omega (arith, e));
   held = λ r run differs. absurd (differs (same r run));
   there = λ are told n. there_is os n (is_listed failed) first now are
       (λ c s n i. let octets = told c s n i in let k = reads c s octets.0 i octets.1 in (octets.0, k.0, octets.1, k.1));

@@ -24,7 +24,7 @@ use Rattle.run_spec.specs.Now.{IsSoFar}
 use Rattle.run_spec.proofs.Going.{opened_run}
 use Rattle.run_spec.proofs.LongerLines.{length-periods_to}
 use Rattle.run_spec.proofs.SoFar.{so_far_at_first}
-use Rattle.farm_run.specs.Runs.{HasWritten, IsCutOff, IsReadTo, IsReadWhole, Leaves, OnlyOpenedFail, FailedShort, is_listed}
+use Rattle.farm_run.specs.Runs.{HasWritten, IsCutOff, IsReadTo, IsReadWhole, Leaves, OnlyOpenedFail, FailedBy, FailedShort, is_listed}
 use Rattle.farm_run.specs.Fronts.{StopsAt}
 use Rattle.farm_run.specs.Resuming.{LeavesFrom, StopsFrom}
 use Rattle.farm_run.specs.Noted.{TellsTruly}
@@ -48,18 +48,18 @@ abbrev pub FailBefore : Run → ℕ → (ℕ → Side → Bool) → Type 0
 FailBefore r t fails = (c : ℕ) (side : Side) → IsIncoming side → fails c side ≡ true → (end_in r c < t) × (IsCutOff (cause_in r c) → ⊥)
 
 -- a line that failed short of a round's octets is one of a call that its lines ended
-by_lines : (r : Run) (batch : ℕ) (fails : ℕ → Side → Bool) (c : ℕ) (side : Side) → FailedShort r batch fails → IsIncoming side → fails c side ≡ true →
+by_lines : (r : Run) (batch t : ℕ) (fails : ℕ → Side → Bool) (c : ℕ) (side : Side) → FailedBy r batch t fails → IsIncoming side → fails c side ≡ true →
     IsCutOff (cause_in r c) → ⊥
-by_lines r batch fails c Up short i l = let f = short.up c l in let here = f.3 in here.by_lines
-by_lines r batch fails c Pcm short i l = let f = short.pcm c l in let here = f.3 in here.by_lines
-by_lines r batch fails c Down short i l = absurd i
-by_lines r batch fails c Out short i l = absurd i
+by_lines r batch t fails c Up short i l = let f = short.up c l in let here = f.4 in here.by_lines
+by_lines r batch t fails c Pcm short i l = let f = short.pcm c l in let here = f.4 in here.by_lines
+by_lines r batch t fails c Down short i l = absurd i
+by_lines r batch t fails c Out short i l = absurd i
 
 -- **So did the call of each that is listed: the end was told, and it is the run's.**
 pub fail_before : (r : Run) (t batch : ℕ) (b : State) (failed : List Line) → EndBefore t b → TellsTruly r b → KnowsListed b failed →
-    FailedShort r batch (is_listed failed) → FailBefore r t (is_listed failed)
+    FailedBy r batch t (is_listed failed) → FailBefore r t (is_listed failed)
 fail_before r t batch b failed before truly knows short =
-    λ c side i l. (by c (told_in b c) refl (knows.ended c side i l), by_lines r batch (is_listed failed) c side short i l)
+    λ c side i l. (by c (told_in b c) refl (knows.ended c side i l), by_lines r batch t (is_listed failed) c side short i l)
   where
     by : (c : ℕ) (v : Option ℕ) → told_in b c ≡ v → gone_in b c ≡ true → end_in r c < t
     by c (Some at) e g =
@@ -186,13 +186,13 @@ module _ (r : Run) (are : AreOrders r.orders) where
   module _ (batch : ℕ) (fails : ℕ → Side → Bool) (first now : ℕ → Side → LineState) (short : FailedShort r batch fails) where
     -- the call of each incoming line that failed ended before it
     before : (c : ℕ) (side : Side) → IsIncoming side → fails c side ≡ true → end_in r c < r.periods
-    before c Up i e = let f = short.up c e in let here = f.3 in omega (arith, here.over, here.within)
-    before c Pcm i e = let f = short.pcm c e in let here = f.3 in omega (arith, here.over, here.within)
+    before c Up i e = let f = short.up c e in let here = f.4 in omega (arith, here.over, f.3)
+    before c Pcm i e = let f = short.pcm c e in let here = f.4 in omega (arith, here.over, f.3)
     before c Down i e = absurd i
     before c Out i e = absurd i
 
     failed_in : FailBefore r r.periods fails
-    failed_in c side i e = (before c side i e, by_lines r batch fails c side short i e)
+    failed_in c side i e = (before c side i e, by_lines r batch r.periods fails c side short i e)
 
     -- **A run that left all that it gives stopped at its end,**
     pub stops_all : Leaves r fails first now → StopsAt r r.periods fails first now

@@ -19,7 +19,7 @@ use Rattle.farm_run.specs.declared.stage.Stage.{Stage}
 use Rattle.farm_run.specs.Noted.{IsKnown, IsAtEnd}
 use Rattle.farm_run.specs.Marking.{entry_of}
 use Rattle.farm_run.specs.Outgoing.{sum_to}
-use Rattle.farm_run.specs.Runs.{TellsFailed, AreTold, IsRunOver, OnlyOpenedFail, FailedShort, Leaves, Runs, is_listed}
+use Rattle.farm_run.specs.Runs.{TellsFailed, AreTold, IsRunOver, OnlyOpenedFail, FailedBy, FailedShort, Leaves, Runs, is_listed}
 use Rattle.farm_run.specs.Saving.{SavedView, Saves}
 use Rattle.farm_run.specs.Stages.{OpenedBefore, SumsAt}
 use Rattle.farm_run.specs.Standing.{Standing, standing, StandingGoesOn}
@@ -73,7 +73,8 @@ module _ (os : List Order) (batch : ℕ) (first now : ℕ → Side → LineState
 
   -- **Its incoming lines that failed did so short of a round's octets.**
   pub short_end : (r : Run) → IsRunOver os u.clock (is_listed u.farm.failed) first now r → FailedShort r batch (is_listed u.farm.failed)
-  short_end r run = g.short r last (own r run) (least r run) (stays last)
+  short_end r run = subst (λ (p : ℕ). FailedBy r batch p (is_listed u.farm.failed)) (sym run.same_periods)
+      (g.short r last (own r run) (least r run) (stays last))
 
   -- **So its report is the definition's.**
   pub report_end : (count : ℕ) (report : ReportView) → count ≡ length os →

@@ -31,15 +31,15 @@ either_way (Err e) p q f h = h q
 
 -- **A run that stops short of its end is cut short.**
 pub part_short : (os : List Order) (batch periods : ℕ) (o : Outgoing) (first now : ℕ → Side → LineState) → is_held o ≡ false →
-    StopsShort os o batch periods first now → IsCutShort os periods first now
-part_short os batch periods o first now written (inl same) = subst (λ (lines : ℕ → Side → LineState). IsCutShort os periods first lines) (sym same)
-    (cut_first os periods first)
+    StopsShort os o batch periods first now → IsCutShort os batch periods first now
+part_short os batch periods o first now written (inl same) = subst (λ (lines : ℕ → Side → LineState). IsCutShort os batch periods first lines) (sym same)
+    (cut_first os batch periods first)
 part_short os batch periods o first now written (inr x) = part_cut os batch periods o x.first first now x.is_first written x.after
 
 -- **So is a resumed one that stops short of the mark.**
 pub held_short : (os : List Order) (batch periods until : ℕ) (mark : MarkView) (o : Outgoing) (first now : ℕ → Side → LineState) → is_held o ≡ true →
-    until ≤ periods → until ≤ mark.period → StopsShort os o batch until first now → IsResumeCutShort os periods mark first now
+    until ≤ periods → until ≤ mark.period → StopsShort os o batch until first now → IsResumeCutShort os batch periods mark first now
 held_short os batch periods until mark o first now held within early (inl same) =
-    subst (λ (lines : ℕ → Side → LineState). IsResumeCutShort os periods mark first lines) (sym same) (unbegun_cut os periods mark first)
+    subst (λ (lines : ℕ → Side → LineState). IsResumeCutShort os batch periods mark first lines) (sym same) (unbegun_cut os batch periods mark first)
 held_short os batch periods until mark o first now held within early (inr x) =
     held_cut os batch periods until mark o x.first first now x.is_first held within early x.after

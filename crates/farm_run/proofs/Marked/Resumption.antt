@@ -26,7 +26,7 @@ use Rattle.farm_run.specs.Marking.{entry_of}
 use Rattle.farm_run.specs.Noted.{IsAtEnd}
 use Rattle.farm_run.specs.Outgoing.{is_held, is_summed, sum_to}
 use Rattle.farm_run.specs.Resuming.{LeavesFrom, ResumesRun, FindsDifference, IsResumeCutShort}
-use Rattle.farm_run.specs.Runs.{TellsFailed, IsRunOver, HasWritten, OnlyOpenedFail, FailedShort, is_listed}
+use Rattle.farm_run.specs.Runs.{TellsFailed, IsRunOver, HasWritten, OnlyOpenedFail, FailedBy, FailedShort, is_listed}
 use Rattle.farm_run.specs.Stages.{IsStage, IsFirstStage, HoldsBack, Reaches, SumsAt}
 use Rattle.farm_run.specs.Standing.{Standing, standing, is_over, StandingGoesOn}
 use Rattle.farm_run.specs.Clock.{IsAtClock, WrittenFrom}
@@ -39,6 +39,7 @@ use Rattle.farm_run.proofs.Marked.Calls.{entries_are}
 use Rattle.farm_run.proofs.Clocks.Meeting.{stays, further}
 use Rattle.farm_run.proofs.Clocks.Reaching.{GoneTo, gone_first, gone_more, wrote_first, summed_first}
 use Rattle.farm_run.proofs.Lines.Sides.{sides_none}
+use Rattle.farm_run.proofs.Worked.Short.{short_none}
 use Rattle.farm_run.proofs.Lines.Telling.{there, at_end, opened_end, short_end, report_end, wrote_end, marked_end, over_here}
 
 -- ---- cut short
@@ -49,20 +50,23 @@ module _ (os : List Order) (batch periods : ℕ) (first now : ℕ → Side → L
       IsAtClock r u.clock u.board u.farm.calls (standing u.board u.farm.failed now) first now
   at_here r run least = g.at r (standing u.board u.farm.failed now) run (omega (arith, l, least)) (stays (standing u.board u.farm.failed now))
 
+  -- each incoming line that failed did so short of what its round takes
+  short_here : (r : Run) → IsRunOver os r.periods (is_listed u.farm.failed) first now r → periods ≤ r.periods → FailedBy r batch u.clock (is_listed u.farm.failed)
+  short_here r run least = g.short r (standing u.board u.farm.failed now) run (omega (arith, l, least)) (stays (standing u.board u.farm.failed now))
+
   -- the call of each incoming line that failed ended before it, by its lines
   fail_here : (r : Run) → IsRunOver os r.periods (is_listed u.farm.failed) first now r → periods ≤ r.periods → FailBefore r u.clock (is_listed u.farm.failed)
   fail_here r run least =
       let known = g.known r (standing u.board u.farm.failed now) run (omega (arith, l, least)) (stays (standing u.board u.farm.failed now)) in
       let s = g.stage in
-      fail_before r u.clock batch u.board u.farm.failed s.clock.ends known.truly s.knows
-      (g.short r (standing u.board u.farm.failed now) run (omega (arith, l, least)) (stays (standing u.board u.farm.failed now)))
+      fail_before r u.clock batch u.board u.farm.failed s.clock.ends known.truly s.knows (short_here r run least)
 
   -- **At a clock a run is cut short.**
   pub cut_here : ((r : Run) (z : Standing) → IsRunOver os r.periods z.listed first z.lines r → u.clock ≤ r.periods →
       StandingGoesOn (standing u.board u.farm.failed now) z → WrittenFrom r 0 u.clock (is_listed u.farm.failed) first now) →
-      IsCutShort os periods first now
-  cut_here wrote = cut_at os periods u.clock u.board u.farm.calls u.farm.failed first now l (let s = g.stage in s.knows) g.tells g.sides g.reads at_here
-      (λ r run least. wrote r (standing u.board u.farm.failed now) run (omega (arith, l, least)) (stays (standing u.board u.farm.failed now))) fail_here
+      IsCutShort os batch periods first now
+  cut_here wrote = cut_at os batch periods u.clock u.board u.farm.calls u.farm.failed first now l (let s = g.stage in s.knows) g.tells g.sides g.reads at_here
+      (λ r run least. wrote r (standing u.board u.farm.failed now) run (omega (arith, l, least)) (stays (standing u.board u.farm.failed now))) fail_here short_here
 
   -- the run to there is at this clock
   at_last : (r : Run) → IsRunOver os periods (is_listed u.farm.failed) first now r →
@@ -73,31 +77,33 @@ module _ (os : List Order) (batch periods : ℕ) (first now : ℕ → Side → L
 
   -- **So is a resumed one that wrote nothing,**
   pub cut_unwritten : (mark : MarkView) → u.clock ≤ mark.period → HoldsBack (is_listed []) (is_listed u.farm.failed) first now →
-      IsResumeCutShort os periods mark first now
+      IsResumeCutShort os batch periods mark first now
   cut_unwritten mark early back =
-      cut_before os periods u.clock mark (is_over u.board) u.farm.failed first now l early g.tells g.sides g.reads back
+      cut_before os batch periods u.clock mark (is_over u.board) u.farm.failed first now l early g.tells g.sides g.reads back
       (λ r run. let here = at_last r run in
       let knows = (let s = g.stage in s.knows) in
       only_opened r u.clock u.board u.farm.failed here.follows.so_far knows)
       (λ r run. (at_last r run).lines)
       (λ r run. let e = run.same_periods in
       fail_here r (subst (λ (p : ℕ). IsRunOver os p (is_listed u.farm.failed) first now r) (sym e) run) (omega (arith, e)))
+      (λ r run. let e = run.same_periods in
+      short_here r (subst (λ (p : ℕ). IsRunOver os p (is_listed u.farm.failed) first now r) (sym e) run) (omega (arith, e)))
 
   -- **and one that wrote what lies behind the mark's period, where the mark is the run's.**
   pub cut_written : (mark : MarkView) → mark.period ≤ u.clock →
       ((r : Run) → IsRunOver os mark.period (is_listed u.farm.failed) first now r → marked_calls r ≡ mark.calls) →
       ((r : Run) (z : Standing) → IsRunOver os r.periods z.listed first z.lines r → u.clock ≤ r.periods →
       StandingGoesOn (standing u.board u.farm.failed now) z → WrittenFrom r mark.period u.clock (is_listed u.farm.failed) first now) →
-      IsResumeCutShort os periods mark first now
+      IsResumeCutShort os batch periods mark first now
   cut_written mark behind same wrote =
-      cut_behind os periods mark u.clock u.board u.farm.calls u.farm.failed first now behind l (let s = g.stage in s.knows) g.tells g.sides g.reads same
+      cut_behind os batch periods mark u.clock u.board u.farm.calls u.farm.failed first now behind l (let s = g.stage in s.knows) g.tells g.sides g.reads same
       at_here
-      (λ r run least. wrote r (standing u.board u.farm.failed now) run (omega (arith, l, least)) (stays (standing u.board u.farm.failed now))) fail_here
+      (λ r run least. wrote r (standing u.board u.farm.failed now) run (omega (arith, l, least)) (stays (standing u.board u.farm.failed now))) fail_here short_here
 
 -- **A run that came to a clock is cut short there.**
 pub part_cut : (os : List Order) (batch periods : ℕ) (o : Outgoing) (s : Stage) (first now : ℕ → Side → LineState) →
     IsFirstStage os o s → is_held o ≡ false →
-    ((after : Stage) × (after.clock ≤ periods) × Reaches batch s after first now) → IsCutShort os periods first now
+    ((after : Stage) × (after.clock ≤ periods) × Reaches batch s after first now) → IsCutShort os batch periods first now
 part_cut os batch periods o s first now f written after =
     cut_here os batch periods first now after.0 (gone_more os batch first first now s after.0 (gone_first os batch o s first f) after.2) after.1
     (wrote_first os batch o s after.0 first now f written after.2)
@@ -106,7 +112,7 @@ part_cut os batch periods o s first now f written after =
 pub held_cut : (os : List Order) (batch periods until : ℕ) (mark : MarkView) (o : Outgoing) (s : Stage)
     (first now : ℕ → Side → LineState) → IsFirstStage os o s →
     is_held o ≡ true → until ≤ periods → until ≤ mark.period →
-    ((after : Stage) × (after.clock ≤ until) × Reaches batch s after first now) → IsResumeCutShort os periods mark first now
+    ((after : Stage) × (after.clock ≤ until) × Reaches batch s after first now) → IsResumeCutShort os batch periods mark first now
 held_cut os batch periods until mark o s first now f held within early after =
     let u = after.0 in
     let back = (let h = after.2 in h.back (ap is_held f.way ∙ held)) in
@@ -116,11 +122,11 @@ held_cut os batch periods until mark o s first now f held within early after =
     (subst (λ (ls : List Line). HoldsBack (is_listed ls) (is_listed u.farm.failed) first now) f.none_failed back)
 
 -- **So is one that didn't begin.**
-pub unbegun_cut : (os : List Order) (periods : ℕ) (mark : MarkView) (lines : ℕ → Side → LineState) → IsResumeCutShort os periods mark lines lines
-unbegun_cut os periods mark lines =
-    cut_before os periods 0 mark (λ c. false) [] lines lines (omega arith) (omega arith) (tells_none lines) (sides_none lines) (λ c s octets i e. (0, e))
+pub unbegun_cut : (os : List Order) (batch periods : ℕ) (mark : MarkView) (lines : ℕ → Side → LineState) → IsResumeCutShort os batch periods mark lines lines
+unbegun_cut os batch periods mark lines =
+    cut_before os batch periods 0 mark (λ c. false) [] lines lines (omega arith) (omega arith) (tells_none lines) (sides_none lines) (λ c s octets i e. (0, e))
     (record { lines = λ c s o. refl; listed = λ c s o. refl }) (λ r run c s l. cc) (λ r run. lines_at_first r os periods lines (none_yet lines) run)
-    (λ r run c s i l. cc)
+    (λ r run c s i l. cc) (λ r run. short_none r batch 0)
 
 -- ---- where the mark is compared
 
@@ -227,7 +233,7 @@ module _ (os : List Order) (pace : Pace) (mark : MarkView) (o : Outgoing) (s m :
         entries_are m live rising g.stage r z first mid (g.at r z here within h.goes) clock (g.known r z here within h.goes) (sums r z here within h.goes)
 
     -- **Where there is no memory, it is cut short behind the mark.**
-    pub written_cut : mark.calls ≡ calls → u.clock ≤ max mark.period pace.periods → IsResumeCutShort os (max mark.period pace.periods) mark first now
+    pub written_cut : mark.calls ≡ calls → u.clock ≤ max mark.period pace.periods → IsResumeCutShort os pace.batch (max mark.period pace.periods) mark first now
     written_cut same within =
         cut_written os pace.batch (max mark.period pace.periods) first now u gone_on within mark
         (let later = h.later in omega (arith, later, e)) (λ r run. sym (same ∙ entries ∙ at_mark r run)) wrote_on

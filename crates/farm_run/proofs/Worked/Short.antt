@@ -17,7 +17,7 @@ use Rattle.farm_rounds.specs.Memory.{FarmMemory}
 use Rattle.run_spec.specs.Run.{Run, given_in, whole_in, done_in, start_in, end_in, cause_in}
 use Rattle.run_spec.proofs.SoFar.{standing_now}
 use Rattle.farm_run.specs.Going.{places_in}
-use Rattle.farm_run.specs.Runs.{FailedIn, FailedShort, IsCutOff, is_listed}
+use Rattle.farm_run.specs.Runs.{FailedIn, FailedBy, IsCutOff, is_listed}
 use Rattle.farm_run.specs.Match.{Matches}
 use Rattle.farm_run.specs.Standing.{Standing, standing, MeetsRun}
 use Rattle.farm_run.specs.Clock.{IsAtClock, FailedInRound}
@@ -62,7 +62,6 @@ module _ (r : Run) (t n : ℕ) (b : State) (farm after : FarmMemory) (first befo
   ends_here c octets line o less few = record {
     begun = open_before_end r t n b.done b.left c h o;
     over = over (end_in r c) (places_in r b.done t n c) less (end_after r t n b.done b.left c h o);
-    within = h.within;
     by_lines = subst (λ (e : Cause). IsCutOff e → ⊥) (sym cause) (lines_end (whole_in r c) (given_in r c));
     short = (let e : t + n - start_in r c ≡ t + n - start_of b.done c = ap (λ (s : ℕ). t + n - s) (start_kept r t n b.done b.left c h o) in
         omega (arith, few, ap (λ (k : ℕ). octets * k) e));
@@ -131,13 +130,22 @@ module _ (r : Run) (t n : ℕ) (b : State) (farm after : FarmMemory) (first befo
   }
 
 -- **So each line that is listed by then did, in rounds of at most so many periods.**
-pub short_none : (r : Run) (batch : ℕ) → FailedShort r batch (is_listed [])
-short_none r batch = record { up = λ c e. cc; pcm = λ c e. cc }
+pub short_none : (r : Run) (batch t : ℕ) → FailedBy r batch t (is_listed [])
+short_none r batch t = record { up = λ c e. cc; pcm = λ c e. cc }
+
+-- and by any later period,
+pub short_later : (r : Run) (batch t u : ℕ) (fails : ℕ → Side → Bool) → t ≤ u → FailedBy r batch t fails → FailedBy r batch u fails
+short_later r batch t u fails l short = record {
+  up = λ c e. let f = short.up c e in (f.0, f.1, f.2, omega (arith, f.3, l), f.4);
+  pcm = λ c e. let f = short.pcm c e in (f.0, f.1, f.2, omega (arith, f.3, l), f.4);
+}
 
 -- and behind each round the more
-pub short_more : (r : Run) (batch t u : ℕ) (was is : List Line) → u ≤ t + batch → FailedInRound r t u (is_listed was) (is_listed is) →
-    FailedShort r batch (is_listed was) → FailedShort r batch (is_listed is)
-short_more r batch t u was is l failed short = record {
-  up = λ c e. elim (cases_Bool (is_listed was c Up)) [ inl q ↦ short.up c q | inr q ↦ (t, u, l, failed.up c q e) ];
-  pcm = λ c e. elim (cases_Bool (is_listed was c Pcm)) [ inl q ↦ short.pcm c q | inr q ↦ (t, u, l, failed.pcm c q e) ];
-}
+pub short_more : (r : Run) (batch t u : ℕ) (was is : List Line) → t ≤ u → u ≤ t + batch → FailedInRound r t u (is_listed was) (is_listed is) →
+    FailedBy r batch t (is_listed was) → FailedBy r batch u (is_listed is)
+short_more r batch t u was is later l failed short =
+    let before = short_later r batch t u (is_listed was) later short in
+    record {
+      up = λ c e. elim (cases_Bool (is_listed was c Up)) [ inl q ↦ before.up c q | inr q ↦ (t, u, l, omega arith, failed.up c q e) ];
+      pcm = λ c e. elim (cases_Bool (is_listed was c Pcm)) [ inl q ↦ before.pcm c q | inr q ↦ (t, u, l, omega arith, failed.pcm c q e) ];
+    }

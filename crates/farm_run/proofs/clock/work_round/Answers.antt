@@ -252,7 +252,7 @@ returns-clause-reaches g c =
           sums_after r _ _ b _ _ first _ _ _ w (in_run g c r first last l at) m b' last at (meets g c r last flags on) _ _
           (c.settle-farm.ensures.adds summed) sums;
       short = λ r first last flags l on at short.
-          short_more r c.args.pace.now.batch t (t + n) c.args.stage.farm.failed c.settle-farm.result.failed (omega (arith, c.requires.few))
+          short_more r c.args.pace.now.batch t (t + n) c.args.stage.farm.failed c.settle-farm.result.failed (omega arith) (omega (arith, c.requires.few))
           (short_after r _ _ b _ _ first _ _ _ w (in_run g c r first last l at) m b' last at (meets g c r last flags on)) short;
     }
 

@@ -13,7 +13,7 @@ use Rattle.farm_run.proofs.resuming.resume.Goals as goal
 
 pub returns-in_err-new-clause-cut : goal.returns-in_err-new-clause-cut
 returns-in_err-new-clause-cut g c =
-    on_err _ (unbegun_cut c.args.orders (max c.args.mark.now.period c.args.pace.now.periods) c.args.mark.now (g.T.Trunk.lines c.args.trunk.now))
+    on_err _ (unbegun_cut c.args.orders c.args.pace.now.batch (max c.args.mark.now.period c.args.pace.now.periods) c.args.mark.now (g.T.Trunk.lines c.args.trunk.now))
 
 pub returns-in_err-marked-clause-cut : goal.returns-in_err-marked-clause-cut
 returns-in_err-marked-clause-cut g c =

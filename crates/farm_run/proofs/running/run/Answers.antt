@@ -10,7 +10,7 @@ use Rattle.farm_run.proofs.Lines.Telling.{runs_told}
 use Rattle.farm_run.proofs.running.run.Goals as goal
 
 pub returns-in_err-first-clause-cut : goal.returns-in_err-first-clause-cut
-returns-in_err-first-clause-cut g c = on_err _ (cut_first c.args.orders c.args.pace.now.periods (g.T.Trunk.lines c.args.trunk.now))
+returns-in_err-first-clause-cut g c = on_err _ (cut_first c.args.orders c.args.pace.now.batch c.args.pace.now.periods (g.T.Trunk.lines c.args.trunk.now))
 
 pub returns-clause-runs : goal.returns-clause-runs
 returns-clause-runs g c =

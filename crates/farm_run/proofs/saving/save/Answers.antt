@@ -13,7 +13,7 @@ use Rattle.farm_run.proofs.Noted.Openings.{opened_none}
 use Rattle.farm_run.proofs.saving.save.Goals as goal
 
 pub returns-in_err-new-clause-cut : goal.returns-in_err-new-clause-cut
-returns-in_err-new-clause-cut g c = on_err _ (cut_first c.args.orders c.args.pace.now.periods (g.T.Trunk.lines c.args.trunk.now))
+returns-in_err-new-clause-cut g c = on_err _ (cut_first c.args.orders c.args.pace.now.batch c.args.pace.now.periods (g.T.Trunk.lines c.args.trunk.now))
 
 pub returns-in_err-last-clause-cut : goal.returns-in_err-last-clause-cut
 returns-in_err-last-clause-cut g c =

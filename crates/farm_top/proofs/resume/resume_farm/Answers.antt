@@ -50,7 +50,7 @@ pub returns : goal.returns
 returns g c =
     let read = c.in-Ok.ensures in
     let cut = subst
-    (λ (p : Pace). IsResumeCutShort c.in-Ok.marked.orders (max c.in-Ok.marked.mark.period p.periods) c.in-Ok.marked.mark
+    (λ (p : Pace). IsResumeCutShort c.in-Ok.marked.orders p.batch (max c.in-Ok.marked.mark.period p.periods) c.in-Ok.marked.mark
     (g.T.Trunk.lines c.args.trunk.now) (g.T.Trunk.lines c.resume.new.trunk))
     c.pace_of.ensures c.in-Err-resume.ensures.cut in
     record {
