@@ -101,6 +101,10 @@ pace_in most default text_of s some within gives =
       periods.1,
     )
 
+-- the number of periods of a `save`
+pub save_periods : (words : List (List ℕ)) (s : Settings) → AsksForSave words s → (1 ≤ s.periods) × (s.periods ≤ 4294967295)
+save_periods words s asks = let pace = pace_in 4294967295 4294967295 _ s (omega arith) (omega arith) asks.are.gives in (pace.0.periods, pace.1)
+
 -- what words ask for is in its ranges
 pub in_range : (words : List (List ℕ)) (a : Asked) → Asks words a → IsInRange a
 in_range words (Run s) asks = (pace_in 4294967295 4294967295 _ s (omega arith) (omega arith) asks.are.gives).0

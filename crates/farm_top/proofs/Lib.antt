@@ -13,5 +13,6 @@ mod ResumeCutting
 mod ResumeReading
 mod Resuming
 mod Taking
+mod TakingSave
 mod ToldRuns
 mod TwoParts

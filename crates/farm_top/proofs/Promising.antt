@@ -39,6 +39,7 @@ use Rattle.farm_top.proofs.FarmCleaning.{save_ended, save_headline, save_leaves}
 use Rattle.farm_top.proofs.Living.{live_ends}
 use Rattle.farm_top.proofs.ResumeReading.{resume_causes}
 use Rattle.farm_top.proofs.Resuming.{another, cut_short, differs, ended, joins, same}
+use Rattle.farm_top.proofs.TakingSave.{IsTaken, takes_save}
 
 -- a status of a run that was carried to its end without a line that failed
 calm_due : (status : ℕ) → (status ≡ 0) ⊎ (status ≡ 4) → (status ≡ 0) ⊎ (status ≡ 4) ⊎ (status ≡ 6)
@@ -71,7 +72,7 @@ module _ (good : GoodOrBad) (one : SpellsOneList) (s : Settings) (before now : �
   }
 
   module _ (mark_good : NotGoodAndBad) (one_mark : HasOneMark)
-      (law : (r : TheRun) (p : ℕ) → AreOrders r.orders → p ≤ r.periods → Joins r p) where
+      (law : (r : TheRun) (p : ℕ) → AreOrders r.orders → p ≤ r.periods → Joins r p) (taken : IsTaken) where
     pub resume_promise : CarriesResume s before now desk desk' status → ResumePromise s before now desk desk' status
     resume_promise carried = record {
       resume = carried;
@@ -80,6 +81,8 @@ module _ (good : GoodOrBad) (one : SpellsOneList) (s : Settings) (before now : �
         same good one mark_good one_mark s before now desk desk' status mark orders told carried calm r over,
         another good one mark_good one_mark s before now desk desk' status mark orders told carried calm r over,
       );
+      resume_takes_save = λ orders follows calm.
+          takes_save orders before desk follows good one mark_good one_mark taken s now desk' status carried calm;
       resume_ended = λ mark orders told. ended good one mark_good one_mark s before now desk desk' status mark orders told carried;
       resume_differs = λ mark orders told. differs good one mark_good one_mark s before now desk desk' status mark orders told carried;
       resume_cut_short = λ mark orders told. cut_short good one mark_good one_mark s before now desk desk' status mark orders told carried;

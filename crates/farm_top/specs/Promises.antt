@@ -1,12 +1,14 @@
 -- What the top function promises of each command (this project's profile).
-use Rattle.std.specs.Prelude.{◌≡◌, ◌≢◌, ◌⊎◌, ℕ, max, List}
+use Rattle.std.specs.Prelude.{◌≡◌, ◌≢◌, ◌⊎◌, ℕ, max, List, ◌++◌, Some}
 use Rattle.trau_io.specs.declared.line.Side.{Side}
 use Rattle.trau_io.specs.Lines.{LineState}
 use Rattle.trau_io.specs.Desks.{DeskState}
 use Rattle.trau_orders.specs.declared.order.Order.{Order}
+use Rattle.trau_orders.specs.Text.{text_lines, AreLines, IsWithin}
+use Rattle.round_lines.specs.Rounds.{IsIncoming}
 use Rattle.farm_checkpoint.specs.Marks.{MarkView}
 use Rattle.farm_orders.specs.Marked.{TellsMarked}
-use Rattle.run_spec.specs.Run.{Run}
+use Rattle.run_spec.specs.Run.{Run, IsOpened}
 use Rattle.run_spec.specs.Mark.{marked_calls}
 use Rattle.farm_run.specs.Runs.{IsRunOver, Leaves, NoneRose, none_fails}
 use Rattle.farm_run.specs.Fronts.{IsCutShort}
@@ -31,7 +33,7 @@ use Rattle.farm_top.specs.Resume.{CarriesResume}
 use Rattle.farm_top.specs.ResumeCauses.{ResumeCauses}
 use Rattle.farm_top.specs.ResumeEnded.{JoinsMarked, ResumeDiffers, ResumeEnded}
 use Rattle.farm_top.specs.Save.{CarriesSave, CleanSave, SaveEnded}
-use Rattle.farm_top.specs.Words.{AsksFor, AsksForFollow, AsksForFrames, AsksForMerge, AsksForSplit}
+use Rattle.farm_top.specs.Words.{AsksFor, AsksForFollow, AsksForFrames, AsksForMerge, AsksForSave, AsksForSplit}
 
 -- `run` with these settings. `orders` are those of the desk, if they are known. If they aren't, the field `run` says what is done.
 pub record RunPromise (s : Settings) (before now : ℕ → Side → LineState) (desk desk' : DeskState) (status : ℕ) : Type 0 where
@@ -75,6 +77,34 @@ pub record SavePromise (s : Settings) (before now : ℕ → Side → LineState) 
   pub save_headline : (orders : List Order) → TellsOrders orders desk → NoneRose before now → (status ≡ 0) ⊎ (status ≡ 4) →
       (r : Run) → IsRunOver orders s.periods none_fails before now r → Headline r none_fails before now
 
+-- The desk of a `resume` has what a `save` of these orders printed, followed by a text of the same orders, and its incoming lines
+-- hold what those of the `save` did. `first` and `saved` are the lines before and after the `save`, `asked` and `printed` its desk.
+pub record FollowsSave (orders : List Order) (before : ℕ → Side → LineState) (desk : DeskState) : Type 0 where
+  -- the `save` came to its end, and no fault was counted
+  pub words : List (List ℕ)
+  pub settings : Settings
+  pub asks : AsksForSave words settings
+  pub first : ℕ → Side → LineState
+  pub saved : ℕ → Side → LineState
+  pub asked : DeskState
+  pub printed : DeskState
+  pub promise : SavePromise settings first saved asked printed 0
+  pub told : TellsOrders orders asked
+  pub calm : IsCalmRun first saved asked printed
+  -- the contents of the incoming lines of the calls that it opened are known, and are the same here
+  pub run : Run
+  pub over : IsRunOver orders settings.periods none_fails first saved run
+  pub same : (c : ℕ) (side : Side) → IsOpened run c → IsIncoming side → (before c side).to_come ≡ (first c side).to_come
+  -- what it printed is known, and so is what follows it here
+  pub written : List ℕ
+  pub text : List ℕ
+  pub written_before : asked.written ≡ Some written
+  pub written_after : printed.written ≡ Some (written ++ text)
+  pub rest : List ℕ
+  pub to_come : desk.to_come ≡ Some (text ++ rest)
+  pub within : IsWithin rest
+  pub spelled : AreLines (text_lines rest) orders
+
 -- `resume`, a run from a mark on. It ends at the mark's period or the number of periods asked for, whichever is greater.
 pub record ResumePromise (s : Settings) (before now : ℕ → Side → LineState) (desk desk' : DeskState) (status : ℕ) : Type 0 where
   -- what it does, whatever fails, and why the status is what it is
@@ -85,6 +115,8 @@ pub record ResumePromise (s : Settings) (before now : ℕ → Side → LineState
   pub resume_complete : (mark : MarkView) (orders : List Order) → TellsMarked mark orders desk → IsCalmRun before now desk desk' →
       (r : Run) → IsRunOver orders mark.period none_fails before now r →
       (marked_calls r ≡ mark.calls → (status ≡ 0) ⊎ (status ≡ 5)) × (marked_calls r ≢ mark.calls → (status ≡ 9) ⊎ (status ≡ 5))
+  -- so what `save` printed is taken again: if no fault is counted here either, the run comes to its end, or runs out of memory
+  pub resume_takes_save : (orders : List Order) → FollowsSave orders before desk → IsCalmRun before now desk desk' → (status ≡ 0) ⊎ (status ≡ 5)
   -- what each status leaves: with 0, 4 and 6 the lines have what the run of these orders, over what the lines gave, leaves on them,
   -- without the octets of the periods before the mark's; with 0 and 6 the text is the whole run's report
   pub resume_ended : (mark : MarkView) (orders : List Order) → TellsMarked mark orders desk → (status ≡ 0) ⊎ (status ≡ 4) ⊎ (status ≡ 6) →

@@ -12,6 +12,7 @@ ghost use Rattle.farm_top.specs.Words.{AreCommand, AsksForDrill, AsksForLive, As
 use crate::drill::drill_farm;
 use crate::farm::{no_memory, refuse, run_farm};
 use crate::follow::carry_follow;
+use crate::laws::a_saved_mark_is_taken;
 use crate::lines::{carry_frames, carry_merge, carry_split, carry_tool};
 use crate::live::live_farm;
 use crate::resume::resume_farm;
@@ -157,10 +158,11 @@ pub fn farm_top<R: Threads + Wait + Sync, T: Trunk, D: Desk, G: Gate + Sync>(
     ensures lines { LinePromise (spelled words.now) (T.lines trunk.old) (T.lines trunk.new) (D.desk desk.old) (D.desk desk.new) result }
 {
     // Laws: lines spell at most one list of orders, and if they do, none is bad; a text begins with at most one mark, and if it does,
-    // no line of the mark is bad; a run is joined of two.
+    // no line of the mark is bad; a run is joined of two; a saved mark is taken again.
     one_answer();
     one_mark();
     a_run_is_joined_of_two();
+    a_saved_mark_is_taken();
     match read_words(alloc, words) {
         Ok(asked) => carry_out(rt, alloc, asked, trunk, desk, gate),
         Err(WordsFault::Usage) => refuse(desk, b"usage\n", USAGE),

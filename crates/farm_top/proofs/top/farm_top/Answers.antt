@@ -37,7 +37,7 @@ returns-in-Ok-clause-save g c = λ s asks. save_promise c.one_answer.ensures.goo
 
 pub returns-in-Ok-clause-resume : goal.returns-in-Ok-clause-resume
 returns-in-Ok-clause-resume g c = λ s asks. resume_promise c.one_answer.ensures.good c.one_answer.ensures.orders s _ _ _ _ _
-    c.one_answer-2.ensures.good c.one_answer-2.ensures.mark c.a_run_is_joined_of_two.ensures
+    c.one_answer-2.ensures.good c.one_answer-2.ensures.mark c.a_run_is_joined_of_two.ensures c.a_saved_mark_is_taken.ensures
     (inl (resume_carried _ _ c.in-Ok.ensures.ok _ _ _ _ _ c.carry_out.ensures s asks))
 
 pub returns-in-Ok-clause-drill : goal.returns-in-Ok-clause-drill
@@ -92,7 +92,8 @@ returns-in-Err-Memory-clause-save g c = λ s asks. save_promise c.one_answer.ens
 
 pub returns-in-Err-Memory-clause-resume : goal.returns-in-Err-Memory-clause-resume
 returns-in-Err-Memory-clause-resume g c = λ s asks. resume_promise c.one_answer.ensures.good c.one_answer.ensures.orders s _ _ _ _ _
-    c.one_answer-2.ensures.good c.one_answer-2.ensures.mark c.a_run_is_joined_of_two.ensures (inr ((λ n side. refl), c.no_memory.ensures))
+    c.one_answer-2.ensures.good c.one_answer-2.ensures.mark c.a_run_is_joined_of_two.ensures c.a_saved_mark_is_taken.ensures
+    (inr ((λ n side. refl), c.no_memory.ensures))
 
 pub returns-in-Err-Memory-clause-drill : goal.returns-in-Err-Memory-clause-drill
 returns-in-Err-Memory-clause-drill g c = λ seed calls s asks. drill_promise seed calls s _ _ _ _ _ ((λ n side. refl), inr c.no_memory.ensures)
