@@ -10,7 +10,7 @@ use Rattle.trau_orders.specs.Lists.{AreOrders}
 use Rattle.round_lines.specs.Rounds.{IsIncoming}
 use Rattle.run_spec.specs.Run.{Run, end_in, IsOpened, cause_in, worked_to}
 use Rattle.run_spec.specs.Lines.{out_of_call, down_of_call}
-use Rattle.farm_run.specs.Runs.{AreFailures, FailedBy, HasWritten, IsCutOff, IsReadTo, IsReadWhole, IsRunOver, AreTold, KeepsSides, OnlyOpenedFail, ReadsOn}
+use Rattle.farm_run.specs.Runs.{AreFailures, FailedBy, HasWritten, IsCutOff, IsReadTo, IsReadWhole, IsRunOver, AreTold, KeepsSides, OnlyOpenedFail, ReadBy, ReadsOn}
 
 -- An outgoing line has gained a prefix of these octets, maybe all; if it failed, a proper prefix, as in a run that came to its
 -- end.
@@ -58,5 +58,7 @@ pub record IsCutShort (orders : List Order) (batch periods : ℕ) (before now : 
   -- period, at most a batch after the call's end and not after `clock`
   pub opened : (r : Run) → IsRunOver orders periods fails before now r → OnlyOpenedFail r fails
   pub short : (r : Run) → IsRunOver orders periods fails before now r → FailedBy r batch clock fails
+  -- of a call that its lines ended before `clock`, exactly the octets up to such a period were read of its incoming lines that didn't fail
+  pub read_past : (r : Run) → IsRunOver orders periods fails before now r → ReadBy r batch clock fails now
   -- if the orders are in range and the contents of the incoming lines are known, such a run exists
   pub there : AreOrders orders → AreTold before → (r : Run) × IsRunOver orders periods fails before now r

@@ -20,7 +20,7 @@ use Rattle.farm_run.specs.declared.pace.Pace.{Pace}
 use Rattle.farm_run.specs.declared.resuming.Resumed.{Resumed}
 use Rattle.farm_run.specs.declared.resuming.Resumed.TheVariants.{Ran, Differs}
 use Rattle.farm_run.specs.Runs.{TellsFailed, AreFailures, KeepsSides, ReadsOn, AreTold, IsRunOver, IsCutOff, IsReadTo, IsReadWhole, HasWritten, OnlyOpenedFail}
-use Rattle.farm_run.specs.Runs.{FailedBy, FailedShort, is_listed}
+use Rattle.farm_run.specs.Runs.{FailedBy, FailedShort, ReadBy, ReadToEnd, is_listed}
 use Rattle.farm_run.specs.Fronts.{HasFront}
 
 -- What a run leaves on the lines if the outgoing octets of the periods before `from` are held back.
@@ -53,6 +53,9 @@ pub record ResumesRun (orders : List Order) (pace : Pace) (mark : MarkView) (bef
       OnlyOpenedFail r (is_listed report.failed)
   pub short : (r : Run) → IsRunOver orders (max mark.period pace.periods) (is_listed report.failed) before now r →
       FailedShort r pace.batch (is_listed report.failed)
+  -- of a call that its lines ended, exactly the octets up to such a period were read of its incoming lines that didn't fail
+  pub read_past : (r : Run) → IsRunOver orders (max mark.period pace.periods) (is_listed report.failed) before now r →
+      ReadToEnd r pace.batch (is_listed report.failed) now
   -- if the orders are in range and the contents of the incoming lines are known, such runs exist, up to any number of periods
   pub there : AreOrders orders → AreTold before → (periods : ℕ) → (r : Run) × IsRunOver orders periods (is_listed report.failed) before now r
 
@@ -79,6 +82,8 @@ pub record FindsDifference (orders : List Order) (pace : Pace) (mark : MarkView)
   -- period, at most a batch after the call's end
   pub opened : (r : Run) → IsRunOver orders mark.period (is_listed failed) before now r → OnlyOpenedFail r (is_listed failed)
   pub short : (r : Run) → IsRunOver orders mark.period (is_listed failed) before now r → FailedShort r pace.batch (is_listed failed)
+  -- of a call that its lines ended, exactly the octets up to such a period were read of its incoming lines that didn't fail
+  pub read_past : (r : Run) → IsRunOver orders mark.period (is_listed failed) before now r → ReadToEnd r pace.batch (is_listed failed) now
   -- if the orders are in range and the contents of the incoming lines are known, such a run exists
   pub there : AreOrders orders → AreTold before → (r : Run) × IsRunOver orders mark.period (is_listed failed) before now r
 
@@ -130,6 +135,8 @@ pub record IsResumeCutShort (orders : List Order) (batch periods : ℕ) (mark : 
   -- period, at most a batch after the call's end and not after `clock`
   pub opened : (r : Run) → IsRunOver orders periods fails before now r → OnlyOpenedFail r fails
   pub short : (r : Run) → IsRunOver orders periods fails before now r → FailedBy r batch clock fails
+  -- of a call that its lines ended before `clock`, exactly the octets up to such a period were read of its incoming lines that didn't fail
+  pub read_past : (r : Run) → IsRunOver orders periods fails before now r → ReadBy r batch clock fails now
   -- if the run up to the mark's period hasn't the mark's calls, each outgoing line is unchanged, its counts included
   pub held : (r : Run) → IsRunOver orders mark.period fails before now r → marked_calls r ≢ mark.calls →
       (c : ℕ) (s : Side) → IsOutgoing s → now c s ≡ before c s

@@ -130,6 +130,26 @@ pub record FailedBy (r : Run) (batch t : ℕ) (fails : ℕ → Side → Bool) : 
 abbrev pub FailedShort : Run → ℕ → (ℕ → Side → Bool) → Type 0
 FailedShort r batch fails = FailedBy r batch r.periods fails
 
+-- A call ended from period `from` of the run on and before `until`. Of its incoming lines that didn't fail exactly the octets of its
+-- periods before `until` were read; of a line that has fewer, all.
+pub record ReadIn (r : Run) (c : ℕ) (fails : ℕ → Side → Bool) (now : ℕ → Side → LineState) (from until : ℕ) : Type 0 where
+  pub begun : from ≤ end_in r c
+  pub over : end_in r c < until
+  pub up : fails c Up ≡ false → IsReadTo (now c Up) (40 * (until - start_in r c)) (r.lines c).up
+  pub pcm : fails c Pcm ≡ false → IsReadTo (now c Pcm) (160 * (until - start_in r c)) (r.lines c).pcm
+
+-- the same for some `from` and `until`, at most `batch` periods apart and not after period t
+abbrev pub ReadPast : Run → ℕ → ℕ → (ℕ → Side → Bool) → (ℕ → Side → LineState) → ℕ → Type 0
+ReadPast r batch t fails now c = (from : ℕ) × (until : ℕ) × (until ≤ from + batch) × (until ≤ t) × ReadIn r c fails now from until
+
+-- the same of each call that its lines ended before period t
+abbrev pub ReadBy : Run → ℕ → ℕ → (ℕ → Side → Bool) → (ℕ → Side → LineState) → Type 0
+ReadBy r batch t fails now = (c : ℕ) → IsOpened r c → end_in r c < t → (IsCutOff (cause_in r c) → ⊥) → ReadPast r batch t fails now c
+
+-- the same of each call that its lines ended, in a run that came to its end
+abbrev pub ReadToEnd : Run → ℕ → (ℕ → Side → Bool) → (ℕ → Side → LineState) → Type 0
+ReadToEnd r batch fails now = (c : ℕ) → IsOpened r c → (IsCutOff (cause_in r c) → ⊥) → ReadPast r batch r.periods fails now c
+
 -- A run of these orders, whatever fails.
 pub record Runs (orders : List Order) (pace : Pace) (before now : ℕ → Side → LineState) (report : ReportView) : Type 0 where
   -- the report lists the lines that failed
@@ -144,5 +164,8 @@ pub record Runs (orders : List Order) (pace : Pace) (before now : ℕ → Side �
   -- period, at most a batch after the call's end
   pub opened : (r : Run) → IsRunOver orders pace.periods (is_listed report.failed) before now r → OnlyOpenedFail r (is_listed report.failed)
   pub short : (r : Run) → IsRunOver orders pace.periods (is_listed report.failed) before now r → FailedShort r pace.batch (is_listed report.failed)
+  -- of a call that its lines ended, exactly the octets up to such a period were read of its incoming lines that didn't fail
+  pub read_past : (r : Run) → IsRunOver orders pace.periods (is_listed report.failed) before now r →
+      ReadToEnd r pace.batch (is_listed report.failed) now
   -- if the orders are in range and the contents of the incoming lines are known, such a run exists
   pub there : AreOrders orders → AreTold before → (r : Run) × IsRunOver orders pace.periods (is_listed report.failed) before now r

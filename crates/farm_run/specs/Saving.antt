@@ -10,7 +10,7 @@ use Rattle.farm_checkpoint.specs.Marks.{MarkView, AreOpenAtMark}
 use Rattle.run_spec.specs.Run.{Run}
 use Rattle.run_spec.specs.Mark.{mark_of}
 use Rattle.farm_run.specs.declared.pace.Pace.{Pace}
-use Rattle.farm_run.specs.Runs.{TellsFailed, KeepsSides, ReadsOn, AreTold, IsRunOver, Leaves, OnlyOpenedFail, FailedShort, is_listed}
+use Rattle.farm_run.specs.Runs.{TellsFailed, KeepsSides, ReadsOn, AreTold, IsRunOver, Leaves, OnlyOpenedFail, FailedShort, ReadToEnd, is_listed}
 
 -- what is seen of it: the lines that failed, and the mark
 pub record SavedView : Type 0 where
@@ -31,6 +31,8 @@ pub record Saves (orders : List Order) (pace : Pace) (before now : ℕ → Side 
   -- period, at most a batch after the call's end
   pub opened : (r : Run) → IsRunOver orders pace.periods (is_listed saved.failed) before now r → OnlyOpenedFail r (is_listed saved.failed)
   pub short : (r : Run) → IsRunOver orders pace.periods (is_listed saved.failed) before now r → FailedShort r pace.batch (is_listed saved.failed)
+  -- of a call that its lines ended, exactly the octets up to such a period were read of its incoming lines that didn't fail
+  pub read_past : (r : Run) → IsRunOver orders pace.periods (is_listed saved.failed) before now r → ReadToEnd r pace.batch (is_listed saved.failed) now
   -- if the orders are in range and the contents of the incoming lines are known, such a run exists
   pub there : AreOrders orders → AreTold before → (r : Run) × IsRunOver orders pace.periods (is_listed saved.failed) before now r
   -- in any case the mark is one that may be written: its period is that of the run's end, and its calls began before it

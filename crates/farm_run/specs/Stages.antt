@@ -18,7 +18,7 @@ use Rattle.farm_run.specs.Ending.{AreShut}
 use Rattle.farm_run.specs.Match.{AtClock}
 use Rattle.farm_run.specs.Noted.{IsKnown}
 use Rattle.farm_run.specs.Outgoing.{is_held, is_summed, sum_to, IsSameWay}
-use Rattle.farm_run.specs.Runs.{TellsFailed, KeepsSides, FailedBy, is_listed}
+use Rattle.farm_run.specs.Runs.{TellsFailed, KeepsSides, FailedBy, ReadBy, is_listed}
 use Rattle.farm_run.specs.Standing.{Standing, standing, StandingGoesOn, KnowsListed, HasFlags}
 use Rattle.farm_run.specs.Clock.{NeverFell, IsAtClock, WrittenFrom}
 
@@ -99,3 +99,7 @@ pub record Reaches (batch : ℕ) (s u : Stage) (before now : ℕ → Side → Li
       StandingGoesOn (standing u.board u.farm.failed now) last →
       IsAtClock r s.clock s.board s.farm.calls last first before → FailedBy r batch s.clock (is_listed s.farm.failed) →
       FailedBy r batch u.clock (is_listed u.farm.failed)
+  -- what was read of the incoming lines of calls that their lines ended
+  pub read_past : (r : Run) (first : ℕ → Side → LineState) (last : Standing) → HasFlags r last → u.clock ≤ r.periods →
+      StandingGoesOn (standing u.board u.farm.failed now) last →
+      IsAtClock r s.clock s.board s.farm.calls last first before → ReadBy r batch s.clock last.listed before → ReadBy r batch u.clock last.listed now

@@ -85,6 +85,7 @@ module _ (text_of : Run → List TheLine → List ℕ) (good : GoodOrBad) (one :
         line_failed = λ six r over. opened_rose r before now run.failed status
             (status_out run.failed run.text desk ran.read desk' status due ran.written run.tells) run.told (run.opened r over) six;
         short = run.short;
+        read_past = run.read_past;
         there = run.there (orders_known (text_lines told.text) orders told.within.1 told.spelled);
       }
 

@@ -11,7 +11,7 @@ use Rattle.farm_checkpoint.specs.Marks.{MarkView}
 use Rattle.farm_orders.specs.declared.marked.MarkedOrders.{MarkedOrders}
 use Rattle.run_spec.specs.Run.{worked_to}
 use Rattle.run_spec.specs.Lines.{out_of_call, down_of_call}
-use Rattle.farm_run.specs.Runs.{FailedBy, is_listed}
+use Rattle.farm_run.specs.Runs.{FailedBy, ReadPast, is_listed}
 use Rattle.farm_run.specs.Resuming.{IsResumeCutShort, StopsFrom}
 use Rattle.farm_run.proofs.Lines.Stopping.{stops_all_from}
 use Rattle.farm_run.proofs.Marked.Resumption.{unbegun_cut}
@@ -49,6 +49,8 @@ cut_whole marked s before now desk desk' status are ran =
           (ran.resumes.short r over) from (ran.resumes.leaves r over));
       opened = ran.resumes.opened;
       short = λ r over. subst (λ (n : ℕ). FailedBy r s.batch n (is_listed report.failed)) over.same_periods (ran.resumes.short r over);
+      read_past = λ r over c i ended not.
+          subst (λ (n : ℕ). ReadPast r s.batch n (is_listed report.failed) now c) over.same_periods (ran.resumes.read_past r over c i not);
     }
 
 -- no line was used

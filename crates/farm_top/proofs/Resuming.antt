@@ -155,6 +155,7 @@ module _ (good : GoodOrBad) (one : SpellsOneList) (mark_good : NotGoodAndBad) (o
         line_failed = λ six r over. opened_rose r before now report.failed status
             (status_out report.failed text desk ran.read desk' status due ran.written ran.done.tells) resumes.failed (resumes.opened r over) six;
         short = resumes.short;
+        read_past = resumes.read_past;
         there = resumes.there (orders_known (text_lines told.rest) orders told.within.1 told.spelled);
       }
 

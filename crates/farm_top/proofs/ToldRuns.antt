@@ -12,7 +12,7 @@ use Rattle.trau_orders.specs.Lists.{AreOrders}
 use Rattle.run_spec.specs.Run.{Run}
 use Rattle.run_spec.specs.Lines.{out_of_call, down_of_call}
 use Rattle.farm_report.specs.Lines.{report_text}
-use Rattle.farm_run.specs.Runs.{AreTold, FailedBy, FailedShort, IsRunOver, HasWritten, KeepsSides, Leaves, OnlyOpenedFail, ReadsOn, TellsFailed, is_listed}
+use Rattle.farm_run.specs.Runs.{AreTold, FailedBy, FailedShort, IsRunOver, HasWritten, KeepsSides, Leaves, OnlyOpenedFail, ReadPast, ReadToEnd, ReadsOn, TellsFailed, is_listed}
 use Rattle.farm_run.specs.Fronts.{HasFront, IsCutShort, StopsAt}
 use Rattle.farm_run.proofs.Lines.Cutting.{cut_first}
 use Rattle.farm_run.proofs.Lines.Stopping.{stops_all}
@@ -35,6 +35,7 @@ pub record ToldRun (text_of : Run → List TheLine → List ℕ) (orders : List 
   pub text_is : (r : Run) → IsRunOver orders s.periods (is_listed failed) before now r → text ≡ text_of r failed
   pub opened : (r : Run) → IsRunOver orders s.periods (is_listed failed) before now r → OnlyOpenedFail r (is_listed failed)
   pub short : (r : Run) → IsRunOver orders s.periods (is_listed failed) before now r → FailedShort r s.batch (is_listed failed)
+  pub read_past : (r : Run) → IsRunOver orders s.periods (is_listed failed) before now r → ReadToEnd r s.batch (is_listed failed) now
   pub there : AreOrders orders → AreTold before → (r : Run) × IsRunOver orders s.periods (is_listed failed) before now r
   pub tells : TellsRun failed text read desk' status
 
@@ -58,6 +59,7 @@ told_by_run s before now desk' status orders read (inl ran) =
       text_is = λ r over. ap report_text (runs.reports r over);
       opened = runs.opened;
       short = runs.short;
+      read_past = runs.read_past;
       there = runs.there;
       tells = ran.tells;
     })
@@ -77,6 +79,7 @@ told_by_save s before now desk' status orders read (inl ran) =
       text_is = λ r over. ap (saved_text ran.saved.failed) (saves.marks r over);
       opened = saves.opened;
       short = saves.short;
+      read_past = saves.read_past;
       there = saves.there;
       tells = ran.tells;
     })
@@ -120,4 +123,5 @@ cut_whole text_of orders s before now read desk' status are ran = record {
       (ran.leaves r over));
   opened = ran.opened;
   short = λ r over. subst (λ (n : ℕ). FailedBy r s.batch n (is_listed ran.failed)) over.same_periods (ran.short r over);
+  read_past = λ r over c i ended not. subst (λ (n : ℕ). ReadPast r s.batch n (is_listed ran.failed) now c) over.same_periods (ran.read_past r over c i not);
 }

@@ -9,7 +9,7 @@ use Rattle.trau_orders.specs.declared.order.Order.{Order}
 use Rattle.run_spec.specs.Run.{Run}
 use Rattle.run_spec.specs.Facts.{report_of}
 use Rattle.farm_report.specs.Lines.{report_text}
-use Rattle.farm_run.specs.Runs.{AreTold, FailedShort, IsRunOver, KeepsSides, Leaves, OnlyOpenedFail, ReadsOn, TellsFailed, is_listed}
+use Rattle.farm_run.specs.Runs.{AreTold, FailedShort, IsRunOver, KeepsSides, Leaves, OnlyOpenedFail, ReadToEnd, ReadsOn, TellsFailed, is_listed}
 use Rattle.command_words.specs.declared.asked.Settings.{Settings}
 use Rattle.farm_top.specs.Farm.{status_of_run}
 use Rattle.farm_top.specs.FarmCauses.{SomeOpenedRose}
@@ -42,6 +42,8 @@ pub record EndedTelling (text_of : Run → List Line → List ℕ) (orders : Lis
   pub line_failed : status ≡ 6 → (r : Run) → IsRunOver orders s.periods (is_listed failed) before now r → SomeOpenedRose r before now
   -- an incoming line that failed gave fewer octets than the call takes of it up to some period, at most a batch after the call's end
   pub short : (r : Run) → IsRunOver orders s.periods (is_listed failed) before now r → FailedShort r s.batch (is_listed failed)
+  -- of a call that its lines ended, exactly the octets up to such a period were read of its incoming lines that didn't fail
+  pub read_past : (r : Run) → IsRunOver orders s.periods (is_listed failed) before now r → ReadToEnd r s.batch (is_listed failed) now
   -- if the contents of the incoming lines are known, such a run exists
   pub there : AreTold before → (r : Run) × IsRunOver orders s.periods (is_listed failed) before now r
 

@@ -50,7 +50,8 @@ pub record RunPromise (s : Settings) (before now : ℕ → Side → LineState) (
   pub run_ended : (orders : List Order) → TellsOrders orders desk → (status ≡ 0) ⊎ (status ≡ 4) ⊎ (status ≡ 6) →
       RunEnded orders s before now desk desk' status
   -- if memory ran out, the run stopped at one period: each outgoing line has gained exactly the octets of the periods before it, or,
-  -- if it failed, a proper prefix of these; the lines of calls that the run doesn't open are unchanged
+  -- if it failed, a proper prefix of these; no incoming line was read past that period, nor more than a batch past its call's end; the
+  -- lines of calls that the run doesn't open are unchanged
   pub run_cut_short : (orders : List Order) → TellsOrders orders desk → status ≡ 5 → IsCutShort orders s.batch s.periods before now
   -- if no line's fault is counted, the lines have exactly what the run gives them
   pub run_leaves : (orders : List Order) → TellsOrders orders desk → NoneRose before now → (status ≡ 0) ⊎ (status ≡ 4) →

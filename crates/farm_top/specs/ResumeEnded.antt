@@ -12,7 +12,7 @@ use Rattle.farm_checkpoint.specs.Marks.{MarkView}
 use Rattle.run_spec.specs.Run.{Run, IsOpened}
 use Rattle.run_spec.specs.Lines.{out_of_call, down_of_call}
 use Rattle.run_spec.specs.Mark.{Joins, cut_at, marked_calls}
-use Rattle.farm_run.specs.Runs.{AreTold, FailedShort, IsRunOver, KeepsSides, Leaves, OnlyOpenedFail, ReadsOn, TellsFailed, is_listed, none_fails}
+use Rattle.farm_run.specs.Runs.{AreTold, FailedShort, IsRunOver, KeepsSides, Leaves, OnlyOpenedFail, ReadToEnd, ReadsOn, TellsFailed, is_listed, none_fails}
 use Rattle.farm_run.specs.Resuming.{FindsDifference, LeavesFrom}
 use Rattle.command_words.specs.declared.asked.Settings.{Settings}
 use Rattle.farm_top.specs.Farm.{TextOut, pace_of, status_of_run}
@@ -51,6 +51,8 @@ pub record ResumeEnded (mark : MarkView) (orders : List Order) (s : Settings) (b
   pub line_failed : status ≡ 6 → (r : Run) → IsRunOver orders (max mark.period s.periods) (is_listed failed) before now r → SomeOpenedRose r before now
   -- an incoming line that failed gave fewer octets than the call takes of it up to some period, at most a batch after the call's end
   pub short : (r : Run) → IsRunOver orders (max mark.period s.periods) (is_listed failed) before now r → FailedShort r s.batch (is_listed failed)
+  -- of a call that its lines ended, exactly the octets up to such a period were read of its incoming lines that didn't fail
+  pub read_past : (r : Run) → IsRunOver orders (max mark.period s.periods) (is_listed failed) before now r → ReadToEnd r s.batch (is_listed failed) now
   -- if the contents of the incoming lines are known, such runs exist, up to any number of periods
   pub there : AreTold before → (periods : ℕ) → (r : Run) × IsRunOver orders periods (is_listed failed) before now r
 

@@ -18,13 +18,13 @@ use Rattle.run_spec.specs.Now.{settings_now}
 use Rattle.run_spec.specs.Lines.{out_line, down_octets}
 use Rattle.run_spec.proofs.OpenCalls.{gone_later}
 use Rattle.run_spec.proofs.SoFar.{so_far_later}
-use Rattle.farm_run.specs.Runs.{HasWritten, IsReadWhole}
+use Rattle.farm_run.specs.Runs.{HasWritten, IsReadWhole, ReadBy}
 use Rattle.farm_run.specs.Standing.{Standing, never_given}
 use Rattle.farm_run.specs.Match.{AtClock, past_if, histories_at}
 use Rattle.farm_run.specs.Clock.{WrittenFrom, IsAtClock}
 use Rattle.farm_run.proofs.Rounds.Open.{shut_after}
 use Rattle.farm_run.proofs.Ordered.Due.{open_told}
-use Rattle.farm_run.proofs.Clocks.Reach.{worked_idle}
+use Rattle.farm_run.proofs.Clocks.Reach.{worked_idle, ended_before}
 
 -- **The clock goes on to the next order, or to the run's end.**
 pub clock_on : (t u : ℕ) (b : State) (calls : List Kept) → AtClock t b calls → t ≤ u → IfSome (first_stamp b.left) (λ s. u ≤ s) → AtClock u b calls
@@ -122,6 +122,12 @@ module _ (r : Run) (t u : ℕ) (b : State) (calls : List Kept) (last : Standing)
     down = λ c i. subst (λ (k : ℕ). HasWritten (listed c Down) (first c Down) (now c Down)
         (drop (40 * worked_to r from c) (down_octets (who_in r c) (periods_to r c k)))) (sym (idle c i)) (wrote.down c i);
   }
+
+  -- **No more is read of the lines of calls that have ended.**
+  pub read_on : (batch : ℕ) (fails : ℕ → Side → Bool) → ReadBy r batch t fails now → ReadBy r batch u fails now
+  read_on batch fails read c i ended not =
+      let k = read c i (ended_before r t u b.done b.left c at.follows.so_far l n (shut c) i not ended) not in
+      (k.0, k.1, k.2, omega (arith, k.3, l), k.4)
 
 -- no number is among none
 pub none_among : (xs : List ℕ) (c : ℕ) → (length xs == 0) ≡ true → is_among xs c ≡ false

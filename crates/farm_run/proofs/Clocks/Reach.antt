@@ -7,10 +7,11 @@ use Rattle.std.proofs.lemmas.List.Elements.{recursion_from_All}
 use Rattle.trau_orders.specs.declared.order.Order.{Order}
 use Rattle.switchboard.specs.Calls.{Done, is_this, opened_by, opened_at, closed_at, is_open, gone_at}
 use Rattle.switchboard.specs.Ends.{start_of, end_of, ends_at, lack_of}
+use Rattle.trau_io.specs.declared.ends.CallEnd.{CallEnd}
 use Rattle.trau_io.specs.declared.ends.Cause.TheVariants.{Limit}
 use Rattle.switchboard.specs.State.{first_stamp}
 use Rattle.switchboard.proofs.Appending.{or_else}
-use Rattle.run_spec.specs.Run.{Run, given_in, whole_in, done_in, end_in, IsOpened, worked_to}
+use Rattle.run_spec.specs.Run.{Run, given_in, whole_in, done_in, start_in, end_in, cause_in, IsOpened, worked_to}
 use Rattle.run_spec.specs.Now.{IsSoFar, NoOrderTo, has_period}
 use Rattle.run_spec.proofs.Lists.{found}
 use Rattle.run_spec.proofs.Executing.{opened-append}
@@ -21,6 +22,7 @@ use Rattle.run_spec.proofs.SoFar.{standing_now, standing_rest, standing_end, don
 use Rattle.run_spec.proofs.Ending.{end_closed, end_lacks}
 use Rattle.run_spec.proofs.Going.{opened_run}
 use Rattle.farm_run.specs.Going.{places_in, ends_within}
+use Rattle.farm_run.specs.Runs.{IsCutOff}
 use Rattle.farm_run.proofs.Rounds.Taken.{IsRound}
 use Rattle.farm_run.proofs.Rounds.Open.{open_at, no_order, has_period_in}
 use Rattle.farm_run.proofs.Rounds.Ends.{ends_there, start_kept}
@@ -162,6 +164,52 @@ worked_idle r t u ds left c so l w n shut o = by (opened_at c ds) refl
         closed (Some e) f k = ended (closed_past r t ds left c e so f)
         closed None f (inl k) = ended (closed_past r t ds left c k.0 so k.1)
         closed None f (inr k) = ended (gone_past r t ds left c s so w q f k)
+
+-- ---- a call that its lines end
+
+-- where the end of a call is, if its lines end it
+abbrev IsByLines : Run → ℕ → CallEnd → Type 0
+IsByLines r c end = (IsCutOff end.cause → ⊥) → (end.at ≡ start_in r c + whole_in r c) × (end.at < r.periods)
+
+-- **It ends after the whole periods that they give, before the run's end.**
+pub ended_by_lines : (r : Run) (c : ℕ) → (IsCutOff (cause_in r c) → ⊥) → (end_in r c ≡ start_in r c + whole_in r c) × (end_in r c < r.periods)
+ended_by_lines r c = by (closed_at c (done_in r)) refl
+  where
+    there : (b : Bool) → nat_le r.periods (start_in r c + whole_in r c) ≡ b →
+        IsByLines r c (if b then record { call = c; at = r.periods; cause = Limit } else record {
+          call = c;
+          at = start_in r c + whole_in r c;
+          cause = lack_of (whole_in r c) (given_in r c);
+        })
+    there true e = λ not. absurd (not tt)
+    there false e = λ not. (refl, leb-false r.periods (start_in r c + whole_in r c) e)
+
+    by : (v : Option ℕ) → closed_at c (done_in r) ≡ v → IsByLines r c (end_of (given_in r) r.periods (done_in r) c (start_in r c))
+    by (Some e) q = subst (λ (v : Option ℕ). IsByLines r c (end_by (given_in r) r.periods c (start_in r c) v)) (sym q) (λ not. absurd (not tt))
+    by None q = subst (λ (v : Option ℕ). IsByLines r c (end_by (given_in r) r.periods c (start_in r c) v)) (sym q) (there _ refl)
+
+-- **If it isn't open and ends before the next order, it has ended before the clock.**
+pub ended_before : (r : Run) (t u : ℕ) (ds : List Done) (left : List Order) (c : ℕ) → IsSoFar r t ds left → t ≤ u →
+    IfSome (first_stamp left) (λ s. u ≤ s) → is_open (gone_at (whole_in r) t ds) ds c ≡ false → IsOpened r c → (IsCutOff (cause_in r c) → ⊥) →
+    end_in r c < u → end_in r c < t
+ended_before r t u ds left c so l n shut o not early = by (opened_at c ds) refl
+  where
+    is : end_in r c ≡ start_in r c + whole_in r c
+    is = (ended_by_lines r c not).0
+
+    by : (v : Option ℕ) → opened_at c ds ≡ v → end_in r c < t
+    by None q = absurd (omega (arith, is, early, opened_later r u ds left c (so_far_later r t u ds left so l n) q o))
+    by (Some s) q = closed (closed_at c ds) refl (shut_cases (gone_at (whole_in r) t ds) ds c s q shut)
+      where
+        at_order : (e : ℕ) → closed_at c ds ≡ Some e → end_in r c < t
+        at_order e f = absurd (not (subst (λ (end : CallEnd). IsCutOff end.cause) (sym (end_closed r t ds left c (start_in r c) e so f)) tt))
+
+        closed : (v : Option ℕ) → closed_at c ds ≡ v → ((e : ℕ) × (closed_at c ds ≡ Some e)) ⊎ (gone_at (whole_in r) t ds c ≡ true) → end_in r c < t
+        closed (Some e) f k = at_order e f
+        closed None f (inl k) = at_order k.0 k.1
+        closed None f (inr k) =
+            let gone : s + whole_in r c < t = ltb-true (s + whole_in r c) t (sym (gone_is (whole_in r) t ds c s q) ∙ k) in
+            omega (arith, is, gone, start_is (done_in r) c s (opened_run r t ds left c s so q))
 
 -- ---- the run's end
 

@@ -10,7 +10,7 @@ use Rattle.farm_run.specs.declared.outgoing.Outgoing.{Outgoing}
 use Rattle.farm_run.specs.declared.stage.Stage.{Stage}
 use Rattle.farm_run.specs.Noted.{IsKnown}
 use Rattle.farm_run.specs.Outgoing.{is_held, is_summed, sum_to}
-use Rattle.farm_run.specs.Runs.{TellsFailed, KeepsSides, ReadsOn, IsRunOver, FailedBy, is_listed}
+use Rattle.farm_run.specs.Runs.{TellsFailed, KeepsSides, ReadsOn, IsRunOver, FailedBy, ReadBy, is_listed}
 use Rattle.farm_run.specs.Stages.{IsStage, IsFirstStage, Reaches, SumsAt}
 use Rattle.farm_run.specs.Standing.{Standing, standing, StandingGoesOn}
 use Rattle.farm_run.specs.Clock.{NeverFell, IsAtClock, WrittenFrom}
@@ -42,6 +42,7 @@ reaches_none batch s lines stage = record {
   wrote = λ held from l r first last flags within on at wrote. wrote;
   sums = λ summed r first last flags within on at sums. sums;
   short = λ r first last flags within on at short. short;
+  read_past = λ r first last flags within on at read. read;
 }
 
 -- **Two parts are one.**
@@ -75,6 +76,9 @@ reaches_more batch s u v before between now g h = record {
   short = λ r first last flags within on at short.
       h.short r first last flags within on (g.run r first last flags (less r within) (further _ _ _ h.goes on) at)
       (g.short r first last flags (less r within) (further _ _ _ h.goes on) at short);
+  read_past = λ r first last flags within on at read.
+      h.read_past r first last flags within on (g.run r first last flags (less r within) (further _ _ _ h.goes on) at)
+      (g.read_past r first last flags (less r within) (further _ _ _ h.goes on) at read);
 }
   where
     less : (r : Run) → v.clock ≤ r.periods → u.clock ≤ r.periods
@@ -96,6 +100,8 @@ pub record GoneTo (orders : List Order) (batch : ℕ) (first now : ℕ → Side 
       StandingGoesOn (standing u.board u.farm.failed now) last → IsKnown r u.clock u.board u.farm.tallies u.journal
   pub short : (r : Run) (last : Standing) → IsRunOver orders r.periods last.listed first last.lines r → u.clock ≤ r.periods →
       StandingGoesOn (standing u.board u.farm.failed now) last → FailedBy r batch u.clock (is_listed u.farm.failed)
+  pub read_past : (r : Run) (last : Standing) → IsRunOver orders r.periods last.listed first last.lines r → u.clock ≤ r.periods →
+      StandingGoesOn (standing u.board u.farm.failed now) last → ReadBy r batch u.clock last.listed now
 
 -- the run's clock is 0 before its first order
 at_start : (orders : List Order) (o : Outgoing) (s : Stage) (lines : ℕ → Side → LineState) (r : Run) (last : Standing) → IsFirstStage orders o s →
@@ -121,6 +127,7 @@ gone_first orders batch o s lines f = record {
       subst (λ (t : ℕ). IsKnown r t s.board s.farm.tallies s.journal) (sym f.clock)
       (known_start r s.board s.farm.tallies s.journal f.untold f.none_done f.none_noted);
   short = λ r last run within on. subst (λ (ls : List Line). FailedBy r batch s.clock (is_listed ls)) (sym f.none_failed) (short_none r batch s.clock);
+  read_past = λ r last run within on c i ended not. absurd (omega (arith, ended, f.clock));
 }
 
 -- **It goes on.**
@@ -138,6 +145,8 @@ gone_more orders batch first before now s u g h = record {
       (g.known r last run (less r within) (further _ _ _ h.goes on));
   short = λ r last run within on. h.short r first last (flags_of r orders r.periods first last run) within on (at r last run within on)
       (g.short r last run (less r within) (further _ _ _ h.goes on));
+  read_past = λ r last run within on. h.read_past r first last (flags_of r orders r.periods first last run) within on (at r last run within on)
+      (g.read_past r last run (less r within) (further _ _ _ h.goes on));
 }
   where
     less : (r : Run) → u.clock ≤ r.periods → s.clock ≤ r.periods

@@ -20,7 +20,7 @@ use Rattle.farm_run.specs.Standing.{Standing, standing, is_over, KnowsListed}
 use Rattle.farm_run.specs.Clock.{IsAtClock, WrittenFrom}
 use Rattle.farm_run.proofs.Worked.Short.{short_later}
 use Rattle.farm_run.proofs.Clocks.First.{fell_none}
-use Rattle.farm_run.proofs.Clocks.Idle.{clock_on, goes_on, written_on, none_alive}
+use Rattle.farm_run.proofs.Clocks.Idle.{clock_on, goes_on, written_on, read_on, none_alive}
 use Rattle.farm_run.proofs.Noted.Knowing.{known_idle}
 use Rattle.farm_run.proofs.Clocks.Meeting.{stays, ordered}
 use Rattle.farm_run.proofs.Noted.Truly.{truly_same}
@@ -121,6 +121,7 @@ module _ (s : Stage) (b : State) (farm : FarmMemory) (j : JournalMemory) (stage 
     sums = λ summed r first last flags within on at sums. h.sums summed r first last flags within on (here r first last within at) sums;
     short = λ r first last flags within on at short. h.short r first last flags within on (here r first last within at)
         (subst (λ (ls : List Line). FailedBy r batch s.clock (is_listed ls)) (sym o.failed) short);
+    read_past = λ r first last flags within on at read. h.read_past r first last flags within on (here r first last within at) read;
   }
     where
       under : (r : Run) → u.clock ≤ r.periods → s.clock < r.periods
@@ -159,6 +160,8 @@ idle_reaches batch s u lines stage later clear none = record {
   sums = λ summed r first last flags within on at sums. sums_on r s.clock u s.board s.farm.calls last first lines at later within clear
       (shut r first last at) _ sums;
   short = λ r first last flags within on at short. short_later r batch s.clock u (is_listed s.farm.failed) later short;
+  read_past = λ r first last flags within on at read. read_on r s.clock u s.board s.farm.calls last first lines at later within clear
+      (shut r first last at) batch last.listed read;
 }
   where
     shut : (r : Run) (first : ℕ → Side → LineState) (last : Standing) → IsAtClock r s.clock s.board s.farm.calls last first lines → (c : ℕ) →

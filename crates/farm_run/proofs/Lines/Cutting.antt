@@ -14,7 +14,7 @@ use Rattle.farm_rounds.specs.Calls.{Kept}
 use Rattle.farm_checkpoint.specs.Marks.{MarkView}
 use Rattle.run_spec.specs.Run.{Run, done_in, end_in, worked_to}
 use Rattle.run_spec.specs.Mark.{marked_calls}
-use Rattle.farm_run.specs.Runs.{TellsFailed, KeepsSides, ReadsOn, IsRunOver, OnlyOpenedFail, FailedBy, is_listed}
+use Rattle.farm_run.specs.Runs.{TellsFailed, KeepsSides, ReadsOn, IsRunOver, OnlyOpenedFail, FailedBy, ReadBy, is_listed}
 use Rattle.farm_run.specs.Standing.{Standing, standing, KnowsListed}
 use Rattle.farm_run.specs.Fronts.{HasFront, LeavesFronts, IsCutShort}
 use Rattle.farm_run.specs.Resuming.{IsResumeCutShort}
@@ -60,8 +60,9 @@ pub cut_at : (os : List Order) (batch periods t : ℕ) (b : State) (calls : List
     ((r : Run) → IsRunOver os r.periods (is_listed failed) first now r → periods ≤ r.periods → WrittenFrom r 0 t (is_listed failed) first now) →
     ((r : Run) → IsRunOver os r.periods (is_listed failed) first now r → periods ≤ r.periods → FailBefore r t (is_listed failed)) →
     ((r : Run) → IsRunOver os r.periods (is_listed failed) first now r → periods ≤ r.periods → FailedBy r batch t (is_listed failed)) →
+    ((r : Run) → IsRunOver os r.periods (is_listed failed) first now r → periods ≤ r.periods → ReadBy r batch t (is_listed failed) now) →
     IsCutShort os batch periods first now
-cut_at os batch periods t b calls failed first now within knows tells sides reads goes wrote fail short = record {
+cut_at os batch periods t b calls failed first now within knows tells sides reads goes wrote fail short past = record {
   fails = is_listed failed;
   told = tells.failures;
   sides = sides;
@@ -86,6 +87,10 @@ cut_at os batch periods t b calls failed first now within knows tells sides read
       let e = run.same_periods in
       let is = subst (λ (p : ℕ). IsRunOver os p (is_listed failed) first now r) (sym e) run in
       short r is (omega (arith, e));
+  read_past = λ r run.
+      let e = run.same_periods in
+      let is = subst (λ (p : ℕ). IsRunOver os p (is_listed failed) first now r) (sym e) run in
+      past r is (omega (arith, e));
   there = λ are told. there_is os periods (is_listed failed) first now are
       (λ c s n i. let octets = told c s n i in let k = reads c s octets.0 i octets.1 in (octets.0, k.0, octets.1, k.1));
 }
@@ -112,6 +117,7 @@ cut_first os batch periods lines = record {
   stops = λ r run. stops_at r 0 (none_yet lines) lines lines (lines_at_first r os periods lines (none_yet lines) run) (λ c s i l. cc) (written_first r 0 lines);
   opened = λ r run c s l. cc;
   short = λ r run. short_none r batch 0;
+  read_past = λ r run c i ended not. absurd (omega (arith, ended));
 }
 
 -- ---- a resumed run
@@ -125,8 +131,9 @@ pub cut_before : (os : List Order) (batch periods t : ℕ) (mark : MarkView) (ov
     LinesAt r t (record { over = over; listed = is_listed failed; lines = now }) first now) →
     ((r : Run) → IsRunOver os periods (is_listed failed) first now r → FailBefore r t (is_listed failed)) →
     ((r : Run) → IsRunOver os periods (is_listed failed) first now r → FailedBy r batch t (is_listed failed)) →
+    ((r : Run) → IsRunOver os periods (is_listed failed) first now r → ReadBy r batch t (is_listed failed) now) →
     IsResumeCutShort os batch periods mark first now
-cut_before os batch periods t mark over failed first now within early tells sides reads back opened at fail short = record {
+cut_before os batch periods t mark over failed first now within early tells sides reads back opened at fail short past = record {
   fails = is_listed failed;
   told = tells.failures;
   sides = sides;
@@ -141,6 +148,7 @@ cut_before os batch periods t mark over failed first now within early tells side
   stops = λ r run. stops_before r t (record { over = over; listed = is_listed failed; lines = now }) first now (at r run) (fail r run) mark.period early back;
   opened = opened;
   short = short;
+  read_past = past;
   held = λ r run differs. back.lines;
   there = λ are told n. there_is os n (is_listed failed) first now are
       (λ c s n i. let octets = told c s n i in let k = reads c s octets.0 i octets.1 in (octets.0, k.0, octets.1, k.1));
@@ -160,8 +168,9 @@ pub cut_behind : (os : List Order) (batch periods : ℕ) (mark : MarkView) (t : 
     ((r : Run) → IsRunOver os r.periods (is_listed failed) first now r → periods ≤ r.periods → WrittenFrom r mark.period t (is_listed failed) first now) →
     ((r : Run) → IsRunOver os r.periods (is_listed failed) first now r → periods ≤ r.periods → FailBefore r t (is_listed failed)) →
     ((r : Run) → IsRunOver os r.periods (is_listed failed) first now r → periods ≤ r.periods → FailedBy r batch t (is_listed failed)) →
+    ((r : Run) → IsRunOver os r.periods (is_listed failed) first now r → periods ≤ r.periods → ReadBy r batch t (is_listed failed) now) →
     IsResumeCutShort os batch periods mark first now
-cut_behind os batch periods mark t b calls failed first now behind within knows tells sides reads same goes wrote fail short = record {
+cut_behind os batch periods mark t b calls failed first now behind within knows tells sides reads same goes wrote fail short past = record {
   fails = is_listed failed;
   told = tells.failures;
   sides = sides;
@@ -196,6 +205,10 @@ cut_behind os batch periods mark t b calls failed first now behind within knows 
       let e = run.same_periods in
       let is = subst (λ (p : ℕ). IsRunOver os p (is_listed failed) first now r) (sym e) run in
       short r is (omega (arith, e));
+  read_past = λ r run.
+      let e = run.same_periods in
+      let is = subst (λ (p : ℕ). IsRunOver os p (is_listed failed) first now r) (sym e) run in
+      past r is (omega (arith, e));
   held = λ r run differs. absurd (differs (same r run));
   there = λ are told n. there_is os n (is_listed failed) first now are
       (λ c s n i. let octets = told c s n i in let k = reads c s octets.0 i octets.1 in (octets.0, k.0, octets.1, k.1));

@@ -19,7 +19,7 @@ use Rattle.farm_run.specs.declared.stage.Stage.{Stage}
 use Rattle.farm_run.specs.Noted.{IsKnown, IsAtEnd}
 use Rattle.farm_run.specs.Marking.{entry_of}
 use Rattle.farm_run.specs.Outgoing.{sum_to}
-use Rattle.farm_run.specs.Runs.{TellsFailed, AreTold, IsRunOver, OnlyOpenedFail, FailedBy, FailedShort, Leaves, Runs, is_listed}
+use Rattle.farm_run.specs.Runs.{TellsFailed, AreTold, IsRunOver, OnlyOpenedFail, FailedBy, FailedShort, ReadToEnd, Leaves, Runs, is_listed}
 use Rattle.farm_run.specs.Saving.{SavedView, Saves}
 use Rattle.farm_run.specs.Stages.{OpenedBefore, SumsAt}
 use Rattle.farm_run.specs.Standing.{Standing, standing, StandingGoesOn}
@@ -27,6 +27,7 @@ use Rattle.farm_run.specs.Clock.{IsAtClock, WrittenFrom}
 use Rattle.farm_run.proofs.Lines.Being.{there_is}
 use Rattle.farm_run.proofs.Lines.Stopping.{only_opened}
 use Rattle.farm_run.proofs.Clocks.Last.{leaves_all}
+use Rattle.farm_run.proofs.Clocks.Reach.{ended_by_lines}
 use Rattle.farm_run.proofs.Marked.Calls.{entries_are, entries_live}
 use Rattle.farm_run.proofs.Clocks.Meeting.{stays}
 use Rattle.farm_run.proofs.Clocks.Reaching.{GoneTo}
@@ -75,6 +76,14 @@ module _ (os : List Order) (batch : ℕ) (first now : ℕ → Side → LineState
   pub short_end : (r : Run) → IsRunOver os u.clock (is_listed u.farm.failed) first now r → FailedShort r batch (is_listed u.farm.failed)
   short_end r run = subst (λ (p : ℕ). FailedBy r batch p (is_listed u.farm.failed)) (sym run.same_periods)
       (g.short r last (own r run) (least r run) (stays last))
+
+  -- **Of its incoming lines that didn't fail so much was read.**
+  pub read_end : (r : Run) → IsRunOver os u.clock (is_listed u.farm.failed) first now r → ReadToEnd r batch (is_listed u.farm.failed) now
+  read_end r run c i not =
+      let same = run.same_periods in
+      let ended = (ended_by_lines r c not).1 in
+      let k = g.read_past r last (own r run) (least r run) (stays last) c i (omega (arith, ended, same)) not in
+      (k.0, k.1, k.2, omega (arith, k.3, same), k.4)
 
   -- **So its report is the definition's.**
   pub report_end : (count : ℕ) (report : ReportView) → count ≡ length os →
@@ -131,6 +140,7 @@ runs_told os pace first now u count report g e wrote f number h = record {
   reports = λ r run. report_end os pace.batch first now u g count report number (λ r t end p. h r t end (p ∙ e)) r (over r run);
   opened = λ r run. subst (λ (ls : List Line). OnlyOpenedFail r (is_listed ls)) (sym f) (opened_end os pace.batch first now u g r (over r run));
   short = λ r run. subst (λ (ls : List Line). FailedShort r pace.batch (is_listed ls)) (sym f) (short_end os pace.batch first now u g r (over r run));
+  read_past = λ r run. subst (λ (ls : List Line). ReadToEnd r pace.batch (is_listed ls) now) (sym f) (read_end os pace.batch first now u g r (over r run));
   there = λ are told. subst (λ (ls : List Line). (r : Run) × IsRunOver os pace.periods (is_listed ls) first now r) (sym f)
       (there os pace.batch first now u g are told pace.periods);
 }
@@ -162,6 +172,7 @@ saves_told os pace first now u saved g e wrote sums f p calls live rising openin
       (calls ∙ marked_end os pace.batch first now u g live rising sums r (over r run));
   opened = λ r run. subst (λ (ls : List Line). OnlyOpenedFail r (is_listed ls)) (sym f) (opened_end os pace.batch first now u g r (over r run));
   short = λ r run. subst (λ (ls : List Line). FailedShort r pace.batch (is_listed ls)) (sym f) (short_end os pace.batch first now u g r (over r run));
+  read_past = λ r run. subst (λ (ls : List Line). ReadToEnd r pace.batch (is_listed ls) now) (sym f) (read_end os pace.batch first now u g r (over r run));
   there = λ are told. subst (λ (ls : List Line). (r : Run) × IsRunOver os pace.periods (is_listed ls) first now r) (sym f)
       (there os pace.batch first now u g are told pace.periods);
   period = p;

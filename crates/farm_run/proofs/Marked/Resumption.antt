@@ -26,7 +26,7 @@ use Rattle.farm_run.specs.Marking.{entry_of}
 use Rattle.farm_run.specs.Noted.{IsAtEnd}
 use Rattle.farm_run.specs.Outgoing.{is_held, is_summed, sum_to}
 use Rattle.farm_run.specs.Resuming.{LeavesFrom, ResumesRun, FindsDifference, IsResumeCutShort}
-use Rattle.farm_run.specs.Runs.{TellsFailed, IsRunOver, HasWritten, OnlyOpenedFail, FailedBy, FailedShort, is_listed}
+use Rattle.farm_run.specs.Runs.{TellsFailed, IsRunOver, HasWritten, OnlyOpenedFail, FailedBy, FailedShort, ReadBy, ReadToEnd, is_listed}
 use Rattle.farm_run.specs.Stages.{IsStage, IsFirstStage, HoldsBack, Reaches, SumsAt}
 use Rattle.farm_run.specs.Standing.{Standing, standing, is_over, StandingGoesOn}
 use Rattle.farm_run.specs.Clock.{IsAtClock, WrittenFrom}
@@ -40,7 +40,7 @@ use Rattle.farm_run.proofs.Clocks.Meeting.{stays, further}
 use Rattle.farm_run.proofs.Clocks.Reaching.{GoneTo, gone_first, gone_more, wrote_first, summed_first}
 use Rattle.farm_run.proofs.Lines.Sides.{sides_none}
 use Rattle.farm_run.proofs.Worked.Short.{short_none}
-use Rattle.farm_run.proofs.Lines.Telling.{there, at_end, opened_end, short_end, report_end, wrote_end, marked_end, over_here}
+use Rattle.farm_run.proofs.Lines.Telling.{there, at_end, opened_end, short_end, read_end, report_end, wrote_end, marked_end, over_here}
 
 -- ---- cut short
 
@@ -53,6 +53,11 @@ module _ (os : List Order) (batch periods : ℕ) (first now : ℕ → Side → L
   -- each incoming line that failed did so short of what its round takes
   short_here : (r : Run) → IsRunOver os r.periods (is_listed u.farm.failed) first now r → periods ≤ r.periods → FailedBy r batch u.clock (is_listed u.farm.failed)
   short_here r run least = g.short r (standing u.board u.farm.failed now) run (omega (arith, l, least)) (stays (standing u.board u.farm.failed now))
+
+  -- of the others of calls that their lines ended so much was read
+  past_here : (r : Run) → IsRunOver os r.periods (is_listed u.farm.failed) first now r → periods ≤ r.periods →
+      ReadBy r batch u.clock (is_listed u.farm.failed) now
+  past_here r run least = g.read_past r (standing u.board u.farm.failed now) run (omega (arith, l, least)) (stays (standing u.board u.farm.failed now))
 
   -- the call of each incoming line that failed ended before it, by its lines
   fail_here : (r : Run) → IsRunOver os r.periods (is_listed u.farm.failed) first now r → periods ≤ r.periods → FailBefore r u.clock (is_listed u.farm.failed)
@@ -67,6 +72,7 @@ module _ (os : List Order) (batch periods : ℕ) (first now : ℕ → Side → L
       IsCutShort os batch periods first now
   cut_here wrote = cut_at os batch periods u.clock u.board u.farm.calls u.farm.failed first now l (let s = g.stage in s.knows) g.tells g.sides g.reads at_here
       (λ r run least. wrote r (standing u.board u.farm.failed now) run (omega (arith, l, least)) (stays (standing u.board u.farm.failed now))) fail_here short_here
+      past_here
 
   -- the run to there is at this clock
   at_last : (r : Run) → IsRunOver os periods (is_listed u.farm.failed) first now r →
@@ -88,6 +94,8 @@ module _ (os : List Order) (batch periods : ℕ) (first now : ℕ → Side → L
       fail_here r (subst (λ (p : ℕ). IsRunOver os p (is_listed u.farm.failed) first now r) (sym e) run) (omega (arith, e)))
       (λ r run. let e = run.same_periods in
       short_here r (subst (λ (p : ℕ). IsRunOver os p (is_listed u.farm.failed) first now r) (sym e) run) (omega (arith, e)))
+      (λ r run. let e = run.same_periods in
+      past_here r (subst (λ (p : ℕ). IsRunOver os p (is_listed u.farm.failed) first now r) (sym e) run) (omega (arith, e)))
 
   -- **and one that wrote what lies behind the mark's period, where the mark is the run's.**
   pub cut_written : (mark : MarkView) → mark.period ≤ u.clock →
@@ -99,6 +107,7 @@ module _ (os : List Order) (batch periods : ℕ) (first now : ℕ → Side → L
       cut_behind os batch periods mark u.clock u.board u.farm.calls u.farm.failed first now behind l (let s = g.stage in s.knows) g.tells g.sides g.reads same
       at_here
       (λ r run least. wrote r (standing u.board u.farm.failed now) run (omega (arith, l, least)) (stays (standing u.board u.farm.failed now))) fail_here short_here
+      past_here
 
 -- **A run that came to a clock is cut short there.**
 pub part_cut : (os : List Order) (batch periods : ℕ) (o : Outgoing) (s : Stage) (first now : ℕ → Side → LineState) →
@@ -126,7 +135,7 @@ pub unbegun_cut : (os : List Order) (batch periods : ℕ) (mark : MarkView) (lin
 unbegun_cut os batch periods mark lines =
     cut_before os batch periods 0 mark (λ c. false) [] lines lines (omega arith) (omega arith) (tells_none lines) (sides_none lines) (λ c s octets i e. (0, e))
     (record { lines = λ c s o. refl; listed = λ c s o. refl }) (λ r run c s l. cc) (λ r run. lines_at_first r os periods lines (none_yet lines) run)
-    (λ r run c s i l. cc) (λ r run. short_none r batch 0)
+    (λ r run c s i l. cc) (λ r run. short_none r batch 0) (λ r run c i ended not. absurd (omega (arith, ended)))
 
 -- ---- where the mark is compared
 
@@ -163,6 +172,7 @@ module _ (os : List Order) (pace : Pace) (mark : MarkView) (o : Outgoing) (s m :
     others = λ r run. let here = at_end os pace.batch first mid m g r (over r run) in here.lines.others;
     opened = λ r run. opened_end os pace.batch first mid m g r (over r run);
     short = λ r run. short_end os pace.batch first mid m g r (over r run);
+    read_past = λ r run. read_end os pace.batch first mid m g r (over r run);
     there = λ are told. there os pace.batch first mid m g are told mark.period;
   }
     where
@@ -191,6 +201,7 @@ module _ (os : List Order) (pace : Pace) (mark : MarkView) (o : Outgoing) (s m :
     at = g.at;
     known = g.known;
     short = g.short;
+    read_past = g.read_past;
   }
 
   -- nothing is written yet
@@ -257,6 +268,8 @@ module _ (os : List Order) (pace : Pace) (mark : MarkView) (o : Outgoing) (s m :
       same_mark = λ r run. sym (same ∙ entries ∙ at_mark r (subst (λ (ls : List Line). IsRunOver os mark.period (is_listed ls) first now r) f run));
       opened = λ r run. subst (λ (ls : List Line). OnlyOpenedFail r (is_listed ls)) (sym f) (opened_end os pace.batch first now u gone_on r (over r run));
       short = λ r run. subst (λ (ls : List Line). FailedShort r pace.batch (is_listed ls)) (sym f) (short_end os pace.batch first now u gone_on r (over r run));
+      read_past = λ r run. subst (λ (ls : List Line). ReadToEnd r pace.batch (is_listed ls) now) (sym f)
+          (read_end os pace.batch first now u gone_on r (over r run));
       there = λ are told periods. subst (λ (ls : List Line). (r : Run) × IsRunOver os periods (is_listed ls) first now r) (sym f)
           (there os pace.batch first now u gone_on are told periods);
     }

@@ -1,5 +1,5 @@
--- An incoming line that fails in a round gives fewer octets than the round takes of it, and its call ends there.
-use Rattle.std.proofs.Common.{◌≡◌, sym, ap, ◌∙◌, subst, ℕ, ◌+◌, ◌-◌, ◌*◌, ◌<◌, ◌≤◌, Bool, true, false, ◌&&◌, List, [], length, inl, inr, arith}
+-- What was read of the incoming lines of a call that its lines end: of one that failed fewer octets than the round takes of it.
+use Rattle.std.proofs.Common.{◌≡◌, sym, ap, ◌∙◌, subst, ℕ, ◌+◌, ◌-◌, ◌*◌, ◌<◌, ◌≤◌, Bool, true, false, ◌&&◌, List, [], length, inl, inr, arith, mul-add}
 use Rattle.std.specs.Prelude.{min, nat_lt, if◌then◌else◌}
 use Rattle.std.proofs.lemmas.Bool.{cases_Bool, true≢false, lt-ltb}
 use Rattle.trau_io.specs.declared.ends.CallEnd.{CallEnd}
@@ -17,15 +17,17 @@ use Rattle.farm_rounds.specs.Memory.{FarmMemory}
 use Rattle.run_spec.specs.Run.{Run, given_in, whole_in, done_in, start_in, end_in, cause_in}
 use Rattle.run_spec.proofs.SoFar.{standing_now}
 use Rattle.farm_run.specs.Going.{places_in}
-use Rattle.farm_run.specs.Runs.{FailedIn, FailedBy, IsCutOff, is_listed}
+use Rattle.farm_run.specs.Runs.{FailedIn, FailedBy, ReadBy, IsCutOff, IsReadTo, is_listed}
 use Rattle.farm_run.specs.Match.{Matches}
 use Rattle.farm_run.specs.Standing.{Standing, standing, MeetsRun}
 use Rattle.farm_run.specs.Clock.{IsAtClock, FailedInRound}
 use Rattle.farm_run.proofs.Rounds.Taken.{IsRound}
 use Rattle.farm_run.proofs.Rounds.Open.{open_at}
 use Rattle.farm_run.proofs.Rounds.Ends.{end_within, start_kept}
-use Rattle.farm_run.proofs.Clocks.Reach.{end_after, open_before_end}
+use Rattle.farm_run.proofs.Clocks.Last.{rest_of}
+use Rattle.farm_run.proofs.Clocks.Reach.{end_after, open_before_end, ended_before}
 use Rattle.farm_run.proofs.Worked.Round.{WorkedRound, up_long, pcm_long}
+use Rattle.farm_run.proofs.Worked.Written as worked_written
 use Rattle.farm_run.proofs.Listed.Round.{listed_kept, listed_incoming}
 use Rattle.farm_rounds.proofs.Gaining.{fewer_up, fewer_pcm}
 use Rattle.farm_run.proofs.Worked.Calls.{OpenSeat, open_seat, open_is}
@@ -128,6 +130,51 @@ module _ (r : Run) (t n : ℕ) (b : State) (farm after : FarmMemory) (first befo
     up = λ c was is. elim (cases_Bool (alive c)) [ inl o ↦ up_failed c o is | inr o ↦ absurd (true≢false (sym is ∙ still c Up o ∙ was)) ];
     pcm = λ c was is. elim (cases_Bool (alive c)) [ inl o ↦ pcm_failed c o is | inr o ↦ absurd (true≢false (sym is ∙ still c Pcm o ∙ was)) ];
   }
+
+  -- **Of the lines of a call that ended in the round its octets were read; those of calls that had ended stay.**
+  pub read_after : (batch : ℕ) → n ≤ batch → ReadBy r batch t last.listed before → ReadBy r batch (t + n) last.listed now
+  read_after batch few read c i ended not = elim (cases_Bool (alive c)) [
+    | inl o ↦
+        let s = seat c o in
+        let start = begun c o in
+        let same : start_in r c ≡ start_of b.done c = start_kept r t n b.done b.left c h o in (
+          t,
+          t + n,
+          omega (arith, few),
+          omega arith,
+          record {
+            begun = open_before_end r t n b.done b.left c h o;
+            over = ended;
+            up = λ sound. subst (λ (k : ℕ). IsReadTo (now c Up) k (r.lines c).up) (spread 40 (start_in r c) (start_of b.done c) same start)
+                (rest_of (last.listed c Up) (now c Up) (last.lines c Up) _ (r.lines c).up sound s.up_left);
+            pcm = λ sound. subst (λ (k : ℕ). IsReadTo (now c Pcm) k (r.lines c).pcm) (spread 160 (start_in r c) (start_of b.done c) same start)
+                (rest_of (last.listed c Pcm) (now c Pcm) (last.lines c Pcm) _ (r.lines c).pcm sound s.pcm_left);
+          },
+        )
+    | inr o ↦
+        let k = read c i (ended_before r t (t + n) b.done b.left c h.so_far (omega arith) h.clear o i not ended) not in
+        let past = k.4 in (
+          k.0,
+          k.1,
+          k.2,
+          omega (arith, k.3),
+          record {
+            begun = past.begun;
+            over = past.over;
+            up = λ sound. ap (λ (l : LineState). l.to_come) (kept c o Up) ∙ past.up sound;
+            pcm = λ sound. ap (λ (l : LineState). l.to_come) (kept c o Pcm) ∙ past.pcm sound;
+          },
+        )
+  ]
+    where
+      spread : (m s v : ℕ) → s ≡ v → v ≤ t → m * (t - v) + m * n ≡ m * (t + n - s)
+      spread m s v same l = sym (mul-add m (t - v) n) ∙ ap (λ (k : ℕ). m * k) (sum s v same l)
+        where
+          sum : (s v : ℕ) → s ≡ v → v ≤ t → t - v + n ≡ t + n - s
+          sum s v same l = omega (arith, same, l)
+
+      kept : (c : ℕ) → alive c ≡ false → (s : Side) → now c s ≡ before c s
+      kept = worked_written.kept r t n b farm after first before now ends w h m b' last at meets
 
 -- **So each line that is listed by then did, in rounds of at most so many periods.**
 pub short_none : (r : Run) (batch t : ℕ) → FailedBy r batch t (is_listed [])

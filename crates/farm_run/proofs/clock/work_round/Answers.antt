@@ -33,7 +33,7 @@ use Rattle.farm_run.proofs.Worked.Clock.{tells_numbers, tells_open, tells_apart,
 use Rattle.farm_run.proofs.Worked.Lines.{clock_is}
 use Rattle.farm_run.proofs.Worked.Board.{ends_are, told_is}
 use Rattle.farm_run.proofs.Worked.Written.{written_after}
-use Rattle.farm_run.proofs.Worked.Short.{short_after, short_more}
+use Rattle.farm_run.proofs.Worked.Short.{short_after, short_more, read_after}
 use Rattle.farm_run.proofs.Worked.Sums.{sums_after}
 use Rattle.farm_run.proofs.Worked.Tallies.{tallies_after}
 use Rattle.std.proofs.lemmas.Result.{IfOk-from_err}
@@ -254,6 +254,9 @@ returns-clause-reaches g c =
       short = λ r first last flags l on at short.
           short_more r c.args.pace.now.batch t (t + n) c.args.stage.farm.failed c.settle-farm.result.failed (omega arith) (omega (arith, c.requires.few))
           (short_after r _ _ b _ _ first _ _ _ w (in_run g c r first last l at) m b' last at (meets g c r last flags on)) short;
+      read_past = λ r first last flags l on at read.
+          read_after r _ _ b _ _ first _ _ _ w (in_run g c r first last l at) m b' last at (meets g c r last flags on) c.args.pace.now.batch
+          (omega (arith, c.requires.few)) read;
     }
 
 pub returns-in_err-round : goal.returns-in_err-round
