@@ -764,9 +764,10 @@ class TwoRuns(Started):
 class Demo(Started):
     def test_says_what_there_is_where_nothing_is_built(self):
         status, _, err = self.trau(name="demo")
+        self.assertIn("demo: ./demo --model runs the example in seconds by the model in Python, with nothing of it proved;\n", err)
         self.assertIn("demo: ./demo --unproved shows the example's report in about a minute, with nothing of it proved\n", err)
         self.assertLess(err.index("--unproved"), err.index("crate 1 of 4"))
-        self.assertNotIn("--unproved", self.trau(name="demo")[2])
+        self.assertEqual(self.trau(name="demo")[2], "")
 
     def test_unproved(self):
         status, out, err = self.trau("--unproved", name="demo")
@@ -789,7 +790,7 @@ class Demo(Started):
         self.assertEqual([name for name in os.listdir(self.folder) if name.startswith("trau-demo")], [])
 
     def test_help(self):
-        usage = "usage: demo [FOLDER]\n       demo --unproved\n"
+        usage = "usage: demo [FOLDER]\n       demo --model [FOLDER]\n       demo --unproved\n"
         for word in ("--help", "-h"):
             self.assertEqual(self.trau(word, name="demo"), (0, usage, ""))
 
@@ -826,16 +827,78 @@ class Demo(Started):
         self.assertEqual([path for path in self.folder.iterdir() if path.name.startswith(("trau-demo", "new"))], [])
 
     def test_refused(self):
-        for words in (["--unproved", "x"], ["--what"], ["a", "b"]):
+        for words in (["--unproved", "x"], ["--model", "--unproved"], ["--model", "a", "b"], ["--what"], ["a", "b"]):
             status, out, err = self.trau(*words, name="demo")
             self.assertEqual((status, out), (2, ""))
             self.assertIn("usage: demo [FOLDER]", err)
         (self.tools / "rt").unlink()
-        status, out, err = self.trau(name="demo")
-        self.assertEqual((status, out, err.count("\n")), (2, "", 1))
-        self.assertIn("isn't on the path", err)
         missing = "demo: the Rattle toolchain's command rt isn't on the path\n"
         self.assertEqual(self.trau("--unproved", name="demo"), (2, "", missing))
+
+
+class TheModel(Started):
+    """The example without a program that is built."""
+
+    NOTE = "UNPROVED: this run is by the model, a second program in Python (model/README.md): slow, and nothing of it is proved."
+    NONE = "demo: no program is built, and the Rattle toolchain's command rt, which proves and builds it, isn't on the path"
+    SAME = "All that went out, and the report, is octet for octet what is recorded in examples/farm/wanted."
+
+    def setUp(self):
+        super().setUp()
+        shutil.copytree(TOP / "model", self.top / "model", ignore=shutil.ignore_patterns("__pycache__", "tests"))
+        shutil.copytree(EXAMPLES / "farm" / "wanted", self.top / "examples" / "farm" / "wanted", dirs_exist_ok=True)
+
+    def assert_by_the_model(self, ended, said=""):
+        """That a demo ran the example by the model, and said so first and last."""
+        status, out, err = ended
+        self.assertEqual((status, err), (0, said))
+        lines = out.splitlines()
+        self.assertEqual([lines[0], lines[-1]], [self.NOTE] * 2)
+        self.assertIn(self.SAME, lines)
+        self.assertFalse(self.asked.exists())
+
+    def test_where_there_is_no_toolchain(self):
+        (self.tools / "rt").unlink()
+        self.assert_by_the_model(self.trau(name="demo"), f"{self.NONE}\n")
+
+    def test_where_it_is_asked_for(self):
+        self.assert_by_the_model(self.trau("--model", "new", name="demo"))
+        self.assertTrue((self.folder / "new" / "1.out").exists())
+        self.assert_by_the_model(self.trau(name="demo", TRAU_PROGRAM="model"))
+        self.built()
+        self.assert_by_the_model(self.trau("--model", name="demo"))
+        self.assertNotIn(self.NOTE, self.trau(name="demo")[1])
+
+    def test_by_the_script(self):
+        shutil.copy(EXAMPLES / "7.up", self.folder)
+        self.assertEqual(self.trau("relay", "7", TRAU_PROGRAM="model"), (0, "relay frames 312\n", ""))
+        note = "trau: this is the model in Python, which TRAU_PROGRAM names: unproved and slow\n"
+        self.assertEqual(self.at_terminal("relay", "7", TRAU_PROGRAM="model"), (0, f"{note}relay frames 312\n"))
+        said = "program: the model in Python, unproved and slow, which TRAU_PROGRAM names"
+        self.assertEqual(self.trau("--version", TRAU_PROGRAM="model")[1].splitlines()[1], said)
+        (self.tools / "rt").unlink()
+        self.assertTrue(self.trau("run")[2].endswith("; TRAU_PROGRAM=model starts the model, unproved and slow\n"))
+
+    def test_where_it_cant_be_started(self):
+        (self.tools / "python3").unlink()
+        (self.tools / "python3").write_text("#!/bin/sh\nexit 1\n")
+        (self.tools / "python3").chmod(0o755)
+        said = "the model needs python3 on the path, 3.9 or later\n"
+        self.assertEqual(self.trau("--model", name="demo"), (2, "", f"demo: {said}"))
+        (self.tools / "rt").unlink()
+        self.assertEqual(self.trau(name="demo"), (2, "", f"{self.NONE}, and {said}"))
+        shutil.rmtree(self.top / "model")
+        self.assertEqual(self.trau(name="demo"), (2, "", f"{self.NONE}, and there is no model here\n"))
+        said = "trau: TRAU_PROGRAM is 'model', and no program is there\n"
+        self.assertEqual(self.trau("relay", "7", TRAU_PROGRAM="model"), (125, "", said))
+
+    def test_a_package_has_none(self):
+        shutil.rmtree(self.top / "model")
+        program = self.top / "trau_program"
+        program.write_text("#!/bin/sh\necho the package\n")
+        program.chmod(0o755)
+        self.assertEqual(self.trau("--model", name="demo"), (2, "", "demo: there is no model here\n"))
+        self.assertNotIn(self.NOTE, self.trau(name="demo", TRAU_PROGRAM="model")[1])
 
 
 if __name__ == "__main__":
