@@ -3,6 +3,7 @@
 import os
 import shutil
 import subprocess
+import sys
 
 from measure import GNU_TIME, say
 
@@ -48,14 +49,15 @@ def build_peers(source, folder):
 
 
 def program(top):
-    """The built program: the one that TRAU_PROGRAM names, else the one that the script `trau` builds."""
+    """The built program: the one that TRAU_PROGRAM names, else the one for x86-64-v2. If it isn't built, or the one for x86-64-v3 isn't,
+    tools/build.py builds both."""
     named = os.environ.get("TRAU_PROGRAM")
     if named:
         return os.path.abspath(named)
-    # Without words it prints `usage` and exits with status 1, once it is built.
-    status = subprocess.run([os.path.join(top, "trau")], stdin=subprocess.DEVNULL, stdout=subprocess.DEVNULL).returncode
-    if status != 1:
-        raise SystemExit("bench: ./trau can't build the program")
+    asked = ({**os.environ, "TRAU_IS_BUILT": f"x86-64-v{kind}"} for kind in (2, 3))
+    if any(subprocess.run([os.path.join(top, "trau")], env=each).returncode for each in asked):
+        if subprocess.run([sys.executable, os.path.join(top, "tools", "build.py"), "--both"]).returncode:
+            raise SystemExit("bench: tools/build.py can't build the program")
     return os.path.join(top, "crates", "trau_program", "out", "trau_program")
 
 

@@ -10,7 +10,7 @@ unset TRAU_CPU
 
 if ! TRAU_IS_BUILT=$kind "$top/trau"; then
     status=0
-    python3 "$top/tools/build.py" --over-kept >"$work/said" 2>&1 || status=$?
+    python3 "$top/tools/build.py" --both --over-kept >"$work/said" 2>&1 || status=$?
     tail -n 1 "$work/said"
     # Status 2 has many reasons, as a full disk. Only that the toolchain keeps nothing is no failure.
     if [ "$status" = 2 ] && grep -q '^trau: nothing is kept, since ' "$work/said"; then

@@ -1,5 +1,6 @@
 #!/usr/bin/env python3
-"""Proves and builds a program of this repository: a copy of its crates by `rt ci`, and then the program for x86-64-v3.
+"""Proves and builds a program of this repository, for the kind of processor that this machine has (or TRAU_CPU names), or for both kinds: its
+crates in a copy by `rt ci`, which builds for x86-64-v2, and over them the program for x86-64-v3.
 
 It shows its progress and the minutes left on standard error: on a terminal one line that moves, elsewhere a line for each crate. The
 toolchain's output goes to out/trau.log in the program's crate. Status 0: the program is proved and built. Status 1: it isn't, and the log's
@@ -34,7 +35,8 @@ from trau_frames import Refusal
 
 TOP = Path(__file__).resolve().parents[1]
 PROGRAM = "trau_program"
-# The kind of processor that a second program is built for; `rt ci` builds the first one, for x86-64-v2.
+# The kinds of processor that a program is built for, by `rt ci` and by build_for.py.
+FIRST = "x86-64-v2"
 KIND = "x86-64-v3"
 
 # Measured: the disk that a first start takes among the temporary files, and as much again where what it keeps lies on another disk; the
@@ -181,11 +183,15 @@ def read_weights() -> Dict[str, float]:
     return {}
 
 
-def plan_of(top: Path, program: str, at_once: int) -> Plan:
-    """The plan of the crates that the program needs, and of the second program."""
-    crates = crates_of(top)
+def plan_of(top: Path, program: str, kinds: Sequence[str], at_once: int) -> Plan:
+    """The plan of the crates that the program needs, for these kinds of processor."""
+    crates, weights = crates_of(top), read_weights()
     below = {name: crates[name] for name in needed(top, program)}
-    return Plan({**below, KIND: [program]}, read_weights(), at_once)
+    if FIRST not in kinds:
+        weights[program] = weights.get(KIND, weights.get(program, 1.0))
+    elif KIND in kinds:
+        below[KIND] = [program]
+    return Plan(below, weights, at_once)
 
 
 def minutes_in_words(seconds: float) -> str:
@@ -201,7 +207,7 @@ class Progress:
 
     def __init__(self, plan: Plan, stream: TextIO, clock: Callable[[], float] = time.monotonic) -> None:
         self.plan, self.stream, self.clock = plan, stream, clock
-        self.crates = len(plan.below) - 1
+        self.crates = len(set(plan.below) - {KIND})
         self.moves = stream.isatty()
         self.begun = self.last = self.working = clock()
         self.left: Set[str] = set(plan.below)
@@ -306,6 +312,11 @@ class Toolchain:
         yield str(ran.returncode)
 
 
+def functions_of(line: str) -> int:
+    """How many functions a check proved, by its last line."""
+    return int(re.search(r"functions=(\d+)|$", line)[1] or 0)
+
+
 class Crates:
     """Reads the output of `rt ci`: for each crate, at its end, `== NAME`, then the output of its check, and its verdict."""
 
@@ -323,7 +334,7 @@ class Crates:
         if line.startswith("== "):
             self.crate = line[3:]
         elif line.startswith("logic=proved "):
-            self.progress.functions += int(re.search(r"functions=(\d+)|$", line)[1] or 0)
+            self.progress.functions += functions_of(line)
         elif verdict:
             self.progress.done(verdict[1], kept=not verdict[2])
         elif line == "rt: run rt fmt in the crate's folder":
@@ -349,22 +360,26 @@ def prove(rt: Toolchain, progress: Progress, at_once: Optional[int]) -> bool:
     return status == "0"
 
 
-def second_program(rt: Toolchain, progress: Progress, program: str) -> bool:
-    """Proves and builds the program for the other kind of processor too. If that fails, the first one still runs."""
+def build_for(rt: Toolchain, progress: Progress, program: str) -> bool:
+    """Proves and builds the program for KIND, over the crates below it, which are proved."""
     progress.at(f"the program for {KIND}")
-    said = list(rt.lines(sys.executable, str(Path(__file__).with_name("build_for.py")), str(rt.folder), program, KIND))
-    progress.left.discard(KIND)
-    if said[-1] != "0":
-        progress.say(f"no program for {KIND} is built, so the one for x86-64-v2 runs on all processors")
-    return said[-1] == "0"
+    words = (sys.executable, str(Path(__file__).with_name("build_for.py")), str(rt.folder), program, KIND)
+    status, counts = "", program in progress.left
+    for line in rt.lines(*words):
+        status = line
+        if counts and line.startswith("logic=proved "):
+            progress.functions += functions_of(line)
+    progress.left -= {KIND, program}
+    if status != "0":
+        progress.say(f"no program for {KIND} is built, so the one for {FIRST} runs on all processors")
+    return status == "0"
 
 
 def copy_crates(top: Path, crates: Sequence[str], to: Path) -> None:
     """Copies the sources of these crates as a repository of its own, without must-fail edits and other crates."""
     lines = trau_frames.read_file(top / "crates.txt").decode().splitlines()
     names = [(line, line.partition("#")[0].partition(":")[0].split()) for line in lines]
-    to.mkdir()
-    (to / ".git").mkdir()
+    (to / ".git").mkdir(parents=True)
     (to / "crates.txt").write_text("".join(f"{line}\n" for line, words in names if words and words[0] in crates))
     if (top / "HANDLES").exists():
         shutil.copyfile(top / "HANDLES", to / "HANDLES")
@@ -375,6 +390,18 @@ def copy_crates(top: Path, crates: Sequence[str], to: Path) -> None:
                 shutil.copytree(part, copy)
             elif part.exists():
                 shutil.copyfile(part, copy)
+
+
+@contextlib.contextmanager
+def without(crate: str, folder: Path) -> Iterator[None]:
+    """Takes a crate out of a copy of crates, and puts it back at the end."""
+    listed, place, aside = folder / "crates.txt", folder / "crates" / crate, folder.with_name(f"{folder.name}-{crate}")
+    lines = listed.read_text().splitlines(keepends=True)
+    listed.write_text("".join(line for line in lines if line.partition(":")[0].split() != [crate]))
+    place.rename(aside)
+    yield
+    aside.rename(place)
+    listed.write_text("".join(lines))
 
 
 def place(made: Path, to: Path) -> None:
@@ -407,15 +434,15 @@ def ask_script(top: Path, **words: str) -> Tuple[int, str]:
     return ran.returncode, ran.stdout.strip()
 
 
-def wait_for_others(held: TextIO, top: Path) -> bool:
-    """Takes the lock of starts, and returns whether another start that held it has built the program."""
+def wait_for_others(held: TextIO, top: Path, kinds: Sequence[str]) -> bool:
+    """Takes the lock of starts, and returns whether another start that held it has built the program for these kinds."""
     try:
         fcntl.flock(held, fcntl.LOCK_EX | fcntl.LOCK_NB)
         return False
     except BlockingIOError:
         print("trau: another start proves and builds the program; this one waits for it", file=sys.stderr, flush=True)
         fcntl.flock(held, fcntl.LOCK_EX)
-        return ask_script(top, TRAU_IS_BUILT="ask")[0] == 0
+        return all(ask_script(top, TRAU_IS_BUILT=kind)[0] == 0 for kind in kinds)
     except OSError:
         # Some file systems have no locks.
         return False
@@ -429,24 +456,36 @@ def show_failure(log: Path) -> int:
     return 1
 
 
-def build_in(folder: Path, top: Path, program: str, out: Path, progress: Progress, said: TextIO) -> bool:
+def build_programs(rt: Toolchain, program: str, kinds: Sequence[str], progress: Progress) -> List[str]:
+    """Proves and builds the program for these kinds. Returns the kinds that were built: FIRST, if KIND alone was asked for and failed."""
+    progress.at("reading all sources")
+    with contextlib.nullcontext() if FIRST in kinds else without(program, rt.folder):
+        if not prove(rt, progress, asked_jobs()):
+            return []
+    built = [kind for kind in kinds if kind == FIRST or build_for(rt, progress, program)]
+    if built:
+        return built
+    progress.again()
+    return [FIRST] if prove(rt, progress, asked_jobs()) else []
+
+
+def build_in(folder: Path, top: Path, program: str, kinds: Sequence[str], out: Path, progress: Progress, said: TextIO) -> bool:
     """Proves and builds in a folder of its own, and puts the programs in their places."""
     sources = ask_script(top, TRAU_SUM="ask")[1]
-    copy_crates(top, needed(top, program), folder / "trau")
-    rt, made = Toolchain(folder / "trau", said), folder / "trau" / "crates" / program / "out" / program
-    progress.at("reading all sources")
-    if not prove(rt, progress, asked_jobs()) or not made.exists():
-        return False
-    second = out / f"{program}.{KIND}"
-    second.unlink(missing_ok=True)
-    if os.environ.get("TRAU_CPU") != "x86-64-v2" and second_program(rt, progress, program):
-        place(made.with_name(second.name), second)
-    place(made, out / program)
-    return ask_script(top, TRAU_JUST_BUILT=sources)[0] == 0
+    rt = Toolchain(folder / "trau", said)
+    copy_crates(top, needed(top, program), rt.folder)
+    built = build_programs(rt, program, kinds, progress)
+    for kind in built:
+        name = program if kind == FIRST else f"{program}.{kind}"
+        made = rt.folder / "crates" / program / "out" / name
+        if not made.exists():
+            return False
+        place(made, out / name)
+    return bool(built) and ask_script(top, TRAU_JUST_BUILT=sources, TRAU_KINDS=" ".join(built))[0] == 0
 
 
-def build(top: Path, program: str, over_kept: bool) -> int:
-    """Proves and builds the program."""
+def build(top: Path, program: str, kinds: Sequence[str], over_kept: bool) -> int:
+    """Proves and builds the program for these kinds of processor."""
     crates = needed(top, program)
     found = shutil.which("rt")
     if not found:
@@ -458,9 +497,9 @@ def build(top: Path, program: str, over_kept: bool) -> int:
         raise Refusal(f"nothing is kept, since there is no {kept_by(found)}: not every toolchain keeps what it proves")
     out = top / "crates" / program / "out"
     out.mkdir(exist_ok=True)
-    log, plan = out / "trau.log", plan_of(top, program, at_once)
+    log, plan = out / "trau.log", plan_of(top, program, kinds, at_once)
     with open(out / "trau.lock", "w") as held:
-        if wait_for_others(held, top):
+        if wait_for_others(held, top, kinds):
             return 0
         for line in (
             f"the program isn't built, or a source changed: its {len(crates)} crates are proved, {at_once} at a time, and then it is built",
@@ -470,7 +509,7 @@ def build(top: Path, program: str, over_kept: bool) -> int:
         ):
             print(f"trau: {line}", file=sys.stderr, flush=True)
         with open(log, "w", encoding="utf-8") as said, Progress(plan, sys.stderr) as progress, room() as folder:
-            built = build_in(folder, top, program, out, progress, said)
+            built = build_in(folder, top, program, kinds, out, progress, said)
             words = f"{len(crates)} crates, functions {progress.functions}, {progress.minutes()} minutes"
     if not built:
         return show_failure(log)
@@ -489,12 +528,17 @@ def main(words: Sequence[str]) -> int:
     parser = trau_frames.Words(description=__doc__, formatter_class=argparse.RawDescriptionHelpFormatter, allow_abbrev=False)
     parser.add_argument("--top", type=Path, default=TOP, metavar="FOLDER", help="the top of the repository")
     parser.add_argument("--program", default=PROGRAM, metavar="CRATE", help=f"the program's crate ({PROGRAM})")
+    parser.add_argument("--both", action="store_true", help="build for both kinds of processor, and not for this machine's alone")
     parser.add_argument("--over-kept", action="store_true", help="begin only if the toolchain has kept what it proved")
     asked = parser.parse_args(words)
     for number in (signal.SIGTERM, signal.SIGHUP):
         signal.signal(number, stop)
+    top, kinds, status = asked.top.resolve(), (FIRST, KIND), 0
+    if not asked.both:
+        status, *kinds = ask_script(top, TRAU_KINDS="ask")
     try:
-        return build(asked.top.resolve(), asked.program, asked.over_kept)
+        # (Where TRAU_CPU is wrong, the script has said so.)
+        return 2 if status else build(top, asked.program, kinds, asked.over_kept)
     except KeyboardInterrupt:
         print("trau: broken off; the next start goes on with what is kept", file=sys.stderr)
         return 130

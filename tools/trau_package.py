@@ -2,7 +2,7 @@
 the documents, the examples, the tools, the C library of the codec, SHA256SUMS and a script `install`. With --deb it makes Debian packages
 too. The installed program needs only the system's C library; the tools need Python 3.
 
-`trau` proves and builds the program, and clib/build the library; both come first if a source changed. If TRAU_PROGRAM names the program,
+tools/build.py proves and builds the programs, and clib/build the library; both come first if a source changed. If TRAU_PROGRAM names the program,
 or there is no C compiler, a library that isn't built yet is left out. The same sources, program and library give the same octets. The
 version is that of docs/CHANGELOG.md.
 """
@@ -31,8 +31,8 @@ from trau_frames import Refusal
 
 TOP = Path(__file__).resolve().parents[1]
 PROGRAM = TOP / "crates" / "trau_program" / "out" / "trau_program"
-# What the name of the program for another kind of processor ends in.
-KIND = "x86-64-v3"
+# The kinds of processor that a program is packed for; the name of the second one's ends in its kind.
+FIRST, KIND = "x86-64-v2", "x86-64-v3"
 
 # What clib/build makes, and the script that starts programs of libgsm on it.
 LIBRARY = TOP / "clib" / "out"
@@ -93,12 +93,20 @@ def state_of_repository() -> State:
     return State(commit + changed, date, int(seconds))
 
 
+def is_built(kind: str) -> bool:
+    """Whether the program for a kind of processor is built of the sources as they are."""
+    return subprocess.run([TOP / "trau"], env={**os.environ, "TRAU_IS_BUILT": kind}).returncode == 0
+
+
 def proved_program() -> bytes:
-    """The program. If it isn't built, the script `trau` proves and builds it."""
-    ran = subprocess.run([TOP / "trau"], stdin=subprocess.DEVNULL, stdout=subprocess.PIPE)
-    if (ran.returncode, ran.stdout) != (1, b"usage\n"):
+    """The program for x86-64-v2. Unless TRAU_PROGRAM names one, tools/build.py proves and builds it and the one for the other kind, if one of
+    them isn't built."""
+    named = os.environ.get("TRAU_PROGRAM")
+    if not named and not (is_built(FIRST) and is_built(KIND)):
+        subprocess.run([sys.executable, TOP / "tools" / "build.py", "--both"], stdin=subprocess.DEVNULL)
+    if not named and not is_built(FIRST):
         raise Refusal("there is no program that is proved and built")
-    return trau_frames.read_file(Path(os.environ.get("TRAU_PROGRAM") or PROGRAM))
+    return trau_frames.read_file(Path(named or PROGRAM))
 
 
 def programs() -> Dict[str, bytes]:
@@ -106,11 +114,11 @@ def programs() -> Dict[str, bytes]:
     found = {PROGRAM.name: proved_program()}
     if is_given():
         return found
-    if subprocess.run([TOP / "trau"], env={**os.environ, "TRAU_IS_BUILT": KIND}).returncode == 0:
+    if is_built(KIND):
         second = f"{PROGRAM.name}.{KIND}"
         found[second] = trau_frames.read_file(PROGRAM.with_name(second))
     else:
-        print(f"package: no program for {KIND} is built, so none is packed; tools/build.py builds it", file=sys.stderr)
+        print(f"package: no program for {KIND} is built, so none is packed; tools/build.py --both builds it", file=sys.stderr)
     return found
 
 

@@ -42,7 +42,7 @@ class Built(NamedTuple):
         """What is said on standard error where one program alone is packed."""
         if trau_package.is_given() or self.second:
             return ""
-        return f"package: no program for {trau_package.KIND} is built, so none is packed; tools/build.py builds it\n"
+        return f"package: no program for {trau_package.KIND} is built, so none is packed; tools/build.py --both builds it\n"
 
 
 def what_is_built():

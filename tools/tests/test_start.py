@@ -42,6 +42,7 @@ ci)
     find . -type f | sort >>"$ASKED.files"
     [ "$FAILS $RT_JOBS" != "killed " ] || { echo 'rt: the check was killed, most likely for memory: once more'; exit 1; }
     for crate in low middle high trau_program; do
+        grep -q "^$crate:" crates.txt || continue
         [ "$KEEPS $crate" != "low low" ] || { echo "rt: low is kept: an earlier run on this machine proved the same files"; continue; }
         echo "== $crate"
         if [ "$FAILS $crate" = "proof high" ]; then
@@ -62,10 +63,12 @@ ci)
     pause) until [ -e "$ASKED.goes-on" ]; do sleep 0.1; done ;;
     proof | format) echo 'rt: FAILED: high'; echo '3 passed, 1 failed'; exit 1 ;;
     esac
-    cd crates/trau_program
-    mkdir -p out
-    printf '#!/bin/sh\\n[ "$#" != 0 ] || { echo usage; exit 1; }\\necho "the program: $*"\\n' >out/trau_program
-    chmod +x out/trau_program
+    if [ -d crates/trau_program ]; then
+        mkdir -p crates/trau_program/out
+        cd crates/trau_program/out
+        printf '#!/bin/sh\\n[ "$#" != 0 ] || { echo usage; exit 1; }\\necho "the program: $*"\\n' >trau_program
+        chmod +x trau_program
+    fi
     echo 'rt: note: nothing is kept today'
     echo '4 passed, 0 failed'
     ;;
@@ -81,9 +84,13 @@ BUILD_FOR = """import os, sys
 top, crate, kind = sys.argv[1:]
 if os.environ["FAILS"] == "second":
     sys.exit("no such kind")
-path = f"{top}/crates/{crate}/out/{crate}"
-with open(path) as first, open(f"{path}.{kind}", "w") as made:
-    made.write(first.read().replace("the program", f"the program for {kind}"))
+folder = f"{top}/crates/{crate}/out"
+os.makedirs(folder, exist_ok=True)
+with open(f"{folder}/{crate}.{kind}", "w") as made:
+    made.write('#!/bin/sh\\n[ "$#" != 0 ] || { echo usage; exit 1; }\\necho "the program for ' + kind + ': $*"\\n')
+with open(f"{top}/crates.txt") as listed:
+    assert f"{crate}:" in listed.read()
+print("logic=proved functions=3 axioms=2 sum=0")
 with open(os.environ["ASKED"], "a") as asked:
     asked.write(f"build_for {crate} {kind}\\n")
 """
@@ -196,6 +203,15 @@ class Started(InFolder):
         self.assertEqual(self.trau()[:2], (1, "usage\n"))
         self.asked.unlink()
 
+    def both_built(self):
+        """Both programs, as a package needs them."""
+        words = [sys.executable, self.top / "tools" / "build.py", "--both"]
+        ended = subprocess.run(words, env=self.surroundings, stdin=subprocess.DEVNULL, capture_output=True, text=True, timeout=PATIENCE)
+        self.assertEqual(ended.returncode, 0, ended.stderr)
+        self.assertEqual(self.asked.read_text(), "ci in trau jobs\nbuild_for trau_program x86-64-v3\n")
+        self.asked.unlink()
+        return ended.stderr
+
 
 def without_numbers(text):
     """What was said, without what differs from machine to machine."""
@@ -220,12 +236,11 @@ class TheFirstStart(Started):
                 "trau: crate 3 of 4, functions 9, .., .. left: high",
                 "trau: crate 4 of 4, functions 12, .., .. left: trau_program",
                 "trau: note: nothing is kept today",
-                "trau: crate 4 of 4, functions 12, .., .. left: the program for x86-64-v3",
                 "trau: proved and built: 4 crates, functions 12, ..",
             ],
         )
         # All is proved in a copy of what the program stands on; that is gone afterwards.
-        self.assertEqual(self.asked.read_text(), "ci in trau jobs 2\nbuild_for trau_program x86-64-v3\n")
+        self.assertEqual(self.asked.read_text(), "ci in trau jobs 2\n")
         copied = self.asked.with_name("asked.files").read_text().split()
         for name in ("./crates.txt", "./HANDLES", "./crates/low/proofs/file", "./crates/trau_program/args"):
             self.assertIn(name, copied)
@@ -233,6 +248,38 @@ class TheFirstStart(Started):
         self.assertEqual([name for name in os.listdir(self.folder) if name.startswith("trau-start-")], [])
         log = (self.top / "crates" / "trau_program" / "out" / "trau.log").read_text()
         self.assertIn("fn high::f: proved", log)
+
+    def test_builds_for_the_processor_at_hand_alone(self):
+        self.processor(V3)
+        status, out, err = self.trau("relay", "7")
+        self.assertEqual((status, out), (0, "the program for x86-64-v3: relay 7\n"), err)
+        self.assertEqual(
+            without_numbers(err)[7:],
+            [
+                "trau: crate 3 of 4, functions 9, .., .. left: high",
+                "trau: note: nothing is kept today",
+                "trau: crate 3 of 4, functions 9, .., .. left: the program for x86-64-v3",
+                "trau: proved and built: 4 crates, functions 12, ..",
+            ],
+        )
+        self.assertNotIn("/trau_program/", self.asked.with_name("asked.files").read_text())
+        out = self.top / "crates" / "trau_program" / "out"
+        self.assertEqual(sorted(path.name for path in out.glob("*x86*")), ["trau.built.x86-64-v3", "trau_program.x86-64-v3"])
+        self.assertFalse((out / "trau_program").exists())
+        # An older program for the other kind isn't taken for one of these sources.
+        (out / "trau_program").write_text("#!/bin/sh\necho older\n")
+        (out / "trau_program").chmod(0o755)
+        (self.top / "crates" / "low" / "src" / "file").write_text("changed")
+        self.assertIn("proved and built", self.trau("relay", "7")[2])
+        self.processor()
+        self.assertEqual(self.trau("relay", "7")[:2], (0, "the program: relay 7\n"))
+
+    def test_builds_both_where_it_is_asked_to(self):
+        said = without_numbers(self.both_built())
+        self.assertEqual(said[-2], "trau: crate 4 of 4, functions 12, .., .. left: the program for x86-64-v3")
+        self.assertEqual(said[-1], "trau: proved and built: 4 crates, functions 12, ..")
+        for kind in ("x86-64-v2", "x86-64-v3"):
+            self.assertEqual(self.trau(TRAU_IS_BUILT=kind)[0], 0)
 
     def test_starts_at_once_when_built_also_without_the_toolchain(self):
         self.built()
@@ -244,8 +291,7 @@ class TheFirstStart(Started):
     def test_builds_again_after_a_change(self):
         self.built()
         (self.top / "crates" / "low" / "src" / "file").write_text("changed")
-        self.assertIn("proved and built", self.trau("relay", "7", TRAU_CPU="x86-64-v2")[2])
-        self.assertFalse((self.top / "crates" / "trau_program" / "out" / "trau_program.x86-64-v3").exists())
+        self.assertIn("proved and built", self.trau("relay", "7")[2])
         (self.top / "crates" / "trau_program" / "out" / "trau_program").write_text("#!/bin/sh\necho another\n")
         self.assertIn("proved and built", self.trau("relay", "7")[2])
 
@@ -437,8 +483,13 @@ class TimeLeft(unittest.TestCase):
     def test_weights_of_this_repository(self):
         weights = build.read_weights()
         self.assertEqual(set(weights), {*build.needed(TOP, build.PROGRAM), build.KIND})
-        whole = [build.plan_of(TOP, build.PROGRAM, at_once).seconds([*weights]) for at_once in (1, 2, 4)]
-        self.assertEqual(whole, sorted(whole, reverse=True))
+        kinds = (build.FIRST, build.KIND)
+        for asked in (kinds, kinds[:1], kinds[1:]):
+            plans = [build.plan_of(TOP, build.PROGRAM, asked, at_once) for at_once in (1, 2, 4)]
+            whole = [plan.seconds(plan.below) for plan in plans]
+            self.assertEqual(whole, sorted(whole, reverse=True))
+            self.assertEqual(plans[0].weights[build.PROGRAM], weights[build.KIND if asked == kinds[1:] else build.PROGRAM])
+            self.assertEqual(build.KIND in plans[0].below, asked == kinds)
 
 
 class TwoPrograms(Started):
@@ -446,7 +497,7 @@ class TwoPrograms(Started):
 
     def setUp(self):
         super().setUp()
-        self.built()
+        self.both_built()
         self.out = self.top / "crates" / "trau_program" / "out"
 
     V3_RUNS = (0, "the program for x86-64-v3: relay 7\n", "")
@@ -514,7 +565,9 @@ class TwoPrograms(Started):
         self.assertEqual((status, out), self.V3_RUNS[:2], err)
         (self.out / "trau_program").unlink()
         (self.out / "trau_program.x86-64-v3").unlink()
+        self.asked.unlink()
         status, out, err = self.trau("relay", "7", FAILS="second")
+        self.assertEqual(self.asked.read_text(), "ci in trau jobs\n" * 2)
         self.assertEqual((status, out), self.V2_RUNS[:2], err)
         self.assertIn("trau: no program for x86-64-v3 is built, so the one for x86-64-v2 runs on all processors\n", err)
         status, out, err = self.trau("relay", "7", FAILS="second", TRAU_CPU="x86-64-v3")
