@@ -52,7 +52,7 @@ def text_of_mark(mark: Mark) -> str:
 
 def differs(mark: Mark, other: Mark) -> Optional[int]:
     """The least number of a call that has another entry in the other mark, or that only one of both has; None where none has
-    (docs/commands/resume.md, "Statuses").
+    (docs/COMMANDS.md, "Statuses").
     """
     different = set(mark.calls) ^ set(other.calls)
     return min((call.call for call in different), default=None)

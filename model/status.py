@@ -1,4 +1,4 @@
-"""The statuses with which the program ends (README.md, "Commands")."""
+"""The statuses with which the program ends (docs/COMMANDS.md, "Statuses")."""
 
 import enum
 

@@ -44,7 +44,7 @@ def _others(command: Optional[Asked], lines: Lines, desk: Desk) -> Status:
 
 
 def refuse(failure: Failure, desk: Desk) -> Status:
-    """Says why nothing was done; that this text can't be written leaves the status (docs/commands/run.md, "Statuses")."""
+    """Says why nothing was done; that this text can't be written leaves the status (docs/COMMANDS.md, "Statuses")."""
     desk.write(text_of([failure.line]))
     return failure.status
 
@@ -69,7 +69,7 @@ def read_desk(most: int, desk: Desk) -> Union[bytes, Failure]:
 
 
 def orders_or_failure(text: bytes) -> Union[List[Order], Failure]:
-    """The orders of a text, or why there are none (docs/commands/run.md, "Statuses")."""
+    """The orders of a text, or why there are none (docs/COMMANDS.md, "Statuses")."""
     orders = orders_of(text)
     if isinstance(orders, TooLong):
         return Failure(Status.TOO_LONG, "orders too long")
@@ -77,7 +77,7 @@ def orders_or_failure(text: bytes) -> Union[List[Order], Failure]:
 
 
 def read_orders(desk: Desk) -> Union[List[Order], Failure]:
-    """The orders that standard input gives, or why there are none (docs/commands/run.md, "Statuses")."""
+    """The orders that standard input gives, or why there are none (docs/COMMANDS.md, "Statuses")."""
     text = read_desk(profile.MOST_ORDER_OCTETS, desk)
     return text if isinstance(text, Failure) else orders_or_failure(text)
 
@@ -112,7 +112,7 @@ def save(command: Save, lines: Lines, desk: Desk) -> Status:
 
 def read_marked(desk: Desk) -> Union[Tuple[Mark, List[Order]], Failure]:
     """The mark and the orders that standard input gives, or why there are none; the mark is looked at first
-    (docs/commands/resume.md, "Statuses").
+    (docs/COMMANDS.md, "Statuses").
     """
     text = read_desk(profile.MOST_MARKED_OCTETS, desk)
     if isinstance(text, Failure):

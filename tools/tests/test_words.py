@@ -47,23 +47,19 @@ class Documents(unittest.TestCase):
             self.assertEqual(found, wanted, command)
 
     def test_statuses(self):
-        # The pages of the commands, each with some; a text that two commands tell in their own words is told of both.
+        # Each is told once, in one table, with its commands; a text that two commands tell in their own words is told of both.
         statuses = {status.number: status for status in trau_words.STATUSES}
-        told = set()
-        for page in (DOCS / "commands").glob("*.md"):
-            for number, text in rows(page.read_text(), ["(\\d+)", "[^|]+", "([^|]+?)"]):
-                told.add(int(number))
-                for word in re.findall(r"`(usage|orders [^`]*|no memory|relay refused N|decode refused N)`", text):
-                    self.assertIn(word, statuses[int(number)].text, (page.name, number))
-        self.assertEqual(told, set(statuses) - {125})
-        self.assertIn("| 125 |", (TOP / "README.md").read_text() + (DOCS / "INSTALL.md").read_text())
-
-    def test_statuses_of_each_command(self):
+        text = (DOCS / "COMMANDS.md").read_text()
+        table = rows(text[text.index("## Statuses") : text.index("## What the lines")], ["(\\d+)", "[^|]+", "([^|]+?)", "([^|]+?)"])
+        self.assertEqual([int(number) for number, *_ in table], list(statuses))
+        for number, text, _ in table:
+            for word in re.findall(r"`(usage|orders [^`]*|no memory|relay refused N|decode refused N)`", text):
+                self.assertIn(word, statuses[int(number)].text, number)
         for command in trau_words.COMMANDS:
-            text = (DOCS / "commands" / f"{command.name}.md").read_text()
-            table = text[text.index("| Status | Meaning | Text |") :].split("\n\n")[0]
-            found = re.findall(r"^\| ([\d, ]+) \|", table, re.M)
-            self.assertEqual({int(number) for cell in found for number in cell.split(",")}, set(command.statuses), command.name)
+            found = {int(number) for number, _, names in table if names == "all" or f"`{command.name}`" in names}
+            self.assertEqual(found - {125}, set(command.statuses), command.name)
+        for page in [TOP / "README.md", *(DOCS / "commands").glob("*.md")]:
+            self.assertNotIn("| Status | Meaning |", page.read_text(), page.name)
 
     def test_orders(self):
         text = (DOCS / "OPERATORS.md").read_text()
