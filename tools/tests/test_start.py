@@ -842,6 +842,30 @@ class Demo(Started):
         self.assertEqual(status, 130, said)
         self.assertEqual([name for name in os.listdir(self.folder) if name.startswith("trau-demo")], [])
 
+    def test_says_of_each_call_what_was_lost(self):
+        report = self.top / "tools" / "report.py"
+        report.write_text('#!/bin/sh\necho "$@" >"$ASKED.report"\necho a table\necho "call 1: Up ended; lost 18"\necho "call 2: closed"\n')
+        said = "\n\nIn words, with lost frames apart from the empty ones of a pause:\n\ncall 1: Up ended; lost 18\ncall 2: closed\n\n"
+        status, out, err = self.trau("--unproved", name="demo")
+        self.assertEqual(status, 0, err)
+        self.assertIn(f"end period 153 calls 4 left 0{said}The report is", out)
+        self.built()
+        self.assertIn(f"{said}The lines are in", self.trau(name="demo")[1])
+        lines = self.top / "examples" / "farm"
+        self.assertEqual(self.asked.with_name("asked.report").read_text(), f"text report.txt --lines {lines}\n")
+        # A package's machine may have no Python.
+        report.write_text("#!/no/python\n")
+        status, out, err = self.trau(name="demo")
+        self.assertEqual((status, err), (0, ""))
+        self.assertNotIn("In words", out)
+
+    def test_a_program_by_a_path_from_here(self):
+        program = self.path("here", b"#!/bin/sh\necho by here\n")
+        program.chmod(0o755)
+        status, out, err = self.trau(name="demo", TRAU_PROGRAM="./here")
+        self.assertEqual((status, err), (0, ""))
+        self.assertIn("by here", out)
+
     def test_help(self):
         usage = "usage: demo [FOLDER]\n       demo --model [FOLDER]\n       demo --unproved\n"
         for word in ("--help", "-h"):
