@@ -371,7 +371,7 @@ def build_for(rt: Toolchain, progress: Progress, program: str) -> bool:
             progress.functions += functions_of(line)
     progress.left -= {KIND, program}
     if status != "0":
-        progress.say(f"no program for {KIND} is built, so the one for {FIRST} runs on all processors")
+        progress.say(f"no program for {KIND} is built; the one for {FIRST} runs on all processors")
     return status == "0"
 
 

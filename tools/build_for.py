@@ -3,9 +3,9 @@
 
     build_for.py TOP CRATE KIND      such as build_for.py . trau_program x86-64-v3
 
-`rt ci` builds only for x86-64-v2. This does the same with --cpu=KIND added: it proves the crate from nothing over the statements of the
-libraries in TOP/crates/*/out, holds the verdict to the same words, which then name the kind, and holds what the linked program may call to
-HANDLES. It loads the toolchain's own `rt` for that. It makes crates/CRATE/out/CRATE.KIND. Status 0: the program is proved and built.
+`rt ci` builds only for x86-64-v2. This does the same with --cpu=KIND added: it refuses the same texts, proves the crate from nothing over the
+statements of the libraries in TOP/crates/*/out, holds the verdict to the same words, which then name the kind, and holds what the linked
+program may call to HANDLES. It loads the toolchain's own `rt` for that. It makes crates/CRATE/out/CRATE.KIND. Status 0: the program is proved and built.
 """
 
 from __future__ import annotations
@@ -14,10 +14,11 @@ import argparse
 import importlib.machinery
 import importlib.util
 import os
+import re
 import shutil
 import sys
 from types import ModuleType
-from typing import Sequence
+from typing import Any, Sequence
 
 import trau_frames
 from tool_ends import tool
@@ -35,6 +36,20 @@ def toolchain() -> ModuleType:
     return made
 
 
+def check_text(rt: ModuleType, crate: Any) -> None:
+    """Refuses a crate whose text `rt ci` refuses before it proves it."""
+    rt.rtlib.stop_on_links(crate.folder)
+    rt.rtlib.stop_on_unread(crate.folder, [crate])
+    rt.rtlib.stop_on_text(crate, "verdict")
+    rt.stop_on_words(crate)
+    code = rt.rtlib.code_of(crate.folder)
+    beyond = [words for handle, words in rt.REACHES.items() if handle not in crate.allowed]
+    if any(re.search(words, code) for words in (rt.RENAMES, rt.IGNORED, *beyond)):
+        raise Refusal(f"{crate.name}: rt ci refuses its text, and says why")
+    if rt.rtlib.fmt(crate.folder, "--check", sys.stdout):
+        raise Refusal(f"{crate.name}: isn't laid out as rt fmt does it")
+
+
 def build(top: str, crate: str, kind: str) -> int:
     """Proves, compiles and links the program."""
     rt = toolchain()
@@ -43,6 +58,7 @@ def build(top: str, crate: str, kind: str) -> int:
     rt.rtlib.Crate = rt.Crate
     rt.Crate.allowed = rt.handles_of(top)
     program = rt.Crate(f"{top}/crates/{crate}", top, {})
+    check_text(rt, program)
     jobs = max(1, min(4, rt.processors(), int(0.85 * rt.free() / rt.need(program))))
     words = program.words(["--jobs", str(jobs), f"--cpu={kind}"], keeps=False)
     to = f"out/{crate}.{kind}"

@@ -22,6 +22,7 @@ from unittest import mock
 from support import EXAMPLES, PLAIN_PATH, TOP, InFolder, put_python
 
 import build
+import build_for
 import trau_frames
 import trau_words
 
@@ -434,6 +435,29 @@ class TheFirstStart(Started):
         self.assertEqual([name for name in os.listdir(self.folder) if "trau-start-" in name], [f"trau-start-{os.getpid()}-x"])
 
 
+class TheTextOfAProgram(unittest.TestCase):
+    """What build_for.py refuses before it proves, as `rt ci` does, by a stand-in for the toolchain."""
+
+    CRATE = types.SimpleNamespace(name="high", folder="/high", allowed=("Threads",))
+
+    def toolchain(self, code, laid_out=True):
+        checks = ("stop_on_links", "stop_on_unread", "stop_on_text")
+        rtlib = types.SimpleNamespace(code_of=lambda _: code, fmt=lambda *_: not laid_out, **{name: mock.Mock() for name in checks})
+        reaches = {"Threads": "thread", "Net": "socket"}
+        return types.SimpleNamespace(rtlib=rtlib, stop_on_words=mock.Mock(), REACHES=reaches, RENAMES="renames", IGNORED="ignore")
+
+    def test_each(self):
+        rt = self.toolchain("thread")
+        build_for.check_text(rt, self.CRATE)
+        for check in (rt.rtlib.stop_on_links, rt.rtlib.stop_on_unread, rt.rtlib.stop_on_text, rt.stop_on_words):
+            check.assert_called_once()
+        for code in ("renames", "ignore", "socket"):
+            with self.assertRaisesRegex(trau_frames.Refusal, "high: rt ci refuses its text"):
+                build_for.check_text(self.toolchain(code), self.CRATE)
+        with self.assertRaisesRegex(trau_frames.Refusal, "high: isn't laid out"):
+            build_for.check_text(self.toolchain("", laid_out=False), self.CRATE)
+
+
 class TimeLeft(unittest.TestCase):
     BELOW = {"low": [], "middle": ["low"], "high": ["low"], "program": ["middle", "high"], "x86-64-v3": ["program"]}
     WEIGHTS = {"low": 100, "middle": 200, "high": 300, "program": 50, "x86-64-v3": 10}
@@ -569,7 +593,7 @@ class TwoPrograms(Started):
         status, out, err = self.trau("relay", "7", FAILS="second")
         self.assertEqual(self.asked.read_text(), "ci in trau jobs\n" * 2)
         self.assertEqual((status, out), self.V2_RUNS[:2], err)
-        self.assertIn("trau: no program for x86-64-v3 is built, so the one for x86-64-v2 runs on all processors\n", err)
+        self.assertIn("trau: no program for x86-64-v3 is built; the one for x86-64-v2 runs on all processors\n", err)
         status, out, err = self.trau("relay", "7", FAILS="second", TRAU_CPU="x86-64-v3")
         self.assertEqual((status, out), (125, ""))
         self.assertIn("trau: no program for x86-64-v3 was built; crates/trau_program/out/trau.log says why\n", err)

@@ -15,6 +15,15 @@ from word_faults import grouped
 DOCS = TOP / "docs"
 
 
+# The most words that pages may have, together where several stand in a row.
+MOST_WORDS = (
+    (1100, ["README.md"]),
+    (6000, ["docs/COMMANDS.md", "docs/commands/*.md"]),
+    (3000, ["docs/PERFORMANCE.md"]),
+    (1000, ["bench/README.md"]),
+)
+
+
 def rows(text, cells):
     """The rows of a table whose first cells match these patterns, as the groups of all of them."""
     pattern = r"^\| *" + r" *\| *".join(cells) + r" *\|"
@@ -60,6 +69,11 @@ class Documents(unittest.TestCase):
             self.assertEqual(found - {125}, set(command.statuses), command.name)
         for page in [TOP / "README.md", *(DOCS / "commands").glob("*.md")]:
             self.assertNotIn("| Status | Meaning |", page.read_text(), page.name)
+
+    def test_no_page_grows(self):
+        for most, names in MOST_WORDS:
+            words = sum(len(page.read_text().split()) for name in names for page in TOP.glob(name))
+            self.assertLessEqual(words, most, names)
 
     def test_orders(self):
         text = (DOCS / "OPERATORS.md").read_text()
