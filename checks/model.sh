@@ -19,7 +19,7 @@ farms() {
 }
 
 # The documents' sessions start `trau`, which is the model here.
-set -- docs/FILES.md docs/OPERATORS.md
+set -- docs/FILES.md docs/OPERATORS.md docs/COMMANDS.md
 for page in "$top"/docs/commands/*.md; do
     case $(basename "$page") in
     drill.md | live.md) ;;
