@@ -7,8 +7,9 @@ use Rattle.trau_params.specs.Bits260.{bits260}
 use Rattle.trau_frame.specs.declared.frames.DownFrame.{DownFrame}
 use Rattle.trau_frame.specs.declared.frames.DownFrame.TheVariants as down
 use Rattle.trau_frame.specs.DownFrame as frames
-use Rattle.fr_encoder.specs.Encoded.{Encoded, encoding_of}
+use Rattle.fr_encoder.specs.Encoded.{encoding_of}
 use Rattle.tx_dtx.specs.Stretch.{Coded, Sent}
+pub use Rattle.tx_dtx.specs.Stretch.{coded_as}
 use Rattle.tx_dtx.specs.Sent.{sent_of}
 use Rattle.down_framer.specs.Made.{Period, MadeFrame, made_frames, downlink_of, down_of}
 use Rattle.call_leg.specs.Who.{Who}
@@ -42,10 +43,6 @@ coded_stretch call epoch (f ∷ fs) = if is_coded call f && f.epoch == epoch the
 -- the samples of a frame: its 160 octets of the Pcm line, expanded by the call's law
 abbrev pub samples_of : Law → CallFrame → List ℤ
 samples_of law f = expanded law (take 160 (drop f.start (pcm_of f.load)))
-
--- an encoding with the level and DTX in force
-abbrev pub coded_as : Encoded → ℤ → Bool → Coded
-coded_as e level on = record { fields = e.fields; measures = record { lar = e.lar; xmax = e.xmax }; peak = e.peak; level = level; dtx = on }
 
 -- a frame, encoded from the reset state after the coded frames of its stretch
 abbrev pub coded_after : Law → CallFrame → List CallFrame → Coded

@@ -3,12 +3,10 @@ use Rattle.std.specs.Prelude.{ℕ, Bool, true, false, Option, Some, None, unwrap
 use Rattle.trau_frame.specs.declared.frames.Kind.{Kind}
 use Rattle.trau_frame.specs.declared.frames.Kind.TheVariants as kinds
 use Rattle.trau_frame.specs.UpFrame.{UpWords, words_in, up_words_of}
-use Rattle.trau_params.specs.Fields.{Fields}
-use Rattle.trau_params.specs.Silence.{silent_fields}
 use Rattle.frame_sync.specs.declared.yields.Yield.{Yield}
 use Rattle.frame_sync.specs.declared.yields.Yield.TheVariants as yields
 use Rattle.rx_handler.specs.Heard.{Heard, Lost, heard_frame}
-use Rattle.rx_handler.specs.Origin.{EffectiveFields, Quiet, Speech, Made}
+pub use Rattle.rx_handler.specs.Origin.{is_quiet, handed_fields}
 use Rattle.call_leg.specs.declared.found.Found.{Found}
 use Rattle.call_leg.specs.declared.found.Found.TheVariants as found
 
@@ -59,16 +57,3 @@ dtx_told (Framed w) = dtx_by w.kind w.dtxd
 -- DTXd of the last speech frame, after one more period
 abbrev pub dtxd_after : Sighting → Bool → Bool
 dtxd_after s before = unwrap_or (dtx_told s) before
-
--- ---- effective frames
-
-abbrev pub is_quiet : EffectiveFields → Bool
-is_quiet Quiet = true
-is_quiet (Speech p) = false
-is_quiet (Made p) = false
-
--- the fields that an effective frame hands to the partner of a bridge: silence if the call is quiet
-abbrev pub handed_fields : EffectiveFields → Fields
-handed_fields Quiet = silent_fields
-handed_fields (Speech p) = p
-handed_fields (Made p) = p

@@ -10,7 +10,6 @@ use crate::coder::Coder;
 use crate::down_frames::thaw_at_end;
 use crate::down_side::DownSide;
 use crate::halves::{DownLeg, UpNote};
-use crate::up::{handed, is_quiet};
 use circular_buffer::HeapCircularBuffer;
 use down_framer::Framer;
 use rx_handler::Effective;
@@ -51,7 +50,7 @@ impl DownLeg {
         if let Some(dtxd) = note.dtx {
             self.side.dtxd = dtxd;
         }
-        self.side.quiet = is_quiet(&note.eff);
+        self.side.quiet = note.eff.is_quiet();
     }
 
     /// Takes the partner's effective frame of the period.
@@ -59,7 +58,7 @@ impl DownLeg {
         ensures { self.new ≡ after_handing self.old (effective_fields e.now) }
     {
         let mut bits = [0; 260];
-        handed(e).to_bits(&mut bits);
+        e.handed().to_bits(&mut bits);
         self.side.waiting.push_back(bits);
     }
 

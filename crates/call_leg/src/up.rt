@@ -4,14 +4,14 @@ ghost use Rattle.std.specs.Prelude.{◌≡◌};
 ghost use Rattle.trau_params.specs.Fields.{fields_of};
 ghost use Rattle.rx_handler.specs.Step.{received};
 ghost use Rattle.rx_handler.specs.State.{effective_fields};
-ghost use Rattle.call_leg.specs.Uplink.{heard_as, sighting_of, is_quiet, handed_fields};
+ghost use Rattle.call_leg.specs.Uplink.{heard_as, sighting_of};
 ghost use Rattle.call_leg.specs.Step.{played_frame, played};
 
 use crate::found::Found;
 use fr_decoder::Decoder;
 use rx_handler::{Effective, Rx};
 use trau_alaw::{Law, compress_all, idle_octet};
-use trau_params::{Params, silence};
+use trau_params::Params;
 
 /// Processes a period on the receive side, and returns its effective frame.
 pub(crate) fn hear(rx: &mut Rx, found: &Found) -> Effective
@@ -20,26 +20,6 @@ pub(crate) fn hear(rx: &mut Rx, found: &Found) -> Effective
     match found {
         Found::Frame(f) => rx.take(Some(f)),
         Found::Nothing | Found::Missed => rx.take(None),
-    }
-}
-
-/// Whether an effective frame is quiet.
-pub(crate) fn is_quiet(e: &Effective) -> bool
-    ensures { result ≡ is_quiet (effective_fields e.now) }
-{
-    match e {
-        Effective::Quiet => true,
-        Effective::Speech(_) | Effective::Made(_) => false,
-    }
-}
-
-/// The parameters that an effective frame hands to the partner of a bridge.
-pub(crate) fn handed(e: &Effective) -> Params
-    ensures { fields_of result ≡ handed_fields (effective_fields e.now) }
-{
-    match e {
-        Effective::Quiet => silence(),
-        Effective::Speech(p) | Effective::Made(p) => *p,
     }
 }
 

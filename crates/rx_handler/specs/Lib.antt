@@ -7,3 +7,4 @@ pub mod Memory
 pub mod Step
 pub mod Stands
 pub mod State
+pub mod Flat

@@ -1,6 +1,7 @@
 -- The effective frame of a period, and what it is made from.
-use Rattle.std.specs.Prelude.{ℕ}
+use Rattle.std.specs.Prelude.{ℕ, Bool, true, false}
 use Rattle.trau_params.specs.Fields.{Fields}
+use Rattle.trau_params.specs.Silence.{silent_fields}
 use Rattle.rx_subst.specs.Lost.{lost_of, lost_draws}
 use Rattle.rx_noise.specs.Noise.{noise_of, noise_draws}
 
@@ -8,6 +9,17 @@ use Rattle.rx_noise.specs.Noise.{noise_of, noise_draws}
 pub data EffectiveFields : Type 0 where
   Quiet : EffectiveFields
   Speech Made : Fields → EffectiveFields
+
+abbrev pub is_quiet : EffectiveFields → Bool
+is_quiet Quiet = true
+is_quiet (Speech p) = false
+is_quiet (Made p) = false
+
+-- the fields that an effective frame hands to the partner of a bridge: silence if the call is quiet
+abbrev pub handed_fields : EffectiveFields → Fields
+handed_fields Quiet = silent_fields
+handed_fields (Speech p) = p
+handed_fields (Made p) = p
 
 -- what it is made from. NoFrame: nothing, as the call is quiet. GoodFrame: this good speech frame. LostFrame: the last
 -- good speech frame, and how many periods ago it came, 17 at most. NoiseFrame: the base of the noise, which approaches

@@ -1,40 +1,26 @@
 //! How a period changes the state.
 
 ghost use Rattle.std.specs.Prelude.{◌≡◌};
-ghost use Rattle.std.specs.Option.{option_copied};
-ghost use Rattle.rx_handler.specs.Heard.{heard_of, heard_frame};
 ghost use Rattle.trau_params.specs.Fields.{fields_of};
 ghost use Rattle.rx_handler.specs.Step.{missed_after, fall_after, state_after_loss, state_after_sid, next_state};
 ghost use Rattle.rx_handler.specs.Memory.{Speech};
-ghost use Rattle.rx_handler.specs.State.{state_of};
+ghost use Rattle.rx_handler.specs.State.{state_of, heard_fields};
 
+use crate::reception::Reception;
 use crate::state::{FALL_FROM_MISSED, Fall, Pause, SinceGood, State};
 use rx_muting::SILENT_AFTER;
 use rx_noise::{APPROACH_STEPS, mix};
-use trau_frame::{Class, Kind, UpFrame};
 use trau_params::Params;
 
-/// Changes the state by one period. None stands for a miss and for a period without a yield.
-pub(crate) fn hear(state: &mut State, y: Option<&UpFrame>)
-    ensures { state_of state.new ≡ next_state (state_of state.old) (heard_of (option_copied y.entry)) }
+/// Changes the state by what a period brings.
+pub(crate) fn hear(state: &mut State, y: &Reception)
+    ensures { state_of state.new ≡ next_state (state_of state.old) (heard_fields y.now) }
 {
     match y {
-        Some(f) => hear_frame(state, f),
-        None => count_lost(state, false),
-    }
-}
-
-fn hear_frame(state: &mut State, f: &UpFrame)
-    ensures { state_of state.new ≡ next_state (state_of state.old) (heard_frame f.now.kind f.now.class f.now.taf f.now.d) }
-{
-    match (f.kind, f.class) {
-        (Kind::Speech, Class::Good) => *state = after_speech(Params::from_bits(&f.d)),
-        (Kind::Speech, Class::Sid) => *state = after_sid(state, Params::from_bits(&f.d)),
-        (Kind::Speech, Class::InvalidSid) => count_lost(state, false),
-        // TAF 1: a silence descriptor was due in this period.
-        (Kind::Speech, Class::Unusable) => count_lost(state, f.taf),
-        (Kind::Idle, _) => *state = State::Quiet,
-        (Kind::Other, _) => count_lost(state, false),
+        Reception::Good(p) => *state = after_speech(*p),
+        Reception::Sid(p) => *state = after_sid(state, *p),
+        Reception::Idle => *state = State::Quiet,
+        Reception::Lost(sid_missed) => count_lost(state, *sid_missed),
     }
 }
 

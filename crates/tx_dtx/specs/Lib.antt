@@ -4,3 +4,4 @@ pub mod Sent
 pub mod Memory
 pub mod Step
 pub mod Stands
+pub mod Flat

@@ -3,6 +3,7 @@ use Rattle.std.specs.Prelude.{ℤ, Bool, not, ◌||◌, int_le, List}
 use Rattle.trau_params.specs.Fields.{Fields, fields_of}
 use Rattle.trau_params.specs.declared.params.Params.{Params}
 use Rattle.trau_params.specs.declared.trace.Trace.{Trace}
+use Rattle.fr_encoder.specs.Encoded.{Encoded}
 
 -- the log area ratios and the block maxima of a frame before they were coded
 pub record Measures : Type 0 where
@@ -22,6 +23,10 @@ pub record Coded : Type 0 where
 
 abbrev pub coded_frame : Params → Trace → ℤ → ℤ → Bool → Coded
 coded_frame p t peak level dtx = record { fields = fields_of p; measures = measures_of t; peak = peak; level = level; dtx = dtx }
+
+-- the same, by its encoding
+abbrev pub coded_as : Encoded → ℤ → Bool → Coded
+coded_as e level dtx = record { fields = e.fields; measures = record { lar = e.lar; xmax = e.xmax }; peak = e.peak; level = level; dtx = dtx }
 
 -- a frame is active if DTX is off or its peak isn't below the level
 abbrev pub is_active_at : ℤ → ℤ → Bool → Bool

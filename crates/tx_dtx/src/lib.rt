@@ -7,16 +7,19 @@
 //! four frames of a pause are sent as they are, as a hangover. But if the last SID is less than 24 frames old when the
 //! pause begins, it is sent in their place. A frame is active if its peak is at least the level, or if DTX is off.
 //!
-//! `tx` has the state between frames, `sid` makes a SID, `laws` has a law.
+//! `tx` has the state between frames, `flat` the same as plain numbers (for the C library), `sid` makes a SID, `laws` has
+//! a law.
 //!
 //! Definitions: `specs/Sent.antt` (what is sent of a whole stretch, by looking back), `specs/SilenceDescriptor.antt` (a
 //! SID), `specs/Stretch.antt` (the frames of a stretch), `specs/Memory.antt`, `specs/Step.antt` and `specs/Stands.antt`
-//! (the state, one frame, and the past that a state stands for).
+//! (the state, one frame, and the past that a state stands for), `specs/Flat.antt` (the state by plain numbers).
 #![tactic(auto)]
 
+mod flat;
 mod laws;
 mod sid;
 mod tx;
 
+pub use flat::FlatTx;
 pub use laws::whole_list;
 pub use tx::Tx;

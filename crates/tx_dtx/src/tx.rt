@@ -22,17 +22,17 @@ const HANGOVER_AFTER: u8 = 24;
 #[derive(Drop)]
 pub struct Tx {
     // The number of inactive frames in a row, counted up to DESCRIBED_FROM.
-    run: u8,
+    pub(crate) run: u8,
     // The number of frames since the last SID was made, counted up to HANGOVER_AFTER; HANGOVER_AFTER if none was made.
-    elapsed: u8,
+    pub(crate) elapsed: u8,
     // Whether the last pause has a hangover.
-    hangs: bool,
+    pub(crate) hangs: bool,
     // The last SID.
-    sid: Params,
+    pub(crate) sid: Params,
     // The measures of the last three frames, the last one first.
-    last: Trace,
-    second_last: Trace,
-    third_last: Trace,
+    pub(crate) last: Trace,
+    pub(crate) second_last: Trace,
+    pub(crate) third_last: Trace,
 }
 
 impl Model for Tx {
