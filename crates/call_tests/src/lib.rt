@@ -15,6 +15,8 @@ mod farm_live_callers_tests;
 #[cfg(test)]
 mod farm_live_tests;
 #[cfg(test)]
+mod fr_sides_tests;
+#[cfg(test)]
 mod rows;
 #[cfg(test)]
 mod rx_handler_tests;

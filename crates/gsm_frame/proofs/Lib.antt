@@ -1,5 +1,5 @@
 mod Carried
 mod Fit
-mod OneFrame
+pub mod OneFrame
 mod OneNumber
 mod PairBits

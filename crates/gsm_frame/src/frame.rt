@@ -2,6 +2,7 @@
 
 ghost use Rattle.std.specs.Prelude.{◌≡◌, ◌/◌, ◌^◌, ◌<◌, ◌↔◌, IfSome, IsSome, slice_index};
 ghost use Rattle.trau_params.specs.Fields.{fields_of};
+ghost use Rattle.trau_params.specs.Shape.{HasShape};
 ghost use Rattle.trau_params.specs.Widths.{larc_widths, FitLarc};
 ghost use Rattle.gsm_frame.specs.Packed.{magic, packed, Carries};
 
@@ -35,6 +36,7 @@ fn head(larc: &[u8; 8]) -> u64
 pub fn pack(params: &Params) -> [u8; 33]
     ensures carried { Carries result (fields_of params.now) }
     ensures begins { slice_index result 0 / 16 ≡ magic }
+    ensures shape { HasShape params.now }
 {
     let h = five_octets(head(&params.larc));
     let a = seven_octets(number_of_block(&params.block(0)));
@@ -71,6 +73,7 @@ fn ratios(number: u64) -> [u8; 8]
 pub fn unpack(octets: &[u8; 33]) -> Option<Params>
     ensures carried { IfSome result (λ params. Carries octets.now (fields_of params)) }
     ensures variant { IsSome result ↔ (slice_index octets.now 0 / 16 ≡ magic) }
+    ensures shape { IfSome result (λ params. HasShape params) }
 {
     if octets[0] / 16 != MAGIC {
         return None;

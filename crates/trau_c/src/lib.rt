@@ -16,3 +16,5 @@ mod decoder;
 mod encoder;
 mod law;
 mod octets;
+mod receiver;
+mod sender;
