@@ -1,9 +1,9 @@
-//! The transmit side of a call.
+//! The transmit side of one phone call.
 
 ghost use Rattle.std.specs.Prelude.{◌≡◌, List, [], ◌∷◌};
 ghost use Rattle.gsm_frame.specs.Packed.{Carries};
 ghost use Rattle.fr_sides.specs.Memory.{sender_memory, home_sender};
-ghost use Rattle.fr_sides.specs.Sending.{Taken, taken, sent_next, sent_now, SenderStands};
+ghost use Rattle.fr_sides.specs.Sending.{SenderPeriod, sender_period, sent_next, sent_now, SenderStands};
 
 use fr_sides::{Sender, send_octets};
 
@@ -16,8 +16,9 @@ pub extern "C" fn trau_fr_sender_home() -> Sender
     Sender::home()
 }
 
-/// Processes the 160 samples of a period, and writes the 33 octets of the frame that is sent. True if it is speech, false if it
-/// is a silence descriptor. A frame whose peak is at least `level` is speech; with `dtx` off, each one is.
+/// Encodes the 160 samples `x` of a period, 13 bits left-justified in 16, and writes the 33 octets of the frame that is
+/// sent for them. The result is true for speech (SP 1), false for a silence descriptor. With `dtx` on, a period whose
+/// peak is below `level` is a pause (GSM 06.31).
 #[unsafe(no_mangle)]
 pub extern "C" fn trau_fr_send(
     sender: &mut Sender,
@@ -26,13 +27,15 @@ pub extern "C" fn trau_fr_send(
     dtx: bool,
     frame: &mut [u8; 33],
 ) -> bool
-    ensures carried { Carries frame.new (sent_next (sender_memory sender.old) (taken x.now level dtx)).0.fields }
-    ensures sp { result ≡ (sent_next (sender_memory sender.old) (taken x.now level dtx)).0.sp }
-    ensures memory { sender_memory sender.new ≡ (sent_next (sender_memory sender.old) (taken x.now level dtx)).1 }
-    ensures history { (past : List Taken) → SenderStands past (sender_memory sender.old) →
-        SenderStands (taken x.now level dtx ∷ past) (sender_memory sender.new)
-        × Carries frame.new (sent_now (taken x.now level dtx) past).fields
-        × (result ≡ (sent_now (taken x.now level dtx) past).sp) }
+    ensures carried { Carries frame.new (sent_next (sender_memory sender.old) (sender_period x.now level dtx)).0.fields }
+    ensures sp { result ≡ (sent_next (sender_memory sender.old) (sender_period x.now level dtx)).0.sp }
+    ensures memory { sender_memory sender.new ≡ (sent_next (sender_memory sender.old) (sender_period x.now level dtx)).1 }
+
+    // After any past, the frame and the result are those of the whole past.
+    ensures history { (past : List SenderPeriod) → SenderStands past (sender_memory sender.old) →
+        SenderStands (sender_period x.now level dtx ∷ past) (sender_memory sender.new)
+        × Carries frame.new (sent_now (sender_period x.now level dtx) past).fields
+        × (result ≡ (sent_now (sender_period x.now level dtx) past).sp) }
 {
     send_octets(sender, x, level, dtx, frame)
 }
