@@ -1,6 +1,6 @@
 mod Received
 mod Sent
-mod Heard
+pub mod Heard
 pub mod OneHeard
 mod Down
 mod Again

@@ -31,7 +31,7 @@ begins octets p shape long all carried =
     (octet 2 (omega arith)) (octet 3 (omega arith)) (octet 4 (omega arith)) carried.head
 
 -- and they carry no other
-same-frame : (octets : List ℕ) (p q : Option Params) → length octets ≡ 33 → All (λ x. x < 256) octets → CarriesIf octets p → CarriesIf octets q →
+pub same-frame : (octets : List ℕ) (p q : Option Params) → length octets ≡ 33 → All (λ x. x < 256) octets → CarriesIf octets p → CarriesIf octets q →
     option_map fields_of p ≡ option_map fields_of q
 same-frame octets None None long all a b = refl
 same-frame octets None (Some q) long all a b = absurd (a (begins octets q b.1 long all b.0))

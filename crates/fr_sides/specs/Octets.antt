@@ -28,6 +28,12 @@ abbrev pub CarriesIf : List ℕ → Option Params → Type 0
 CarriesIf octets None = slice_index octets 0 / 16 ≡ magic → ⊥
 CarriesIf octets (Some p) = Carries octets (fields_of p) × HasShape p
 
+-- the octets carry the frame with these fields
+pub record CarriesFrame (octets : List ℕ) (f : Fields) : Type 0 where
+  pub frame : Params
+  pub carried : CarriesIf octets (Some frame)
+  pub same : fields_of frame ≡ f
+
 -- what is heard in a period of this kind with these octets
 pub record HeardIn (kind : ℕ) (taf : Bool) (octets : List ℕ) (y : Heard) : Type 0 where
   pub frame : Option Params
@@ -51,7 +57,7 @@ pub record HandedOctets (kind : ℕ) (taf : Bool) (octets : List ℕ) (before : 
   pub brought : HeardIn kind taf octets heard
   pub effective : EffectiveFields
   pub step : turned_in_bridge before heard ≡ (effective, after)
-  pub carried : Carries out (handed_fields effective)
+  pub carried : CarriesFrame out (handed_fields effective)
   pub answer : sounds ≡ not (is_quiet effective)
   pub history : (seed : ℕ) (past : List ReceiverPeriod) → ReceiverStands seed past before →
       ReceiverStands seed (handed_period heard ∷ past) after × (effective ≡ effective_now seed (handed_period heard ∷ past))

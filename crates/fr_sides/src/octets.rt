@@ -1,11 +1,10 @@
 //! Both sides by frames of 33 octets (RFC 3551, section 4.5.8.1).
 
 ghost use Rattle.std.specs.Prelude.{◌≡◌, List, ◌∷◌};
-ghost use Rattle.gsm_frame.specs.Packed.{Carries};
 ghost use Rattle.rx_handler.specs.State.{heard_fields};
 ghost use Rattle.fr_sides.specs.Memory.{receiver_memory, sender_memory};
 ghost use Rattle.fr_sides.specs.Sending.{SenderPeriod, sender_period, sent_next, sent_now, SenderStands};
-ghost use Rattle.fr_sides.specs.Octets.{HeardIn, ReceivedOctets, HandedOctets};
+ghost use Rattle.fr_sides.specs.Octets.{CarriesFrame, HeardIn, ReceivedOctets, HandedOctets};
 
 use crate::kinds::{IDLE, SID, SPEECH};
 use crate::receiver::Receiver;
@@ -64,12 +63,12 @@ pub fn send_octets(
     dtx: bool,
     frame: &mut [u8; 33],
 ) -> bool
-    ensures carried { Carries frame.new (sent_next (sender_memory sender.old) (sender_period x.now level dtx)).0.fields }
+    ensures carried { CarriesFrame frame.new (sent_next (sender_memory sender.old) (sender_period x.now level dtx)).0.fields }
     ensures sp { result ≡ (sent_next (sender_memory sender.old) (sender_period x.now level dtx)).0.sp }
     ensures memory { sender_memory sender.new ≡ (sent_next (sender_memory sender.old) (sender_period x.now level dtx)).1 }
     ensures history { (past : List SenderPeriod) → SenderStands past (sender_memory sender.old) →
         SenderStands (sender_period x.now level dtx ∷ past) (sender_memory sender.new)
-        × Carries frame.new (sent_now (sender_period x.now level dtx) past).fields
+        × CarriesFrame frame.new (sent_now (sender_period x.now level dtx) past).fields
         × (result ≡ (sent_now (sender_period x.now level dtx) past).sp) }
 {
     let (params, sp) = sender.send(x, level, dtx);

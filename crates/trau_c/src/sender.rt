@@ -1,8 +1,8 @@
 //! The transmit side of one phone call.
 
 ghost use Rattle.std.specs.Prelude.{◌≡◌, List, [], ◌∷◌};
-ghost use Rattle.gsm_frame.specs.Packed.{Carries};
 ghost use Rattle.fr_sides.specs.Memory.{sender_memory, home_sender};
+ghost use Rattle.fr_sides.specs.Octets.{CarriesFrame};
 ghost use Rattle.fr_sides.specs.Sending.{SenderPeriod, sender_period, sent_next, sent_now, SenderStands};
 
 use fr_sides::{Sender, send_octets};
@@ -27,14 +27,14 @@ pub extern "C" fn trau_fr_send(
     dtx: bool,
     frame: &mut [u8; 33],
 ) -> bool
-    ensures carried { Carries frame.new (sent_next (sender_memory sender.old) (sender_period x.now level dtx)).0.fields }
+    ensures carried { CarriesFrame frame.new (sent_next (sender_memory sender.old) (sender_period x.now level dtx)).0.fields }
     ensures sp { result ≡ (sent_next (sender_memory sender.old) (sender_period x.now level dtx)).0.sp }
     ensures memory { sender_memory sender.new ≡ (sent_next (sender_memory sender.old) (sender_period x.now level dtx)).1 }
 
     // After any past, the frame and the result are those of the whole past.
     ensures history { (past : List SenderPeriod) → SenderStands past (sender_memory sender.old) →
         SenderStands (sender_period x.now level dtx ∷ past) (sender_memory sender.new)
-        × Carries frame.new (sent_now (sender_period x.now level dtx) past).fields
+        × CarriesFrame frame.new (sent_now (sender_period x.now level dtx) past).fields
         × (result ≡ (sent_now (sender_period x.now level dtx) past).sp) }
 {
     send_octets(sender, x, level, dtx, frame)
