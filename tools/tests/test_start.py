@@ -422,7 +422,7 @@ class TheFirstStart(Started):
         crates = set(build.crates_of(TOP))
         self.assertEqual(
             crates - set(build.needed(TOP, build.PROGRAM)),
-            {"call_heard", "call_tests", "codec_tests", "farm_tests", "gsm_frame", "line_tests", "pool_core", "trau_c"},
+            {"call_heard", "call_sides", "call_tests", "codec_tests", "farm_tests", "fr_sides", "gsm_frame", "line_tests", "pool_core", "trau_c"},
         )
         self.assert_refused(build.main, ["--top", self.top, "--program", "gone"], "has no line of gone")
         self.assert_refused(build.main, ["now"], "unrecognized")

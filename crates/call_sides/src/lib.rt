@@ -1,14 +1,14 @@
-//! The octets of the C library's receive side are those of the program's Out line.
+//! The outgoing lines of a call by the two sides of the C library: laws, and no code.
+//!
+//! A host is a program that processes a live call with the receive side and the transmit side by themselves (`fr_sides`,
+//! `trau_c`), and records it. A call's leg (`call_leg`) makes the outgoing lines of this recording. Here the two meet: the
+//! leg hears what the host heard, its Out line has the samples of the receive side, and its Down line the frames of the
+//! transmit side.
+//! Nothing here runs: the crate is for readers of a host and of the library's contracts.
+//!
+//! `laws` has the laws. Definitions: `specs/Recorded.antt` (a call that is recorded frame by frame), `specs/Received.antt`
+//! (the Out line by the receive side), `specs/Sent.antt` (the Down line by the transmit side), `specs/Written.antt` (the
+//! frames of a host).
 #![tactic(auto)]
 
-ghost use Rattle.std.specs.Prelude.{◌≡◌, List, All};
-ghost use Rattle.call_leg.specs.Out.{out_of};
-ghost use Rattle.call_leg.specs.Periods.{CallPeriod, heard_of};
-ghost use Rattle.call_leg.specs.Who.{Who};
-ghost use Rattle.fr_sides.specs.Receiving.{line_octets};
-ghost use Rattle.call_sides.specs.Alone.{IsAlone};
-
-/// In a call without bridges, the Out line has in each period the octets of the receive side that hears what the call hears.
-pub fn a_call_without_bridges()
-    ensures { (who : Who) (ts : List CallPeriod) → All IsAlone ts → out_of who ts ≡ line_octets who.law who.number (heard_of ts) }
-{}
+pub mod laws;
