@@ -11,7 +11,7 @@ import trau_frames
 import wav_files
 from code_word import Marker
 from file_kinds import Kind
-from recordings import command_of_others
+from recordings import command_of_others, quoted
 from trau_frames import Parameters, Refusal
 
 # To an uplink
@@ -125,7 +125,8 @@ def treated_downlink(name: Path, octets: bytes, treatments: Mapping[str, str]) -
             written = found.end()
     said = " ".join(f"{sort} {counts[sort]}" for sort in SORTS) + f" outside {len(bits) - inside}"
     if of_uplink and of_uplink == sum(counts.values()):
-        raise Refusal(f"{name}: is an uplink; trau relay first, which makes a downlink of it")
+        listens = trau_frames.as_started(f"lines.py listen {quoted(name)} NEW.wav")
+        raise Refusal(f"{name}: is an uplink; {listens} makes sound of it, and trau relay a downlink, if no frame is lost")
     if not frames:
         raise Refusal(f"{name}: no frame of a downlink that would be written: {said}")
     return Treated(frames, said)

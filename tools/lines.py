@@ -15,6 +15,7 @@ import tool_start  # first, for what comes after it
 import argparse
 import sys
 from array import array
+from dataclasses import replace
 from pathlib import Path
 from typing import Callable, NamedTuple, Sequence
 
@@ -70,29 +71,39 @@ def gsm(words: argparse.Namespace, given: bytes) -> Made:
 
 
 def listen(words: argparse.Namespace, given: bytes) -> Made:
-    """A WAV file, from a downlink."""
-    octets, said = listening.alaw_of_downlink(words.given, given, words.trau)
+    """A WAV file, from a downlink or an uplink."""
+    octets, said = listening.alaw_of_line(words.given, given, words.trau)
     return Made(linear_wav(octets, Law.A), f"listen samples {len(octets)} {said}", WAV)
 
 
 # Octets of A-law or mu-law, and samples: to a Pcm line, and from an Out line
 
 
-def check_law(name: Path, octets: bytes, law: Law) -> None:
-    """Refuses a file whose name, head or frames show that it isn't octets of a law."""
+# The files that commands make of octets of a law, as texts name them.
+MADE_OF_A_LAW = {"pcm": "NEW.pcm --raw", "sound": "NEW.wav", "capture": "NEW.pcap"}
+
+
+def check_law(words: argparse.Namespace, name: Path, octets: bytes) -> None:
+    """Refuses a file that plainly isn't octets of the law that the words name, by its name, head, frames or statistics. With --trust it
+    is taken."""
+    if words.trust:
+        return
+    not_this = f"no {words.law.title()}"
     if recordings.name_within(name).suffix in (".up", ".down"):
-        raise Refusal(f"{name}: is a line of frames by its name, and no {law.title()}")
-    file_kinds.refuse_other(name, octets, f"no {law.title()}", Kind.LAW)
+        raise Refusal(f"{name}: is a line of frames by its name, and {not_this}")
+    file_kinds.refuse_other(name, octets, not_this, Kind.LAW)
+    other = file_kinds.other_than_law(octets, words.law)
+    if other and other.kind is Kind.LAW and not other.turned:
+        law = "" if words.law is Law.MU else f" --law {Law.MU}"
+        other = replace(other, command=f"lines.py {words.made.__name__} {{}} {MADE_OF_A_LAW[words.made.__name__]}{law}")
+    if other:
+        file_kinds.refuse(name, other, not_this, "; --trust takes it as it is")
 
 
 def raw_octets(words: argparse.Namespace, given: bytes) -> bytes:
-    """Octets of a law and nothing else. Without --trust, octets whose statistics plainly show something else are refused too."""
+    """Octets of a law and nothing else."""
     octets = slots.turned(given) if words.lsb_first else given
-    if not words.trust:
-        check_law(words.given, octets, words.law)
-        other = file_kinds.other_than_law(octets, words.law)
-        if other:
-            file_kinds.refuse(words.given, other, f"no {words.law.title()}", "; --trust takes it as it is")
+    check_law(words, words.given, octets)
     return octets
 
 
@@ -124,7 +135,7 @@ def sound(words: argparse.Namespace, given: bytes) -> Made:
     """A WAV file or raw octets, from an Out line."""
     if not given:
         raise Refusal(f"{words.given}: holds no octets")
-    check_law(words.given, given, words.law)
+    check_law(words, words.given, given)
     said = f"sound samples {len(given)}"
     if words.raw:
         return Made(given, said, OF_A_LAW)
@@ -150,6 +161,9 @@ def capture(words: argparse.Namespace, given: bytes) -> Made:
     """A capture, from lines of calls."""
     more = [(name, recordings.read_recording(name)) for name in words.also]
     lines = [(recordings.name_within(name), octets) for name, octets in ((words.given, given), *more)]
+    for name, octets in lines:
+        if name.suffix[1:] in SIDES_OF[OF_A_LAW]:
+            check_law(words, name, octets)
     return Made(*captures.capture_of(lines, words.law), CAPTURE)
 
 
@@ -291,6 +305,13 @@ def add_lsb_first(added: argparse.ArgumentParser, more: str = "") -> None:
     )
 
 
+def add_trust(added: argparse.ArgumentParser, more: str = "") -> None:
+    """Adds the option `--trust` to a command."""
+    added.add_argument(
+        "--trust", action="store_true", help=f"take octets of the line's law as they are, even if they look like something else{more}"
+    )
+
+
 def add_uplink(commands: argparse._SubParsersAction) -> None:
     """Adds the command `uplink`: frames of libgsm to an uplink."""
     added = command(
@@ -355,11 +376,7 @@ def add_pcm(commands: argparse._SubParsersAction) -> None:
     )
     added.add_argument("--raw", action="store_true", help="the file has only octets of the line's law")
     add_lsb_first(added, " (with --raw)")
-    added.add_argument(
-        "--trust",
-        action="store_true",
-        help="take raw octets as they are, even if they look like something else (with --raw)",
-    )
+    add_trust(added, " (with --raw)")
     add_partial(added, "the samples of a WAV file that are there")
     add_law(added)
 
@@ -381,6 +398,7 @@ def add_sound(commands: argparse._SubParsersAction) -> None:
         )
     kind.add_argument("--raw", action="store_true", help="only the line's octets, without a WAV head")
     added.set_defaults(tag=WAV_LINEAR)
+    add_trust(added)
     add_law(added)
 
 
@@ -442,24 +460,28 @@ def add_capture(commands: argparse._SubParsersAction) -> None:
     added.add_argument(
         "--also", type=Path, action="append", default=[], metavar="LINE", help="add a line as a stream of its own"
     )
+    add_trust(added)
     add_law(added)
 
 
 def add_listen(commands: argparse._SubParsersAction) -> None:
-    """Adds the command `listen`: a downlink to a WAV file."""
+    """Adds the command `listen`: a downlink or an uplink to a WAV file."""
     added = command(
         commands,
         listen,
-        "IN.down",
+        "LINE",
         "OUT.wav",
-        "Makes a WAV file (8000 Hz, mono, 16 bits linear) of the sound of a downlink. Finds its frames at any bit, and decodes them\n"
-        "by the C library, if clib/build made it or it is installed, else by the program `trau`; both give the same. Silence\n"
-        "descriptors give comfort noise; idle frames, and periods without a frame, give silence. Prints `listen samples N found\n"
-        "speech A silence B idle C other D outside E`.",
+        "Makes a WAV file (8000 Hz, mono, 16 bits linear) of the sound of a downlink or an uplink.\n\n"
+        "Downlink: finds its frames at any bit, and decodes them by the C library, if clib/build made it or it is installed, else by\n"
+        "the program `trau`; both give the same. Silence descriptors give comfort noise; idle frames, and periods without a frame,\n"
+        "give silence. Prints `listen samples N found speech A silence B idle C other D outside E`.\n\n"
+        "Uplink: runs it by the program `trau` as a call with an idle Pcm line, so that lost speech, pauses and the search for frames\n"
+        "sound as they do on the Out line. Prints `listen samples N uplink good G sid V invalid I bad U idle Z other O miss M none N`:\n"
+        "the counts of the run's report.",
         "7.down call.wav",
     )
     added.add_argument(
-        "--trau", type=listening.program_named, metavar="PROGRAM", help="decode by this program and not by the library"
+        "--trau", type=listening.program_named, metavar="PROGRAM", help="decode or run by this program and not by the library"
     )
 
 

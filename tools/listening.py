@@ -1,4 +1,5 @@
-"""A downlink as sound: its frames, decoded by the C library if it is built, else by the program `trau`. Both give the same."""
+"""Lines of frames as sound. The frames of a downlink are decoded by the C library if it is built, else by the program `trau`; both give the
+same. An uplink is run by `trau` with an idle Pcm line, so that losses and pauses sound as in a call."""
 
 from __future__ import annotations
 
@@ -8,12 +9,15 @@ import sys
 import tempfile
 from pathlib import Path
 from types import ModuleType
-from typing import List, Optional, Tuple
+from typing import Dict, List, Optional, Sequence, Tuple
 
+import file_kinds
 import gsm_files
+import recordings
+import run_texts
 import trau_frames
 from tool_ends import naming
-from trau_frames import FRAME_BITS, Refusal, SpeechControl
+from trau_frames import FRAME_BITS, FRAME_OCTETS, PCM_OCTETS, Law, Refusal, SpeechControl
 
 TREATMENTS = {"speech": "keep", "silence": "noise", "idle": "quiet", "other": "skip"}
 
@@ -57,22 +61,37 @@ def decoded_by_library(frames: List[str], library: ModuleType) -> bytes:
     return library.compress(library.Decoder().decode(octets), "alaw")
 
 
+def from_here() -> Dict[str, str]:
+    """The environment for a program that is started in another folder: TRAU_PROGRAM may name a path from this one."""
+    named = os.environ.get("TRAU_PROGRAM")
+    return {**os.environ, "TRAU_PROGRAM": os.path.abspath(named)} if named else dict(os.environ)
+
+
+def said_by_program(trau: str, words: Sequence[str], folder: str, given: bytes = b"") -> bytes:
+    """What the program prints on standard output for these words and this standard input, in a folder of lines."""
+    try:
+        ended = subprocess.run([trau, *words], cwd=folder, input=given, stdout=subprocess.PIPE, env=from_here())
+    except OSError as failure:
+        raise Refusal(f"{trau}: {failure.strerror}") from None
+    if ended.returncode:
+        said = ended.stdout.decode("latin-1").strip().replace("\n", ", ")
+        raise Refusal(f"{trau} {words[0]}: status {ended.returncode}{f', {said}' if said else ''}")
+    return ended.stdout
+
+
+def write_line(path: Path, octets: bytes) -> None:
+    """Writes a line that the program reads."""
+    with naming(path):
+        path.write_bytes(octets)
+
+
 def decoded_by_program(frames: List[str], trau: str) -> bytes:
     """The A-law that `trau decode` makes of frames, D1 to D260 each."""
     control = SpeechControl().bits()
-    line = b"".join(trau_frames.octets_of(trau_frames.frame_of(control, data)) for data in frames)
     with tempfile.TemporaryDirectory() as folder:
-        up, out = Path(folder, "1.up"), Path(folder, "1.out")
-        with naming(up):
-            up.write_bytes(line)
-        try:
-            ended = subprocess.run([trau, "decode", "1"], cwd=folder, stdin=subprocess.DEVNULL, stdout=subprocess.PIPE)
-        except OSError as failure:
-            raise Refusal(f"{trau}: {failure.strerror}") from None
-        if ended.returncode:
-            said = ended.stdout.decode("latin-1").strip()
-            raise Refusal(f"{trau} decode: status {ended.returncode}{f', {said}' if said else ''}")
-        return trau_frames.read_file(out)
+        write_line(Path(folder, "1.up"), b"".join(trau_frames.octets_of(trau_frames.frame_of(control, data)) for data in frames))
+        said_by_program(trau, ["decode", "1"], folder)
+        return trau_frames.read_file(Path(folder, "1.out"))
 
 
 def decoded(frames: List[str], trau: Optional[str]) -> bytes:
@@ -90,3 +109,28 @@ def alaw_of_downlink(name: Path, octets: bytes, trau: Optional[str]) -> Tuple[by
         frames += before // FRAME_BITS * [trau_frames.SILENCE.bits()]
         frames.append(data)
     return decoded(frames, trau), f"found {found.said}"
+
+
+def is_uplink(name: Path, octets: bytes) -> bool:
+    """Whether a line is an uplink, by its frames or, where these show nothing, by its name."""
+    found = file_kinds.frames_of(octets[: file_kinds.HEAD_OCTETS])
+    return found.up >= found.down if found else recordings.name_within(name).suffix == ".up"
+
+
+def alaw_of_uplink(name: Path, octets: bytes, trau: Optional[str]) -> Tuple[bytes, str]:
+    """What a run sends to the exchange of an uplink alone, and the report's counts of what its periods gave. Its Pcm line is idle."""
+    periods = len(octets) // FRAME_OCTETS
+    if not periods:
+        raise Refusal(f"{name}: {len(octets)} octets are no whole period of an uplink, which has {FRAME_OCTETS}")
+    with tempfile.TemporaryDirectory() as folder:
+        write_line(Path(folder, "1.up"), octets)
+        write_line(Path(folder, "1.pcm"), bytes([Law.A.idle()]) * PCM_OCTETS * periods)
+        text = said_by_program(trau or program_beside(), ["run"], folder, b"0 open 1\n")
+        counts = run_texts.report_of(Path("report"), text).calls[1].counts
+        said = " ".join(f"{word} {counts[word]}" for word in run_texts.YIELDS)
+        return trau_frames.read_file(Path(folder, "1.out")), f"uplink {said}"
+
+
+def alaw_of_line(name: Path, octets: bytes, trau: Optional[str]) -> Tuple[bytes, str]:
+    """What is heard of a line of frames, and what was found."""
+    return (alaw_of_uplink if is_uplink(name, octets) else alaw_of_downlink)(name, octets, trau)

@@ -145,8 +145,8 @@ class Ends(InFolder):
         shutil.copy(DATA / "speech.gsm", self.path("lines.py"))
         said = "lines.py: 40 frames of libgsm; trau-lines uplink lines.py NEW.up\n"
         self.assertEqual(self.installed("lines.py", "look", "lines.py"), (0, said, ""))
-        said = "trau-lines: 1.up: is an uplink; trau relay first, which makes a downlink of it\n"
-        self.assertEqual(self.installed("lines.py", "gsm", "1.up", "1.gsm"), (2, "", said))
+        said = "1.up: is an uplink; trau-lines listen 1.up NEW.wav makes sound of it, and trau relay a downlink, if no frame is lost\n"
+        self.assertEqual(self.installed("lines.py", "gsm", "1.up", "1.gsm"), (2, "", f"trau-lines: {said}"))
         said = "trau-lines: lines.py: is 40 frames of libgsm, and no A-law; trau-lines uplink lines.py NEW.up\n"
         self.assertEqual(self.installed("lines.py", "pcm", "lines.py", "7.pcm", "--raw"), (2, "", said))
         status, said, _ = self.installed("orders.py", "check", "-")

@@ -11,6 +11,7 @@ import support
 from support import CODEC, DATA, EXAMPLES, InFolder, frames_of_downlink
 
 import lines
+import slots
 import trau_frames
 from trau_frames import Law, SpeechControl
 
@@ -102,7 +103,7 @@ class Frames(InFolder):
     def test_an_uplink_with_other_frames_is_an_uplink(self):
         line = trau_frames.bits_of((EXAMPLES / "7.up").read_bytes()[:800])
         self.path("7.up", trau_frames.octets_of("11111" + line + "111"))
-        self.assert_refused(lines.main, ["gsm", self.path("7.up"), self.path("new")], "is an uplink; trau relay first")
+        self.assert_refused(lines.main, ["gsm", self.path("7.up"), self.path("new")], "is an uplink; lines.py listen ")
 
     def test_dtxd(self):
         self.lines("uplink", DATA / "speech.gsm", self.path("7.up"), "--dtxd", "1")
@@ -210,7 +211,7 @@ class Frames(InFolder):
         self.assert_refused(lines.main, ["uplink", self.folder, new], "Is a directory")
         self.assert_refused(lines.main, ["uplink", DATA / "speech.gsm", new, "--dtxd", "2"], "--dtxd")
         self.assert_refused(lines.main, ["uplink", DATA / "speech.gsm", self.path("no") / "new"], "No such file")
-        self.assert_refused(lines.main, ["gsm", self.path("7.up", (EXAMPLES / "7.up").read_bytes()), new], "trau relay first")
+        self.assert_refused(lines.main, ["gsm", self.path("7.up", (EXAMPLES / "7.up").read_bytes()), new], "and trau relay a downlink, if no frame is lost")
         for content in (b"", b"\xff" * 4000, bytes(4000)):
             self.assert_refused(lines.main, ["gsm", self.path("bad.down", content), new], "no frame of a downlink")
         self.assert_refused(lines.main, ["gsm", DATA / "speech.gsm", new, "--silence", "loud"], "--silence")
@@ -352,6 +353,29 @@ class Sound(InFolder):
         # A-law of speech, and zeros, which are A-law too, are taken.
         for content in ((EXAMPLES / "farm" / "wanted" / "1.out").read_bytes(), bytes(320)):
             self.lines("sound", self.path("1.out", content), new)
+
+    def test_sound_of_the_other_law(self):
+        line = (CODEC.parent / "farms" / "mulaw" / "1.out").read_bytes()
+        out, alaw, new = self.path("5.out", line), self.path("6.out", line.translate(Law.MU.table_to(Law.A))), self.path("new")
+        for words, command in (
+            (["sound", out, new], f"sound {out} NEW.wav"),
+            (["sound", out, new, "--raw"], f"sound {out} NEW.wav"),
+            (["capture", out, new], f"capture {out} NEW.pcap"),
+            (["capture", EXAMPLES / "7.up", new, "--also", out], f"capture {out} NEW.pcap"),
+            (["pcm", out, new, "--raw"], f"pcm {out} NEW.pcm --raw"),
+        ):
+            said = f"5.out: is mu-law, as it seems, and no A-law; lines.py {command} --law mulaw; --trust takes it as it is\n"
+            self.assert_refused(lines.main, words, said)
+        said = f"6.out: is A-law, as it seems, and no mu-law; lines.py sound {alaw} NEW.wav; --trust takes it as it is\n"
+        self.assert_refused(lines.main, ["sound", alaw, new, "--law", "mulaw"], said)
+        self.assert_refused(lines.main, ["sound", self.path("7.out", slots.turned(line)), new], "in the other order, and no A-law; ")
+        for more in (["--trust"], ["--law", "mulaw"]):
+            self.assertEqual(self.lines("sound", out, new, *more), "sound samples 24000\n")
+
+    def test_sound_of_the_recorded_lines(self):
+        farms = CODEC.parent / "farms"
+        for out in (*farms.glob("[ch]*/*.out"), *(EXAMPLES / "farm" / "wanted").glob("*.out")):
+            self.lines("sound", out, self.path("new"))
 
     def test_idle(self):
         self.assertEqual(self.lines("idle", "3", self.path("7.pcm")), "idle periods 3\n")

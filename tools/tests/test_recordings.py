@@ -3,12 +3,13 @@
 import gzip
 import os
 import random
+import shlex
 import struct
 import subprocess
 import unittest
 from unittest import mock
 
-from support import CODEC, DATA, EXAMPLES, InFolder
+from support import CODEC, DATA, EXAMPLES, TOP, InFolder
 from test_file_kinds import e1, merged, shifted
 from test_lines import wav
 
@@ -20,7 +21,8 @@ import trau_frames
 from trau_frames import Law
 
 PROGRAM = os.environ.get("TRAU_PROGRAM", "")
-WANTED = EXAMPLES / "farm" / "wanted"
+FARM = EXAMPLES / "farm"
+WANTED = FARM / "wanted"
 SPEECH = (DATA / "speech.gsm").read_bytes()
 SPOKEN = (CODEC / "speech-en-m3.pcm").read_bytes()
 
@@ -178,6 +180,32 @@ class Listening(Recorded):
         self.lines("sound", self.path("1.out"), self.path("other.wav"))
         self.assertEqual(new.read_bytes(), self.path("other.wav").read_bytes())
 
+    @unittest.skipUnless(PROGRAM, "no program is built")
+    def test_an_uplink_with_losses(self):
+        # Relay ends at its first unusable frame. In the example's run it is bridged, and its Out line idle, from period 120 to 131.
+        for up in (FARM / "1.up", self.path("1.up.gz", gzip.compress((FARM / "1.up").read_bytes()))):
+            said = self.lines("listen", up, self.path("1.wav"), "--trau", PROGRAM)
+            wanted = "uplink good 31 sid 4 invalid 1 bad 117 idle 0 other 0 miss 0 none 0\n"
+            self.assertEqual(said, f"listen samples 24480 {wanted}")
+            self.lines("sound", WANTED / "1.out", self.path("other.wav"))
+            octets = 44 + 2 * 160 * 120
+            self.assertEqual(self.path("1.wav").read_bytes()[:octets], self.path("other.wav").read_bytes()[:octets])
+
+    @unittest.skipUnless(PROGRAM, "no program is built")
+    def test_an_uplink_by_its_name(self):
+        said = self.lines("listen", self.path("9.up", bytes(130)), self.path("9.wav"), "--trau", PROGRAM)
+        self.assertEqual(said, "listen samples 480 uplink good 0 sid 0 invalid 0 bad 0 idle 0 other 0 miss 0 none 3\n")
+        self.assert_refused(lines.main, ["listen", self.path("9.up", bytes(39)), self.path("9.wav")], "39 octets are no whole period")
+
+    @unittest.skipUnless(PROGRAM, "no program is built")
+    def test_a_relative_path_of_the_program(self):
+        script = self.path("program", f"#!/bin/sh\nexec {shlex.quote(os.path.abspath(PROGRAM))} \"$@\"\n".encode())
+        script.chmod(0o755)
+        words = [TOP / "tools" / "lines.py", "listen", EXAMPLES / "7.up", self.path("7.wav")]
+        surroundings = {**os.environ, "TRAU_PROGRAM": "./program"}
+        ended = subprocess.run(words, cwd=self.folder, env=surroundings, capture_output=True, text=True)
+        self.assertEqual((ended.returncode, ended.stderr), (0, ""))
+
     @unittest.skipUnless(listening.library_beside(), "no library is built")
     def test_by_the_library(self):
         down, new = CODEC / "speech-en-m3.down", self.path("new.wav")
@@ -218,13 +246,15 @@ class Listening(Recorded):
 
     def test_refused(self):
         down, new = WANTED / "2.down", self.path("2.wav")
-        self.assert_refused(lines.main, ["listen", EXAMPLES / "7.up", new, "--trau", "x"], "is an uplink; trau")
+        self.assert_refused(lines.main, ["listen", EXAMPLES / "7.up", new, "--trau", "/x"], "/x: No such file")
         self.assert_refused(lines.main, ["listen", self.path("x.down", bytes(400)), new], "no frame of a downlink")
         self.assert_refused(lines.main, ["listen", down, new, "--trau", self.folder / "gone"], "gone: No such file")
         fails = self.path("fails", b"#!/bin/sh\necho no memory; exit 5\n")
         fails.chmod(0o755)
         for name in (fails, os.path.relpath(fails)):
             self.assert_refused(lines.main, ["listen", down, new, "--trau", name], f"{fails} decode: status 5, no memory")
+            up = EXAMPLES / "7.up"
+            self.assert_refused(lines.main, ["listen", up, new, "--trau", name], f"{fails} run: status 5, no memory")
 
 
 if __name__ == "__main__":
