@@ -1,7 +1,7 @@
 #!/usr/bin/env python3
 """Prints what the report and the lines of a run say, as text, JSON or CSV.
 
-`text` prints a report, after checking it against the grammar. `calls` prints the losses, pauses and comfort noise of each call.
+`text` reads a report aloud, after checking it against the grammar. `calls` prints the losses, pauses and comfort noise of each call.
 `compare` prints what differs between two runs, and from which period on. `sync` prints where and why the search for frames lost an
 uplink.
 """
@@ -19,6 +19,7 @@ import sys
 from pathlib import Path
 from typing import Any, Callable, Dict, Iterator, List, NamedTuple, Optional, Sequence, Tuple
 
+import read_aloud
 import run_lines
 import run_texts
 import sync_losses
@@ -33,12 +34,13 @@ Row = Dict[str, Any]
 
 
 class Answer(NamedTuple):
-    """What a command answers: rows of the same columns for text and CSV, the whole for JSON, and the status."""
+    """What a command answers: rows of the same columns for text and CSV, the whole for JSON, the status, and sentences if it has any."""
 
     columns: Sequence[str]
     rows: List[Row]
     whole: Any
     status: int = 0
+    sentences: Sequence[str] = ()
 
 
 # The report's text
@@ -83,7 +85,10 @@ REPORT_COLUMNS = ("call", "start", "end", "cause", *run_texts.YIELDS, "made", "f
 def text(words: argparse.Namespace) -> Answer:
     """A report."""
     report = run_texts.read_report(words.report)
-    return Answer(REPORT_COLUMNS, rows_of_calls(report), whole_report(report))
+    said: List[str] = []
+    if words.form is as_sentences:
+        said = read_aloud.sentences(report, words.report, words.lines, Workers(words.processes))
+    return Answer(REPORT_COLUMNS, rows_of_calls(report), whole_report(report), sentences=said)
 
 
 # Losses, pauses and comfort noise of the calls
@@ -310,6 +315,11 @@ def as_text(answer: Answer) -> str:
     return "".join("  ".join(cell.ljust(width) for cell, width in zip(line, wide)).rstrip() + "\n" for line in table)
 
 
+def as_sentences(answer: Answer) -> str:
+    """Its sentences, each a line."""
+    return "".join(f"{line}\n" for line in answer.sentences)
+
+
 def as_csv(answer: Answer) -> str:
     """The rows as comma-separated values, the names of the columns first."""
     text_file = io.StringIO()
@@ -328,9 +338,13 @@ def as_json(answer: Answer) -> str:
 
 
 def command(
-    commands: argparse._SubParsersAction, made: Callable[[argparse.Namespace], Answer], line: str, more: str
+    commands: argparse._SubParsersAction,
+    made: Callable[[argparse.Namespace], Answer],
+    line: str,
+    more: str,
+    usual: Optional[Callable[[Answer], str]] = None,
 ) -> argparse.ArgumentParser:
-    """Adds a command whose answer `made` gives."""
+    """Adds a command whose answer `made` gives, as a table unless it has another usual form."""
     added = commands.add_parser(
         made.__name__,
         help=line,
@@ -339,9 +353,11 @@ def command(
         allow_abbrev=False,
     )
     form = added.add_mutually_exclusive_group()
-    form.add_argument("--json", dest="form", action="store_const", const=as_json, help="JSON instead of a table")
-    form.add_argument("--csv", dest="form", action="store_const", const=as_csv, help="CSV instead of a table")
-    added.set_defaults(made=made, form=as_text)
+    form.add_argument("--json", dest="form", action="store_const", const=as_json, help="JSON")
+    form.add_argument("--csv", dest="form", action="store_const", const=as_csv, help="CSV")
+    if usual:
+        form.add_argument("--table", dest="form", action="store_const", const=as_text, help="a table")
+    added.set_defaults(made=made, form=usual or as_text)
     return added
 
 
@@ -350,11 +366,21 @@ def add_text(commands: argparse._SubParsersAction) -> None:
     added = command(
         commands,
         text,
-        "a report, checked",
-        "Reads a report, and refuses any text that isn't one, octet for octet as the program writes it. The table and CSV have a row\n"
-        "for each call; JSON also has the replies to the orders and the bridges.",
+        "a report, checked, in sentences",
+        "Reads a report aloud: why orders were refused, what bridges passed on, and of each call why it ended, how long it was, and how\n"
+        "many of its periods were speech, lost speech, pauses and quiet. Lost frames are told from the empty ones of pauses by the\n"
+        "uplinks. Refuses any text that isn't a report, octet for octet as the program writes it. The table and CSV have a row for each\n"
+        "call; JSON also has the replies to the orders and the bridges.",
+        as_sentences,
     )
     added.add_argument("report", type=Path, metavar="REPORT", help="the text that `trau run` wrote")
+    added.add_argument(
+        "--lines",
+        type=Path,
+        metavar="FOLDER",
+        help="the folder of the uplinks (default: that of REPORT, as far as it has them)",
+    )
+    add_processes(added)
 
 
 def add_calls(commands: argparse._SubParsersAction) -> None:

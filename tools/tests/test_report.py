@@ -65,6 +65,7 @@ class Text(Told):
 
     def test_refused(self):
         file = lay_run("mixed", self.folder / "mixed") / "report.txt"
+        self.assert_refused(report.main, ["text", file, "--lines", self.folder], "1.up: No such file or directory")
         text = file.read_text()
         for changed in (text[:-1], text.replace("good 61", "good 60"), "", "no memory\n"):
             file.write_text(changed)
@@ -72,6 +73,78 @@ class Text(Told):
         self.assert_refused(report.main, ["text", file, "--json", "--csv"], "not allowed with")
         self.assert_refused(report.main, [], "COMMAND")
         self.assert_refused(report.main, ["text", self.folder / "gone"], "No such file")
+
+
+MIXED = """orders: 17 accepted, 1 refused, 0 left
+order 14: call 3 can't be bridged with itself
+calls 2 and 4: bridged for 73 periods, 1.46 s, from 0.44 s on: frames to 4 73, to 2 73, lost 0
+calls 1 and 3: bridged for 11 periods, 0.22 s, from 2.40 s on: frames to 3 11, to 1 11, lost 0
+"""
+TOLD_APART = """call 1: Up ended; 153 periods, 3.06 s: speech 31, lost 18 (at most 18 in a row), in pauses 87, quiet 17
+call 2: closed by an order; 100 periods, 2.00 s: speech 61, lost 0, in pauses 39, quiet 0
+call 3: closed by an order; 58 periods, 1.16 s, from 1.46 s on: speech 15, lost 0, in pauses 24, quiet 19
+call 4: Up ended; 75 periods, 1.50 s, from 0.40 s on: speech 0, lost 0, in pauses 75, quiet 0
+"""
+REFUSED = """order 1 ok
+order 2 refused 1 call 1
+order 3 refused 2 call 4
+order 4 refused 3 call 2 partner 1
+order 5 refused 4 call 3
+order 6 refused 5 call 1
+order 7 refused 6 call 1 partner 2
+order 8 refused 7 call 3
+call 1 from 0 to 1 limit
+counts 1 good 0 sid 0 invalid 0 bad 0 idle 0 other 1 miss 0 none 0 made 1
+end period 1 calls 1 left 2
+"""
+REASONS = """orders: 1 accepted, 7 refused, 2 left
+order 2: call 1 is open already
+order 3: call 4 isn't open
+order 4: call 2 is bridged already, with call 1
+order 5: call 3 isn't bridged
+order 6: call 1 can't be bridged with itself
+order 7: the bridge of call 1 with call 2 was ended in this very period
+order 8: call 3 has ended, and a number serves one call
+"""
+OTHER = trau_frames.octets_of(trau_frames.frame_of("11010" + 10 * "0" + "111111", 260 * "0"))
+
+
+class Aloud(Told):
+    def test_with_the_uplinks(self):
+        file = lay_run("mixed", self.folder / "mixed") / "report.txt"
+        self.assertEqual(self.told("text", file), MIXED + TOLD_APART)
+        alone = self.path("report.txt", file.read_bytes())
+        self.assertEqual(self.told("text", alone, "--lines", file.parent), MIXED + TOLD_APART)
+        # The rows are those of `calls`.
+        for row, line in zip(self.rows("calls", file.parent), TOLD_APART.splitlines()):
+            for word, column in (("speech", "speech"), ("lost", "lost"), ("in pauses", "noise"), ("quiet", "quiet")):
+                self.assertRegex(line, rf"\b{word} {row[column]}\b")
+
+    def test_without_the_uplinks(self):
+        file = lay_run("mixed", self.folder / "mixed") / "report.txt"
+        (file.parent / "1.up").unlink()
+        (file.parent / "4.up").write_bytes(bytes(75 * 40))
+        said = self.told("text", file).splitlines()
+        self.assertEqual("\n".join(said[:4]) + "\n", MIXED)
+        wanted = "speech 31, silence descriptors 4, invalid descriptors 1, lost or empty in pauses 117"
+        self.assertEqual(said[4], f"call 1: Up ended; 153 periods, 3.06 s: {wanted}")
+        self.assertEqual(said[5:7], TOLD_APART.splitlines()[1:3])
+        self.assertTrue(said[7].endswith(": silence descriptors 3, invalid descriptors 2, lost or empty in pauses 70"))
+        self.assertIn("--lines FOLDER names their folder", said[8])
+
+    def test_reasons(self):
+        file = self.path("report.txt", REFUSED.encode())
+        self.path("1.up", OTHER)
+        row = "call 1: open at the last period of --periods; 1 period, 0.02 s: speech 0, lost 0, in pauses 0, quiet 1"
+        self.assertEqual(self.told("text", file), f"{REASONS}{row}; not full rate speech, and not decoded: 1\n")
+
+    def test_causes(self):
+        counts = "good 0 sid 0 invalid 0 bad 0 idle 0 other 0 miss 0 none 0 made 0"
+        for cause, said in (("end pcm 13", "Pcm ended, 13 octets of a period left"), ("fault up", "Up failed"), ("end up 0", "Up ended")):
+            text = f"order 1 ok\ncall 9 from 5 to 5 {cause}\ncounts 9 {counts}\nline 9 down failed\nend period 5 calls 1 left 0\n"
+            self.path("9.up", b"")
+            told = self.told("text", self.path("report.txt", text.encode()))
+            self.assertEqual(told.splitlines()[1], f"call 9: {said}; 0 periods, 0.00 s, from 0.10 s on; its Down line failed")
 
 
 class Calls(Told):
