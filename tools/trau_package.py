@@ -51,7 +51,7 @@ BESIDE_TOOLS = (
     *("read_aloud.py", "readings.py", "recordings.py", "rtp_packets.py", "run_lines.py", "run_texts.py", "side_by_side.py", "slots.py", "sync_losses.py"),
     *("tool_ends.py", "tool_start.py", "trau_frames.py", "uplink_periods.py", "wav_files.py"),
     "word_faults.py",
-    *("help.txt", "pages.txt", "grammar.txt"),
+    *("help.txt", "pages.txt", "grammar.txt", "bad_order.awk"),
 )
 EXAMPLES = re.compile(r"README\.md|7\.up|farm/(\d+\.(up|pcm)|orders\.txt|wanted/[\w.]+)")
 # Recordings that the commands in the documents take.

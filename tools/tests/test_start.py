@@ -4,6 +4,7 @@ import contextlib
 import io
 import os
 import pty
+import random
 import re
 import resource
 import select
@@ -23,6 +24,7 @@ from support import EXAMPLES, PLAIN_PATH, TOP, InFolder, put_python
 
 import build
 import build_for
+import orders
 import trau_frames
 import trau_words
 
@@ -99,7 +101,8 @@ with open(os.environ["ASKED"], "a") as asked:
 # A script that takes longer than this many seconds hangs, however slow the machine is. The stand-in's sleep is longer.
 PATIENCE = 1800
 
-V3 = "fpu sse4_2 avx f16c movbe popcnt lahf_lm abm bmi1 avx2 bmi2 fma"
+V2 = "fpu cx16 lahf_lm popcnt pni sse4_1 sse4_2 ssse3"
+V3 = f"{V2} avx f16c movbe abm bmi1 avx2 bmi2 fma"
 
 
 class Started(InFolder):
@@ -534,13 +537,32 @@ class TwoPrograms(Started):
         # As a folder that another machine has too.
         self.processor(V3.replace(" avx2", ""))
         self.assertEqual(self.trau("relay", "7"), self.V2_RUNS)
-        for flag in V3.split()[2:]:
-            if flag not in ("popcnt", "lahf_lm"):
-                self.processor(f"{V3} x".replace(f" {flag} ", " ") + " x")
-                self.assertEqual(self.trau("relay", "7"), self.V2_RUNS, flag)
+        for flag in V3[len(V2) :].split():
+            self.processor(f"{V3} x".replace(f" {flag} ", " ") + " x")
+            self.assertEqual(self.trau("relay", "7"), self.V2_RUNS, flag)
         self.cpuinfo.unlink()
         self.assertEqual(self.trau("relay", "7"), self.V2_RUNS)
         self.assertFalse(self.asked.exists())
+
+    def test_a_processor_that_is_too_old(self):
+        for flag in V2.split()[1:]:
+            self.processor(f"{V2} ".replace(f" {flag} ", " "))
+            said = f"trau: this machine's processor can't run {self.out / 'trau_program'}: it lacks {flag}\n"
+            self.assertEqual(self.trau("relay", "7"), (*self.V2_RUNS[:2], said))
+        self.processor(V2)
+        program = self.out / "trau_program.x86-64-v3"
+        status, _, err = self.trau("relay", "7", TRAU_PROGRAM=str(program))
+        lacking = " ".join(sorted(V3[len(V2) :].split()))
+        self.assertEqual((status, " ".join(sorted(err.split("it lacks ")[1].split()))), (0, lacking))
+        self.processor(V3)
+        self.assertEqual(self.trau("relay", "7", TRAU_PROGRAM=str(program)), self.V3_RUNS)
+
+    def test_a_program_by_a_relative_path(self):
+        shutil.copy(self.out / "trau_program", self.folder / "echo")
+        (self.folder / "below").mkdir()
+        shutil.copy(self.out / "trau_program", self.folder / "below" / "program")
+        for name in ("echo", "./echo", "below/program"):
+            self.assertEqual(self.trau("relay", "7", TRAU_PROGRAM=name), self.V2_RUNS)
 
     def test_by_trau_cpu(self):
         self.processor(V3)
@@ -672,6 +694,14 @@ class Help(Started):
             r"^trau [0-9a-f]{7,} of \d{4}-\d\d-\d\d, with changes; no kit: rt isn't on the path\nprogram: not built\n$",
         )
 
+    def test_no_standard_output(self):
+        said = "trau: standard output can't be written\n"
+        for words in ("--version", "help", "help run"):
+            for closed in (">&-", ">/dev/full"):
+                how = {"env": self.surroundings, "capture_output": True, "text": True}
+                ended = subprocess.run(["sh", "-c", f"{self.top}/trau {words} {closed}"], **how)
+                self.assertEqual((ended.returncode, ended.stderr), (4, said), (words, closed))
+
     def test_run_at_a_terminal(self):
         self.built()
         note = "trau: run waits for orders from this terminal; control-D at the start of a line ends them\n"
@@ -746,6 +776,16 @@ class WrongWords(Started):
         for words in [*self.WRONG, *self.RIGHT]:
             self.assertEqual(self.trau(*words.split()), (0, f"the program: {words}\n", ""), words)
 
+    def test_a_file_of_orders_among_the_words(self):
+        self.path("orders.txt", b"0 open 1\n")
+        for words, said in (
+            ("run orders.txt", "run reads orders from standard input: trau run <orders.txt"),
+            ("run --workers 2 orders.txt", "run reads orders from standard input: trau run .. <orders.txt"),
+            ("save orders.txt --periods 5", "save reads orders from standard input: trau save <orders.txt"),
+            ("relay 7 orders.txt", "orders.txt: a word too many"),
+        ):
+            self.assertEqual(self.trau(*words.split()), (1, "usage\n", f"trau: {said}\n"))
+
     def test_where_standard_output_may_not_grow(self):
         self.built()
         for words in (["frames"], ["frames", "7"]):
@@ -759,6 +799,71 @@ class WrongWords(Started):
                     preexec_fn=lambda: resource.setrlimit(resource.RLIMIT_FSIZE, (0, resource.getrlimit(resource.RLIMIT_FSIZE)[1])),
                 )
             self.assertNotIn(ended.returncode, (-signal.SIGXFSZ, 128 + signal.SIGXFSZ), words)
+
+
+class BadOrders(Started):
+    """What is said of orders that the program will refuse. The stand-in takes all."""
+
+    def setUp(self):
+        super().setUp()
+        self.built()
+
+    def run_of(self, content, *words, **changes):
+        """The status, standard output and standard error of a run whose orders are a file."""
+        path = self.path("orders.txt", content)
+        how = {"capture_output": True, "text": True, "cwd": self.folder, "env": {**self.surroundings, **changes}}
+        with open(path, "rb") as orders:
+            ended = subprocess.run([self.top / "trau", *words], stdin=orders, **how)
+        return ended.returncode, ended.stdout, ended.stderr
+
+    def test_the_first_bad_line(self):
+        said = "trau: line 2 of the orders: two spaces; tools/orders.py check says what is wrong with each line\n"
+        self.assertEqual(self.run_of(b"0 open 1\n5 open  2\nx", "run"), (0, "the program: run\n", said))
+        self.assertEqual(self.run_of(b"0 open 1\n5 open  2\nx", "save", "--periods", "5")[2], said)
+        marked = said.replace("check says", "check --mark says")
+        self.assertEqual(self.run_of(b"save 5\ncall 1 from 0 out 1 down 1\norders\n0 open 1\n5 open  2\n", "resume")[2], marked)
+        self.assertEqual(self.run_of(b"x\n", "relay", "7")[2], "")
+        self.assertEqual(self.run_of(b"0 open 1", "run"), (0, "the program: run\n", ""))
+        self.assertEqual(self.run_of(b"", "run")[2], "")
+
+    def test_without_the_reason(self):
+        (self.tools / "python3").unlink()
+        said = "trau: line 1 of the orders; tools/orders.py check says what is wrong with each line\n"
+        self.assertEqual(self.run_of(b"x\n", "run", PATH=f"{self.tools}:{self.no_python()}")[2], said)
+
+    def no_python(self):
+        """A folder with the system's commands but Python."""
+        folder = self.folder / "commands"
+        folder.mkdir()
+        for name in ("awk", "sed", "grep", "head", "cat", "dirname", "readlink", "find", "sort", "cksum", "flock", "stat", "xargs"):
+            found = shutil.which(name, path=PLAIN_PATH)
+            if found:
+                (folder / name).symlink_to(found)
+        return folder
+
+    def test_what_isnt_read_from_the_start(self):
+        # Whoever has read some of it has the program read the rest; and a pipe can be read once.
+        path = self.path("orders.txt", b"# orders\n0 open 1\n")
+        how = {"capture_output": True, "text": True, "cwd": self.folder, "env": self.surroundings}
+        script = f"{{ read -r line; {self.top}/trau run; }} <{path}; cat {path} | {self.top}/trau run"
+        ended = subprocess.run(["sh", "-c", script], **how)
+        self.assertEqual((ended.stdout, ended.stderr), (2 * "the program: run\n", ""))
+
+    def test_the_line_is_that_of_the_checker(self):
+        chance = random.Random(1)
+        words = ["open", "close", "bridge", "unbridge", "level", "dtx", "on", "uplink", "mulaw", "0", "5", "4096", "4097", "32768", "07", "", "\t", "x\r"]
+        good = ["0 open 1", "0 open 2 mulaw", "0 dtx 1 on", "0 level 2 32767", "3 bridge 1 2", "4 unbridge 2", "4294967294 close 1"]
+        for _ in range(300):
+            lines = list(good)
+            for _ in range(chance.randrange(3)):
+                at = chance.randrange(len(lines))
+                parts = lines[at].split(" ")
+                parts[chance.randrange(len(parts))] = chance.choice(words)
+                lines[at] = " ".join(parts)
+            text = "\n".join(lines).encode()
+            ran = subprocess.run(["awk", "-f", TOP / "tools" / "bad_order.awk"], input=text, capture_output=True, check=True)
+            bad = min(orders.Text.read(text).faults, default=None)
+            self.assertEqual(ran.stdout.decode().strip(), "" if bad is None else str(bad), text)
 
 
 def has_locks():
