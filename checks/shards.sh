@@ -29,7 +29,7 @@ parts() {
 # joined CUT: joins the reports, and leaves report and status beside the cut
 joined() {
     status=0
-    shard merge "$1" >"$1.report" 2>"$1.said" || status=$?
+    shard join "$1" >"$1.report" 2>"$1.said" || status=$?
     echo "$status" >"$1.status"
 }
 
@@ -54,7 +54,7 @@ compare() {
     trouble "$work/one"
     cp -r "$work/one" "$work/farm"
     one "$work/one" "$@"
-    shard split "$work/farm" "$work/cut" --parts "$count" $copy "$@" >/dev/null
+    shard cut "$work/farm" "$work/cut" --parts "$count" $copy "$@" >/dev/null
     parts "$work/cut"
     joined "$work/cut"
     same "$work/one" "$work/farm" "$work/cut" "$what"
@@ -132,7 +132,7 @@ while read -r orders; do
     rm -rf "$work/cut" "$work/none"
     mkdir "$work/none"
     said=$(cd "$work/none" && "$top/trau" run --periods 1 <"$work/orders.txt") || true
-    told=$(shard split "$work/none" "$work/cut" --parts 1 --orders "$work/orders.txt" 2>&1) || true
+    told=$(shard cut "$work/none" "$work/cut" --parts 1 --orders "$work/orders.txt" 2>&1) || true
     case $said in
     "orders line"*) wanted="line ${said#orders line } " ;;
     *) wanted="shard parts" ;;

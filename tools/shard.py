@@ -1,5 +1,5 @@
 #!/usr/bin/env python3
-"""Splits a farm into parts that run independently, on this machine or on others, and joins their reports.
+"""Cuts a farm into parts that run independently, on this machine or on others, and joins their reports.
 
 The octets of a call depend only on its own lines and orders and on its bridge partners. So calls that a `bridge` order names stay
 together, even if the order is refused, since a refusal looks at both. All other calls may run anywhere. The joined report and the status
@@ -11,6 +11,8 @@ from __future__ import annotations
 import tool_start  # first, for what comes after it
 
 import argparse
+import contextlib
+import fcntl
 import json
 import os
 import re
@@ -35,20 +37,48 @@ ORDERS = "orders.txt"
 REPORT = "report.txt"
 STATUS = "status"
 SCRIPT = "run.sh"
+DEFAULT_BATCH = 50  # of trau run
 STATUSES_WITH_A_REPORT = (0, 6)
 
 SCRIPT_TEXT = """#!/bin/sh
 # Runs this part of a farm, and keeps its report and its status. Status 0: there is a whole report, which may name lines that
-# failed. TRAU names another program than that of the machine on which the farm was split.
+# failed. TRAU names another program than that of the machine on which the farm was cut.
+case ${{TRAU:-}} in /*) ;; */*) TRAU=$PWD/$TRAU ;; esac
+case ${{TRAU_PROGRAM:-}} in '' | /*) ;; *) TRAU_PROGRAM=$PWD/$TRAU_PROGRAM ;; esac
 cd "$(dirname "$0")" || exit 2
 rm -f status
 program=${{TRAU:-}}
 [ -n "$program" ] || program={trau}
-status=0
+{lock}status=0
 "$program" run {words} <orders.txt >report.txt || status=$?
 echo "$status" >status
 case $status in 0 | 6) exit 0 ;; *) exit "$status" ;; esac
 """
+
+# Parts write through links into the folder of the farm. They share its lock, which keeps out runs there and further cuts.
+LOCK_TEXT = """farm={farm}
+if [ -r "$farm" ] && command -v flock >/dev/null; then
+    locked=0
+    exec 8<"$farm"
+    flock -n -s -E 75 8 2>/dev/null || locked=$?
+    [ "$locked" != 75 ] || {{ echo "$0: another run writes lines of $farm" >&2; exit 125; }}
+fi
+"""
+
+# What a part is given on a cluster: memory and time are some ten times those measured (docs/PERFORMANCE.md).
+SLURM_TEXT = """#!/bin/sh
+#SBATCH --job-name=trau
+#SBATCH --array=0-{last}
+#SBATCH --cpus-per-task={workers}
+#SBATCH --mem={megabytes}M
+#SBATCH --time={minutes}
+#SBATCH --output={output}
+# Runs the parts of this cut, each as a job: sbatch --wait slurm.sh
+exec sh {cut}/"$SLURM_ARRAY_TASK_ID"/run.sh
+"""
+SLURM = "slurm.sh"
+MEGABYTES, OCTETS_A_CALL, OCTETS_A_PERIOD = 64, 20_000, 1_000
+MINUTES, SECONDS_A_PERIOD = 5, 1e-4
 
 # The cut
 
@@ -111,7 +141,23 @@ def script_of(words: argparse.Namespace) -> str:
     """The script that runs a part."""
     options = [("--workers", words.workers), ("--batch", words.batch), ("--periods", words.periods)]
     said = " ".join(f"{name} {value}" for name, value in options if value is not None)
-    return SCRIPT_TEXT.format(trau=shlex.quote(words.trau), words=said)
+    lock = "" if words.copy else LOCK_TEXT.format(farm=shlex.quote(os.path.abspath(words.folder)))
+    return SCRIPT_TEXT.format(trau=shlex.quote(words.trau), words=said, lock=lock)
+
+
+def array_of(words: argparse.Namespace, parts: Sequence[Part]) -> str:
+    """The script that runs the parts as an array of Slurm's jobs."""
+    cut = os.path.abspath(words.cut)
+    calls = max(len(part.calls) for part in parts)
+    octets = calls * (OCTETS_A_CALL + OCTETS_A_PERIOD * (words.batch or DEFAULT_BATCH))
+    return SLURM_TEXT.format(
+        last=len(parts) - 1,
+        workers=words.workers,
+        megabytes=MEGABYTES + octets // 1_000_000,
+        minutes=MINUTES + int(max(part.periods for part in parts) * SECONDS_A_PERIOD / 60),
+        output=json.dumps(f"{cut.replace('%', '%%')}/%a/log", ensure_ascii=False),
+        cut=shlex.quote(cut),
+    )
 
 
 def lay_part(folder: Path, words: argparse.Namespace, orders: Sequence[Order]) -> None:
@@ -138,6 +184,8 @@ def lay_cut(place: Path, words: argparse.Namespace, orders: Sequence[Order], par
         numbers.append([order.number for order in own])
         lay_part(place / str(number), words, own)
     write_new(place / ORDERS, "".join(f"{order.line()}\n" for order in orders))
+    if parts:
+        write_new(place / SLURM, array_of(words, parts))
     noted = {
         "farm": os.path.abspath(words.folder),
         "copied": words.copy,
@@ -147,17 +195,29 @@ def lay_cut(place: Path, words: argparse.Namespace, orders: Sequence[Order], par
     write_new(place / CUT, json.dumps(noted) + "\n")
 
 
-def split(words: argparse.Namespace) -> int:
-    """Cuts a farm."""
-    name = words.orders or words.folder / ORDERS
-    orders = run_texts.read_orders(name)
-    if not words.folder.is_dir():
-        raise Refusal(f"{words.folder}: isn't a folder")
-    if os.path.lexists(words.cut):
-        raise Refusal(f"{words.cut}: is there already; a farm is cut into a new folder")
-    opened = {order.calls[0] for order in orders if order.verb == "open"}
-    pieces = [(sum(periods_of(words.folder, call) for call in calls & opened), calls) for calls in components(orders)]
-    parts = parts_of(pieces, words.parts)
+@contextlib.contextmanager
+def alone_in(farm: Path) -> Iterator[None]:
+    """Locks a farm's folder, as `trau` does. Refuses where another one has it. Where there are no locks it goes on without."""
+    try:
+        folder = os.open(farm, os.O_RDONLY)
+    except OSError:
+        yield
+        return
+    try:
+        fcntl.flock(folder, fcntl.LOCK_EX | fcntl.LOCK_NB)
+    except BlockingIOError:
+        os.close(folder)
+        raise Refusal(f"{farm}: a run, or a part of another cut, writes lines of this folder") from None
+    except OSError:
+        pass
+    try:
+        yield
+    finally:
+        os.close(folder)
+
+
+def make_cut(words: argparse.Namespace, orders: Sequence[Order], parts: Sequence[Part]) -> None:
+    """Makes the folder of a cut farm, whole or not at all."""
     try:
         place = Path(tempfile.mkdtemp(dir=words.cut.absolute().parent, prefix=f".{words.cut.name}."))
     except OSError as failure:
@@ -173,11 +233,27 @@ def split(words: argparse.Namespace) -> int:
     except BaseException:
         shutil.rmtree(place)
         raise
+
+
+def cut(words: argparse.Namespace) -> int:
+    """Cuts a farm."""
+    name = words.orders or words.folder / ORDERS
+    orders = run_texts.read_orders(name)
+    if not words.folder.is_dir():
+        raise Refusal(f"{words.folder}: isn't a folder")
+    if os.path.lexists(words.cut):
+        raise Refusal(f"{words.cut}: is there already; a farm is cut into a new folder")
+    opened = {order.calls[0] for order in orders if order.verb == "open"}
+    pieces = [(sum(periods_of(words.folder, call) for call in calls & opened), calls) for calls in components(orders)]
+    parts = parts_of(pieces, words.parts)
+    with alone_in(words.folder):
+        make_cut(words, orders, parts)
     largest = max((periods for periods, _ in pieces), default=0)
     heaviest = max((part.periods for part in parts), default=0)
     print(
         f"shard parts {len(parts)} components {len(pieces)} calls {len(opened)} orders {len(orders)}"
         f" largest {largest} heaviest {heaviest} of {sum(periods for periods, _ in pieces)}"
+        + (f" array 0-{len(parts) - 1}" if parts else "")
     )
     return 0
 
@@ -205,7 +281,7 @@ class Cut:
 
     @staticmethod
     def read(folder: Path) -> Cut:
-        """Reads the folder that `split` made."""
+        """Reads the folder that `cut` made."""
         name = folder / CUT
         try:
             noted = json.loads(trau_frames.read_file(name))
@@ -215,7 +291,7 @@ class Cut:
                 raise ValueError
             return Cut(folder, Path(noted["farm"]), noted["copied"], noted["periods"], orders, parts)
         except (ValueError, KeyError, TypeError):
-            raise Refusal(f"{name}: isn't what {trau_frames.as_started('shard.py split')} writes") from None
+            raise Refusal(f"{name}: isn't what {trau_frames.as_started('shard.py cut')} writes") from None
 
     def part(self, number: int) -> Path:
         """The folder of a part."""
@@ -267,7 +343,7 @@ def accepted_bridges(cut: Cut, number: int, report: Report) -> Iterator[Tuple[in
             yield order, next(bridges)
 
 
-def join(cut: Cut) -> Report:
+def joined(cut: Cut) -> Report:
     """The report of the one run."""
     replies: Dict[int, Reply] = {}
     bridges: Dict[int, Bridge] = {}
@@ -298,31 +374,36 @@ def outgoing_lines(cut: Cut) -> Iterator[Path]:
                 yield line
 
 
-def merge(words: argparse.Namespace) -> int:
-    """Joins the reports of a farm that was split. If the lines were copied, brings the outgoing ones to the farm's folder."""
+def join(words: argparse.Namespace) -> int:
+    """Joins the reports of a farm that was cut. If the lines were copied, brings the outgoing ones to the farm's folder."""
     cut = Cut.read(words.cut)
     check_all_were_run(cut)
-    report = join(cut)
+    report = joined(cut)
     if cut.copied:
-        for line in outgoing_lines(cut):
-            trau_frames.write_file(cut.farm / line.name, trau_frames.read_file(line), [])
+        with alone_in(cut.farm):
+            for line in outgoing_lines(cut):
+                trau_frames.write_file(cut.farm / line.name, trau_frames.read_file(line), [])
     sys.stdout.write(report.text())
     return report.status()
 
 
 # The words of the command line
 
+# Earlier names of the commands, which scripts may have.
+OLD_NAMES = {"split": "cut", "merge": "join"}
 
-def add_split(commands: argparse._SubParsersAction) -> None:
-    """Adds the command `split`."""
+
+def add_cut(commands: argparse._SubParsersAction) -> None:
+    """Adds the command `cut`."""
     cutting = commands.add_parser(
-        "split",
+        "cut",
         help="makes a folder with the parts of a farm",
         formatter_class=argparse.RawDescriptionHelpFormatter,
         allow_abbrev=False,
         description="Makes the folder CUT with the parts 0, 1 and so on. Each has its orders, links to its lines in FOLDER, and\n"
-        "`run.sh`, which runs it. Prints `shard parts K components M calls C orders N largest L heaviest H of P`: C calls are\n"
-        "opened; L, H and P are the periods of the largest component, of the heaviest part and of all calls.",
+        "`run.sh`, which runs it. `slurm.sh` runs all as an array of Slurm's jobs. Prints `shard parts K components M calls C orders N\n"
+        "largest L heaviest H of P array 0-J`: C calls are opened; L, H and P are the periods of the largest component, of the heaviest\n"
+        "part and of all calls; J is K - 1. While a part runs on links, no run and no other cut may have FOLDER.",
     )
     cutting.add_argument("folder", type=Path, metavar="FOLDER", help="the farm: its lines and orders")
     cutting.add_argument("cut", type=Path, metavar="CUT", help="the folder to make")
@@ -345,13 +426,13 @@ def add_split(commands: argparse._SubParsersAction) -> None:
     )
     cutting.add_argument("--batch", type=number_within(1, 250), metavar="N", help="as of trau run")
     cutting.add_argument("--periods", type=number_within(1, MOST_PERIODS), metavar="N", help="as of trau run")
-    cutting.set_defaults(runs=split)
+    cutting.set_defaults(runs=cut)
 
 
-def add_merge(commands: argparse._SubParsersAction) -> None:
-    """Adds the command `merge`."""
+def add_join(commands: argparse._SubParsersAction) -> None:
+    """Adds the command `join`."""
     joining = commands.add_parser(
-        "merge",
+        "join",
         help="joins the reports of the parts",
         formatter_class=argparse.RawDescriptionHelpFormatter,
         allow_abbrev=False,
@@ -359,28 +440,28 @@ def add_merge(commands: argparse._SubParsersAction) -> None:
         "copied, it brings the outgoing ones to the farm's folder. If a part has no whole report, or its report isn't one of its\n"
         "orders and its number of periods, it says which part, writes nothing and exits with status 2.",
     )
-    joining.add_argument("cut", type=Path, metavar="CUT", help="the folder that `split` made")
-    joining.set_defaults(runs=merge)
+    joining.add_argument("cut", type=Path, metavar="CUT", help="the folder that `cut` made")
+    joining.set_defaults(runs=join)
 
 
 def parser() -> argparse.ArgumentParser:
     """The words of the command line."""
     words = trau_frames.Words(
         description=__doc__,
-        epilog="example: shard.py split farm cut --parts 4; parallel sh {}/run.sh ::: cut/[0-9]*; shard.py merge cut >report.txt",
+        epilog="example: shard.py cut farm cut --parts 4; parallel sh {}/run.sh ::: cut/[0-9]*; shard.py join cut >report.txt",
         formatter_class=argparse.RawDescriptionHelpFormatter,
         allow_abbrev=False,
     )
     commands = words.add_subparsers(dest="command", required=True, metavar="COMMAND")
-    add_split(commands)
-    add_merge(commands)
+    add_cut(commands)
+    add_join(commands)
     return words
 
 
 @tool("shard.py")
 def main(words: Sequence[str]) -> int:
     """Runs the words of the command line, and returns the exit status."""
-    asked = parser().parse_args(words)
+    asked = parser().parse_args([OLD_NAMES.get(words[0], words[0]), *words[1:]] if words else words)
     return asked.runs(asked)
 
 

@@ -4,6 +4,8 @@ the frames of a downlink."""
 import contextlib
 import io
 import os
+import shutil
+import subprocess
 import sys
 import tempfile
 import unittest
@@ -24,6 +26,17 @@ os.environ["PYTHONDONTWRITEBYTECODE"] = "1"
 
 # The system's commands, without the toolchain and without anything that is installed by hand.
 PLAIN_PATH = "/usr/bin:/bin"
+
+
+def has_locks():
+    """Whether flock tells that another process has locked a folder."""
+    with tempfile.TemporaryDirectory() as folder:
+        words = ["flock", "-n", "-E", "75", folder]
+        found = shutil.which("flock", path=PLAIN_PATH)
+        return found is not None and subprocess.run([*words, *words, "true"], stderr=subprocess.DEVNULL).returncode == 75
+
+
+HAS_LOCKS = has_locks()
 
 
 def frames_of_downlink(bits):

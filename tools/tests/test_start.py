@@ -13,14 +13,13 @@ import shutil
 import signal
 import subprocess
 import sys
-import tempfile
 import time
 import types
 import unittest
 from pathlib import Path
 from unittest import mock
 
-from support import EXAMPLES, PLAIN_PATH, TOP, InFolder, put_python
+from support import EXAMPLES, HAS_LOCKS, PLAIN_PATH, TOP, InFolder, put_python
 
 import build
 import build_for
@@ -866,15 +865,7 @@ class BadOrders(Started):
             self.assertEqual(ran.stdout.decode().strip(), "" if bad is None else str(bad), text)
 
 
-def has_locks():
-    """Whether flock tells that another process has locked a folder."""
-    with tempfile.TemporaryDirectory() as folder:
-        words = ["flock", "-n", "-E", "75", folder]
-        found = shutil.which("flock", path=PLAIN_PATH)
-        return found is not None and subprocess.run([*words, *words, "true"], stderr=subprocess.DEVNULL).returncode == 75
-
-
-@unittest.skipUnless(has_locks(), "there is no flock, or temporary files have no locks")
+@unittest.skipUnless(HAS_LOCKS, "there is no flock, or temporary files have no locks")
 class TwoRuns(Started):
     """A run locks its folder."""
 
