@@ -1,9 +1,9 @@
 #!/usr/bin/env python3
 """Shows how far a run is, and when it will be done, while `trau run <orders.txt >report.txt` works in a folder.
 
-It reads the sizes of the lines, and writes nothing. A run writes its report at its end, in one piece. While the report's file is empty,
-the run goes on, and outgoing lines that are older than this file are from an earlier run. Status 1: there is no run, or it ended without a
-report, or its lines have stopped growing.
+It reads the sizes of the lines, and writes nothing. A run writes its report at its end, in one piece. While the report's file is empty and
+a process has the lock of the folder, the run goes on; outgoing lines that are older than this file are from an earlier run. Status 1:
+there is no run, or it ended without a report, or its lines have stopped growing.
 """
 
 from __future__ import annotations
@@ -56,13 +56,31 @@ class Progress(NamedTuple):
     ended: bool
 
 
+LOCKS = Path("/proc/locks")
+NOT_LOCKED = "no process of this machine has the folder's lock"
+
+
+def is_locked(folder: Path) -> Optional[bool]:
+    """Whether a process has a folder's lock, as `trau` takes it, or None where the system doesn't show locks. (Trying the lock might keep
+    out a run that starts just then.)"""
+    try:
+        locks, inode = LOCKS.read_text().splitlines(), folder.stat().st_ino
+    except OSError:
+        return None
+    return any(" FLOCK " in lock and lock.split()[-3].endswith(f":{inode}") for lock in locks)
+
+
 @dataclass
 class Watched:
-    """The folder of a run."""
+    """The folder of a run. A single look takes a run with lines that nobody has locked for ended; else its lock has to be gone, since
+    some runs have none."""
 
     folder: Path
     report: Path
     expected: Dict[int, int]
+    once: bool = False
+    was_locked: bool = False
+    ended: bool = False
 
     @staticmethod
     def read(folder: Path, words: argparse.Namespace) -> Watched:
@@ -71,7 +89,7 @@ class Watched:
         if not words.orders and not name.is_file():
             raise NoRun(f"{folder}: no run in this folder: there is no {name.name}")
         report = words.report or folder / "report.txt"
-        return Watched(folder, report, expected_periods(folder, run_texts.read_orders(name), words.periods))
+        return Watched(folder, report, expected_periods(folder, run_texts.read_orders(name), words.periods), words.once)
 
     def octets(self) -> int:
         """How many octets are on the outgoing lines of the calls."""
@@ -86,15 +104,19 @@ class Watched:
         return min(self.expected[call], whole_periods(self.folder, call, "out"))
 
     def progress(self) -> Progress:
-        """How far this run is."""
+        """How far this run is. The lock is looked at first: a run lets it go after its report is written."""
+        locked = is_locked(self.folder)
         if not self.report.is_file():
             return Progress(0, 0, time.time(), False)
         found = self.report.stat()
         if found.st_size:
+            self.ended = True
             return Progress(sum(self.expected.values()), len(self.expected), found.st_mtime, True)
         done = {call: self.done(call, found.st_mtime) for call in self.expected}
         calls = sum(done[call] == self.expected[call] for call in done)
-        return Progress(sum(done.values()), calls, found.st_mtime, False)
+        self.ended = locked is False and (self.was_locked or self.once and any(done.values()))
+        self.was_locked = self.was_locked or bool(locked)
+        return Progress(sum(done.values()), calls, found.st_mtime, self.ended)
 
 
 def progress_of(runs: Sequence[Watched]) -> Progress:
@@ -184,12 +206,12 @@ def display(words: argparse.Namespace, expected: int) -> Union[Bar, PlainLines]:
 def text_of_ends(runs: Sequence[Watched]) -> List[str]:
     """What runs printed that ended without a report."""
     ends = []
-    for run in runs:
+    for run in (run for run in runs if run.ended):
         text = trau_frames.read_file(run.report)
         try:
             run_texts.report_of(run.report, text)
         except Refusal:
-            first = text.decode("latin-1").split("\n")[0]
+            first = text.decode("latin-1").split("\n")[0] or NOT_LOCKED
             ends.append(f"{run.folder}: ended without a report: {first[:60]}")
     return ends
 
@@ -216,7 +238,7 @@ def watch(words: argparse.Namespace) -> int:
             time.sleep(words.interval)
     finally:
         shown.close()
-    ends = text_of_ends(runs) if progress.ended else []
+    ends = text_of_ends(runs)
     for line in ends:
         complain("watch.py", line)
     return 1 if ends else 0

@@ -4,14 +4,18 @@ import os
 import unittest
 from unittest import mock
 
-from support import InFolder
+from support import HAS_LOCKS, InFolder
 from test_timeline import lay
 
 import run_texts
+import shard
 import watch
 
 # The clock stands still at this time, except while watch.py sleeps.
 NOW = 1_700_000_000
+
+
+SHOWS_LOCKS = HAS_LOCKS and watch.LOCKS.exists()
 
 
 class Watching(InFolder):
@@ -32,8 +36,12 @@ class Watching(InFolder):
             meanwhile(slept)
 
         clock = {"time": lambda: NOW + slept, "monotonic": lambda: slept, "sleep": sleep}
-        with mock.patch.object(watch, "time", mock.Mock(**clock)):
+        with mock.patch.object(watch, "time", mock.Mock(**clock)), mock.patch.object(watch, "is_locked", self.is_locked):
             return self.run_tool(watch.main, *words)
+
+    def is_locked(self, folder):
+        """Whether a run has the folder: so while these tests don't say otherwise."""
+        return True
 
     def put(self, name, octets, age):
         """Puts this many octets into a file, written `age` seconds ago."""
@@ -104,6 +112,61 @@ class Watching(InFolder):
         self.path("report.txt", b"no memory\n")
         status, _, err = self.watch(self.folder, "--plain")
         self.assertEqual((status, err), (1, f"watch.py: {self.folder}: ended without a report: no memory\n"))
+
+    def test_one_look_at_a_run_that_nobody_has(self):
+        self.put("report.txt", 0, 10)
+        self.put("1.out", 153 * 160, 1)
+        self.is_locked = lambda folder: False
+        status, out, err = self.watch(self.folder, "--once")
+        self.assertEqual((status, out), (1, "watch periods 153 of 386, 39 %, calls done 1 of 4\n"))
+        said = "ended without a report: no process of this machine has the folder's lock"
+        self.assertEqual(err, f"watch.py: {self.folder}: {said}\n")
+        # A run that hasn't begun, or proves the program first, has no lock yet; and some systems show none.
+        self.put("1.out", 153 * 160, 60)
+        self.assertEqual(self.watch(self.folder, "--once")[::2], (0, ""))
+        self.put("1.out", 153 * 160, 1)
+        self.is_locked = lambda folder: None
+        self.assertEqual(self.watch(self.folder, "--once")[::2], (0, ""))
+
+    def test_a_run_that_is_killed(self):
+        self.put("report.txt", 0, 10)
+        self.put("1.out", 50 * 160, 1)
+        locks = iter([True, True, False])
+        self.is_locked = lambda folder: next(locks)
+        status, out, err = self.watch(self.folder, "--plain")
+        self.assertEqual((status, out.count("\n")), (1, 3))
+        self.assertIn("ended without a report: no process of this machine has the folder's lock\n", err)
+
+    def test_a_run_that_never_had_the_lock(self):
+        self.put("report.txt", 0, 10)
+        self.put("1.out", 50 * 160, 1)
+        self.is_locked = lambda folder: False
+        status, out, err = self.watch(self.folder, "--plain", "--interval", "2", "--patience", "6")
+        self.assertEqual((status, err), (1, "watch.py: no growth for 6 s: stalled or ended\n"))
+
+    def test_one_of_two_runs_is_dead(self):
+        other = self.folder / "other"
+        other.mkdir()
+        lay("clean", other)
+        for folder in (self.folder, other):
+            (folder / "report.txt").write_bytes(b"")
+            os.utime(folder / "report.txt", (NOW - 10, NOW - 10))
+        self.put("1.out", 160, 1)
+        self.put("other/1.out", 160, 1)
+        self.is_locked = lambda folder: folder == self.folder
+        status, out, err = self.watch(self.folder, other, "--once")
+        self.assertEqual((status, err.count("\n")), (1, 1))
+        self.assertIn(f"{other}: ended without a report: no process", err)
+
+    @unittest.skipUnless(SHOWS_LOCKS, "there is no flock, or the system shows no locks")
+    def test_the_lock(self):
+        self.assertFalse(watch.is_locked(self.folder))
+        with shard.alone_in(self.folder):
+            self.assertTrue(watch.is_locked(self.folder))
+        self.assertFalse(watch.is_locked(self.folder))
+        self.assertIsNone(watch.is_locked(self.folder / "gone"))
+        with mock.patch.object(watch, "LOCKS", self.folder / "gone"):
+            self.assertIsNone(watch.is_locked(self.folder))
 
     def test_refused(self):
         for words, part in (
