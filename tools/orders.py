@@ -1,6 +1,6 @@
 #!/usr/bin/env python3
 """Says what is wrong with the orders of a run, line by line and in words; `trau run` names only the first bad line. It also strips comments
-and empty lines, which `trau run` doesn't take, from orders.
+and empty lines, which `trau run` doesn't take, from orders, and reckons the number of the order `level` for a tone.
 
 It warns of orders that are in the grammar but that the run will refuse, and of lines that aren't what their names say.
 """
@@ -10,14 +10,16 @@ from __future__ import annotations
 import tool_start  # first, for what comes after it
 
 import argparse
+import math
 import os
 import sys
 from dataclasses import dataclass, field
 from pathlib import Path
-from typing import Dict, List, NamedTuple, Optional, Sequence, Tuple
+from typing import Callable, Dict, List, NamedTuple, Optional, Sequence, Tuple
 
 import file_kinds
 import marks
+import tone_peaks
 import trau_frames
 from file_kinds import Kind, Look
 from outgoing import said_of_outgoing
@@ -35,7 +37,7 @@ from run_texts import (
     whole_periods,
 )
 from tool_ends import tool
-from trau_frames import Refusal
+from trau_frames import Law, Refusal
 from word_faults import fault_of_number, faults_of_spaces, grouped, shown
 
 # The words after an order's name, as the documents show them; the other orders have only C.
@@ -419,11 +421,18 @@ def add_strip(commands: argparse._SubParsersAction) -> None:
         help="leaves out comments and empty lines",
         description="Writes the orders without comments, which begin with # anywhere in a line and the spaces before them, and without\n"
         "empty lines. `trau run` numbers the remaining lines.",
-        epilog="example: orders.py strip notes.txt | trau run",
+        epilog="example: orders.py strip <notes.txt | trau run",
         formatter_class=argparse.RawDescriptionHelpFormatter,
         allow_abbrev=False,
     )
-    added.add_argument("orders", type=Path, metavar="ORDERS", help="the file of the orders, or - for standard input")
+    added.add_argument(
+        "orders",
+        type=Path,
+        nargs="?",
+        default=trau_frames.STREAM,
+        metavar="ORDERS",
+        help="the file of the orders (default standard input, which - names too)",
+    )
     added.add_argument(
         "new",
         type=Path,
@@ -435,6 +444,52 @@ def add_strip(commands: argparse._SubParsersAction) -> None:
     added.set_defaults(runs=strip)
 
 
+# The level of a tone
+
+
+def level(words: argparse.Namespace) -> int:
+    """Says for which numbers of the order `level` a tone counts as speech."""
+    peaks = tone_peaks.peaks_of_tone(words.dbm0, words.hertz, words.law)
+    silence = f"from {max(peaks) + 1}" if max(peaks) < MOST_LEVEL else "never"
+    print(f"level tone {words.dbm0:g} dBm0 {words.hertz:g} Hz speech to {min(peaks)} silence {silence}")
+    return 0
+
+
+def figure_within(least: float, most: float) -> Callable[[str], float]:
+    """Reads a figure between these ends."""
+
+    def read(word: str) -> float:
+        try:
+            figure = float(word)
+        except ValueError:
+            figure = math.nan
+        if not least <= figure <= most:
+            raise argparse.ArgumentTypeError(f"{word} isn't {least:g} to {most:g}")
+        return figure
+
+    return read
+
+
+def add_level(commands: argparse._SubParsersAction) -> None:
+    """Adds the command `level`."""
+    added = commands.add_parser(
+        "level",
+        help="says which number `level` is for a tone",
+        description="Prints up to which number V of the order `S level C V` each frame of a tone on the Pcm line counts as speech, and\n"
+        "from which on none does; between them its phase decides. The peaks of its frames are computed as the encoder does it (GSM\n"
+        "06.10, sections 4.2.1 to 4.2.3), for 200 frames at all phases.",
+        epilog="example: orders.py level -30 1000",
+        formatter_class=argparse.RawDescriptionHelpFormatter,
+        allow_abbrev=False,
+    )
+    ends = tone_peaks.LEAST_DBM0, tone_peaks.MOST_DBM0
+    added.add_argument("dbm0", type=figure_within(*ends), metavar="DBM0", help="the tone's level in dBm0, {:g} to {:g}".format(*ends))
+    ends = tone_peaks.LEAST_HERTZ, tone_peaks.MOST_HERTZ
+    added.add_argument("hertz", type=figure_within(*ends), metavar="HERTZ", help="its frequency in Hz, {:g} to {:g}".format(*ends))
+    added.add_argument("--law", type=Law, choices=list(Law), default=Law.A, help="the law of the line (default alaw)")
+    added.set_defaults(runs=level)
+
+
 @tool("orders.py")
 def main(words: Sequence[str]) -> int:
     """Runs the words of the command line, and returns the exit status."""
@@ -444,6 +499,7 @@ def main(words: Sequence[str]) -> int:
     commands = program.add_subparsers(metavar="COMMAND", required=True, parser_class=trau_frames.Words)
     add_check(commands)
     add_strip(commands)
+    add_level(commands)
     asked = program.parse_args(words)
     return asked.runs(asked)
 

@@ -6,13 +6,21 @@ import random
 import re
 import shutil
 import subprocess
+import sys
 import unittest
 from unittest import mock
 
 import support
-from support import EXAMPLES, InFolder
+from support import EXAMPLES, TOP, InFolder
 
 import orders
+import tone_peaks
+import trau_frames
+from trau_frames import Law
+
+sys.path.append(str(TOP))
+
+from model.codec import Preprocessing
 
 PROGRAM = os.environ.get("TRAU_PROGRAM", "")
 
@@ -304,6 +312,8 @@ class Orders(InFolder):
         self.assertEqual(new.read_bytes(), wanted)
         ended = subprocess.run([support.TOOLS / "orders.py", "strip", "-"], input=notes, capture_output=True)
         self.assertEqual((ended.returncode, ended.stdout, ended.stderr), (0, wanted, b""))
+        ended = subprocess.run([support.TOOLS / "orders.py", "strip"], input=notes, capture_output=True)
+        self.assertEqual((ended.returncode, ended.stdout, ended.stderr), (0, wanted, b""))
         # Nothing else is changed, so orders without comments stay as they are.
         for content in ((EXAMPLES / "farm" / "orders.txt").read_bytes(), b"", b" 0 open 1\r\n", b"\xff\n"):
             self.run_tool(orders.main, "strip", self.path("notes.txt", content), new)
@@ -326,6 +336,45 @@ class Orders(InFolder):
         for words in ([], ["check"], ["strip"]):
             ended = subprocess.run([tool, *words, "--help"], capture_output=True)
             self.assertEqual((ended.returncode, ended.stderr), (0, b""))
+
+
+class LevelOfATone(InFolder):
+    def said(self, *words):
+        status, out, err = self.run_tool(orders.main, "level", *words)
+        self.assertEqual((status, err), (0, ""))
+        return out
+
+    def test_as_the_model_preprocesses(self):
+        chance = random.Random(1)
+        samples = [chance.randrange(-32768, 32768) for _ in range(2000)] + 500 * [-32768, 32767] + 900 * [32767]
+        self.assertEqual(list(tone_peaks.preprocessed(samples)), Preprocessing().run(samples))
+
+    def test_numbers(self):
+        self.assertEqual(self.said("-30", "1000"), "level tone -30 dBm0 1000 Hz speech to 245 silence from 269\n")
+        self.assertEqual(self.said("-30", "1000", "--law", "mulaw"), "level tone -30 dBm0 1000 Hz speech to 247 silence from 270\n")
+        for words, part in ((["x", "1000"], "x isn't -60 to 3"), (["-30", "nan"], "nan isn't 50 to 3950"), (["-30"], "HERTZ")):
+            self.assert_refused(orders.main, ["level", *words], part)
+
+    def test_the_loudest(self):
+        with mock.patch.object(tone_peaks, "peaks_of_tone", lambda *_: [32000, 32767]):
+            self.assertTrue(self.said("3", "1000").endswith("speech to 32000 silence never\n"))
+
+    @unittest.skipUnless(os.access(PROGRAM, os.X_OK), "TRAU_PROGRAM names no program")
+    def test_by_the_program(self):
+        # A second of the tone, at some phase, and its downlink with DTX: at the first number all frames are speech, at the other none is.
+        chance = random.Random(1)
+        for words, law in ((("-30", "1000"), Law.A), (("-45", "333"), Law.A), (("-10", "2900"), Law.MU)):
+            numbers = re.findall(r"(?:to|from) (\d+)", self.said(*words, "--law", law))
+            line = tone_peaks.tone(*map(float, words), chance.random(), law, 8000)
+            self.path("1.pcm", line)
+            self.path("1.up", (EXAMPLES / "7.up").read_bytes()[: 50 * 40])
+            kinds = []
+            for number in numbers:
+                text = f"0 open 1{' mulaw' if law is Law.MU else ''}\n0 level 1 {number}\n0 dtx 1 on\n"
+                subprocess.run([PROGRAM, "run"], input=text.encode(), cwd=self.folder, check=True, capture_output=True)
+                frames = list(support.frames_of_downlink(trau_frames.bits_of(self.path("1.down").read_bytes())))[25:]
+                kinds.append({trau_frames.control_of(frame)[15] for frame in frames})
+            self.assertEqual(kinds, [{"1"}, {"0"}], words)
 
 
 @unittest.skipUnless(os.access(PROGRAM, os.X_OK), "TRAU_PROGRAM names no program")
