@@ -3,8 +3,8 @@ the documents, the examples, the tools, the C library of the codec, SHA256SUMS a
 too. The installed program needs only the system's C library; the tools need Python 3.
 
 tools/build.py proves and builds the programs, and clib/build the library; both come first if a source changed. If TRAU_PROGRAM names the program,
-or there is no C compiler, a library that isn't built yet is left out. The same sources, program and library give the same octets. The
-version is that of docs/CHANGELOG.md.
+or there is no C compiler, a library that isn't built yet is left out, as --without-library leaves out any. The same sources, program and
+library give the same octets. The version is that of docs/CHANGELOG.md.
 """
 
 from __future__ import annotations
@@ -176,8 +176,8 @@ def documents() -> Dict[str, Path]:
     return found
 
 
-def members(state: State) -> Dict[str, Member]:
-    """The files of the package, by their names in it."""
+def members(state: State, library: Dict[str, bytes]) -> Dict[str, Member]:
+    """The files of the package, by their names in it, with these of the C library."""
     found = {name: Member(trau_frames.read_file(TOP / name), True) for name in SCRIPTS}
     found["install"] = Member(trau_frames.read_file(TOP / "tools" / "install"), True)
     found.update((name, Member(content, True)) for name, content in programs().items())
@@ -189,7 +189,7 @@ def members(state: State) -> Dict[str, Member]:
     found["trau.bash"] = Member(trau_words.completion().encode())
     for name in (*TOOLS, *BESIDE_TOOLS):
         found[f"tools/{name}"] = Member(trau_frames.read_file(TOP / "tools" / name), name in TOOLS)
-    found.update((name, Member(content)) for name, content in proved_library().items())
+    found.update((name, Member(content)) for name, content in library.items())
     found["clib/with"] = Member(trau_frames.read_file(TOP / "clib" / "with"), True)
     for name, path in files_below(TOP / "examples").items():
         if EXAMPLES.fullmatch(name):
@@ -224,17 +224,18 @@ def main(words: Sequence[str]) -> int:
     )
     parser.add_argument("folder", type=Path, metavar="FOLDER", help="the folder to write the package to")
     parser.add_argument("--deb", action="store_true", help="make Debian packages too, with dpkg-deb")
+    parser.add_argument("--without-library", action="store_true", help="leave the C library out")
     asked = parser.parse_args(words)
     if not asked.folder.is_dir():
         raise Refusal(f"{asked.folder}: isn't a folder")
     state = state_of_repository()
-    found = members(state)
+    found = members(state, {} if asked.without_library else proved_library())
     made = {f"{state.name()}.tar.gz": tarball(state, found)}
     if asked.deb:
         author = git("log", "-1", "--format=%an <%ae>")
         made.update(trau_deb.packages({name: member.content for name, member in found.items()}, author, state.seconds))
     if not any(name.startswith(trau_deb.BUILT) for name in found):
-        print("package without the C library, which isn't built")
+        print("package without the C library" + ("" if asked.without_library else ", which isn't built"))
     for name, content in made.items():
         trau_frames.write_file(asked.folder / name, content, [])
         print(f"package {asked.folder / name} octets {len(content)} sha256 {hashlib.sha256(content).hexdigest()}")

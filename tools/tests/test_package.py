@@ -81,6 +81,12 @@ if not HAS_LIBRARY:
     os.environ["CC"] = "/no/compiler"
 
 
+class Versions(unittest.TestCase):
+    def test_the_version_of_pkg_config_is_the_packages(self):
+        lines = (TOP / "clib" / "trau_fr.pc").read_text().splitlines()
+        self.assertIn(f"Version: {trau_deb.versions()[0][0]}", lines)
+
+
 class Modules(unittest.TestCase):
     def test_all_that_the_tools_import_is_packed(self):
         packed = {*trau_package.TOOLS, *trau_package.BESIDE_TOOLS}
@@ -183,7 +189,8 @@ class Package(InFolder):
         package = self.unpack()
         status, out, err = self.said(package / "trau", "--version")
         self.assertEqual((status, err), (0, ""))
-        self.assertIn("\nprogram: for x86-64-v", out)
+        given = "the one that TRAU_PROGRAM named when it was packed\n"
+        self.assertIn("\nprogram: " + (given if trau_package.is_given() else "for x86-64-v"), out)
         self.assertRegex(out, r"^trau [0-9a-f]+(-changed)? of \d{4}-\d\d-\d\d, " + re.escape(trau_package.origin()))
         status, out, err = self.said(package / "demo")
         self.assertEqual((status, err), (0, ""))
@@ -261,6 +268,28 @@ class Package(InFolder):
         self.assertEqual(status, 0)
         self.assertIn("the program is /usr/bin/trau", out)
         self.assertEqual(self.said(self.folder / "root" / "usr" / "bin" / "trau")[:2], (1, "usage\n"))
+
+    def test_in_a_clone(self):
+        prefix = self.folder / "prefix"
+        status, out, err = self.said(TOOLS / "install", "--prefix", prefix)
+        said = "this script installs the package that it lies in, and no package is here; tools/package of a clone makes one, with it in"
+        self.assertEqual((status, out, err, prefix.exists()), (2, "", f"install: {said}\n", False))
+
+    def test_without_the_library(self):
+        other = self.path("other")
+        other.mkdir()
+        ended = subprocess.run([TOOLS / "package", "--without-library", other], capture_output=True, text=True)
+        self.assertEqual((ended.returncode, ended.stdout.splitlines()[0]), (0, "package without the C library"))
+        with tarfile.open(next(other.iterdir())) as tar:
+            self.assertEqual([name for name in tar.getnames() if "/clib/out/" in name], [])
+            tar.extractall(other)
+        clib = next(path for path in other.iterdir() if path.is_dir()) / "clib"
+        status, out, err = self.said("sh", "-c", f"sed 's|/usr/|/no/|g' {clib}/with >{clib}/there; sh {clib}/there true")
+        lacks = "this package has no C library, and libtrau-fr1 isn't installed; TRAU_CLIB names another folder that has one"
+        self.assertEqual((status, out), (2, ""))
+        self.assertEqual(err, f"clib/with: there is no {clib}/out/lib/trau-gsm/libgsm.so.1: {lacks}\n")
+        status, out, err = self.said(clib / "with", "--help")
+        self.assertEqual((status, "on the C library of this package.\n" in out, "clib/build" in out), (0, True, False))
 
     def test_refused(self):
         package, prefix = self.unpack(), self.folder / "prefix"

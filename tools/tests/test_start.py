@@ -631,6 +631,13 @@ class TwoPrograms(Started):
         self.assertEqual(self.trau("relay", "7", TRAU_CPU="x86-64-v2"), self.V2_RUNS)
         (self.top / "trau_program.x86-64-v3").unlink()
         self.assertEqual(self.trau("relay", "7"), self.V2_RUNS)
+        one = "program: for x86-64-v2; this machine's processor could run one for x86-64-v3, which isn't in this package"
+        self.assertEqual(self.trau("--version")[1].splitlines()[1], one)
+        # Of what kind a program is that somebody named, nobody knows.
+        (self.top / "VERSION").write_text("trau of a package, with a program that TRAU_PROGRAM named\n")
+        self.assertEqual(self.trau("--version")[1].splitlines()[1], "program: the one that TRAU_PROGRAM named when it was packed")
+        self.assertEqual(self.trau("relay", "7", TRAU_CPU="x86-64-v3"), self.V2_RUNS)
+        (self.top / "VERSION").write_text("trau of a package\n")
         said = "trau: this package has no program for x86-64-v3\n"
         self.assertEqual(self.trau("relay", "7", TRAU_CPU="x86-64-v3"), (125, "", said))
 
