@@ -65,7 +65,7 @@ if [ -r "$farm" ] && command -v flock >/dev/null; then
 fi
 """
 
-# What a part is given on a cluster: memory and time are some ten times those measured (docs/PERFORMANCE.md).
+# What a part is given on a cluster: ten times the time measured (docs/PERFORMANCE.md), and more memory than its calls and rounds need.
 SLURM_TEXT = """#!/bin/sh
 #SBATCH --job-name=trau
 #SBATCH --array=0-{last}
