@@ -212,7 +212,10 @@ NOTE_ON_FILES = (
     " commands of one call write the same files as run does."
 )
 NOTE_ON_OPTIONS = "A value is the next word, or follows an equals sign. Each option is given once at most."
-NOTE_ON_ORDERS = "An order is a line of words with one space between. S is the period at whose start it takes effect."
+NOTE_ON_ORDERS = (
+    "An order is a line of words with one space between. S is the period at whose start it takes effect. Comments and empty lines"
+    " aren't orders; tools/orders.py strip, installed as trau-orders, leaves them out."
+)
 NOTE_ON_HELP = (
     "help and --help print a help, help COMMAND and COMMAND --help the page of a command, and --version says what is installed."
     " What is wrong with words that are no command, and why a line failed, stands on standard error."

@@ -27,7 +27,7 @@ PRINTS = (
     "report.py --help",
     "timeline.py {} {}/run.svg",
     "watch.py {} --once",
-    "shard.py split {} {}/cut --parts 2",
+    "shard.py cut {} {}/cut --parts 2",
     "trau_words.py man",
     "package --help",
 )
@@ -115,9 +115,9 @@ class Ends(InFolder):
             (f"lines.py uplink {DATA}/speech.gsm {{}}/9.up", 100, "9.up"),
             ("timeline.py {} {}/run.svg", 100, "run.svg"),
             ("orders.py strip {}/orders.txt {}/stripped.txt", 100, "stripped.txt"),
-            ("shard.py split {} {}/cut --parts 2", 10, "cut/0/orders.txt"),
-            ("shard.py split {} {}/cut --parts 2", 400, "cut/0/run.sh"),
-            ("shard.py split {} {}/cut --parts 1 --copy", 2000, r"cut/0/\d\.(?:up|pcm)"),
+            ("shard.py cut {} {}/cut --parts 2", 10, "cut/0/orders.txt"),
+            ("shard.py cut {} {}/cut --parts 2", 400, "cut/0/run.sh"),
+            ("shard.py cut {} {}/cut --parts 1 --copy", 2000, r"cut/0/\d\.(?:up|pcm)"),
         ):
             ended = subprocess.run(self.words(line), capture_output=True, text=True, preexec_fn=limited(octets))
             self.assert_one_line(line, ended)
