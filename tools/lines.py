@@ -43,9 +43,10 @@ class Made(NamedTuple):
     kind: str = ""
 
 
-# What files are, and the sides of the lines that they may be. An octet of a law is one on either side.
+# What files are, and the sides of the lines that they may be. An octet of a law is one on either side, and a channel may be of either way.
 UPLINK, OF_A_LAW, WAV, FRAMES, CAPTURE = "an uplink", "A-law or mu-law", "a WAV file", "frames of libgsm", "a capture"
-SIDES_OF = {UPLINK: ("up",), OF_A_LAW: ("pcm", "out"), WAV: (), FRAMES: (), CAPTURE: ()}
+CHANNEL = "a channel of 16 kbit/s"
+SIDES_OF = {UPLINK: ("up",), OF_A_LAW: ("pcm", "out"), WAV: (), FRAMES: (), CAPTURE: (), CHANNEL: ("up", "down")}
 KINDS_OF_SIDES = {"up": UPLINK, "down": "a downlink", "pcm": OF_A_LAW, "out": OF_A_LAW}
 
 
@@ -171,10 +172,17 @@ def capture(words: argparse.Namespace, given: bytes) -> Made:
 
 
 def slot(words: argparse.Namespace, given: bytes) -> Made:
-    """A time slot, whose octets were taken from a recording of a whole line as it was read."""
+    """A time slot, whose octets were taken from a recording of a whole line as it was read, or a channel of it."""
     if not given:
         raise Refusal(f"{words.given}: has no octet of slot {words.slot}")
-    return Made(slots.turned(given) if words.lsb_first else given, f"slot octets {len(given)}")
+    octets = slots.turned(given) if words.lsb_first else given
+    if words.channel is None:
+        return Made(octets, f"slot octets {len(octets)}")
+    channel = slots.channel(octets, words.channel)
+    if not channel:
+        raise Refusal(f"{words.given}: slot {words.slot} has {len(octets)} octets, and four make one of a channel")
+    left = len(octets) % slots.CHANNELS
+    return Made(channel, f"slot octets {len(channel)} channel {words.channel} left {left}", CHANNEL)
 
 
 MOST_IDLE_PERIODS = 1_000_000
@@ -492,9 +500,14 @@ def add_slot(commands: argparse._SubParsersAction) -> None:
         slot,
         "IN",
         "OUT",
-        "Takes one time slot from a recording of a whole line: every Nth octet, such as each 32nd one of an E1 line. Without --of the\n"
-        "recording is of one slot, and --lsb-first turns the bits of its octets. Prints `slot octets N`.",
-        "line.e1 1.pcm --slot 16 --of 32, and then: trau split 1",
+        "Takes one time slot from a recording of a whole line: every Nth octet, such as each 32nd one of an E1 line. With --channel it\n"
+        "takes one of the slot's four channels of 16 kbit/s, an uplink or a downlink. Without --of the recording is of one slot, and\n"
+        "--lsb-first turns the bits of its octets. Prints `slot octets N`, with --channel also `channel J left R`: the octets of the\n"
+        "slot after the last four.",
+        "line.e1 1.up --slot 16 --of 32 --channel 2",
+    )
+    added.add_argument(
+        "--channel", type=number_within(0, slots.CHANNELS - 1), metavar="J", help="the channel of the slot, 0 to 3, as `trau split` counts them"
     )
     added.add_argument(
         "--slot", type=number_within(0, slots.MOST_SLOTS - 1), default=0, metavar="N", help="the slot, counted from 0 (default 0)"

@@ -147,6 +147,37 @@ class Slots(Recorded):
         self.lines("slot", path, self.path("1.pcm"), "--slot", "16", "--of", "32", "--skip", "23", "--lsb-first")
         self.assertEqual(self.path("1.pcm").read_bytes(), slot[1:])
 
+    def test_a_channel_of_a_slot(self):
+        up, down = (EXAMPLES / "7.up").read_bytes()[:4000], (WANTED / "2.down").read_bytes()[:4000]
+        channels = [up, down, shifted(up, 5)[:4000], bytes(4000)]
+        slot = merged(channels)
+        for content, words in (
+            (slot, []),
+            (slots.turned(slot), ["--lsb-first"]),
+            (e1(slot), ["--slot", "16", "--of", "32"]),
+            (slots.turned(e1(slot)[9:]), ["--slot", "16", "--of", "32", "--skip", "23", "--lsb-first"]),
+        ):
+            # Where the first octet of the slot is cut off, each channel lacks its first two bits.
+            cut = words[-1:] == ["--lsb-first"] and len(words) > 1
+            for name in ("line", "line.gz"):
+                path = self.path(name, gzip.compress(content) if name.endswith(".gz") else content)
+                for number, channel in enumerate(channels):
+                    new = self.path(f"{number}.up" if number % 2 == 0 else f"{number}.down")
+                    said = self.lines("slot", path, new, "--channel", number, *words)
+                    self.assertEqual(said, f"slot octets {4000 - cut} channel {number} left {3 * cut}\n")
+                    bits = trau_frames.bits_of(channel)[2 * cut :]
+                    self.assertEqual(trau_frames.bits_of(new.read_bytes()), bits[: 32000 - 8 * cut])
+
+    def test_a_channel_that_is_refused(self):
+        line, new = self.path("line", bytes(64)), self.path("1.up")
+        for words, part in (
+            (["--channel", "4"], "4 isn't 0 to 3"),
+            (["--channel", "0", "--slot", "3", "--of", "32"], "slot 3 has 2 octets, and four make one of a channel"),
+        ):
+            self.assert_refused(lines.main, ["slot", line, new, *words], part)
+        said = "1.pcm: is A-law or mu-law by its name, and what would be written is a channel of 16 kbit/s"
+        self.assert_refused(lines.main, ["slot", line, self.path("1.pcm"), "--channel", "1"], said)
+
     def test_the_bits_alone(self):
         up = shifted((EXAMPLES / "7.up").read_bytes(), 5)
         self.lines("slot", self.path("turned", slots.turned(up)), self.path("1.up"), "--lsb-first")
