@@ -8,10 +8,12 @@ from __future__ import annotations
 
 import enum
 import re
-from dataclasses import dataclass
+from collections import Counter
+from dataclasses import dataclass, replace
 from pathlib import Path
-from typing import Dict, NamedTuple, NoReturn, Optional, Tuple
+from typing import Dict, Mapping, NamedTuple, NoReturn, Optional, Tuple
 
+import frame_kinds
 import readings
 import recordings
 import slots
@@ -37,6 +39,8 @@ class Kind(enum.Enum):
     REPORT = "a report"
     UPLINK = "an uplink"
     DOWNLINK = "a downlink"
+    OTHER_FRAMES = "frames that aren't full rate speech"
+    PROGRAM = "a program"
     E1 = "an E1 line"
     SLOT = "a time slot"
     LAW = "sound of a law"
@@ -91,6 +95,7 @@ MAGICS = (
     (b"BZh", Kind.PACKED, "packed by bzip2", "bunzip2 -k {}"),
     (b"\xfd7zXZ\0", Kind.PACKED, "packed by xz", "unxz -k {}"),
     (b"PK\3\4", Kind.PACKED, "a zip archive", "unzip {}"),
+    (b"\x7fELF", Kind.PROGRAM, "a program or a library", ""),
 )
 # Magics that don't begin their files: their places come first. The head of a tar archive has the sync bits of a frame by its digits.
 MAGICS_WITHIN = (
@@ -139,14 +144,18 @@ def is_mostly_magic(octets: bytes) -> bool:
 
 
 def by_gsm(head: bytes, size: int) -> Optional[Look]:
-    """Frames of libgsm, each of which begins with its magic, and the other octets of which mostly don't."""
-    firsts = head[::GSM_OCTETS]
-    if len(head) < GSM_OCTETS or any(octet >> 4 != GSM_MAGIC for octet in firsts):
+    """Frames of libgsm, each of which begins with its magic, and the other octets of which mostly don't. Zeros may stand for lost frames."""
+    frames = [head[place : place + GSM_OCTETS] for place in range(0, len(head), GSM_OCTETS)]
+    lost = sum(not any(frame) for frame in frames)
+    with_magic = sum(frame[0] >> 4 == GSM_MAGIC for frame in frames)
+    if len(head) < GSM_OCTETS or lost + with_magic < len(frames) or lost > with_magic:
         return None
-    if is_mostly_magic(head) or len(firsts) < LEAST_FRAMES_OF_CUT and size % GSM_OCTETS:
+    if is_mostly_magic(head) or len(frames) < LEAST_FRAMES_OF_CUT and size % GSM_OCTETS:
         return None
     left = size % GSM_OCTETS
     cut, word = (f", and {left} octets of one that was cut", " --partial") if left else ("", "")
+    if lost:
+        cut, word = f"{cut}; zeros stand for lost ones", f"{word} --zeros lost"
     return Look(Kind.GSM, f"{size // GSM_OCTETS} frames of libgsm{cut}", f"lines.py uplink {{}} NEW.up{word}")
 
 
@@ -170,54 +179,98 @@ def by_text(head: bytes, size: int) -> Optional[Look]:
 
 
 class Frames(NamedTuple):
-    """The frames that were found in bits: those of an uplink and those of a downlink, the bit at which the first one begins, and the part
-    of the bits from there on that frames cover."""
+    """The frames that were found in bits: those of an uplink and those of a downlink, those of other kinds by C1 to C5, the bit at which the
+    first one begins, and the part of the bits from there on that frames cover."""
 
     up: int
     down: int
+    others: Mapping[str, int]
     first: int
     covered: float
 
     def count(self) -> int:
         """How many they are."""
-        return self.up + self.down
+        return self.up + self.down + sum(self.others.values())
 
 
-UP = (trau_frames.SPEECH_UP, trau_frames.IDLE_UP)
-DOWN = (trau_frames.SPEECH_DOWN, trau_frames.IDLE_DOWN)
+# Sync bits and code words come by chance too, as in programs and in loud square waves, but those of speech hardly in a row.
+LEAST_ROW = 3
+# In a channel, which has two of the eight bits of an octet, the signs and segments of idle sound look like a frame at times.
+LEAST_COVERED = 0.5
+WAYS = ("up", "down")
+
+
+def way_of(code: str) -> str:
+    """What frames with these bits C1 to C5 have in common with those beside them: the way of the line, or their kind."""
+    if code in frame_kinds.UP or code in frame_kinds.DOWN:
+        return "up" if code in frame_kinds.UP else "down"
+    return code
+
+
+class Rows:
+    """The frames of a line as they are found: how many of each way, and the most in a row, each of which begins where the one before ended, or
+    after a shift of the timing."""
+
+    def __init__(self) -> None:
+        self.ways: Counter = Counter()
+        self.most: Counter = Counter()
+        self.first: Optional[int] = None
+        self.way, self.end, self.length = "", 0, 0
+
+    def take(self, found: re.Match) -> None:
+        """One frame more."""
+        way = way_of(frame_kinds.code_of(found.group()))
+        goes_on = way == self.way and found.start() - self.end < trau_frames.FRAME_BITS
+        self.length = self.length + 1 if goes_on else 1
+        self.way, self.end = way, found.end()
+        self.ways[way] += 1
+        self.most[way] = max(self.most[way], self.length)
+        if self.first is None and way in (*WAYS, *frame_kinds.OTHERS):
+            self.first = found.start()
 
 
 def frames_of(octets: bytes) -> Optional[Frames]:
-    """The frames of a line. Sync bits alone may come by chance, as in a loud square wave, so most frames must have known control bits."""
-    up = down = other = 0
-    first: Optional[int] = None
+    """The frames of a line. Sync bits alone may come by chance, so most frames must have known code words. Some of full rate speech must follow
+    one another, or the frames must be most of what is there."""
     bits = trau_frames.bits_of(octets)
+    rows = Rows()
     for found in trau_frames.FRAME_OF_DOWNLINK.finditer(bits):
-        control = trau_frames.control_of(found.group())
-        if control.startswith(UP):
-            up += 1
-        elif control.startswith(DOWN):
-            down += 1
-        else:
-            other += 1
-            continue
-        first = found.start() if first is None else first
-    if first is None or other > up + down:
+        rows.take(found)
+    ways, others = rows.ways, {code: count for code, count in rows.ways.items() if code in frame_kinds.OTHERS}
+    known = ways["up"] + ways["down"] + sum(others.values())
+    if rows.first is None or 2 * known < sum(ways.values()):
         return None
-    return Frames(up, down, first, (up + down) * trau_frames.FRAME_BITS / (len(bits) - first))
+    covered = known * trau_frames.FRAME_BITS / (len(bits) - rows.first)
+    are_few = max(rows.most.values()) < LEAST_ROW and known * trau_frames.FRAME_BITS < LEAST_COVERED * len(bits)
+    if max(rows.most["up"], rows.most["down"]) < LEAST_ROW and (are_few or covered < LEAST_COVERED):
+        return None
+    return Frames(ways["up"], ways["down"], others, rows.first, covered)
+
+
+def others_said(frames: Frames) -> str:
+    """The frames of a line of speech that aren't full rate, in words; one or two may be there by chance."""
+    counts = Counter({code: count for code, count in frames.others.items() if count >= LEAST_ROW})
+    kinds = " and ".join(f"{count} are {frame_kinds.said_of(code)}" for code, count in counts.most_common())
+    return f"; of the {frames.count()} frames at its start {kinds}, which trau doesn't decode" if kinds else ""
 
 
 def line_said(frames: Frames) -> Tuple[Kind, str]:
     """The kind of a line of frames, and the same in words."""
+    place = f"its first frame at bit {frames.first}"
+    if not frames.up + frames.down:
+        code = max(frames.others, key=frames.others.__getitem__)
+        return Kind.OTHER_FRAMES, f"a line of {frame_kinds.said_of(code)}, which trau doesn't decode, {place}"
     kind = Kind.UPLINK if frames.up >= frames.down else Kind.DOWNLINK
-    return kind, f"{kind.value}, its first frame at bit {frames.first}"
+    return kind, f"{kind.value}, {place}{others_said(frames)}"
 
 
 COMMANDS = {
     Kind.UPLINK: "trau run takes it as C.up, and makes sound of it",
     Kind.DOWNLINK: "lines.py listen {} NEW.wav",
+    Kind.OTHER_FRAMES: "",
 }
-TURN = "lines.py slot {} NEW --lsb-first"
+LSB_FIRST = " --lsb-first"
+TURN = f"lines.py slot {{}} NEW{LSB_FIRST}"
 TURNED = ", with the bits of each octet in the other order"
 
 
@@ -229,10 +282,6 @@ def by_frames(head: bytes, size: int) -> Optional[Look]:
         return None
     kind, said = line_said(frames)
     return Look(kind, said + TURNED * turned, TURN if turned else COMMANDS[kind], turned)
-
-
-# In a channel, which has two of the eight bits of an octet, the signs and segments of idle sound look like a frame at times.
-LEAST_COVERED = 0.5
 
 
 def frames_of_channels(slot: bytes) -> Dict[int, Frames]:
@@ -248,7 +297,7 @@ def by_channels(head: bytes, size: int) -> Optional[Look]:
     if not channels:
         return None
     said = "; ".join(f"channel {number} is {line_said(frames)[1]}" for number, frames in channels.items())
-    command = TURN if turned else "name it C.pcm, and trau split C"
+    command = f"lines.py slot {{}} NEW.up --channel J{LSB_FIRST * turned}"
     return Look(Kind.SLOT, f"a time slot of 64 kbit/s: {said}{TURNED * turned}", command, turned)
 
 
@@ -275,7 +324,7 @@ def by_signal(head: bytes, size: int) -> Optional[Look]:
         for first in range(slots.SLOTS_OF_E1):
             if has_signal(octets[first:]):
                 began = f" from octet {first} on" if first else ""
-                order = " --lsb-first" if turned else ""
+                order = LSB_FIRST * turned
                 skip = f" --skip {first}" if first else ""
                 command = f"lines.py slot {{}} NEW.pcm --slot N --of {slots.SLOTS_OF_E1}{skip}{order}"
                 return Look(Kind.E1, f"an E1 line of {slots.SLOTS_OF_E1} slots{began}{TURNED * turned}", command, turned)
@@ -291,7 +340,7 @@ def look_of_reading(reading: Reading) -> Look:
         command = "sox -t raw -r 8000 -c 1 -b 16 -e signed-integer {} NEW.wav"
         return Look(Kind.LINEAR, "sound of 16 bits a sample, as it seems", command)
     law = "" if reading.law is Law.A else f" --law {reading.law}"
-    order = " --lsb-first" if reading.turned else ""
+    order = LSB_FIRST * reading.turned
     said = f"{reading.law.title()}, as it seems{TURNED * reading.turned}"
     return Look(Kind.LAW, said, f"lines.py pcm {{}} NEW.pcm --raw{order}{law}", reading.turned)
 
@@ -336,6 +385,14 @@ def head_of(path: Path, octets: int = HEAD_OCTETS) -> Tuple[bytes, int]:
             return head, max(len(head), path.stat().st_size)
     except OSError as failure:
         raise Refusal(f"{path}: {failure.strerror}") from None
+
+
+def of_line(found: Look, name: Path) -> Look:
+    """What is found of a file, with the command that makes sound of it if it has the name of a line from or to the exchange."""
+    if found.kind is not Kind.LAW or found.turned or name.suffix not in (".out", ".pcm"):
+        return found
+    law = " --law mulaw" if found.command.endswith(" --law mulaw") else ""
+    return replace(found, command=f"lines.py sound {{}} NEW.wav{law}")
 
 
 def command_for(found: Look, name: Path) -> str:

@@ -236,7 +236,7 @@ def look(words: argparse.Namespace) -> int:
     failed = False
     for name in words.files:
         try:
-            found = file_kinds.look(*file_kinds.head_of(name))
+            found = file_kinds.of_line(file_kinds.look(*file_kinds.head_of(name)), name)
         except Refusal as refusal:
             complain("lines.py", str(refusal))
             failed = True

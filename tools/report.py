@@ -3,7 +3,7 @@
 
 `text` reads a report aloud, after checking it against the grammar. `calls` prints the losses, pauses and comfort noise of each call.
 `compare` prints what differs between two runs, and from which period on. `sync` prints where and why the search for frames lost an
-uplink.
+uplink, and `kinds` of which kinds its frames are.
 """
 
 from __future__ import annotations
@@ -16,9 +16,11 @@ import io
 import json
 import re
 import sys
+from collections import Counter
 from pathlib import Path
 from typing import Any, Callable, Dict, Iterator, List, NamedTuple, Optional, Sequence, Tuple
 
+import frame_kinds
 import read_aloud
 import run_lines
 import run_texts
@@ -34,13 +36,15 @@ Row = Dict[str, Any]
 
 
 class Answer(NamedTuple):
-    """What a command answers: rows of the same columns for text and CSV, the whole for JSON, the status, and sentences if it has any."""
+    """What a command answers: rows of the same columns for text and CSV, the whole for JSON, the status, sentences if it has any, and lines that
+    follow a table."""
 
     columns: Sequence[str]
     rows: List[Row]
     whole: Any
     status: int = 0
     sentences: Sequence[str] = ()
+    notes: Sequence[str] = ()
 
 
 # The report's text
@@ -97,7 +101,7 @@ CALL_COLUMNS = (
     *("call", "periods", "speech", "lost", "rate", "longest", "from"),
     *("pauses", "noise", "longest_pause", "pause_from", "descriptors", "quiet"),
     *("down_frames", "down_speech", "down_descriptors", "down_idle", "down_handed"),
-    *("unused_up", "unused_pcm"),
+    *("unused_up", "unused_pcm", "others"),
 )
 
 
@@ -129,6 +133,21 @@ def frames_of_downlink(folder: Path, call: Call) -> Dict[Sent, int]:
     return {sent: codes.count(code) for code, sent in enumerate(run_lines.SENTS)}
 
 
+def codes_of_others(folder: Path, call: Call) -> Counter:
+    """C1 to C5 of the frames of a call's uplink that count as `other`."""
+    if not call.span.counts["other"]:
+        return Counter()
+    return Counter(frame_kinds.codes_of_others(call.octets(folder, "up")))
+
+
+def note_on_others(row: Row) -> Optional[str]:
+    """What a call probably is that has no frame of full rate speech, and others."""
+    if not row["others"] or row["speech"] or row["descriptors"]:
+        return None
+    kinds = " and ".join(f"{count} of {frame_kinds.said_of(code)}" for code, count in row["codes"].most_common())
+    return f"call {row['call']}: no full rate speech, but frames that trau doesn't decode: {kinds}"
+
+
 def row_of_call(folder: Path, call: Call, bridges: Sequence[run_texts.Bridge]) -> Row:
     """What a call's uplink and downlink say of losses and pauses."""
     call.search(folder, bridges)
@@ -139,6 +158,7 @@ def row_of_call(folder: Path, call: Call, bridges: Sequence[run_texts.Bridge]) -
     longest, start = longest_of(stretches(values, Heard.LOST), call.span.start)
     longest_pause, pause_start = longest_of(pauses, call.span.start)
     down = frames_of_downlink(folder, call)
+    codes = codes_of_others(folder, call)
     return {
         "call": call.number,
         "periods": call.periods(),
@@ -160,6 +180,8 @@ def row_of_call(folder: Path, call: Call, bridges: Sequence[run_texts.Bridge]) -
         "down_handed": down[Sent.HANDED],
         "unused_up": unused_periods(folder, call, "up"),
         "unused_pcm": unused_periods(folder, call, "pcm"),
+        "others": frame_kinds.counted(codes),
+        "codes": codes,
     }
 
 
@@ -173,7 +195,9 @@ def calls(words: argparse.Namespace) -> Answer:
     ]
     octets = 2 * FRAME_OCTETS * sum(call.periods() for _, call, _ in pieces)
     rows = list(Workers(words.processes).each("reading lines", row_of_call, pieces, octets))
-    return Answer(CALL_COLUMNS, rows, rows)
+    notes = list(filter(None, map(note_on_others, rows)))
+    rows = [{column: row[column] for column in CALL_COLUMNS} for row in rows]
+    return Answer(CALL_COLUMNS, rows, rows, notes=notes)
 
 
 # Two runs
@@ -302,6 +326,29 @@ def sync(words: argparse.Namespace) -> Answer:
     return Answer(SYNC_COLUMNS, rows, whole)
 
 
+# Of which kinds the frames of an uplink are
+
+KIND_COLUMNS = ("code", "kind", "frames", "first", "first_period", "last", "last_period")
+
+
+def kinds(words: argparse.Namespace) -> Answer:
+    """The kinds of an uplink's frames by C1 to C5, the most frequent one first."""
+    places: Dict[str, List[int]] = {}
+    for each in trau_frames.search(trau_frames.bits_of(trau_frames.read_file(words.uplink))):
+        if each.frame is not None:
+            places.setdefault(frame_kinds.code_of(each.frame), []).append(each.place)
+    if not places:
+        raise Refusal(f"{words.uplink}: has no frame at any bit; is it an uplink?")
+    rows = [
+        {
+            **{"code": code, "kind": frame_kinds.name_of(code), "frames": len(found)},
+            **{"first": found[0], "first_period": period_of(found[0]), "last": found[-1], "last_period": period_of(found[-1])},
+        }
+        for code, found in sorted(places.items(), key=lambda item: (-len(item[1]), item[0]))
+    ]
+    return Answer(KIND_COLUMNS, rows, rows)
+
+
 # How an answer is printed
 
 
@@ -312,7 +359,8 @@ def as_text(answer: Answer) -> str:
         values = (row.get(column) for column in answer.columns)
         table.append(["-" if value is None or value == "" else str(value) for value in values])
     wide = [max(len(line[place]) for line in table) for place in range(len(answer.columns))]
-    return "".join("  ".join(cell.ljust(width) for cell, width in zip(line, wide)).rstrip() + "\n" for line in table)
+    lines = ["  ".join(cell.ljust(width) for cell, width in zip(line, wide)).rstrip() for line in table]
+    return "".join(f"{line}\n" for line in (*lines, *answer.notes))
 
 
 def as_sentences(answer: Answer) -> str:
@@ -392,7 +440,8 @@ def add_calls(commands: argparse._SubParsersAction) -> None:
         "A row for each call of a run. Uplink: periods of speech and of lost speech, the part of the lost ones in both (the frame\n"
         "erasure rate), the longest loss and the period at which it begins; pauses, their periods of comfort noise, the longest\n"
         "one; silence descriptors; quiet periods. Downlink: its frames by kind. Incoming lines: the periods that weren't used,\n"
-        "since the call had ended.",
+        "since the call had ended. Others: the uplink's frames that the report counts as `other`, by C1 to C5 (as `efr 731`). Below the\n"
+        "table a line names the kinds of each call that has no full rate speech, but such frames.",
     )
     added.add_argument("folder", type=Path, metavar="FOLDER", help="the folder of the run")
     added.add_argument("--report", type=Path, metavar="FILE", help="the report of the run (default FOLDER/report.txt)")
@@ -432,6 +481,19 @@ def add_sync(commands: argparse._SubParsersAction) -> None:
     )
 
 
+def add_kinds(commands: argparse._SubParsersAction) -> None:
+    """Adds the command `kinds`: of which kinds the frames of an uplink are."""
+    added = command(
+        commands,
+        kinds,
+        "of which kinds the frames of an uplink are",
+        "A row for each kind of frames that the search finds on an uplink: C1 to C5, what they mean by GSM 08.60, the number of frames,\n"
+        "and the bits at which the first and the last of them begin, with their periods. `trau frames` prints `other` for all that\n"
+        "aren't full rate speech or idle frames of an uplink.",
+    )
+    added.add_argument("uplink", type=Path, metavar="UPLINK", help="the Up line")
+
+
 def parser() -> argparse.ArgumentParser:
     """The words of the command line."""
     words = trau_frames.Words(
@@ -441,7 +503,7 @@ def parser() -> argparse.ArgumentParser:
         allow_abbrev=False,
     )
     commands = words.add_subparsers(dest="command", required=True, metavar="COMMAND")
-    for add in (add_text, add_calls, add_compare, add_sync):
+    for add in (add_text, add_calls, add_compare, add_sync, add_kinds):
         add(commands)
     return words
 

@@ -24,6 +24,7 @@ from trau_frames import Law
 FARM = EXAMPLES / "farm"
 UP = (EXAMPLES / "7.up").read_bytes()
 DOWN = (FARM / "wanted" / "2.down").read_bytes()
+EFR = 8 * (DATA / "osmo-kinds.up").read_bytes()[240:360]
 # A-law of speech, and of a run: what is said, comfort noise, and idle stretches.
 SPOKEN = [CODEC / "speech-en-m3.pcm", CODEC / "speech-loud-m7.out", FARM / "4.pcm", *(FARM / "wanted").glob("*.out")]
 TO_MULAW = Law.A.table_to(Law.MU)
@@ -70,9 +71,11 @@ class Look(InFolder):
         """What is said of a file, without its name."""
         path = self.path(name, content)
         status, out, err = self.run_tool(lines.main, "look", path)
-        self.assertEqual((status, err, out.count("\n")), (0, "", 1))
+        self.assertEqual((status, err), (0, ""))
         self.assertTrue(out.startswith(f"{path}: "))
-        return out[len(f"{path}: ") : -1].replace(str(path), "FILE")
+        first, *streams = out.splitlines()
+        self.assertTrue(all(each.startswith("  ") for each in streams))
+        return first[len(f"{path}: ") :].replace(str(path), "FILE")
 
     def test_heads(self):
         speech = (DATA / "speech.gsm").read_bytes()
@@ -125,6 +128,42 @@ class Look(InFolder):
         said = f"an uplink, its first frame at bit 13, {TURNED}; lines.py slot FILE NEW --lsb-first"
         self.assertEqual(self.look(slots.turned(shifted(UP, 13))), said)
 
+    def test_kinds_that_are_not_full_rate(self):
+        # Three uplink frames of each kind, as libosmotrau numbers and encodes them; its idle frames are those of a downlink.
+        kinds = (DATA / "osmo-kinds.up").read_bytes()
+        self.assertEqual(len(kinds), 10 * 120)
+        names = {
+            1: "half rate speech (C1 to C5 00011)",
+            2: "enhanced full rate speech (C1 to C5 11010)",
+            3: "AMR speech (C1 to C5 00110)",
+            4: "operation and maintenance (C1 to C5 00101)",
+            5: "data (C1 to C5 01000)",
+            6: "extended data (C1 to C5 11111)",
+            7: "data at 14.5 kbit/s, or their synchronization (C1 to C5 10100)",
+            8: "data of a half rate channel (C1 to C5 01001)",
+        }
+        for kind, name in names.items():
+            for ones in (0, 13):
+                line = shifted(kinds[120 * kind : 120 * (kind + 1)], ones)
+                self.assertEqual(self.look(line), f"a line of {name}, which trau doesn't decode, its first frame at bit {ones}")
+        self.assertTrue(self.look(kinds[:120]).startswith("an uplink, "))
+        self.assertTrue(self.look(kinds[1080:]).startswith("a downlink, "))
+        said = self.look(UP[:4000] + kinds[240:480])
+        self.assertEqual(
+            said,
+            "an uplink, its first frame at bit 0; of the 106 frames at its start 3 are enhanced full rate speech (C1 to C5 11010) and 3 are AMR"
+            " speech (C1 to C5 00110), which trau doesn't decode; trau run takes it as C.up, and makes sound of it",
+        )
+
+    def test_frames_by_chance(self):
+        # Two frames far from one another, and one alone, in octets of something else.
+        noise = random.Random(7).randbytes(4000)
+        for place in (80, 2000):
+            self.assertEqual(self.look(noise[:place] + UP[:40] + noise[place + 40 :]), "nothing that is known here")
+        self.assertEqual(self.look(noise[:80] + UP[:40] + noise[120:2000] + UP[40:80] + noise[2040:]), "nothing that is known here")
+        self.assertTrue(self.look(noise[:80] + UP[:120] + noise[200:]).startswith("an uplink, its first frame at bit 640; "))
+        self.assertEqual(self.look(b"\x7fELF" + noise + UP), "a program or a library")
+
     def test_every_line_of_the_examples(self):
         for path in (*FARM.glob("*.up"), *EXAMPLES.glob("7.up")):
             self.assertIs(file_kinds.look(*file_kinds.head_of(path)).kind, Kind.UPLINK)
@@ -137,8 +176,9 @@ class Look(InFolder):
             "a time slot of 64 kbit/s: channel 0 is an uplink, its first frame at bit 0; channel 2 is an uplink, its first frame at bit 5;"
             " channel 3 is a downlink, its first frame at bit 320"
         )
-        self.assertEqual(self.look(slot), f"{wanted}; name it C.pcm, and trau split C")
-        self.assertEqual(self.look(slots.turned(slot)), f"{wanted}, {TURNED}; lines.py slot FILE NEW --lsb-first")
+        command = "lines.py slot FILE NEW.up --channel J"
+        self.assertEqual(self.look(slot), f"{wanted}; {command}")
+        self.assertEqual(self.look(slots.turned(slot)), f"{wanted}, {TURNED}; {command} --lsb-first")
         line = e1(slot[:3000])
         command = "lines.py slot FILE NEW.pcm --slot N --of 32"
         self.assertEqual(self.look(line), f"an E1 line of 32 slots; {command}")
@@ -164,6 +204,13 @@ class Look(InFolder):
                 said,
                 "sound of 16 bits a sample, as it seems; sox -t raw -r 8000 -c 1 -b 16 -e signed-integer FILE NEW.wav",
             )
+
+    def test_sound_of_lines(self):
+        spoken = SPOKEN[0].read_bytes()
+        for name in ("1.out", "1.pcm"):
+            self.assertEqual(self.look(spoken, name), "A-law, as it seems; lines.py sound FILE NEW.wav")
+            self.assertEqual(self.look(spoken.translate(TO_MULAW), name), "mu-law, as it seems; lines.py sound FILE NEW.wav --law mulaw")
+        self.assertTrue(self.look(slots.turned(spoken), "1.out").endswith("; lines.py pcm FILE NEW.pcm --raw --lsb-first"))
 
     def test_idle_sound(self):
         for law in Law:
@@ -278,6 +325,7 @@ class Refused(InFolder):
             (UP, spoken.translate(TO_MULAW), " mulaw", None),
             (UP, spoken, " mulaw", "1.pcm is A-law, as it seems, and no mu-law; lines.py pcm"),
             (UP, UP, "", "1.pcm is an uplink, its first frame at bit 0, and no A-law; trau run"),
+            (EFR, spoken, "", "1.up is a line of enhanced full rate speech (C1 to C5 11010), which trau doesn't decode, its first frame"),
         ):
             self.path("1.up", up)
             self.path("1.pcm", pcm)

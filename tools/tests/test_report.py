@@ -7,7 +7,7 @@ import shutil
 import unittest
 from collections import Counter
 
-from support import EXAMPLES, InFolder, frames_of_downlink
+from support import DATA, EXAMPLES, InFolder, frames_of_downlink
 from test_timeline import lay
 
 import report
@@ -202,6 +202,43 @@ class Calls(Told):
         self.assertEqual((rows["1"]["longest"], rows["1"]["from"]), ("18", "89"))
         self.assertEqual((rows["4"]["rate"], rows["4"]["from"]), ("", ""))
         self.assertEqual(json.loads(self.told("calls", folder, "--json"))[3]["rate"], None)
+
+    def test_kinds_of_other_frames(self):
+        # Three frames of each kind that libosmotrau encodes: full rate, half rate, EFR, AMR, and so on; the last is a downlink's idle frame.
+        kinds = (DATA / "osmo-kinds.up").read_bytes()
+        self.path("1.up", 4 * kinds[240:360])
+        self.path("2.up", kinds)
+        self.path("3.up", kinds[120:])
+        text = ""
+        for number, periods, good in ((1, 12, 0), (2, 30, 3), (3, 27, 0)):
+            text += f"call {number} from 0 to {periods} end up 0\n"
+            text += f"counts {number} good {good} sid 0 invalid 0 bad 0 idle 0 other {periods - good} miss 0 none 0 made {periods}\n"
+        replies = "".join(f"order {number} ok\n" for number in (1, 2, 3))
+        self.path("report.txt", f"{replies}{text}end period 30 calls 3 left 0\n".encode())
+        for number, periods in ((1, 12), (2, 30), (3, 27)):
+            self.path(f"{number}.down", bytes(40 * periods))
+        others = "hr 3 efr 3 amr 3 o&m 3 data 3 e-data 3 data14.5 3 hr-data 3 downlink 3"
+        self.assertEqual([row["others"] for row in self.rows("calls", self.folder)], ["efr 12", others, others])
+        *table, first, last = self.told("calls", self.folder).splitlines()
+        self.assertEqual(len(table), 4)
+        said = "no full rate speech, but frames that trau doesn't decode:"
+        self.assertEqual(first, f"call 1: {said} 12 of enhanced full rate speech (C1 to C5 11010)")
+        self.assertTrue(last.startswith(f"call 3: {said} 3 of half rate speech (C1 to C5 00011) and 3 of enhanced full rate speech (C1"))
+        self.assertTrue(last.endswith(" and 3 of a downlink's idle frames (C1 to C5 01110)"))
+        self.assertEqual(json.loads(self.told("calls", self.folder, "--json"))[0]["others"], "efr 12")
+
+    def test_kinds_of_an_uplink(self):
+        kinds = (DATA / "osmo-kinds.up").read_bytes()
+        up = self.path("7.up", (EXAMPLES / "7.up").read_bytes()[:400] + bytes(40) + 4 * kinds[240:360] + kinds[1080:])
+        self.assertEqual(
+            [list(row.values()) for row in self.rows("kinds", up)],
+            [
+                ["11010", "enhanced full rate speech", "12", "3520", "11", "7040", "22"],
+                ["00010", "full rate speech", "10", "0", "0", "2880", "9"],
+                ["01110", "a downlink's idle frames", "3", "7360", "23", "8000", "25"],
+            ],
+        )
+        self.assert_refused(report.main, ["kinds", self.path("8.up", bytes(400))], "8.up: has no frame at any bit; is it an uplink?")
 
     def test_periods_that_werent_used(self):
         folder = lay_run("mixed", self.folder / "mixed")
