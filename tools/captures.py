@@ -7,150 +7,47 @@ The library dpkt reads and writes captures and their packets. Without it, these 
 from __future__ import annotations
 
 import io
-from dataclasses import dataclass
+from collections import Counter
 from pathlib import Path
-from typing import Any, Dict, Iterable, Iterator, List, NamedTuple, Optional, Sequence, Tuple, Union
+from typing import Iterable, Iterator, List, Mapping, NamedTuple, Optional, Sequence, Tuple
 
 import run_lines
 import trau_frames
-from code_word import FrameKind, Marker
-from rtp_packets import GSM, NAMES, PCMA, PCMU, Packet, chosen, kind_of, library, periods_between, streams_of
+import uplink_frames
+from code_word import Marker
+from rtp_packets import GSM, NAMES, PCMA, PCMU, Packet, Streams, chosen, kind_of, library, periods_between, streams_of
+from rtp_streams import EMPTY, SEQUENCES, STAMPS, Counts, Gap, Lost, Stretch, stretches, without_wrong
 from run_lines import Heard
-from trau_frames import GSM_OCTETS, PCM_OCTETS, SAMPLES_A_SECOND, Law, Parameters, Refusal, Sort, SpeechControl
+from trau_frames import PCM_OCTETS, SAMPLES_A_SECOND, Law, Parameters, Refusal, Sort
+from uplink_frames import UplinkFrames
 
 LAWS = {PCMA: Law.A, PCMU: Law.MU}
-# Time stamps count samples, each of them an octet of a Pcm line.
-SEQUENCES, STAMPS = 1 << 16, 1 << 32
-LONGEST_GAP = 3600 * SAMPLES_A_SECOND
-
-
-# A stream in the order of its time stamps
-
-
-@dataclass
-class Counts:
-    """What the numbers of packets show."""
-
-    packets: int = 0
-    late: int = 0
-    doubled: int = 0
-    others: int = 0
-    over: int = 0  # units that overlapped with those before
-
-    def said_of_over(self) -> str:
-        """The units that were left out, if any."""
-        return f" over {self.over}" if self.over else ""
-
-
-class Lost(NamedTuple):
-    """Units that were sent and didn't come."""
-
-    units: int
-
-
-class Paused(NamedTuple):
-    """Units in which nothing was sent."""
-
-    units: int
-
-
-# A stretch of a stream: units that came, or none. A unit is a frame of GSM, or a sample.
-Stretch = Union[List[Any], Lost, Paused]
-
-
-def near(value: int, before: int, size: int) -> int:
-    """The number with this remainder by `size` that is nearest to another."""
-    return before + (value - before + size // 2) % size - size // 2
-
-
-def in_order(packets: Sequence[Packet], counts: Counts) -> List[Packet]:
-    """The packets in the order of their numbers, which go on counting where they wrap around; each number once."""
-    found: Dict[int, Packet] = {}
-    newest = packets[0].sequence
-    stamp = packets[0].stamp
-    for packet in packets:
-        sequence, stamp = near(packet.sequence, newest, SEQUENCES), near(packet.stamp, stamp, STAMPS)
-        counts.packets += 1
-        if sequence in found:
-            counts.doubled += 1
-            continue
-        counts.late += sequence < newest
-        newest = max(newest, sequence)
-        found[sequence] = packet._replace(sequence=sequence, stamp=stamp)
-    return [found[sequence] for sequence in sorted(found)]
-
-
-def units_of(name: Path, packet: Packet, kind: int) -> List[Any]:
-    """The units of a packet: frames of GSM, or octets, one a sample. None for a packet of another kind."""
-    if packet.kind != kind:
-        return []
-    if kind != GSM:
-        return list(packet.payload)
-    frames = [packet.payload[place : place + GSM_OCTETS] for place in range(0, len(packet.payload), GSM_OCTETS)]
-    if any(len(frame) != GSM_OCTETS or frame[0] >> 4 != trau_frames.GSM_MAGIC for frame in frames):
-        raise Refusal(f"{name}: packet {packet.number} has no whole frames of GSM")
-    return frames
-
-
-def gap(name: Path, missing: int, units: int, size: int, packet: Packet) -> Iterator[Stretch]:
-    """The stretches between two packets: first what the missing packets held, if they were like the one before."""
-    if units * size > LONGEST_GAP:
-        raise Refusal(
-            f"{name}: the time stamp of packet {packet.number} is {units * size / SAMPLES_A_SECOND:.0f} s after the packet before;"
-            f" at most {LONGEST_GAP // SAMPLES_A_SECOND} s are taken"
-        )
-    lost = max(0, min(units, missing))
-    if lost:
-        yield Lost(lost)
-    if units > lost:
-        yield Paused(units - lost)
-
-
-def stretches(name: Path, packets: Sequence[Packet], kind: int, counts: Counts) -> Iterator[Stretch]:
-    """A stream from its first packet with speech on. Units that overlap with those before are left out."""
-    size = PCM_OCTETS if kind == GSM else 1
-    first: Optional[int] = None
-    place, length, missing = 0, 0, 0
-    following = 0
-    for packet in in_order(packets, counts):
-        units = units_of(name, packet, kind)
-        missing += packet.sequence - following
-        following = packet.sequence + 1
-        if not units:
-            counts.others += 1
-            continue
-        if first is None:
-            first, missing = packet.stamp, 0
-        begin = round((packet.stamp - first) / size)
-        yield from gap(name, missing * length, begin - place, size, packet)
-        over = min(len(units), max(0, place - begin))
-        counts.over += over
-        if over < len(units):
-            yield units[over:]
-        place, length, missing = max(place, begin + len(units)), len(units), 0
-
+IDLE_UPLINK = uplink_frames.IDLE
 
 # To lines
 
-IDLE_UPLINK = trau_frames.octets_of(trau_frames.frame_of(trau_frames.IDLE_UP + "000000" + 10 * "1", 260 * "1"))
-LOST_UPLINK = trau_frames.octets_of(trau_frames.frame_of(SpeechControl(bad=True).bits(), trau_frames.SILENCE.bits()))
+# Frames that didn't come, by what shows it: numbers that are missing; time stamps that go on after speech while no number is missing; packets
+# without payload; and time stamps that go on after a silence descriptor.
+LOST, GAP, EMPTIED, PAUSED = "lost", "gap", "empty", "paused"
 
 
-def uplink_of(found: Iterable[Stretch], marker: Marker) -> bytes:
-    """An uplink: the frames as they are marked, unusable ones for those that were lost, and idle ones where nothing was sent. In a pause
-    that a silence descriptor began, the base station sends unusable frames, so that its noise goes on."""
-    frames: List[bytes] = []
-    kind = FrameKind.SPEECH
+def uplink_of(found: Iterable[Stretch], marker: Marker, gaps_are_idle: bool) -> Tuple[bytes, Counter]:
+    """An uplink: the frames as they are marked, and unusable ones for those that didn't come, which let the noise of a pause go on. If gaps are
+    idle, the sender has no descriptors and sends nothing in pauses. And how many frames didn't come."""
+    line = UplinkFrames(marker)
+    missing: Counter = Counter()
     for stretch in found:
-        if isinstance(stretch, Lost):
-            frames.append(stretch.units * LOST_UPLINK)
-        elif isinstance(stretch, Paused):
-            frames.append(stretch.units * (IDLE_UPLINK if kind is FrameKind.SPEECH else LOST_UPLINK))
+        if isinstance(stretch, list):
+            missing[EMPTIED] += stretch.count(EMPTY)
+            line.take_all(None if frame == EMPTY else trau_frames.data_of_gsm(frame) for frame in stretch)
+            continue
+        what = LOST if isinstance(stretch, Lost) else PAUSED if line.pauses() else GAP
+        missing[what] += stretch.units
+        if what == GAP and gaps_are_idle:
+            line.idle(stretch.units)
         else:
-            for data in map(trau_frames.data_of_gsm, stretch):
-                kind = marker.kind(data)
-                frames.append(trau_frames.octets_of(trau_frames.frame_of(marker.control(kind), data)))
-    return b"".join(frames)
+            line.lose(stretch.units)
+    return line.line(), missing
 
 
 def pcm_of(found: Iterable[Stretch], sent: Law, law: Law) -> bytes:
@@ -158,7 +55,7 @@ def pcm_of(found: Iterable[Stretch], sent: Law, law: Law) -> bytes:
     table, idle = sent.table_to(law), bytes([law.idle()])
     octets: List[bytes] = []
     for stretch in found:
-        if isinstance(stretch, (Lost, Paused)):
+        if isinstance(stretch, (Lost, Gap)):
             octets.append(stretch.units * idle)
         else:
             octets.append(bytes(stretch).translate(table))
@@ -171,39 +68,69 @@ def total(found: Sequence[Stretch], kind: type) -> int:
 
 
 class Asked(NamedTuple):
-    """What a line is made of: a stream, from the beginning of another stream on if one is given, and the law of a Pcm line; and whether
-    a capture that was cut is taken."""
+    """What a line is made of: streams, one after the other, from the beginning of another stream on if one is given; the kinds of payload
+    types; the law of a Pcm line; whether gaps are idle frames; and whether streams that begin anew, and captures that were cut, are taken."""
 
-    stream: Optional[int]
+    streams: Sequence[int]
     since: Optional[int]
+    types: Mapping[int, int]
     law: Law
+    gaps_are_idle: bool
+    restart: bool
     partial: bool
 
 
+MOST_OVERLAP = 1.0  # seconds, in which the streams of a call may overlap that are joined
+
+
+def chosen_streams(name: Path, streams: Streams, numbers: Sequence[int]) -> List[List[Packet]]:
+    """The packets of the streams with these numbers, which follow one another and are of one kind; or of the only one."""
+    found = [chosen(name, streams, "--stream", number) for number in numbers or (None,)]
+    for at, (before, packets) in enumerate(zip(found, found[1:])):
+        overlap = before[-1].time - packets[0].time
+        if overlap > MOST_OVERLAP or packets[0].time <= before[0].time:
+            raise Refusal(
+                f"{name}: stream {numbers[at + 1]} begins {overlap:.2f} s before stream {numbers[at]} ends; streams that are joined"
+                " follow one another"
+            )
+    kind_of([packet for packets in found for packet in packets])
+    return found
+
+
 def line_of(name: Path, content: bytes, asked: Asked, marker: Marker) -> Tuple[bytes, str, bool]:
-    """A line of a capture's stream, an uplink of GSM and a Pcm line of the others; what was found; and whether it is an uplink."""
-    streams = streams_of(name, content, asked.partial)
-    packets = chosen(name, streams, "--stream", asked.stream)
+    """A line of a capture's streams, an uplink of GSM and a Pcm line of the others; what was found; and whether it is an uplink."""
+    streams = streams_of(name, content, asked.partial, asked.types)
+    packets = chosen_streams(name, streams, asked.streams)
     lead = 0
     if asked.since is not None:
-        lead = periods_between(name, chosen(name, streams, "--since", asked.since), packets)
-    kind = kind_of(packets)
+        lead = periods_between(name, chosen(name, streams, "--since", asked.since), packets[0])
+    kind = kind_of(packets[0])
     counts = Counts()
-    found = list(stretches(name, packets, kind, counts))
-    if kind == GSM:
-        line, units = lead * IDLE_UPLINK + uplink_of(found, marker), f"frames {total(found, list)} {marker.said()}"
-    else:
-        line, units = lead * PCM_OCTETS * bytes([asked.law.idle()]), f"octets {total(found, list)}"
-        line += pcm_of(found, LAWS[kind], asked.law)
-    said = (
-        f"pcap {NAMES[kind]} packets {counts.packets} late {counts.late} doubled {counts.doubled} others {counts.others}"
-        f" {units} lost {total(found, Lost)} paused {total(found, Paused)} lead {lead}"
-    )
-    if kind != GSM:
-        padded = -len(line) % PCM_OCTETS
-        line, said = line + padded * bytes([asked.law.idle()]), f"{said} padded {padded}"
-    said += counts.said_of_over()
-    return line, f"{said} cut {streams.cut}" if asked.partial else said, kind == GSM
+    packets = [without_wrong(name, each, asked.partial, counts) for each in packets]
+    found = stretches(name, packets, kind, asked.restart, counts)
+    line, units = uplink_and_said(found, lead, asked, marker) if kind == GSM else pcm_and_said(found, lead, LAWS[kind], asked.law)
+    said = f"pcap {NAMES[kind]} packets {counts.packets} late {counts.late} doubled {counts.doubled} others {counts.others} {units}"
+    said += f" over {counts.over}" if counts.over else ""
+    said += f" restarts {counts.restarts}" if asked.restart else ""
+    said += f" cut {streams.cut} wrong {counts.wrong}" if asked.partial else ""
+    return line, said, kind == GSM
+
+
+def uplink_and_said(found: Iterable[Stretch], lead: int, asked: Asked, marker: Marker) -> Tuple[bytes, str]:
+    """An uplink after a lead of idle frames, and what it has."""
+    line, missing = uplink_of(found, marker, asked.gaps_are_idle)
+    didnt_come = " ".join(f"{what} {missing[what]}" for what in (LOST, GAP, EMPTIED, PAUSED))
+    return lead * IDLE_UPLINK + line, f"frames {sum(marker.counts.values())} {marker.said()} {didnt_come} lead {lead}"
+
+
+def pcm_and_said(found: Iterable[Stretch], lead: int, sent: Law, law: Law) -> Tuple[bytes, str]:
+    """A Pcm line of whole periods after a lead of idle ones, and what it has, in octets."""
+    parts = list(found)
+    idle = bytes([law.idle()])
+    line = lead * PCM_OCTETS * idle + pcm_of(parts, sent, law)
+    padded = -len(line) % PCM_OCTETS
+    said = f"octets {total(parts, list)} lost {total(parts, Lost)} gap {total(parts, Gap)} lead {lead} padded {padded}"
+    return line + padded * idle, said
 
 
 # From lines

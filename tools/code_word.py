@@ -77,12 +77,12 @@ class Marker:
         self.counts[kind] += 1
         return kind
 
-    def control(self, kind: FrameKind) -> str:
+    def control(self, kind: FrameKind, taf: bool = False) -> str:
         """C1 to C21 of the uplink frame: a damaged descriptor is a bad frame too."""
         if kind is FrameKind.SPEECH:
             return self.speech.bits()
         damaged = kind is FrameKind.INVALID
-        return replace(self.speech, bad=damaged, silence=1 if damaged else 2).bits()
+        return replace(self.speech, bad=damaged, silence=1 if damaged else 2, taf=taf).bits()
 
     def said(self) -> str:
         """The descriptors that were marked, in words."""

@@ -9,9 +9,7 @@ from pathlib import Path
 from typing import List, NamedTuple, Optional, Set, Tuple
 
 import trau_frames
-from trau_frames import FRAME_BITS, Parameters, Refusal, Sort, SpeechControl
-
-FRAMES_FROM_TAF_TO_TAF = 24
+from trau_frames import FRAME_BITS, PERIODS_FROM_TAF_TO_TAF, Parameters, Refusal, Sort, SpeechControl
 
 
 class Part(NamedTuple):
@@ -95,7 +93,7 @@ def lost(frame: str) -> str:
 
 def paused(frame: str, number: int, begins: bool) -> str:
     """What a speech frame becomes in a pause: a silence descriptor where the pause begins and where TAF is 1, else unusable."""
-    taf = number % FRAMES_FROM_TAF_TO_TAF == FRAMES_FROM_TAF_TO_TAF - 1
+    taf = number % PERIODS_FROM_TAF_TO_TAF == PERIODS_FROM_TAF_TO_TAF - 1
     describes = begins or taf
     control = replace(
         SpeechControl.read(trau_frames.control_of(frame)), bad=not describes, silence=2 if describes else 0, taf=taf

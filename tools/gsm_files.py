@@ -12,24 +12,29 @@ import wav_files
 from code_word import Marker
 from file_kinds import Kind
 from recordings import command_of_others, quoted
-from trau_frames import Parameters, Refusal
+from trau_frames import GSM_MAGIC, GSM_OCTETS, Parameters, Refusal
+from uplink_frames import UplinkFrames
+
+ZEROS = bytes(GSM_OCTETS)  # what some recorders write for a frame that was lost
 
 # To an uplink
 
 
 class Found(NamedTuple):
-    """D1 to D260 of each frame of a file, and the octets after the last whole one."""
+    """D1 to D260 of each frame of a file, None for one that was lost, and the octets after the last whole one."""
 
-    data: List[str]
+    data: List[Optional[str]]
     left: int
 
 
-def data_of_file(name: Path, given: bytes, partial: bool) -> Found:
-    """The frames of a file of libgsm; a truncated file is taken with `partial`."""
+def data_of_file(name: Path, given: bytes, partial: bool, zeros_are_lost: bool) -> Found:
+    """The frames of a file of libgsm; a truncated file is taken with `partial`, and one that has zeros for lost frames if these are lost."""
     size = trau_frames.GSM_OCTETS
     left = len(given) % size
     whole = given[: len(given) - left]
-    wrong = next((place for place in range(0, len(whole), size) if whole[place] >> 4 != trau_frames.GSM_MAGIC), None)
+    frames = [whole[place : place + size] for place in range(0, len(whole), size)]
+    is_lost = [frame == ZEROS for frame in frames]
+    wrong = next((size * at for at, frame in enumerate(frames) if frame[0] >> 4 != GSM_MAGIC and not (zeros_are_lost and is_lost[at])), None)
     if wrong is not None or not whole or left and not partial:
         file_kinds.refuse_other(name, given, "no frames of libgsm", Kind.GSM)
     if not whole or left and not partial:
@@ -38,11 +43,13 @@ def data_of_file(name: Path, given: bytes, partial: bool) -> Found:
             + ("; --partial takes the whole ones" if whole and wrong is None else "")
         )
     if wrong is not None:
-        raise Refusal(f"{name}: no frame of libgsm begins at octet {wrong}: its first four bits aren't 1101")
+        more = "; --zeros lost takes frames of zeros as lost ones" if is_lost[wrong // size] else ""
+        raise Refusal(f"{name}: no frame of libgsm begins at octet {wrong}: its first four bits aren't 1101{more}")
+    if all(is_lost):
+        raise Refusal(f"{name}: has only zeros")
     if file_kinds.is_mostly_magic(whole):
         raise Refusal(f"{name}: nearly each of its octets begins with 1101, as in idle A-law and not in frames of libgsm")
-    frames = (whole[place : place + size] for place in range(0, len(whole), size))
-    return Found([trau_frames.data_of_gsm(frame) for frame in frames], left)
+    return Found([None if lost else trau_frames.data_of_gsm(frame) for frame, lost in zip(frames, is_lost)], left)
 
 
 def data_of_wav(name: Path, given: bytes, partial: bool) -> Found:
@@ -67,13 +74,17 @@ def data_of_wav(name: Path, given: bytes, partial: bool) -> Found:
     return Found([data for block in blocks for data in trau_frames.data_of_wav_block(block)], left)
 
 
-def uplink_of(name: Path, given: bytes, marker: Marker, partial: bool) -> Tuple[bytes, str]:
+def uplink_of(name: Path, given: bytes, marker: Marker, partial: bool, zeros_are_lost: bool = False) -> Tuple[bytes, str]:
     """An uplink of the frames of a file, whose silence descriptors are marked, and what was found."""
-    found = (data_of_wav if wav_files.is_wav(given) else data_of_file)(name, given, partial)
-    frames = (trau_frames.frame_of(marker.control(marker.kind(data)), data) for data in found.data)
-    line = b"".join(map(trau_frames.octets_of, frames))
+    if wav_files.is_wav(given):
+        found = data_of_wav(name, given, partial)
+    else:
+        found = data_of_file(name, given, partial, zeros_are_lost)
+    line = UplinkFrames(marker)
+    line.take_all(found.data)
+    lost = f" lost {found.data.count(None)}" if zeros_are_lost else ""
     left = f" left {found.left}" if partial else ""
-    return line, f"uplink frames {len(found.data)} {marker.said()}{left}"
+    return line.line(), f"uplink frames {len(found.data)} {marker.said()}{lost}{left}"
 
 
 # From a downlink

@@ -17,7 +17,7 @@ import sys
 from array import array
 from dataclasses import replace
 from pathlib import Path
-from typing import Callable, NamedTuple, Sequence
+from typing import Callable, List, NamedTuple, Sequence, Tuple
 
 import captures
 import damages
@@ -25,6 +25,7 @@ import file_kinds
 import gsm_files
 import listening
 import recordings
+import rtp_packets
 import slots
 import trau_frames
 import wav_files
@@ -60,7 +61,7 @@ Command = Callable[[argparse.Namespace, bytes], Made]
 def uplink(words: argparse.Namespace, given: bytes) -> Made:
     """An uplink, from frames of libgsm or from those of a WAV file."""
     marker = Marker(words.sid == "keep", words.dtxd == 1)
-    return Made(*gsm_files.uplink_of(words.given, given, marker, words.partial), UPLINK)
+    return Made(*gsm_files.uplink_of(words.given, given, marker, words.partial, words.zeros == "lost"), UPLINK)
 
 
 def gsm(words: argparse.Namespace, given: bytes) -> Made:
@@ -150,10 +151,11 @@ def sound(words: argparse.Namespace, given: bytes) -> Made:
 
 
 def pcap(words: argparse.Namespace, given: bytes) -> Made:
-    """An uplink or a Pcm line, from a stream of a capture."""
+    """An uplink or a Pcm line, from streams of a capture."""
     file_kinds.refuse_other(words.given, given, "no capture in pcap or pcapng", Kind.CAPTURE)
     marker = Marker(words.sid == "keep")
-    asked = captures.Asked(words.stream, words.since, words.law, words.partial)
+    types = {**rtp_packets.PLAIN_TYPES, **dict(words.type)}
+    asked = captures.Asked(words.stream, words.since, types, words.law, words.gap == "idle", words.restart, words.partial)
     line, said, is_uplink = captures.line_of(words.given, given, asked, marker)
     return Made(line, said, UPLINK if is_uplink else OF_A_LAW)
 
@@ -186,6 +188,7 @@ def slot(words: argparse.Namespace, given: bytes) -> Made:
 
 
 MOST_IDLE_PERIODS = 1_000_000
+MOST_STREAMS = 1_000_000
 MOST_SKIPPED = 1 << 40
 
 
@@ -231,17 +234,35 @@ def make_file(words: argparse.Namespace) -> int:
     return 0
 
 
+LOOKED_INTO = 1 << 24  # octets of a capture
+
+
+def streams_said(name: Path) -> List[str]:
+    """The streams at a capture's start, each in words; none of standard input, which has been read, and none without dpkt."""
+    if name == trau_frames.STREAM or not rtp_packets.has_library():
+        return []
+    try:
+        streams = rtp_packets.streams_of(name, file_kinds.head_of(name, LOOKED_INTO)[0], partial=True)
+    except Refusal as refusal:
+        return [f"not read: {refusal}"]
+    others = [f"not read: {rtp_packets.flow_said(flow, packets)}" for flow, packets in streams.others.items()]
+    return [f"stream {each}" for each in rtp_packets.listed(streams.by_flow)] + others or ["no stream of RTP"]
+
+
 def look(words: argparse.Namespace) -> int:
     """Says what files are. One that can't be read doesn't end it."""
     failed = False
     for name in words.files:
         try:
             found = file_kinds.of_line(file_kinds.look(*file_kinds.head_of(name)), name)
+            streams = streams_said(name) if found.kind is Kind.CAPTURE else []
         except Refusal as refusal:
             complain("lines.py", str(refusal))
             failed = True
         else:
             print(f"{name}: {found.said}{file_kinds.command_for(found, name)}")
+            for each in streams:
+                print(f"  {each}")
     return FAILED if failed else 0
 
 
@@ -277,6 +298,19 @@ def law_word(word: str) -> Law:
     if word not in map(str, Law):
         raise argparse.ArgumentTypeError(f"'{word}' isn't alaw or mulaw")
     return Law(word)
+
+
+def streams_word(word: str) -> Tuple[int, ...]:
+    """Numbers of streams."""
+    return tuple(map(number_within(1, MOST_STREAMS), word.split(",")))
+
+
+def type_word(word: str) -> Tuple[int, int]:
+    """A payload type, and the kind of speech that it has."""
+    number, _, name = word.partition("=")
+    if name not in rtp_packets.KINDS:
+        raise argparse.ArgumentTypeError(f"'{word}' isn't T=gsm, T=pcma or T=pcmu")
+    return number_within(0, rtp_packets.MOST_TYPE)(number), rtp_packets.KINDS[name]
 
 
 def add_law(added: argparse.ArgumentParser) -> None:
@@ -329,8 +363,9 @@ def add_uplink(commands: argparse._SubParsersAction) -> None:
         "OUT.up",
         "Makes an uplink from frames of libgsm (33 octets each, as toast, sox and ffmpeg write them to .gsm files), or from a WAV\n"
         "file of GSM frames (two in a block of 65 octets). Nothing is transcoded: the 260 bits of a frame stay as they are. Silence\n"
-        "descriptors are marked as such, and damaged ones as invalid. Prints `uplink frames N sid A invalid B`, and with --partial\n"
-        "`left R`: the octets after the last whole frame.",
+        "descriptors are marked as such, and damaged ones as invalid; in a pause each 24th frame after a descriptor has TAF 1. Prints\n"
+        "`uplink frames N sid A invalid B`, with --zeros lost also `lost C`, and with --partial `left R`: the octets after the last\n"
+        "whole frame.",
         "call.gsm 7.up --dtxd 1",
     )
     added.add_argument(
@@ -339,6 +374,9 @@ def add_uplink(commands: argparse._SubParsersAction) -> None:
         choices=(0, 1),
         default=0,
         help="DTXd of all frames: whether the downlink may send silence descriptors (default 0, it may not)",
+    )
+    added.add_argument(
+        "--zeros", choices=("lost",), help="take frames of 33 zeros, which some recorders write for lost ones, as lost: unusable frames (BFI 1)"
     )
     add_sid(added)
     add_partial(added, "the whole frames")
@@ -423,6 +461,32 @@ def add_idle(commands: argparse._SubParsersAction) -> None:
     add_law(added)
 
 
+def add_streams(added: argparse.ArgumentParser) -> None:
+    """Adds the options that say which streams of a capture are taken, and what they carry."""
+    added.add_argument(
+        "--stream",
+        type=streams_word,
+        default=(),
+        metavar="N[,N..]",
+        help="the stream, counted from 1, of a capture with several; without it they are listed. Several with commas between follow one"
+        " another by the times of the capture, as those of a call whose sender changes",
+    )
+    added.add_argument(
+        "--type",
+        type=type_word,
+        action="append",
+        default=[],
+        metavar="T=KIND",
+        help="the payload type T, 0 to 127, is gsm, pcma or pcmu, as the sender's SDP says of a dynamic type; may be repeated",
+    )
+    added.add_argument(
+        "--since",
+        type=int,
+        metavar="N",
+        help="begin the line when this stream began, by the times of the capture, so that the lines of a call keep step",
+    )
+
+
 def add_pcap(commands: argparse._SubParsersAction) -> None:
     """Adds the command `pcap`: a capture to a line."""
     added = command(
@@ -431,25 +495,31 @@ def add_pcap(commands: argparse._SubParsersAction) -> None:
         "IN.pcap",
         "OUT",
         "Makes a line from an RTP stream of a capture (pcap or pcapng), by its time stamps: an uplink from GSM (payload type 3), a\n"
-        "Pcm line from PCMA (8) or PCMU (0). Missing packets become unusable frames or idle octets. Time in which nothing was sent\n"
-        "becomes idle frames or idle octets; in a pause that a silence descriptor began, it becomes unusable frames. Prints `pcap gsm\n"
-        "packets N late A doubled B others C frames D sid S invalid I lost E paused F lead G`, or `octets D lost E .. padded H`:\n"
-        "A packets came after later ones, B came again, C have no speech; G periods precede the first one. If time stamps go back,\n"
-        "it also prints `over N`: frames or octets that overlap with those before, and are left out. With --partial it also prints\n"
-        "`cut K`: packets that weren't captured whole. Needs the library dpkt.",
+        "Pcm line from PCMA (8) or PCMU (0). Frames that didn't come become unusable frames; in a pause each 24th frame after a\n"
+        "silence descriptor has TAF 1. Samples that didn't come become idle octets. Needs the library dpkt. Prints `pcap gsm packets N\n"
+        "late A doubled B others C frames D sid S invalid I lost E gap F empty G paused H lead J`, or `octets D lost E gap F lead J\n"
+        "padded K`. A packets came after later ones, B came again, C have no speech. Of the frames that didn't come E have missing\n"
+        "numbers, F were left out by the time stamps after speech, H after a descriptor; G packets were empty. J periods precede the\n"
+        "first frame. `over L` follows if time stamps go back: frames or octets that overlap with those before, and are left out.\n"
+        "With --restart `restarts M` follows, with --partial `cut P wrong Q`: packets that weren't captured whole, and that have no\n"
+        "whole frames.",
         "call.pcapng 7.up",
     )
+    add_streams(added)
     added.add_argument(
-        "--stream", type=int, metavar="N", help="the stream, counted from 1, of a capture with several; without it they are listed"
+        "--gap",
+        choices=("lost", "idle"),
+        default="lost",
+        help="what frames are that the time stamps leave out after speech while no number is missing: lost, as of a base station (default),"
+        " or idle frames, for a sender that pauses without a silence descriptor",
     )
     added.add_argument(
-        "--since",
-        type=int,
-        metavar="N",
-        help="begin the line when this stream began, by the times of the capture, so that the lines of a call keep step",
+        "--restart",
+        action="store_true",
+        help="where time stamps jump, as of a sender that began anew, go on by the times of the capture; without it the capture is refused",
     )
     add_sid(added)
-    add_partial(added, "packets that weren't captured whole count as lost")
+    add_partial(added, "packets that weren't captured whole, or have no whole frames, count as lost")
     add_law(added)
 
 
@@ -460,7 +530,7 @@ def add_capture(commands: argparse._SubParsersAction) -> None:
         capture,
         "LINE",
         "OUT.pcap",
-        "Makes a capture with an RTP stream from a line, which Wireshark plays: GSM from an Up or Down line, PCMA or PCMU from a Pcm\n"
+        "Makes a capture with an RTP stream from a line: GSM from an Up or Down line, PCMA or PCMU, which Wireshark plays, from a Pcm\n"
         "or Out line, by the line's name and its law. Lost speech has no packet, a pause has comfort noise, and an idle frame has\n"
         "no packet. Prints `capture streams N packets M`. Needs the library dpkt.",
         "7.down call.pcap --also 7.out",
@@ -532,8 +602,9 @@ def add_look(commands: argparse._SubParsersAction) -> None:
         "look",
         help="what files are",
         description="Says what each file is, and which command takes it. Sound files, frames of libgsm and captures are known by their\n"
-        "heads; uplinks, downlinks, time slots and E1 lines by the frames in them, at any bit and in either order of the bits of an\n"
-        "octet; A-law, mu-law and samples of 16 bits by statistics, which are a guess. It looks at the first\n"
+        "heads; uplinks, downlinks, lines of frames that trau doesn't decode, time slots and E1 lines by the frames in them, at any bit\n"
+        "and in either order of the bits of an octet; A-law, mu-law and samples of 16 bits by statistics, which are a guess. Of a\n"
+        "capture it lists the streams, a line each, if the library dpkt is there. It looks at the first\n"
         f"{file_kinds.HEAD_OCTETS} octets. A file that can't be read is named on standard error, and the status is 2 at the end.",
         epilog="example: lines.py look *",
         formatter_class=argparse.RawDescriptionHelpFormatter,

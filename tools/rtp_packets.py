@@ -6,17 +6,23 @@ The library dpkt reads the files of captures and their packets; without it, what
 from __future__ import annotations
 
 import importlib
+import importlib.util
 import io
 import ipaddress
 import struct
 import sys
+from collections import Counter
 from pathlib import Path
-from typing import Any, Callable, Dict, Iterator, List, NamedTuple, Optional, Sequence, Tuple
+from typing import Any, Callable, Dict, Iterator, List, Mapping, NamedTuple, Optional, Sequence, Tuple
 
-from trau_frames import PERIODS_A_SECOND, Refusal
+from trau_frames import GSM_MAGIC, GSM_OCTETS, PERIODS_A_SECOND, Refusal
 
+# The payload types of RFC 3551 are the kinds of speech here. A dynamic type is one of them if the words say so.
 PCMU, GSM, PCMA = 0, 3, 8
 NAMES = {PCMU: "pcmu", GSM: "gsm", PCMA: "pcma"}
+KINDS = {name: kind for kind, name in NAMES.items()}
+PLAIN_TYPES = {kind: kind for kind in NAMES}
+MOST_TYPE = 127
 RTCP_KINDS = range(72, 77)
 LEAST_OF_STREAM = 10  # of other packets a few may look like RTP
 
@@ -32,11 +38,17 @@ def library(part: str) -> Any:
         ) from None
 
 
+def has_library() -> bool:
+    """Whether dpkt is there."""
+    return importlib.util.find_spec("dpkt") is not None
+
+
 # Packets of a capture
 
 
 class Packet(NamedTuple):
-    """An RTP packet: its number in the capture, from 1 as other programs count, what it says, and when it was captured."""
+    """An RTP packet: its number in the capture, from 1 as other programs count, what it says, and when it was captured. The kind is that of
+    speech, or the payload type of anything else."""
 
     number: int
     kind: int
@@ -168,18 +180,49 @@ def address(octets: bytes, port: int) -> str:
     return f"[{read}]:{port}" if read.version == 6 else f"{read}:{port}"
 
 
+# What payloads are that aren't read here: EFR has the magic 1100 where full rate has 1101 (TS 101 318 of ETSI).
+EFR_OCTETS, EFR_MAGIC = 31, 0xC
+
+
+def payload_said(payload: bytes) -> str:
+    """What a payload that isn't whole frames of GSM seems to be, in words."""
+    size = len(payload)
+    if size == EFR_OCTETS and payload[0] >> 4 == EFR_MAGIC:
+        return f"{size} octets that begin with 1100: enhanced full rate, which trau doesn't decode"
+    if size == GSM_OCTETS + 1 and payload[1] >> 4 == GSM_MAGIC:
+        return f"{size} octets, the second of which begins with 1101: a frame of GSM after an octet of flags, which isn't read here"
+    return f"{size} octet{'s' * (size != 1)}"
+
+
+def type_said(kind: int, packets: Sequence[Packet]) -> str:
+    """A payload type that isn't read, with what its payloads seem to be."""
+    sizes = Counter(len(packet.payload) for packet in packets)
+    payload = next(packet.payload for packet in packets if len(packet.payload) == sizes.most_common(1)[0][0])
+    if len(payload) == GSM_OCTETS and payload[0] >> 4 == GSM_MAGIC:
+        return f"{kind} ({GSM_OCTETS} octets that begin with 1101: GSM, which --type {kind}=gsm takes)"
+    return f"{kind} ({payload_said(payload)})"
+
+
 class Streams(NamedTuple):
-    """The RTP packets of a capture by their flows, in their order; how many with speech weren't captured whole; and the payload types of
-    streams without speech of the three kinds."""
+    """The RTP packets of a capture by their flows, in their order; how many with speech weren't captured whole; and the streams without
+    speech of the three kinds."""
 
     by_flow: Dict[Flow, List[Packet]]
     cut: int
-    other_types: Tuple[int, ...]
+    others: Dict[Flow, List[Packet]]
+
+    def other_types(self) -> str:
+        """The payload types of the streams without speech, in words."""
+        found: Dict[int, List[Packet]] = {}
+        for packets in self.others.values():
+            for packet in packets:
+                found.setdefault(packet.kind, []).append(packet)
+        return ", ".join(type_said(kind, found[kind]) for kind in sorted(found))
 
 
-def streams_of(name: Path, content: bytes, partial: bool = False) -> Streams:
-    """The streams of a capture; flows without speech of the three kinds are left out. A packet that wasn't captured whole is left out
-    where `partial` says so."""
+def streams_of(name: Path, content: bytes, partial: bool = False, types: Mapping[int, int] = PLAIN_TYPES) -> Streams:
+    """The streams of a capture, whose payload types of speech have these kinds. A packet that wasn't captured whole is left out where
+    `partial` says so."""
     rtp_kind, errors = library("rtp").RTP, library("dpkt")
     streams: Dict[Flow, List[Packet]] = {}
     cut = 0
@@ -190,17 +233,18 @@ def streams_of(name: Path, content: bytes, partial: bool = False) -> Streams:
             continue
         if rtp.version != 2 or rtp.pt in RTCP_KINDS:
             continue
-        if len(datagram.data) < datagram.ulen - 8 and rtp.pt in NAMES:
+        kind = types.get(rtp.pt, rtp.pt)
+        if len(datagram.data) < datagram.ulen - 8 and kind in NAMES:
             if not partial:
                 why = "is a fragment, and its parts aren't joined here" if is_fragment(outer) else "wasn't captured whole"
                 raise Refusal(f"{name}: packet {number} {why}; --partial leaves such packets out")
             cut += 1
             continue
         flow = Flow(address(outer.src, datagram.sport), address(outer.dst, datagram.dport), rtp.ssrc)
-        streams.setdefault(flow, []).append(Packet(number, rtp.pt, rtp.seq, rtp.ts, payload_of(rtp), time))
+        streams.setdefault(flow, []).append(Packet(number, kind, rtp.seq, rtp.ts, payload_of(rtp), time))
     with_speech = {flow: each for flow, each in streams.items() if any(packet.kind in NAMES for packet in each)}
-    others = {packet.kind for flow, each in streams.items() if flow not in with_speech and len(each) >= LEAST_OF_STREAM for packet in each}
-    return Streams(with_speech, cut, tuple(sorted(others)))
+    others = {flow: each for flow, each in streams.items() if flow not in with_speech and len(each) >= LEAST_OF_STREAM}
+    return Streams(with_speech, cut, others)
 
 
 def kinds_said(packets: Sequence[Packet]) -> str:
@@ -216,25 +260,33 @@ def kind_of(packets: Sequence[Packet]) -> int:
     return kinds[0]
 
 
-def listed(streams: Dict[Flow, List[Packet]]) -> str:
-    """The streams of a capture, in words."""
-    return "; ".join(
-        f"{place} is {flow.said()}, packets {len(packets)}, {kinds_said(packets)}"
+def listed(streams: Dict[Flow, List[Packet]]) -> List[str]:
+    """The streams of a capture, in words, with the times of their first packets from the first one of all on."""
+    first = min((packets[0].time for packets in streams.values()), default=0.0)
+    return [
+        f"{place} is {flow.said()}, packets {len(packets)}, {kinds_said(packets)}, from {packets[0].time - first:.2f} s on"
         for place, (flow, packets) in enumerate(streams.items(), 1)
-    )
+    ]
+
+
+def flow_said(flow: Flow, packets: Sequence[Packet]) -> str:
+    """A stream without speech, in words."""
+    kinds = {packet.kind for packet in packets}
+    types = ", ".join(type_said(kind, [packet for packet in packets if packet.kind == kind]) for kind in sorted(kinds))
+    return f"{flow.said()}, packets {len(packets)}, payload types {types}"
 
 
 def chosen(name: Path, found: Streams, option: str, number: Optional[int]) -> List[Packet]:
     """The packets of the stream with the number that an option gives, counted from 1, or of the only one."""
     streams = found.by_flow
     if not streams:
-        types = f"; its streams have the payload types {', '.join(map(str, found.other_types))}" if found.other_types else ""
+        types = f"; its streams have the payload types {found.other_types()}" if found.others else ""
         raise Refusal(f"{name}: has no RTP stream with GSM, PCMA or PCMU (payload types 3, 8 and 0){types}")
     if number is None and len(streams) == 1:
         number = 1
     if number is None or not 1 <= number <= len(streams):
         count = f"{len(streams)} streams, one of which {option} names" if len(streams) > 1 else f"no stream {number}"
-        raise Refusal(f"{name}: has {count}: {listed(streams)}")
+        raise Refusal(f"{name}: has {count}: {'; '.join(listed(streams))}")
     return list(streams.values())[number - 1]
 
 

@@ -46,11 +46,11 @@ SCRIPTS = ("trau", "demo")
 TOOLS = ("lines.py", "orders.py", "report.py", "shard.py", "timeline.py", "watch.py")
 # What the tools stand on, and what the script trau reads.
 BESIDE_TOOLS = (
-    *("call_lines.py", "captures.py", "code_word.py", "damages.py", "file_kinds.py", "frame_kinds.py", "gsm_files.py", "levels.py", "listening.py"),
-    *("looks.py", "marks.py", "octet_columns.py", "outcomes.py", "outgoing.py", "picture.py", "picture_page.js", "picture_page.py"),
-    *("read_aloud.py", "readings.py", "recordings.py", "rtp_packets.py", "run_lines.py", "run_texts.py", "side_by_side.py", "slots.py", "sync_losses.py"),
-    *("tone_peaks.py", "tool_ends.py", "tool_start.py", "trau_frames.py", "uplink_periods.py", "wav_files.py"),
-    "word_faults.py",
+    *("call_lines.py", "captures.py", "code_word.py", "damages.py", "file_kinds.py", "frame_kinds.py", "gsm_files.py", "levels.py"),
+    *("listening.py", "looks.py", "marks.py", "octet_columns.py", "outcomes.py", "outgoing.py", "picture.py", "picture_page.js"),
+    *("picture_page.py", "read_aloud.py", "readings.py", "recordings.py", "rtp_packets.py", "rtp_streams.py", "run_lines.py", "run_texts.py"),
+    *("side_by_side.py", "slots.py", "sync_losses.py", "tone_peaks.py", "tool_ends.py", "tool_start.py", "trau_frames.py", "uplink_frames.py"),
+    *("uplink_periods.py", "wav_files.py", "word_faults.py"),
     *("help.txt", "pages.txt", "grammar.txt", "bad_order.awk"),
 )
 EXAMPLES = re.compile(r"README\.md|7\.up|farm/(\d+\.(up|pcm)|orders\.txt|wanted/[\w.]+)")

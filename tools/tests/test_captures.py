@@ -1,5 +1,5 @@
-"""Tests of captures.py: captures of RTP that GStreamer (GSM) and ffmpeg (PCMA, PCMU) sent and tshark recorded, beside the fields
-that tshark reads of them; damaged ones; and lines out to captures. They need the library dpkt, and are skipped without it."""
+"""Tests of captures.py: captures of a tone of 0.6 s that GStreamer 1.22 (GSM) and ffmpeg 5.1 (PCMA, PCMU) sent and tshark recorded, beside
+the fields that tshark 4.0 reads of them; damaged ones; and lines out to captures. They need the library dpkt, and are skipped without it."""
 
 import importlib.util
 import io
@@ -13,6 +13,7 @@ import captures
 import code_word
 import lines
 import trau_frames
+import uplink_frames
 from trau_frames import Law, Sort
 
 HAS_DPKT = importlib.util.find_spec("dpkt") is not None
@@ -33,7 +34,7 @@ class WithoutTheLibrary(InFolder):
         self.assertEqual(len(set(map(Law.MU.expand, range(256)))), 255)
 
     def test_idle_and_lost_frames(self):
-        for octets, sort in ((captures.IDLE_UPLINK, Sort.IDLE), (captures.LOST_UPLINK, Sort.BAD)):
+        for octets, sort in ((uplink_frames.IDLE, Sort.IDLE), (uplink_frames.LOST, Sort.BAD), (uplink_frames.LOST_WITH_TAF, Sort.BAD)):
             self.assertEqual([each.sort() for each in trau_frames.search(trau_frames.bits_of(octets))], [sort])
 
     @unittest.skipIf(HAS_DPKT, "dpkt is there")
@@ -57,7 +58,7 @@ class Captures(InFolder):
     def test_gsm(self):
         frames = b"".join(row[4] for row in fields("gsm"))
         said, line = self.pcap(DATA / "gsm.pcap")
-        self.assertEqual(said, "pcap gsm packets 30 late 0 doubled 0 others 0 frames 30 sid 0 invalid 0 lost 0 paused 0 lead 0\n")
+        self.assertEqual(said, "pcap gsm packets 30 late 0 doubled 0 others 0 frames 30 sid 0 invalid 0 lost 0 gap 0 empty 0 paused 0 lead 0\n")
         self.run_tool(lines.main, "uplink", self.path("7.gsm", frames), self.folder / "7.up")
         self.assertEqual(line, self.path("7.up").read_bytes())
 
@@ -65,7 +66,7 @@ class Captures(InFolder):
         octets = b"".join(row[4] for row in fields("pcma"))
         said, line = self.pcap(DATA / "pcma.pcapng")
         self.assertEqual(
-            said, "pcap pcma packets 17 late 0 doubled 0 others 0 octets 4800 lost 0 paused 0 lead 0 padded 0\n"
+            said, "pcap pcma packets 17 late 0 doubled 0 others 0 octets 4800 lost 0 gap 0 lead 0 padded 0\n"
         )
         self.assertEqual(line, octets)
         # Both are of one sound, so their samples are near to one another: a step of the loudest segment is 2048.
@@ -117,12 +118,12 @@ class Captures(InFolder):
 
     def test_lost(self):
         said, line = self.changed(lambda packets: packets[:7] + packets[9:20] + packets[21:])
-        self.assertEqual(said, "pcap gsm packets 27 late 0 doubled 0 others 0 frames 27 sid 0 invalid 0 lost 3 paused 0 lead 0\n")
+        self.assertEqual(said, "pcap gsm packets 27 late 0 doubled 0 others 0 frames 27 sid 0 invalid 0 lost 3 gap 0 empty 0 paused 0 lead 0\n")
         self.assertEqual([place for place, sort in enumerate(self.sorts(line)) if sort == "bad"], [7, 8, 20])
         said, line = self.changed(lambda packets: packets[:4] + packets[6:], "pcma")
         whole = b"".join(row[4] for row in fields("pcma"))
         place, length = self.places("pcma", 3), self.places("pcma", 5) - self.places("pcma", 3)
-        self.assertIn(f"lost {length} paused 0", said)
+        self.assertIn(f"lost {length} gap 0", said)
         self.assertEqual(line, whole[:place] + bytes([Law.A.idle()]) * length + whole[place + length :])
 
     def places(self, kind, number):
@@ -132,10 +133,10 @@ class Captures(InFolder):
     def test_late_and_doubled(self):
         whole = self.pcap(DATA / "gsm.pcap")[1]
         said, line = self.changed(lambda packets: packets[:5] + [packets[7], packets[5], packets[6]] + packets[8:])
-        self.assertEqual(said, "pcap gsm packets 30 late 2 doubled 0 others 0 frames 30 sid 0 invalid 0 lost 0 paused 0 lead 0\n")
+        self.assertEqual(said, "pcap gsm packets 30 late 2 doubled 0 others 0 frames 30 sid 0 invalid 0 lost 0 gap 0 empty 0 paused 0 lead 0\n")
         self.assertEqual(line, whole)
         said, line = self.changed(lambda packets: packets[:5] + packets[3:5] + packets[5:])
-        self.assertEqual(said, "pcap gsm packets 32 late 0 doubled 2 others 0 frames 30 sid 0 invalid 0 lost 0 paused 0 lead 0\n")
+        self.assertEqual(said, "pcap gsm packets 32 late 0 doubled 2 others 0 frames 30 sid 0 invalid 0 lost 0 gap 0 empty 0 paused 0 lead 0\n")
         self.assertEqual(line, whole)
         # The first packet of all comes late.
         said, line = self.changed(lambda packets: [packets[1], packets[0]] + packets[2:])
@@ -151,7 +152,7 @@ class Captures(InFolder):
             rtp.ts = (rtp.ts - first[3] + 4294966000) % 4294967296
 
         said, line = self.changed(lambda packets: [self.rewritten(octets, moved) for octets in packets])
-        self.assertEqual(said, "pcap gsm packets 30 late 0 doubled 0 others 0 frames 30 sid 0 invalid 0 lost 0 paused 0 lead 0\n")
+        self.assertEqual(said, "pcap gsm packets 30 late 0 doubled 0 others 0 frames 30 sid 0 invalid 0 lost 0 gap 0 empty 0 paused 0 lead 0\n")
         self.assertEqual(line, whole)
 
     def test_pauses_and_other_kinds(self):
@@ -161,8 +162,8 @@ class Captures(InFolder):
         said, line = self.changed(
             lambda packets: packets[:10] + [self.rewritten(octets, later) for octets in packets[10:]]
         )
-        self.assertEqual(said, "pcap gsm packets 30 late 0 doubled 0 others 0 frames 30 sid 0 invalid 0 lost 0 paused 5 lead 0\n")
-        self.assertEqual(self.sorts(line)[9:16], ["good", *5 * ["idle"], "good"])
+        self.assertEqual(said, "pcap gsm packets 30 late 0 doubled 0 others 0 frames 30 sid 0 invalid 0 lost 0 gap 5 empty 0 paused 0 lead 0\n")
+        self.assertEqual(self.sorts(line)[9:16], ["good", *5 * ["bad"], "good"])
 
         def digit(rtp):
             rtp.pt, rtp.data = 101, bytes(4)
@@ -170,8 +171,8 @@ class Captures(InFolder):
         said, line = self.changed(
             lambda packets: packets[:10] + [self.rewritten(octets, digit) for octets in packets[10:12]] + packets[12:]
         )
-        self.assertEqual(said, "pcap gsm packets 30 late 0 doubled 0 others 2 frames 28 sid 0 invalid 0 lost 0 paused 2 lead 0\n")
-        self.assertEqual(self.sorts(line)[9:13], ["good", "idle", "idle", "good"])
+        self.assertEqual(said, "pcap gsm packets 30 late 0 doubled 0 others 2 frames 28 sid 0 invalid 0 lost 0 gap 2 empty 0 paused 0 lead 0\n")
+        self.assertEqual(self.sorts(line)[9:13], ["good", "bad", "bad", "good"])
 
     def test_time_stamps_that_go_back(self):
         def earlier(rtp):
@@ -182,7 +183,7 @@ class Captures(InFolder):
             lambda packets: packets[:10] + [self.rewritten(octets, earlier) for octets in packets[10:]]
         )
         self.assertEqual(
-            said, "pcap gsm packets 30 late 0 doubled 0 others 0 frames 15 sid 0 invalid 0 lost 0 paused 0 lead 0 over 15\n"
+            said, "pcap gsm packets 30 late 0 doubled 0 others 0 frames 15 sid 0 invalid 0 lost 0 gap 0 empty 0 paused 0 lead 0 over 15\n"
         )
         self.assertEqual(len(line), 15 * 40)
 
@@ -192,8 +193,8 @@ class Captures(InFolder):
         link, packets = self.packets()
         file = io.BytesIO()
         writer = captures.library("pcap").Writer(file, linktype=link)
-        for place, octets in enumerate([*packets[:5], self.rewritten(packets[5], later)]):
-            writer.writepkt(octets, ts=place / 50)
+        for time, octets in zip((0, 0.02, 0.04, 0.06, 0.08, 3601.1), [*packets[:5], self.rewritten(packets[5], later)]):
+            writer.writepkt(octets, ts=time)
         words = ["pcap", self.path("jump.pcap", file.getvalue()), self.folder / "7.up"]
         self.assert_refused(lines.main, words, "of packet 6 is 3601 s after the packet before; at most 3600 s are taken")
 
@@ -221,12 +222,12 @@ class Captures(InFolder):
 
         said, line = self.changed(change)
         self.assertEqual(
-            said, "pcap gsm packets 30 late 0 doubled 0 others 0 frames 30 sid 1 invalid 1 lost 0 paused 5 lead 0\n"
+            said, "pcap gsm packets 30 late 0 doubled 0 others 0 frames 30 sid 1 invalid 1 lost 0 gap 0 empty 0 paused 5 lead 0\n"
         )
         self.assertEqual(self.sorts(line)[9:19], ["good", "sid", "invalid", *5 * ["bad"], "good", "good"])
         said, line = self.changed(change, words=("--sid", "keep"))
-        self.assertIn("frames 30 sid 0 invalid 0 lost 0 paused 5 ", said)
-        self.assertEqual(self.sorts(line)[9:19], [*3 * ["good"], *5 * ["idle"], "good", "good"])
+        self.assertIn("frames 30 sid 0 invalid 0 lost 0 gap 5 empty 0 paused 0 ", said)
+        self.assertEqual(self.sorts(line)[9:19], [*3 * ["good"], *5 * ["bad"], "good", "good"])
 
     def test_captures_that_were_cut(self):
         whole = self.pcap(DATA / "gsm.pcap")[1]
@@ -236,7 +237,7 @@ class Captures(InFolder):
         said, line = self.pcap(cut, "--partial")
         self.assertEqual(
             said,
-            "pcap gsm packets 29 late 0 doubled 0 others 0 frames 29 sid 0 invalid 0 lost 0 paused 0 lead 0 cut 1\n",
+            "pcap gsm packets 29 late 0 doubled 0 others 0 frames 29 sid 0 invalid 0 lost 0 gap 0 empty 0 paused 0 lead 0 cut 1 wrong 0\n",
         )
         self.assertEqual(line, whole[:-40])
         for name, octets in ((name, (DATA / name).read_bytes()) for name in CAPTURES.values()):
@@ -252,7 +253,7 @@ class Captures(InFolder):
         said, line = self.changed(
             lambda packets: [each[: -9 if at % 3 == 1 else None] for at, each in enumerate(packets)], words=("--partial",)
         )
-        self.assertIn("packets 20 late 0 doubled 0 others 0 frames 20 sid 0 invalid 0 lost 10 paused 0 lead 0 cut 10", said)
+        self.assertIn("packets 20 late 0 doubled 0 others 0 frames 20 sid 0 invalid 0 lost 10 gap 0 empty 0 paused 0 lead 0 cut 10 wrong 0", said)
         self.assertEqual(self.sorts(line)[:5], ["good", "bad", "good", "good", "bad"])
 
     def test_lines_that_keep_step(self):
@@ -355,7 +356,10 @@ class Captures(InFolder):
         def other(rtp):
             rtp.pt = 97
 
-        said = "has no RTP stream with GSM, PCMA or PCMU (payload types 3, 8 and 0); its streams have the payload types 97\n"
+        said = (
+            "has no RTP stream with GSM, PCMA or PCMU (payload types 3, 8 and 0); its streams have the payload types 97 (33 octets that begin"
+            " with 1101: GSM, which --type 97=gsm takes)\n"
+        )
         given = self.of_link(101, lambda octets: self.rewritten(bytes(12) + b"\x08\0" + octets, other)[14:])
         self.assert_refused(lines.main, ["pcap", given, self.folder / "line"], said)
 
