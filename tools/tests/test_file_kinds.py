@@ -156,8 +156,9 @@ class Look(InFolder):
         )
 
     def test_frames_by_chance(self):
-        # Two frames far from one another, and one alone, in octets of something else.
+        # Two frames, near one another or not, and one alone, in octets of something else.
         noise = random.Random(7).randbytes(4000)
+        self.assertEqual(self.look(noise[:80] + UP[:80] + noise[160:]), "nothing that is known here")
         for place in (80, 2000):
             self.assertEqual(self.look(noise[:place] + UP[:40] + noise[place + 40 :]), "nothing that is known here")
         self.assertEqual(self.look(noise[:80] + UP[:40] + noise[120:2000] + UP[40:80] + noise[2040:]), "nothing that is known here")

@@ -12,6 +12,7 @@ gstreamer.txt and ffmpeg.txt have what tshark reads of each packet."""
 
 import importlib.util
 import io
+import random
 import unittest
 
 from support import DATA, InFolder
@@ -148,6 +149,39 @@ class Senders(InFolder):
         said, line = self.pcap(self.path("7.pcap"), "--gap", "idle")
         self.assertIn(" lost 2 gap 4 empty 0 paused 0 ", said)
         self.assertEqual(line, made.line())
+
+    def test_random_streams(self):
+        # What arrived of what was sent in each period, in any order near its own, gives the line from the first to the last that arrived.
+        speech = [payload for payload in script() if payload and not is_descriptor(payload)]
+        descriptor = next(filter(is_descriptor, script()))
+        tafs = 0
+        for seed in range(40):
+            source = random.Random(seed)
+            kinds = source.choices(["speech", "sid", "skip", "empty"], [source.choice((0.1, 8)), 0.4, source.randint(0, 9), 1], k=120)
+            first = (source.randrange(1 << 16), source.randrange(1 << 32))
+            arrived, numbers = {}, 0
+            for at, kind in enumerate(kinds):
+                if kind == "skip":
+                    continue
+                payload = {"speech": source.choice(speech), "sid": descriptor, "empty": b""}[kind]
+                if source.random() < 0.9:
+                    sound = captures.Sound(first[1] + 160 * at, payload)
+                    arrived[at] = kind, captures.datagram_of(1, 3, first[0] + numbers, False, sound)
+                numbers += 1
+            order = sorted(arrived, key=lambda at: at + source.uniform(0, 3))
+            packets = [(at / 50, arrived[place][1]) for at, place in zip(sorted(arrived), order)]
+            packets += [packets[place] for place in source.sample(range(len(packets)), 3)]
+            _, line = self.pcap(self.written(sorted(packets)))
+            came = [arrived.get(at, ("skip",))[0] for at in range(min(arrived), max(arrived) + 1)]
+            self.assertEqual(sorts_of(line), [{"speech": "good", "sid": "sid"}.get(kind, "bad") for kind in came], seed)
+            wanted, since = [], None
+            for at, kind in enumerate(came):
+                since = None if kind == "speech" or since is None else since + 1
+                wanted += [at] if since and since % 24 == 0 else []
+                since = 0 if kind == "sid" else since
+            self.assertEqual(tafs_of(line), wanted, seed)
+            tafs += len(wanted)
+        self.assertGreater(tafs, 20)
 
     # GStreamer and ffmpeg
 
