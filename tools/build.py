@@ -363,6 +363,8 @@ def prove(rt: Toolchain, progress: Progress, at_once: Optional[int]) -> bool:
 def build_for(rt: Toolchain, progress: Progress, program: str) -> bool:
     """Proves and builds the program for KIND, over the crates below it, which are proved."""
     progress.at(f"the program for {KIND}")
+    # Made by `rt ci` only if it built the program too.
+    (rt.folder / "crates" / program / "out").mkdir(exist_ok=True)
     words = (sys.executable, str(Path(__file__).with_name("build_for.py")), str(rt.folder), program, KIND)
     status, counts = "", program in progress.left
     for line in rt.lines(*words):

@@ -87,7 +87,6 @@ top, crate, kind = sys.argv[1:]
 if os.environ["FAILS"] == "second":
     sys.exit("no such kind")
 folder = f"{top}/crates/{crate}/out"
-os.makedirs(folder, exist_ok=True)
 with open(f"{folder}/{crate}.{kind}", "w") as made:
     made.write('#!/bin/sh\\n[ "$#" != 0 ] || { echo usage; exit 1; }\\necho "the program for ' + kind + ': $*"\\n')
 with open(f"{top}/crates.txt") as listed:
