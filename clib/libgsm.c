@@ -1,11 +1,12 @@
 /* libgsm's interface over libtrau_fr, in integer arithmetic. Built as libgsm.so.1, it runs programs of libgsm unchanged.
  *
  * Encoder, decoder, packings and their tests are the library's. Here are memory, options, and the two halves of WAV49. One thread at
- * a time may use a handle, as in libgsm. If a handle both encodes and decodes, the two have separate states; in libgsm they share
- * one. The option GSM_OPT_FRAME_CHAIN keeps four bits.
+ * a time may use a handle, as in libgsm. All is as in libgsm but for two things: if a handle both encodes and decodes, the two have
+ * separate states, and a sample that the scaling of an encoder brings to 32768 is 32767.
  *
  * The options are those of the usual builds of libgsm: GSM_OPT_VERBOSE is stored and returned without effect. GSM_OPT_FAST and
- * GSM_OPT_LTP_CUT, which make the encoder inexact, aren't available.
+ * GSM_OPT_LTP_CUT, which make the encoder inexact, aren't available. checks/clib.sh compiles this file also behind the real gsm.h, so
+ * names, types and numbers are written as there.
  */
 #include <stdio.h>
 #include <stdlib.h>
@@ -15,20 +16,19 @@
 
 #define PUBLIC __attribute__((visibility("default")))
 
-enum gsm_option_name {
-    GSM_OPT_VERBOSE = 1,
-    GSM_OPT_FAST = 2,
-    GSM_OPT_LTP_CUT = 3,
-    GSM_OPT_WAV49 = 4,
-    GSM_OPT_FRAME_INDEX = 5,
-    GSM_OPT_FRAME_CHAIN = 6
-};
+#define GSM_OPT_VERBOSE 1
+#define GSM_OPT_FAST 2
+#define GSM_OPT_LTP_CUT 3
+#define GSM_OPT_WAV49 4
+#define GSM_OPT_FRAME_INDEX 5
+#define GSM_OPT_FRAME_CHAIN 6
 
 /* Octets of the first half of a pair. The octet after them is shared with the second half. */
 #define SHARED 32
 
 /* In a pair a frame is the first (index 1) or the second (index 0); chain has the four bits of the shared octet that the second
- * half needs. */
+ * half needs. A program may set both to any octet. Then an index above 1 writes the first half and reads the second, and the high four
+ * bits of a chain go into the octet after the shared one where it is read. */
 typedef struct gsm_state {
     struct trau_fr_encoder encoder;
     struct trau_fr_decoder decoder;
@@ -121,6 +121,7 @@ static void read_half(gsm state, const gsm_byte *octets)
     } else {
         pair[SHARED] = (gsm_byte)(state->frame_chain << 4);
         memcpy(pair + SHARED + 1, octets, SHARED);
+        pair[SHARED + 1] |= state->frame_chain >> 4;
         trau_fr_unpack_pair(pair, &other, &state->frame);
     }
 }

@@ -107,10 +107,52 @@ static void frames(int wav49)
     gsm_destroy(other);
 }
 
+/* Halves of pairs with any index and any bits of the shared octet: of each, all four functions. */
+static void halves(void)
+{
+    static const int indices[] = {0, 1, 2, 3, 128, 255, 256, 257, -1}, chains[] = {0, 5, 15, 16, 0xAF, 0xFF, 0x1A5, -2};
+    gsm encoder = gsm_create(), decoder = gsm_create();
+    unsigned char octets[SHOWN];
+    short samples[160], values[76];
+    int on = 1;
+
+    gsm_option(encoder, WAV49, &on);
+    gsm_option(decoder, WAV49, &on);
+    for (int i = 0; i < 9; i++)
+        for (int c = 0; c < 8; c++)
+            for (int function = 0; function < 4; function++) {
+                gsm state = function % 2 ? decoder : encoder;
+                int index = indices[i], chain = chains[c];
+
+                gsm_option(state, FRAME_INDEX, &index);
+                gsm_option(state, FRAME_CHAIN, &chain);
+                samples_of(i + c, samples);
+                for (int k = 0; k < SHOWN; k++)
+                    octets[k] = (unsigned char)random_word();
+                for (int k = 0; k < 76; k++)
+                    values[k] = (short)random_word();
+                if (function == 0)
+                    gsm_encode(state, samples, octets);
+                else if (function == 1)
+                    gsm_decode(state, octets, samples);
+                else if (function == 2)
+                    gsm_implode(state, values, octets);
+                else
+                    gsm_explode(state, octets, values);
+                printf("half %d %d %d: ", index, chain, function);
+                octets_out(octets);
+                values_out(function == 1 ? samples : values, 76);
+                printf("index %d chain %d\n", gsm_option(state, FRAME_INDEX, NULL), gsm_option(state, FRAME_CHAIN, NULL));
+            }
+    gsm_destroy(encoder);
+    gsm_destroy(decoder);
+}
+
 int main(void)
 {
     options();
     frames(0);
     frames(1);
+    halves();
     return 0;
 }
