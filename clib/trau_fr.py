@@ -1,4 +1,4 @@
-"""The GSM full rate codec, A-law and mu-law, by the C library that clib/build makes.
+"""The GSM full rate codec, the two sides of a call, A-law and mu-law, by the C library that clib/build makes.
 
     import trau_fr
     encoder, decoder = trau_fr.Encoder(), trau_fr.Decoder()
@@ -6,6 +6,13 @@
     samples = decoder.decode(octets)        # array.array('h'), 160 samples for each 33 octets
     samples = trau_fr.expand(line, "alaw")  # array.array('h') of the octets of a line
     line = trau_fr.compress(samples, "alaw")
+
+The two sides of a call, a period at a time; the header trau_fr.h says what a host must know:
+
+    receiver, sender = trau_fr.Receiver(seed=1), trau_fr.Sender()
+    samples = receiver.receive(octets)      # None for a period in which nothing came; by its code word a frame may be a descriptor
+    frame = sender.send(samples, dtx=True)
+    frame.octets, frame.speech              # 33 octets; False for a silence descriptor
 
 Samples have 16 bits, 8000 a second: array.array('h'), a numpy array of int16, or any other buffer of them. Bytes are taken as samples in
 the machine's byte order. Octets are bytes, a numpy array of uint8, or any other buffer of items of one octet. Arrays may be slices with
@@ -18,19 +25,46 @@ The library is libtrau_fr.so.1 in lib/ of the folder that TRAU_CLIB names, or el
 from __future__ import annotations
 
 import ctypes
+import enum
 import os
 from array import array
 from pathlib import Path
-from typing import Any, Union
+from typing import Any, NamedTuple, Optional, Union
 
 SAMPLES = 160
 OCTETS = 33
+LINE_OCTETS = 40  # of a frame on a TRAU line
+LEVEL = 256  # that a call of `trau` has at first
 
 Buffer = Union[bytes, bytearray, memoryview, "array[int]", Any]
 
 
 class Refused(ValueError):
-    """Octets that carry no frame: 33 octets that don't begin with the four bits 1101."""
+    """Octets that carry no frame: 33 octets that don't begin with the four bits 1101, or 40 of a line whose sync bits are wrong."""
+
+
+class Kind(enum.IntEnum):
+    """What a period brings, or a frame is (trau_fr.h, "A receiving host")."""
+
+    SPEECH = 0
+    DESCRIPTOR = 1
+    LOST = 2
+    IDLE = 3
+
+
+class Sent(NamedTuple):
+    """What is sent for a period: the 33 octets of its frame, and whether they are speech or a silence descriptor."""
+
+    octets: bytes
+    speech: bool
+
+
+class Line(NamedTuple):
+    """What a frame of a TRAU line brings."""
+
+    octets: bytes
+    kind: Kind
+    taf: bool  # False on a downlink
 
 
 class _Preprocessing(ctypes.Structure):
@@ -67,23 +101,83 @@ class _Frame(ctypes.Structure):
     ]
 
 
+class _Heard(ctypes.Structure):
+    _fields_ = [
+        ("tag", ctypes.c_uint8),
+        ("periods", ctypes.c_uint8),
+        ("step", ctypes.c_uint8),
+        ("missed", ctypes.c_uint8),
+        ("source", ctypes.c_uint16),
+        ("good", _Frame),
+        ("descriptor", _Frame),
+    ]
+
+
+class _ReceiverState(ctypes.Structure):
+    _fields_ = [("heard", _Heard), ("decoder", _DecoderState)]
+
+
+class _Trace(ctypes.Structure):
+    _fields_ = [("ratios", ctypes.c_int16 * 8), ("maxima", ctypes.c_int16 * 4)]
+
+
+class _Pauses(ctypes.Structure):
+    _fields_ = [
+        ("run", ctypes.c_uint8),
+        ("elapsed", ctypes.c_uint8),
+        ("hangs", ctypes.c_bool),
+        ("descriptor", _Frame),
+        ("last", _Trace * 3),
+    ]
+
+
+class _SenderState(ctypes.Structure):
+    _fields_ = [("encoder", _EncoderState), ("sent", _Pauses)]
+
+
 _Samples = ctypes.c_int16 * SAMPLES
 _Octets = ctypes.c_uint8 * OCTETS
 _LineOctets = ctypes.c_uint8 * SAMPLES
+_TrauOctets = ctypes.c_uint8 * LINE_OCTETS
+
+
+# The functions with a result or with arguments that aren't pointers; all others return nothing.
+_RESULTS = {
+    "trau_fr_encoder_home": _EncoderState,
+    "trau_fr_decoder_home": _DecoderState,
+    "trau_fr_receiver_home": _ReceiverState,
+    "trau_fr_sender_home": _SenderState,
+    "trau_fr_decode_octets": ctypes.c_bool,
+    "trau_fr_receive": ctypes.c_bool,
+    "trau_fr_hand": ctypes.c_bool,
+    "trau_fr_kind": ctypes.c_uint32,
+    "trau_fr_send": ctypes.c_bool,
+    "trau_fr_read_uplink": ctypes.c_bool,
+    "trau_fr_read_downlink": ctypes.c_bool,
+}
+_pointer, _kind, _flag = ctypes.c_void_p, ctypes.c_uint32, ctypes.c_bool
+_ARGUMENTS = {
+    "trau_fr_receiver_home": [ctypes.c_uint16],
+    "trau_fr_receive": [_pointer, _pointer, _kind, _flag, _pointer],
+    "trau_fr_hand": [_pointer, _pointer, _kind, _flag, _pointer],
+    "trau_fr_send": [_pointer, _pointer, ctypes.c_int16, _flag, _pointer],
+    "trau_fr_write_uplink": [_pointer, _kind, _flag, _pointer],
+    "trau_fr_write_downlink": [_pointer, _kind, _pointer],
+}
+_OTHERS = ("trau_fr_encode_octets", "trau_alaw_expand", "trau_alaw_compress", "trau_mulaw_expand", "trau_mulaw_compress")
 
 
 def _load() -> ctypes.CDLL:
-    """The library, with the types of its functions."""
+    """The library, with the types of its functions. Raises OSError if there is none, or one of an earlier version."""
     built = Path(os.environ.get("TRAU_CLIB") or Path(__file__).resolve().parent / "out") / "lib" / "libtrau_fr.so.1"
     library = ctypes.CDLL(str(built) if built.exists() else built.name)
-    library.trau_fr_encoder_home.restype = _EncoderState
-    library.trau_fr_decoder_home.restype = _DecoderState
-    library.trau_fr_decode_octets.restype = ctypes.c_bool
-    for name in ("encode", "pack"):
-        getattr(library, f"trau_fr_{name}").restype = None
-    for law in ("alaw", "mulaw"):
-        getattr(library, f"trau_{law}_expand").restype = None
-        getattr(library, f"trau_{law}_compress").restype = None
+    for name in sorted({*_RESULTS, *_ARGUMENTS, *_OTHERS}):
+        function = getattr(library, name, None)
+        if function is None:
+            raise OSError(f"{library._name} has no {name}: it is of an earlier version")
+        function.restype = _RESULTS.get(name)
+        if name in _ARGUMENTS:
+            function.argtypes = _ARGUMENTS[name]
     return library
 
 
@@ -114,6 +208,20 @@ def _periods(data: bytes, size: int, what: str) -> int:
     return count
 
 
+def _frame_of(octets: Optional[Buffer]) -> Any:
+    """The octets of one frame; zeros for None."""
+    data = bytes(OCTETS) if octets is None else _octets_of(octets)
+    if len(data) != OCTETS:
+        raise ValueError(f"a frame has {OCTETS} octets, not {len(data)}")
+    return _Octets.from_buffer_copy(data)
+
+
+def _in_range(value: int, least: int, most: int, what: str) -> int:
+    if not least <= value <= most:
+        raise ValueError(f"{what} {value} isn't from {least} to {most}")
+    return value
+
+
 class Encoder:
     """The encoder of one phone call. It begins in its reset state."""
 
@@ -123,11 +231,10 @@ class Encoder:
     def encode(self, samples: Buffer) -> bytes:
         """The frames of the next periods: 33 octets for each 160 samples."""
         data = _samples_of(samples)
-        frame, octets, out = _Frame(), _Octets(), bytearray()
+        octets, out = _Octets(), bytearray()
         for k in range(_periods(data, 2 * SAMPLES, "samples")):
             period = _Samples.from_buffer_copy(data, 2 * SAMPLES * k)
-            _library.trau_fr_encode(ctypes.byref(self._state), period, ctypes.byref(frame))
-            _library.trau_fr_pack(ctypes.byref(frame), octets)
+            _library.trau_fr_encode_octets(ctypes.byref(self._state), period, octets)
             out += bytes(octets)
         return bytes(out)
 
@@ -149,6 +256,96 @@ class Decoder:
                 raise Refused(f"frame {k} doesn't begin with the four bits 1101")
             out.frombytes(bytes(period))
         return out
+
+
+def kind_of(octets: Buffer) -> Kind:
+    """The kind of a frame of 33 octets by its code word: Kind.LOST for one that can't be used."""
+    return Kind(_library.trau_fr_kind(_frame_of(octets)))
+
+
+class Receiver:
+    """The receive side of one phone call, a period at a time. `quiet` is True until its first good frame or silence descriptor, and from
+    an idle frame on until the next one."""
+
+    def __init__(self, seed: int = 0) -> None:
+        """The seed starts the random numbers, 0 to 65535; `trau` takes the call's number."""
+        self._state = _library.trau_fr_receiver_home(_in_range(seed, 0, 65535, "seed"))
+        self.quiet = True
+
+    def _turn(self, function: Any, octets: Optional[Buffer], kind: Optional[int], taf: bool, out: Any) -> None:
+        frame = _frame_of(octets)
+        if kind is None:
+            kind = Kind.LOST if octets is None else _library.trau_fr_kind(frame)
+        _in_range(kind, 0, 0xFFFFFFFF, "kind")
+        self.quiet = not function(ctypes.byref(self._state), frame, kind, taf, out)
+
+    def receive(self, octets: Optional[Buffer], kind: Optional[int] = None, taf: bool = False) -> "array[int]":
+        """The 160 samples of the next period, from the 33 octets of its frame, or None if none came. Without a kind, the code word of the
+        frame says it. `taf`: the frame is lost, and a silence descriptor was due."""
+        samples, out = _Samples(), array("h")
+        self._turn(_library.trau_fr_receive, octets, kind, taf, samples)
+        out.frombytes(bytes(samples))
+        return out
+
+    def hand(self, octets: Optional[Buffer], kind: Optional[int] = None, taf: bool = False) -> bytes:
+        """The next period in a bridge: the 33 octets that go on to the partner. The decoder is reset."""
+        handed = _Octets()
+        self._turn(_library.trau_fr_hand, octets, kind, taf, handed)
+        return bytes(handed)
+
+
+class Sender:
+    """The transmit side of one phone call, a period at a time."""
+
+    def __init__(self) -> None:
+        self._state = _library.trau_fr_sender_home()
+
+    def send(self, samples: Buffer, level: int = LEVEL, dtx: bool = False) -> Sent:
+        """What is sent for the next 160 samples. A frame whose peak is at least the level is speech; without `dtx`, each one is."""
+        data, octets = _samples_of(samples), _Octets()
+        if len(data) != 2 * SAMPLES:
+            raise ValueError(f"a period has {2 * SAMPLES} octets of samples, not {len(data)}")
+        period = _Samples.from_buffer_copy(data)
+        _in_range(level, -32768, 32767, "level")
+        speech = _library.trau_fr_send(ctypes.byref(self._state), period, level, dtx, octets)
+        return Sent(bytes(octets), speech)
+
+
+def write_uplink(octets: Optional[Buffer], kind: int, taf: bool = False) -> bytes:
+    """The 40 octets on the uplink of a TRAU line for what a period brought."""
+    line = _TrauOctets()
+    _library.trau_fr_write_uplink(_frame_of(octets), _in_range(kind, 0, 0xFFFFFFFF, "kind"), taf, line)
+    return bytes(line)
+
+
+def write_downlink(octets: Optional[Buffer], kind: int) -> bytes:
+    """The 40 octets on the downlink of a TRAU line for a frame that is sent; an idle frame for Kind.IDLE."""
+    line = _TrauOctets()
+    _library.trau_fr_write_downlink(_frame_of(octets), _in_range(kind, 0, 0xFFFFFFFF, "kind"), line)
+    return bytes(line)
+
+
+def _line_of(octets: Buffer) -> Any:
+    data = _octets_of(octets)
+    if len(data) != LINE_OCTETS:
+        raise ValueError(f"a frame on a line has {LINE_OCTETS} octets, not {len(data)}")
+    return _TrauOctets.from_buffer_copy(data)
+
+
+def read_uplink(octets: Buffer) -> Line:
+    """What the 40 octets of an uplink frame bring. Raises Refused if their sync bits are wrong."""
+    kind, taf, frame = ctypes.c_uint32(), ctypes.c_bool(), _Octets()
+    if not _library.trau_fr_read_uplink(_line_of(octets), ctypes.byref(kind), ctypes.byref(taf), frame):
+        raise Refused("the sync bits are wrong")
+    return Line(bytes(frame), Kind(kind.value), taf.value)
+
+
+def read_downlink(octets: Buffer) -> Line:
+    """The frame of 40 octets on a downlink. Raises Refused if their sync bits are wrong."""
+    kind, frame = ctypes.c_uint32(), _Octets()
+    if not _library.trau_fr_read_downlink(_line_of(octets), ctypes.byref(kind), frame):
+        raise Refused("the sync bits are wrong")
+    return Line(bytes(frame), Kind(kind.value), False)
 
 
 def _by_law(law: str, work: str) -> Any:

@@ -5,10 +5,6 @@
 
 #include "trau_fr.h"
 
-_Static_assert(sizeof(struct trau_fr_params) == 76, "a frame");
-_Static_assert(sizeof(struct trau_fr_encoder) == 284, "the state of an encoder");
-_Static_assert(sizeof(struct trau_fr_decoder) == 276, "the state of a decoder");
-
 /* Frames of the recorded line. */
 #define FRAMES 254
 
@@ -153,6 +149,109 @@ static void compressed(const char *vectors)
     expect(same, "mu-law of the samples from 0 on, and of what it expands to");
 }
 
+/* The frame of silence of GSM 06.11, octet for octet. */
+static const uint8_t silence[33] = {
+    0xDA, 0xA7, 0xAA, 0xA5, 0x1A, 0x50, 0x20, 0x38, 0xE4, 0x6D, 0xB9, 0x1B, 0x50, 0x20, 0x38, 0xE4, 0x6D,
+    0xB9, 0x1B, 0x50, 0x20, 0x38, 0xE4, 0x6D, 0xB9, 0x1B, 0x50, 0x20, 0x38, 0xE4, 0x6D, 0xB9, 0x1B,
+};
+static const uint8_t none[33];
+
+static int all_zero(const int16_t samples[160])
+{
+    static const int16_t zeros[160];
+
+    return !memcmp(samples, zeros, sizeof zeros);
+}
+
+static void quiet_calls(void)
+{
+    struct trau_fr_receiver receiver = trau_fr_receiver_home(7);
+    struct trau_fr_decoder decoder;
+    int16_t samples[160], wanted[160];
+    uint8_t handed[33];
+    int right = 1;
+
+    right &= !trau_fr_receive(&receiver, none, TRAU_FR_LOST, true, samples) && all_zero(samples);
+    right &= !trau_fr_receive(&receiver, gsm[50], 4, false, samples) && all_zero(samples);
+    right &= !trau_fr_receive(&receiver, none, TRAU_FR_SPEECH, false, samples) && all_zero(samples);
+    right &= !trau_fr_hand(&receiver, none, TRAU_FR_LOST, false, handed) && !memcmp(handed, silence, 33);
+    expect(right, "a call is quiet before its first good frame");
+    for (int again = 0; again < 2; again++) {
+        decoder = trau_fr_decoder_home();
+        for (int k = 50; k < 53; k++) {
+            right &= trau_fr_receive(&receiver, gsm[k], TRAU_FR_SPEECH, false, samples);
+            trau_fr_decode_octets(&decoder, gsm[k], wanted);
+            right &= !memcmp(samples, wanted, sizeof samples);
+        }
+        right &= !trau_fr_receive(&receiver, gsm[53], TRAU_FR_IDLE, false, samples) && all_zero(samples);
+    }
+    expect(right, "good frames are decoded, from the reset state after an idle frame");
+}
+
+static void lost_frames(void)
+{
+    struct trau_fr_receiver receiver = trau_fr_receiver_home(7);
+    struct trau_fr_params good = {0}, frame = {0};
+    uint8_t handed[33];
+    int right = trau_fr_hand(&receiver, gsm[100], TRAU_FR_SPEECH, false, handed) && !memcmp(handed, gsm[100], 33);
+
+    trau_fr_unpack(gsm[100], &good);
+    for (int n = 1; n < 20; n++) {
+        right &= trau_fr_hand(&receiver, none, TRAU_FR_LOST, true, handed) && trau_fr_unpack(handed, &frame);
+        for (int j = 0; j < 4 && n < 17; j++) {
+            int fallen = good.xmaxc[j] - 4 * (n - 1);
+            right &= frame.xmaxc[j] == (fallen < 0 ? 0 : fallen) && frame.nc[j] == good.nc[j];
+        }
+        right &= n > 1 || !memcmp(handed, gsm[100], 33);
+        right &= n < 17 || !memcmp(handed, silence, 33);
+    }
+    expect(right, "a lost frame is the last good one, then muted, then silence");
+}
+
+static void sent_frames(void)
+{
+    struct trau_fr_sender sender = trau_fr_sender_home();
+    struct trau_fr_encoder encoder = trau_fr_encoder_home();
+    int16_t samples[160];
+    uint8_t octets[33], wanted[33];
+    int right = 1;
+
+    for (int k = 0; k < 100; k++) {
+        int dtx = k >= 50;
+
+        trau_alaw_expand(line[k], samples);
+        trau_fr_encode_octets(&encoder, samples, wanted);
+        right &= !memcmp(wanted, gsm[k], 33);
+        if (trau_fr_send(&sender, samples, 32767, dtx, octets))
+            right &= k < 54 && !memcmp(octets, wanted, 33);
+        else
+            right &= k >= 54 && trau_fr_kind(octets) == TRAU_FR_DESCRIPTOR;
+    }
+    expect(right, "without DTX frames are sent as they are, and a pause has descriptors after four of them");
+}
+
+static void line_frames(void)
+{
+    static const uint8_t start[4] = {0, 0, 0x88, 0x00};
+    uint8_t octets[40], again[33];
+    uint32_t kind = 9;
+    bool taf = false;
+    int right = 1;
+
+    for (uint32_t each = TRAU_FR_SPEECH; each <= TRAU_FR_IDLE; each++) {
+        trau_fr_write_uplink(gsm[100], each, each % 2, octets);
+        right &= each != TRAU_FR_SPEECH || !memcmp(octets, start, sizeof start);
+        right &= trau_fr_read_uplink(octets, &kind, &taf, again) && kind == each && taf == (each % 2 == 1);
+        right &= each == TRAU_FR_IDLE || !memcmp(again, gsm[100], 33);
+        trau_fr_write_downlink(gsm[100], each, octets);
+        right &= trau_fr_read_downlink(octets, &kind, again) && kind == (each < TRAU_FR_LOST ? each : TRAU_FR_IDLE);
+        right &= each >= TRAU_FR_LOST || !memcmp(again, gsm[100], 33);
+    }
+    octets[38] ^= 0x80;
+    right &= !trau_fr_read_uplink(octets, &kind, &taf, again) && !trau_fr_read_downlink(octets, &kind, again);
+    expect(right, "frames of a line are read as they were written, and refused without their sync bits");
+}
+
 int main(int argc, char **argv)
 {
     if (argc != 3) {
@@ -168,5 +267,9 @@ int main(int argc, char **argv)
     decoded_frames();
     refused();
     compressed(argv[1]);
+    quiet_calls();
+    lost_frames();
+    sent_frames();
+    line_frames();
     return failed != 0;
 }

@@ -2,6 +2,7 @@
 
 from __future__ import annotations
 
+import random
 import sys
 import unittest
 from array import array
@@ -12,8 +13,9 @@ VECTORS = HERE.parents[1] / "checks" / "vectors"
 sys.path.insert(0, str(HERE.parent))
 sys.path.insert(0, str(HERE.parents[1] / "tools"))
 
+import code_word  # noqa: E402
 import trau_fr  # noqa: E402
-from trau_frames import bits_of, data_of, gsm_of_data  # noqa: E402
+from trau_frames import bits_of, data_of, data_of_gsm, gsm_of_data  # noqa: E402
 
 try:
     import numpy
@@ -76,6 +78,106 @@ class Codec(unittest.TestCase):
         with self.assertRaises(trau_fr.Refused):
             decoder.decode(self.octets[:66] + bytes(33))
         self.assertEqual(decoder.decode(self.octets[66:99]), whole[320:])
+
+
+def near_a_descriptor(draw: random.Random) -> bytes:
+    """A frame with few bits of the code word, about as many as its limits have."""
+    number = sum(1 << place for place in range(260) if draw.randrange(9) == 0)
+    return (13 << 260 | number).to_bytes(33, "big")
+
+
+class Version(unittest.TestCase):
+    def test_version_is_that_of_the_changelog(self) -> None:
+        changes = (HERE.parents[1] / "docs" / "CHANGELOG.md").read_text()
+        newest = next(line for line in changes.splitlines() if line.startswith("## ")).split()[1].rstrip(",")
+        self.assertIn(f'#define TRAU_FR_VERSION "{newest}"\n', (HERE.parent / "trau_fr.h").read_text())
+
+
+class Sides(unittest.TestCase):
+    KINDS = {
+        code_word.FrameKind.SPEECH: trau_fr.Kind.SPEECH,
+        code_word.FrameKind.VALID: trau_fr.Kind.DESCRIPTOR,
+        code_word.FrameKind.INVALID: trau_fr.Kind.LOST,
+    }
+
+    def setUp(self) -> None:
+        self.octets = (HERE / "data" / "harsh.gsm").read_bytes()
+        self.frame = self.octets[3300:3333]
+
+    def test_kinds_are_those_of_the_tools(self) -> None:
+        draw, seen = random.Random(1), set()
+        frames = [self.octets[at : at + 33] for at in range(0, len(self.octets), 33)]
+        for frame in frames + [near_a_descriptor(draw) for _ in range(3000)] + [bytes([0xD0]) + bytes(32)]:
+            kind = trau_fr.kind_of(frame)
+            self.assertEqual(kind, self.KINDS[code_word.kind_of(data_of_gsm(frame))])
+            seen.add(kind)
+        self.assertEqual(len(seen), 3)
+        self.assertEqual(trau_fr.kind_of(bytes(33)), trau_fr.Kind.LOST)
+
+    def test_a_receiver(self) -> None:
+        receiver = trau_fr.Receiver(7)
+        self.assertTrue(receiver.quiet)
+        self.assertEqual(receiver.receive(None), array("h", [0] * 160))
+        heard = receiver.receive(self.frame)
+        self.assertFalse(receiver.quiet)
+        self.assertEqual(heard, trau_fr.Decoder().decode(self.frame))
+        receiver.receive(self.frame, trau_fr.Kind.IDLE)
+        self.assertTrue(receiver.quiet)
+        self.assertEqual(receiver.receive(self.frame), heard)
+
+    def test_a_bridge(self) -> None:
+        receiver = trau_fr.Receiver(7)
+        silence = receiver.hand(None)
+        self.assertEqual(trau_fr.write_downlink(silence, 0), trau_fr.write_downlink(receiver.hand(None, trau_fr.Kind.IDLE), 0))
+        self.assertEqual(receiver.hand(self.frame), self.frame)
+        self.assertEqual(receiver.hand(None), self.frame)
+        self.assertNotEqual(receiver.hand(None), self.frame)
+
+    def test_a_sender(self) -> None:
+        samples = trau_fr.expand((VECTORS / "harsh.pcm").read_bytes())
+        sender, quiet = trau_fr.Sender(), trau_fr.Sender()
+        sent = [sender.send(samples[at : at + 160]) for at in range(0, len(samples), 160)]
+        self.assertEqual(b"".join(each.octets for each in sent), self.octets)
+        self.assertTrue(all(each.speech for each in sent))
+        pause = [quiet.send(array("h", [0] * 160), dtx=True) for _ in range(9)]
+        self.assertEqual([each.speech for each in pause], [True] * 4 + [False] * 5)
+        self.assertEqual(trau_fr.kind_of(pause[-1].octets), trau_fr.Kind.DESCRIPTOR)
+
+    def test_buffers(self) -> None:
+        samples = trau_fr.expand((VECTORS / "harsh.pcm").read_bytes()[:160])
+        wanted, heard = trau_fr.Sender().send(samples), trau_fr.Receiver().receive(self.frame)
+        for form in (bytes, bytearray, memoryview):
+            self.assertEqual(trau_fr.Sender().send(form(samples.tobytes())), wanted)
+            self.assertEqual(trau_fr.Receiver().receive(form(self.frame)), heard)
+        if numpy:
+            self.assertEqual(trau_fr.Sender().send(numpy.array(samples, numpy.int16)), wanted)
+            self.assertEqual(trau_fr.Receiver().receive(numpy.frombuffer(self.frame, numpy.uint8)), heard)
+
+    def test_lines(self) -> None:
+        read = trau_fr.read_uplink(trau_fr.write_uplink(self.frame, trau_fr.Kind.DESCRIPTOR, True))
+        self.assertEqual(read, trau_fr.Line(self.frame, trau_fr.Kind.DESCRIPTOR, True))
+        read = trau_fr.read_downlink(trau_fr.write_downlink(self.frame, trau_fr.Kind.DESCRIPTOR))
+        self.assertEqual(read, trau_fr.Line(self.frame, trau_fr.Kind.DESCRIPTOR, False))
+        for reader in (trau_fr.read_uplink, trau_fr.read_downlink):
+            with self.assertRaises(trau_fr.Refused):
+                reader(bytes(40))
+            with self.assertRaises(ValueError):
+                reader(bytes(41))
+
+    def test_values_that_are_refused(self) -> None:
+        receiver, sender, samples = trau_fr.Receiver(), trau_fr.Sender(), array("h", [0] * 160)
+        for wrong in (
+            lambda: trau_fr.Receiver(65536),
+            lambda: receiver.receive(self.frame[1:]),
+            lambda: receiver.receive(self.frame, -1),
+            lambda: receiver.hand(self.frame, 1 << 32),
+            lambda: receiver.receive(samples[:33]),
+            lambda: sender.send(samples[1:]),
+            lambda: sender.send(samples, 32768),
+            lambda: trau_fr.write_uplink(self.frame, -1),
+        ):
+            with self.assertRaises(ValueError):
+                wrong()
 
 
 @unittest.skipUnless(numpy, "numpy isn't installed")

@@ -363,7 +363,7 @@ class Debian(InFolder):
             words = ["nm", "-D", "--defined-only", "--without-symbol-versions", libraries / "libtrau_fr.so.1"]
             exported = re.findall(r" T (\w+)", subprocess.run(words, capture_output=True, text=True, check=True).stdout)
             self.assertEqual(told, sorted(exported))
-        self.assertEqual(len(told), 13)
+        self.assertEqual(len(told), 24)
 
     @unittest.skipUnless(HAS_LIBRARY and shutil.which("cc") and shutil.which("pkg-config"), "no C library, cc or pkg-config")
     def test_a_program_built_with_it(self):
