@@ -1,7 +1,7 @@
 #!/bin/sh
 # The C library, built from what is proved: its C and Python tests against recorded answers of libgsm and of Python's audioop; hard signals
-# against libgsm built with integers; and if sox, toast, ffmpeg and GStreamer are installed, what they write for recorded speech on the
-# system's libgsm and on this library. TRAU_CLIB names a library to use in place of clib/out, which isn't built then.
+# against libgsm built with integers; random calls by both sides against the model; the hosts of clib/examples; and if sox, toast, ffmpeg and
+# GStreamer are installed, what they write for recorded speech on the system's libgsm and on this library. TRAU_CLIB names a library to use in place of clib/out, which isn't built then.
 set -eu
 top=$(cd "$(dirname "$0")/.." && pwd)
 vectors=$top/checks/vectors
@@ -57,6 +57,23 @@ if command -v c++ >/dev/null; then
     said "the header as C++" c++ -Wall -Wextra -I"$TRAU_CLIB/include" -c header.cc
 fi
 
+# libgsm's interface: behind the system's header, and without leaks.
+gsm_interface="-std=gnu11 -Wall -Wextra -Werror -I$TRAU_CLIB/include $top/clib/libgsm.c"
+if echo '#include <gsm.h>' | cc -E -x c - >/dev/null 2>&1; then
+    # shellcheck disable=SC2086
+    said "libgsm.c behind gsm.h" cc -include gsm.h -fsyntax-only $gsm_interface
+else
+    echo "skipped gsm.h: not installed"
+fi
+echo 'int main(void) { return 0; }' >nothing.c
+if cc -fsanitize=address,undefined -o nothing nothing.c 2>/dev/null && ./nothing; then
+    # shellcheck disable=SC2086
+    cc -g -fsanitize=address,undefined -fno-sanitize-recover=all -o leaks $gsm_interface "$tests/libgsm_says.c" "$lib/libtrau_fr.a"
+    said "libgsm_says without leaks" ./leaks
+else
+    echo "skipped leaks: the compiler has no address sanitizer that runs here"
+fi
+
 # A Python with numpy: the system's, or the one on the path.
 python=python3
 for each in python3 /usr/bin/python3; do
@@ -66,7 +83,23 @@ for each in python3 /usr/bin/python3; do
     fi
 done
 $python -c 'import numpy' 2>/dev/null || echo "skipped numpy: not installed"
-said "the Python module" env PYTHONDONTWRITEBYTECODE=1 $python "$tests/test_trau_fr.py"
+export PYTHONDONTWRITEBYTECODE=1
+said "the Python module" $python "$tests/test_trau_fr.py"
+
+# 10,000 periods of each side from a fixed seed, and some from the day's.
+said "random calls" python3 "$tests/random_sides.py"
+said "random calls of the day" python3 "$tests/random_sides.py" --seed "$(date -u +%Y%m%d)" --calls 8
+
+# hosts CLASS: tests of hosts in clib/examples, and why those were left out that were
+hosts() {
+    said "examples: $1" python3 "$tests/test_examples.py" -v "$1"
+    sed -n "s/^.* \.\.\. skipped ['\"]\(.*\)['\"]$/skipped $1: \1/p" said.txt | sort -u
+}
+
+hosts Header
+hosts Conform
+hosts Ecu
+hosts GStreamer
 
 # The system's libgsm may compute in floats. Then it differs from the standard on hard signals, which is no failure of this library.
 if cc -O2 -o hard_of_system "$tests/libgsm_hard.c" -l:libgsm.so.1 -lm 2>/dev/null && ./hard_of_system >of_system.txt; then

@@ -1,5 +1,5 @@
-/* libtrau_fr: the GSM full rate codec (GSM 06.10) in integer arithmetic, its packings, A-law and mu-law (G.711), and the two sides of
- * a call: what is heard of lost frames and in pauses (modelled on GSM 06.11 and 06.12), and what is sent in pauses (06.31).
+/* libtrau_fr: the GSM full rate codec (GSM 06.10) in integer arithmetic, its packings, A-law and mu-law (G.711), and the two sides
+ * of a call: what is heard of lost frames and in pauses (modelled on GSM 06.11 and 06.12), and what is sent in pauses (06.31).
  *
  * Units
  *   A period is 20 ms of speech: 160 samples at 8000 a second, or 160 octets of A-law or mu-law.

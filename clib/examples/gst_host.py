@@ -1,0 +1,153 @@
+#!/usr/bin/env python3
+"""A receiving host on GStreamer: RTP packets of GSM through rtpjitterbuffer, whose lost packets the library conceals.
+
+Plays what comes to a port, or the frames of a file of libgsm, of which those can be left out that a text of digits marks by 1. It needs
+GStreamer with its good plugins, and its Python bindings (Debian: gstreamer1.0-plugins-good, python3-gst-1.0).
+"""
+
+from __future__ import annotations
+
+import argparse
+import struct
+import sys
+from pathlib import Path
+from typing import Any, NoReturn, Optional
+
+sys.path.insert(0, str(Path(__file__).resolve().parents[1]))
+
+
+def fail(why: str) -> NoReturn:
+    print(f"gst_host.py: {why}", file=sys.stderr)
+    sys.exit(2)
+
+
+try:
+    import trau_fr
+except OSError as missing:
+    fail(f"no library: {missing}")
+
+
+try:
+    import gi
+
+    gi.require_version("Gst", "1.0")
+    from gi.repository import GLib, Gst
+except (ImportError, ValueError) as missing:
+    fail(f"GStreamer's Python bindings are missing: {missing}")
+
+PERIOD = 20 * 1000 * 1000  # nanoseconds, as GStreamer counts
+CAPS = "application/x-rtp,media=audio,clock-rate=8000,encoding-name=GSM,payload=3"
+SOUND = "audio/x-raw,format=S16LE,rate=8000,channels=1,layout=interleaved"
+NUMBERS = 1 << 16
+
+
+class Heard:
+    """The receive side behind a jitter buffer, whose packets and lost packets come in order to one pad."""
+
+    def __init__(self, seed: int, sound: Any) -> None:
+        self.receiver, self.sound = trau_fr.Receiver(seed), sound
+        self.expected: Optional[int] = None  # the number of the next packet
+        self.periods = self.lost = 0
+
+    def play(self, frame: Optional[bytes]) -> None:
+        """One period."""
+        buffer = Gst.Buffer.new_wrapped(self.receiver.receive(frame).tobytes())
+        buffer.pts, buffer.duration = self.periods * PERIOD, PERIOD
+        self.sound.emit("push-buffer", buffer)
+        self.periods += 1
+        self.lost += frame is None
+
+    def conceal_up_to(self, number: int) -> None:
+        """Plays the packets that are missing before this number."""
+        missing = (number - (number if self.expected is None else self.expected)) % NUMBERS
+        for _ in range(missing if missing < NUMBERS // 2 else 0):
+            self.play(None)
+        self.expected = number % NUMBERS
+
+    def packet(self, octets: bytes) -> None:
+        """A packet of RTP (RFC 3550, section 5.1), with one frame."""
+        start = 12 + 4 * (octets[0] & 15)
+        if octets[0] & 16:
+            start += 4 + 4 * struct.unpack_from(">H", octets, start + 2)[0]
+        number = struct.unpack_from(">H", octets, 2)[0]
+        self.conceal_up_to(number)
+        self.play(octets[start : start + trau_fr.OCTETS])
+        self.expected = (number + 1) % NUMBERS
+
+    def on_pad(self, _pad: Any, info: Any) -> Any:
+        """What the jitter buffer puts out."""
+        if info.type & Gst.PadProbeType.BUFFER:
+            self.packet(info.get_buffer().extract_dup(0, info.get_buffer().get_size()))
+            return Gst.PadProbeReturn.OK
+        event = info.get_event()
+        if event.has_name("GstRTPPacketLost"):
+            said = event.get_structure()
+            count = max(1, round(said.get_uint64("duration")[1] / PERIOD))
+            self.conceal_up_to(said.get_uint("seqnum")[1] + count)
+        elif event.type == Gst.EventType.EOS:
+            self.sound.emit("end-of-stream")
+        return Gst.PadProbeReturn.OK
+
+
+def push_file(network: Any, frames: bytes, lost: str) -> None:
+    """Puts the frames of a file into the pipeline as packets, but for those that are lost."""
+    for k in range(len(frames) // trau_fr.OCTETS):
+        if lost[k : k + 1] == "1":
+            continue
+        header = struct.pack(">BBHII", 0x80, 3, k % NUMBERS, 160 * k, 1)
+        buffer = Gst.Buffer.new_wrapped(header + frames[trau_fr.OCTETS * k : trau_fr.OCTETS * (k + 1)])
+        buffer.pts = buffer.dts = k * PERIOD
+        network.emit("push-buffer", buffer)
+    network.emit("end-of-stream")
+
+
+def wait_for_end(bus: Any) -> Any:
+    """The message that ends the pipeline, or None if it was interrupted. Waits in parts, since a signal comes only between them."""
+    ended = None
+    try:
+        while ended is None:
+            ended = bus.timed_pop_filtered(Gst.SECOND // 5, Gst.MessageType.EOS | Gst.MessageType.ERROR)
+    except KeyboardInterrupt:
+        pass
+    return ended
+
+
+def words() -> argparse.Namespace:
+    parser = argparse.ArgumentParser(prog="gst_host.py", description=__doc__, formatter_class=argparse.RawTextHelpFormatter)
+    source = parser.add_mutually_exclusive_group(required=True)
+    source.add_argument("--port", type=int, help="UDP port on which the packets come")
+    source.add_argument("--file", type=Path, help="a file of libgsm")
+    parser.add_argument("--lost", type=Path, help="a text with a digit for each frame of the file: 1 if its packet is lost")
+    parser.add_argument("--sink", default="autoaudiosink", help="where the sound goes (default autoaudiosink)")
+    parser.add_argument("--seed", type=int, default=1, help="of the random numbers: the call's number (default 1)")
+    parser.add_argument("--latency", type=int, default=200, help="of the jitter buffer, in milliseconds (default 200)")
+    return parser.parse_args()
+
+
+def main() -> int:
+    asked = words()
+    Gst.init(None)
+    network = f"appsrc name=network format=time caps={CAPS}" if asked.file else f"udpsrc port={asked.port} caps={CAPS}"
+    text = f"{network} ! rtpjitterbuffer do-lost=true latency={asked.latency} ! fakesink name=heard sync=false async=false "
+    try:
+        pipeline = Gst.parse_launch(text + f"appsrc name=sound format=time caps={SOUND} ! audioconvert ! {asked.sink}")
+        frames = asked.file.read_bytes() if asked.file else b""
+        lost = asked.lost.read_text() if asked.lost else ""
+    except (GLib.Error, OSError) as error:
+        fail(str(error))
+    heard = Heard(asked.seed, pipeline.get_by_name("sound"))
+    kinds = Gst.PadProbeType.BUFFER | Gst.PadProbeType.EVENT_DOWNSTREAM
+    pipeline.get_by_name("heard").get_static_pad("sink").add_probe(kinds, heard.on_pad)
+    pipeline.set_state(Gst.State.PLAYING)
+    if asked.file:
+        push_file(pipeline.get_by_name("network"), frames, lost)
+    ended = wait_for_end(pipeline.get_bus())
+    pipeline.set_state(Gst.State.NULL)
+    if ended is not None and ended.type == Gst.MessageType.ERROR:
+        fail(str(ended.parse_error()[0]))
+    print(f"periods {heard.periods} lost {heard.lost}")
+    return 0
+
+
+if __name__ == "__main__":
+    sys.exit(main())

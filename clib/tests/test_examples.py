@@ -1,0 +1,237 @@
+"""The hosts of clib/examples: each over losses or sequences that are made here, beside the model and recorded answers of libgsm."""
+
+from __future__ import annotations
+
+import os
+import random
+import shutil
+import struct
+import subprocess
+import sys
+import tempfile
+import unittest
+from array import array
+from pathlib import Path
+from typing import List, Sequence, Tuple
+
+HERE = Path(__file__).resolve().parent
+TOP = HERE.parents[1]
+EXAMPLES = HERE.parent / "examples"
+VECTORS = TOP / "checks" / "vectors"
+sys.path[:0] = [str(TOP), str(HERE.parent), str(EXAMPLES), str(HERE)]
+
+import conform  # noqa: E402
+import trau_fr  # noqa: E402
+from model.receive import effective_frames  # noqa: E402
+from random_sides import Period, uplink_frame  # noqa: E402
+
+LIBRARY = Path(os.environ.get("TRAU_CLIB") or HERE.parent / "out").resolve()
+LOST = trau_fr.Kind.LOST
+
+
+def run(words: Sequence[object], **more: object) -> "subprocess.CompletedProcess[str]":
+    """A command, with what it prints."""
+    said = [str(word) for word in words]
+    return subprocess.run(said, stdout=subprocess.PIPE, stderr=subprocess.PIPE, stdin=subprocess.DEVNULL, text=True, **more)  # type: ignore
+
+
+def answers(words: Sequence[str]) -> bool:
+    """Whether a command exists and ends with status 0."""
+    return shutil.which(words[0]) is not None and run(words).returncode == 0
+
+
+def lossy_recording(frames: int) -> Tuple[List[bytes], str]:
+    """Frames of recorded speech with a pause of silence descriptors, and for each a digit, 1 where it is lost. The first and the last aren't."""
+    draw, sender = random.Random(7), trau_fr.Sender()
+    samples = trau_fr.expand((VECTORS / "speech-en-m3.pcm").read_bytes()[: 160 * frames])
+    pause = range(frames // 2, frames // 2 + 40)
+    level = [32767 if k in pause else 0 for k in range(frames)]
+    sent = [sender.send(samples[160 * k : 160 * k + 160], level[k], True).octets for k in range(frames)]
+    lost = ""
+    while len(lost) < frames:
+        lost += "0" * draw.choice((1, 3, 8)) + "1" * draw.choice((1, 1, 2, 5, 20))
+    return sent, "0" + lost[1 : frames - 1] + "0"
+
+
+def brought(frame: bytes, lost: str) -> Period:
+    """What a period brings: a lost frame, or a frame with the kind of its code word."""
+    return Period(LOST, False, bytes(33)) if lost == "1" else Period(trau_fr.kind_of(frame), False, frame)
+
+
+class InFolder(unittest.TestCase):
+    def setUp(self) -> None:
+        work = tempfile.TemporaryDirectory()
+        self.addCleanup(work.cleanup)
+        self.folder = Path(work.name)
+
+    def lossy(self, frames: int) -> List[Period]:
+        """Writes frames.gsm and lost.txt; returns what each period brings."""
+        sent, lost = lossy_recording(frames)
+        (self.folder / "frames.gsm").write_bytes(b"".join(sent))
+        (self.folder / "lost.txt").write_text(lost)
+        return [brought(frame, digit) for frame, digit in zip(sent, lost)]
+
+    def out_line(self, periods: Sequence[Period]) -> bytes:
+        """What the model's `run` writes to Out of call 1, whose uplink has these periods."""
+        (self.folder / "1.up").write_bytes(b"".join(trau_fr.write_uplink(each.octets, each.kind, each.taf) for each in periods))
+        (self.folder / "1.pcm").write_bytes(b"\xd5" * 160 * len(periods))
+        words = [TOP / "model" / "trau", "run"]
+        subprocess.run(words, input=b"0 open 1\n", stdout=subprocess.DEVNULL, cwd=self.folder, check=True)
+        return (self.folder / "1.out").read_bytes()
+
+
+class Header(InFolder):
+    """The examples in the header's comment."""
+
+    # For the host: a period is an octet, 0 if nothing came, and a frame.
+    BEFORE = "#include <stdio.h>\n#include <trau_fr.h>\n"
+    MAIN = """
+int main(void)
+{
+    struct call call = {trau_fr_receiver_home(1), 0};
+    uint8_t period[1 + TRAU_FR_OCTETS], line[160];
+
+    while (fread(period, sizeof period, 1, stdin) == 1) {
+        tick(&call, period[0] ? period + 1 : NULL, line);
+        fwrite(line, sizeof line, 1, stdout);
+    }
+    return 0;
+}
+"""
+
+    def output(self, first: str, given: bytes, before: str = "", after: str = "") -> bytes:
+        """What the example whose first line this is makes of standard input."""
+        lines = (HERE.parent / "trau_fr.h").read_text().split("\n")
+        start = lines.index(f" *     {first}")
+        end = next(k for k in range(start, len(lines)) if not lines[k].startswith(" *     ") and lines[k].strip() != "*")
+        source, program = self.folder / "example.c", self.folder / "example"
+        source.write_text(before + "\n".join(line[7:] for line in lines[start:end]) + after)
+        words = ["-O2", "-Wall", "-Wextra", f"-I{LIBRARY / 'include'}", "-o", program, source, LIBRARY / "lib" / "libtrau_fr.a"]
+        done = run([os.environ.get("CC", "cc"), *words])
+        self.assertEqual((done.returncode, done.stderr), (0, ""))
+        return subprocess.run([program], input=given, stdout=subprocess.PIPE, check=True).stdout
+
+    def test_encoder(self) -> None:
+        samples = trau_fr.expand((VECTORS / "harsh.pcm").read_bytes()).tobytes()
+        self.assertEqual(self.output("#include <stdio.h>", samples), (HERE / "data" / "harsh.gsm").read_bytes())
+
+    def test_receiving_host(self) -> None:
+        # Speech, a pause in which the descriptors stop coming, and speech; TAF in each 24th period after the last descriptor.
+        frames = lossy_recording(100)[0]
+        came = [*frames[:60], *[None] * 90, *frames[90:]]
+        periods = [brought(frame or bytes(33), "0" if frame else "1") for frame in came]
+        last = max(k for k in range(60) if periods[k].kind == trau_fr.Kind.DESCRIPTOR)
+        for due in range(last + 24, 150, 24):
+            periods[due] = periods[due]._replace(taf=True)
+        given = b"".join(bytes([frame is not None]) + (frame or bytes(33)) for frame in came)
+        self.assertEqual(self.output("struct call {", given, self.BEFORE, self.MAIN), self.out_line(periods))
+
+
+class Conform(InFolder):
+    """Sequences in the published form, of a recorded line and of libgsm's frames and samples for it."""
+
+    def sequences(self, order: str = "<") -> None:
+        """SEQ01.INP, .COD and .OUT in the folder, with words in this order of octets."""
+        frames = (HERE / "data" / "harsh.gsm").read_bytes()
+        codes = [value for at in range(0, len(frames), 33) for value in conform.unpacked(frames[at : at + 33])]
+        samples = (HERE / "data" / "harsh.samples").read_bytes()
+        self.put(".INP", list(trau_fr.expand((VECTORS / "harsh.pcm").read_bytes())), order)
+        self.put(".COD", codes, order)
+        self.put(".OUT", list(struct.unpack(f"<{len(samples) // 2}h", samples)), order)
+
+    def put(self, ending: str, words: List[int], order: str) -> None:
+        (self.folder / f"SEQ01{ending}").write_bytes(struct.pack(f"{order}{len(words)}h", *words))
+
+    def said(self, *words: str) -> Tuple[int, str]:
+        done = run([sys.executable, EXAMPLES / "conform.py", self.folder, *words])
+        return done.returncode, done.stdout + done.stderr
+
+    def test_equal(self) -> None:
+        wanted = (0, "seq01 encoder, 254 frames: equal\nseq01 decoder, 254 frames: equal\n")
+        self.sequences()
+        self.assertEqual(self.said(), wanted)
+        self.sequences(">")
+        self.assertEqual(self.said("--byte-order", "big"), wanted)
+
+    def test_other_byte_order(self) -> None:
+        self.sequences(">")
+        status, text = self.said()
+        self.assertEqual((status, text.count("\n")), (2, 1))
+        self.assertIn("--byte-order", text)
+
+    def test_a_word_that_differs(self) -> None:
+        self.sequences()
+        for ending, size, where in ((".COD", 76, "frame 3: Nc of block 1"), (".OUT", 160, "frame 3: sample 8")):
+            with self.subTest(ending):
+                self.sequences()
+                file = self.folder / f"SEQ01{ending}"
+                data = bytearray(file.read_bytes())
+                data[2 * (3 * size + 8)] ^= 1 if ending == ".COD" else 8
+                file.write_bytes(data)
+                status, text = self.said()
+                self.assertEqual(status, 1)
+                self.assertIn(f"differs at {where}", text)
+
+    def test_homing_frames(self) -> None:
+        # The encoder starts again after its homing frame: frames of libgsm from the reset state, twice.
+        speech, homing = trau_fr.expand((VECTORS / "harsh.pcm").read_bytes())[:1600], array("h", [8] * 160)
+        encoder, frames = trau_fr.Encoder(), (HERE / "data" / "harsh.gsm").read_bytes()[:330]
+        codes = [value for at in range(0, 330, 33) for value in conform.unpacked(frames[at : at + 33])]
+        self.assertEqual(encoder.encode(speech), frames)
+        between = conform.unpacked(encoder.encode(homing))
+        self.put(".INP", [*speech, *homing, *speech], "<")
+        self.put(".COD", codes + between + codes, "<")
+        self.assertEqual(self.said("--homing"), (0, "seq01 encoder, 21 frames: equal\n"))
+        self.assertEqual(self.said()[0], 1)
+
+    def test_nothing_to_test(self) -> None:
+        status, text = self.said()
+        self.assertEqual((status, text.count("\n")), (2, 1))
+
+
+@unittest.skipUnless(answers(["pkg-config", "--exists", "libosmocodec", "talloc"]), "libosmocodec isn't installed")
+class Ecu(InFolder):
+    """The error concealment unit, registered with libosmocodec, beside the model."""
+
+    def compared(self) -> List[str]:
+        flags = run(["pkg-config", "--cflags", "--libs", "libosmocodec", "talloc"]).stdout.split()
+        sources = [EXAMPLES / "ecu.c", EXAMPLES / "ecu_compare.c"]
+        library = [f"-I{LIBRARY / 'include'}", LIBRARY / "lib" / "libtrau_fr.a"]
+        program = self.folder / "ecu_compare"
+        built = run([os.environ.get("CC", "cc"), "-O2", "-Wall", "-Wextra", "-o", program, *sources, *library, *flags])
+        self.assertEqual((built.returncode, built.stderr), (0, ""))
+        done = run([program, self.folder / "frames.gsm", self.folder / "lost.txt"])
+        self.assertEqual(done.returncode, 0)
+        return [line for line in done.stdout.splitlines() if line.startswith("frame ")]
+
+    def test_maxima_are_those_of_the_model(self) -> None:
+        periods = self.lossy(300)
+        effective = effective_frames(1, [uplink_frame(period) for period in periods])
+        lines = self.compared()
+        wanted = [sum(block.xmaxc for block in frame.blocks) for frame, period in zip(effective, periods) if period.kind == LOST]
+        self.assertEqual([int(line.split(" trau ")[1].split()[0]) for line in lines], wanted)
+
+
+def gstreamer() -> str:
+    """A Python with GStreamer's bindings, or an empty word."""
+    ask = "import gi; gi.require_version('Gst', '1.0'); from gi.repository import Gst; Gst.init(None); "
+    ask += "assert all(map(Gst.ElementFactory.find, ('rtpjitterbuffer', 'appsrc', 'audioconvert')))"
+    return next((each for each in (sys.executable, "/usr/bin/python3") if answers([each, "-c", ask])), "")
+
+
+@unittest.skipUnless(gstreamer(), "GStreamer's rtpjitterbuffer, appsrc, audioconvert or Python bindings aren't installed")
+class GStreamer(InFolder):
+    """What the host plays of a lossy recording, beside what a run writes to Out for the same losses."""
+
+    def test_sound_is_that_of_a_run(self) -> None:
+        periods = self.lossy(150)
+        sound = self.folder / "sound"
+        words = ["--file", self.folder / "frames.gsm", "--lost", self.folder / "lost.txt", "--sink", f"filesink location={sound}"]
+        done = run([gstreamer(), EXAMPLES / "gst_host.py", *words], env={**os.environ, "GST_REGISTRY": str(self.folder / "registry")})
+        lost = sum(period.kind == LOST for period in periods)
+        self.assertEqual((done.returncode, done.stdout), (0, f"periods 150 lost {lost}\n"))
+        self.assertEqual(trau_fr.compress(sound.read_bytes()), self.out_line(periods))
+
+
+if __name__ == "__main__":
+    unittest.main()
