@@ -970,15 +970,15 @@ class Demo(Started):
 
     def test_says_of_each_call_what_was_lost(self):
         report = self.top / "tools" / "report.py"
-        report.write_text('#!/bin/sh\necho "$@" >"$ASKED.report"\necho a table\necho "call 1: Up ended; lost 18"\necho "call 2: closed"\n')
+        report.write_text('#!/bin/sh\necho "$PYTHONDONTWRITEBYTECODE $@" >"$ASKED.report"\necho a table\necho "call 1: Up ended; lost 18"\necho "call 2: closed"\n')
         said = "\n\nIn words, with lost frames apart from the empty ones of a pause:\n\ncall 1: Up ended; lost 18\ncall 2: closed\n\n"
         status, out, err = self.trau("--unproved", name="demo")
         self.assertEqual(status, 0, err)
         self.assertIn(f"end period 153 calls 4 left 0{said}The report is", out)
         self.built()
-        self.assertIn(f"{said}The lines are in", self.trau(name="demo")[1])
+        self.assertIn(f"{said}The lines are in", self.trau(name="demo", PYTHONDONTWRITEBYTECODE="")[1])
         lines = self.top / "examples" / "farm"
-        self.assertEqual(self.asked.with_name("asked.report").read_text(), f"text report.txt --lines {lines}\n")
+        self.assertEqual(self.asked.with_name("asked.report").read_text(), f"1 text report.txt --lines {lines}\n")
         # A package's machine may have no Python.
         report.write_text("#!/no/python\n")
         status, out, err = self.trau(name="demo")
