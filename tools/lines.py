@@ -92,7 +92,8 @@ def check_law(words: argparse.Namespace, name: Path, octets: bytes) -> None:
         return
     not_this = f"no {words.law.title()}"
     if recordings.name_within(name).suffix in (".up", ".down"):
-        raise Refusal(f"{name}: is a line of frames by its name, and {not_this}")
+        listens = trau_frames.as_started(f"; lines.py listen {recordings.quoted(name)} NEW.wav makes sound of it")
+        raise Refusal(f"{name}: is a line of frames by its name, and {not_this}{listens if words.made is sound else ''}")
     file_kinds.refuse_other(name, octets, not_this, Kind.LAW)
     other = file_kinds.other_than_law(octets, words.law)
     if other and other.kind is Kind.LAW and not other.turned:

@@ -345,7 +345,7 @@ class Sound(InFolder):
             for name, content, part in (
                 ("x.wav", wav(), "is a WAV file, 8000 Hz, channels 1, bits 16 linear, and no A-law; lines.py pcm "),
                 ("1.up", frames, "is a line of frames by its name, and no A-law"),
-                ("1.up", bytes(160), "is a line of frames by its name"),
+                ("1.up", bytes(160), "by its name, and no A-law" + (f"; lines.py listen {self.folder}/1.up NEW.wav" if command == "sound" else "\n")),
                 ("other", frames, "is an uplink, its first frame at bit 0, and no A-law; trau run"),
                 ("other", b"\xff\xff" + down, "is a downlink, its first frame at bit 336, and no A-law; lines.py listen"),
             ):
