@@ -3,7 +3,7 @@
 use crate::rows::{assert_row, assert_rows};
 use std::io::{ErrorKind, Read, Write};
 use std::{fs, io};
-use trau_files::{FileTrunk, StdDesk};
+use trau_files::{FileTrunk, Folder, StdDesk};
 use trau_io::{Desk, Line, Side, Trunk};
 
 // The lines of the tests are Up of call 4096, and Out and Pcm of call 9.
@@ -33,8 +33,8 @@ enum Step {
 }
 
 // How many octets a read into the start of a buffer gives, at most `most` and one to four; None if it fails.
-fn read(
-    trunk: &mut FileTrunk<'_, HostRuntime>,
+fn read<D: Folder + Eprint + Drop>(
+    trunk: &mut FileTrunk<D>,
     line: Line,
     most: usize,
     octets: &mut [u8; 4],
@@ -43,8 +43,8 @@ fn read(
 }
 
 // Whether a read of at most `most` octets, one to four, has this result and leaves these octets in the buffer.
-fn reads(
-    trunk: &mut FileTrunk<'_, HostRuntime>,
+fn reads<D: Folder + Eprint + Drop>(
+    trunk: &mut FileTrunk<D>,
     line: Line,
     most: usize,
     given: Option<usize>,
@@ -56,8 +56,8 @@ fn reads(
 }
 
 // Whether a write of these octets has this result.
-fn writes(
-    trunk: &mut FileTrunk<'_, HostRuntime>,
+fn writes<D: Folder + Eprint + Drop>(
+    trunk: &mut FileTrunk<D>,
     line: Line,
     octets: &[u8],
     taken: Option<usize>,
@@ -74,7 +74,7 @@ fn holds(rt: &HostRuntime, name: &str, octets: &[u8]) -> bool {
 }
 
 // Whether the Out lines of 300 calls each take this octet, one after the other.
-fn are_written(trunk: &mut FileTrunk<'_, HostRuntime>, octet: u8) -> bool {
+fn are_written<D: Folder + Eprint + Drop>(trunk: &mut FileTrunk<D>, octet: u8) -> bool {
     let side = Side::Out;
     for call in 1..=300u32 {
         if trunk.write(Line { call, side }, &[octet]).ok() != Some(1) {
@@ -108,7 +108,11 @@ fn is_done_to_files(rt: &HostRuntime, step: &Step) -> bool {
 }
 
 // Whether a step can be done, and has its result.
-fn is_done(rt: &HostRuntime, trunk: &mut FileTrunk<'_, HostRuntime>, step: &Step) -> bool {
+fn is_done<D: Folder + Eprint + Drop>(
+    rt: &HostRuntime,
+    trunk: &mut FileTrunk<D>,
+    step: &Step,
+) -> bool {
     match step {
         Step::Reads(side, most, given, octets) => reads(trunk, line(*side), *most, *given, octets),
         Step::Writes(side, octets, taken) => writes(trunk, line(*side), octets, *taken),
@@ -118,7 +122,11 @@ fn is_done(rt: &HostRuntime, trunk: &mut FileTrunk<'_, HostRuntime>, step: &Step
 }
 
 // How many steps hold with a trunk, before the first that doesn't.
-fn done_with(rt: &HostRuntime, trunk: &mut FileTrunk<'_, HostRuntime>, steps: &[Step]) -> usize {
+fn done_with<D: Folder + Eprint + Drop>(
+    rt: &HostRuntime,
+    trunk: &mut FileTrunk<D>,
+    steps: &[Step],
+) -> usize {
     let mut done = 0usize;
     for step in steps {
         if !is_done(rt, trunk, step) {

@@ -1,7 +1,8 @@
 -- Lines as files: their names, and what is known of them (this project's profile).
-use Rattle.std.specs.Prelude.{◌≡◌, ◌⊎◌, ℕ, ◌+◌, ◌-◌, ◌^◌, min, List, length, ◌++◌, ◌==◌, true, Option, Some, None, IfSome, Result, Ok, Err, codes, decimal}
-use Rattle.std.specs.Prelude.{slice_get, slice_set, slice_index_or}
+use Rattle.std.specs.Prelude.{◌≡◌, ◌≢◌, ◌⊎◌, ℕ, ◌+◌, ◌-◌, ◌^◌, min, List, length, ◌++◌, Bool, true, Option, Some, None, IfSome, IsSomeAnd, Result, Ok, Err, MatchResult, codes, decimal}
+use Rattle.std.specs.Prelude.{slice_get, slice_index_or}
 use Rattle.std.specs.Fs.{new_options}
+use Rattle.std.specs.declared.io.Error.{Error}
 use Rattle.std.specs.declared.fs.options.OpenOptions.{OpenOptions}
 use Rattle.trau_io.specs.declared.line.Failed.{Failed}
 use Rattle.trau_io.specs.declared.line.Side.{Side}
@@ -9,8 +10,12 @@ use Rattle.trau_io.specs.Lines.{LineState}
 use Rattle.trau_io.specs.Indices.{index_of_line}
 use Rattle.trau_io.specs.Texts.{side_word}
 use Rattle.trau_files.specs.declared.trunk.claims.Claim.{Claim}
+use Rattle.trau_files.specs.declared.trunk.fault.Fault.{Fault}
+use Rattle.trau_files.specs.declared.trunk.fault.Fault.TheVariants.{System}
 use Rattle.trau_files.specs.declared.trunk.seats.Access.{Access}
 use Rattle.trau_files.specs.declared.trunk.seats.Access.TheVariants.{Reading, Writing}
+use Rattle.trau_files.specs.Folder.{ReadOperation, WriteOperation}
+use Rattle.trau_files.specs.Tries.{ReadsOnce, WritesOnce}
 
 -- the name of a line's file: the call's number, a dot and the side's word
 abbrev pub file_name : ℕ → Side → List ℕ
@@ -48,73 +53,82 @@ known_line (Some l) = state_of l
 abbrev pub states_of : List FileLine → ℕ → Side → LineState
 states_of lines call side = known_line (slice_get lines (index_of_line call side))
 
--- an open file of a line: what it is open for, and its position in octets by the trunk's account
-pub record OpenLine : Type 0 where
+-- an open file of a line: what it is open for, its position in octets by the trunk's account, and the file itself
+pub record OpenLine (F : Type 0) : Type 0 where
   pub call : ℕ
   pub side : Side
   pub access : Access
   pub at : ℕ
+  pub file : F
 
 -- an open file is this line's, open for this access and at this octet
-abbrev pub IsOpenAt : Option OpenLine → ℕ → Side → Access → ℕ → Type 0
-IsOpenAt file call side access at = file ≡ Some (record { call = call; side = side; access = access; at = at })
+abbrev pub IsOpenAt : {F : Type 0} → Option (OpenLine F) → ℕ → Side → Access → ℕ → Type 0
+IsOpenAt file call side access at = IsSomeAnd file (λ o. (o.call ≡ call) × (o.side ≡ side) × (o.access ≡ access) × (o.at ≡ at))
 
--- the line's file after an operation at this octet with this result: it is at the octet after those that were moved; a fault closes it
-abbrev pub file_after : {E : Type 0} → ℕ → Side → Access → ℕ → Result ℕ E → Option OpenLine
-file_after call side access at (Ok n) = Some (record { call = call; side = side; access = access; at = raised at n })
-file_after call side access at (Err e) = None
+-- an open file is still the line's, open for the same, and n octets further
+abbrev pub IsMovedBy : {F : Type 0} → OpenLine F → ℕ → OpenLine F → Type 0
+IsMovedBy o n now = (now.call ≡ o.call) × (now.side ≡ o.side) × (now.access ≡ o.access) × (now.at ≡ raised o.at n)
 
--- the line's file after an opening with this result: it is open at this octet, or it isn't open
-abbrev pub opened : {A E : Type 0} → ℕ → Side → Access → ℕ → Result A E → Option OpenLine
-opened call side access at (Ok a) = Some (record { call = call; side = side; access = access; at = at })
-opened call side access at (Err e) = None
+-- an open file after an operation with this result: it is further by the octets that were moved; a fault closes it
+abbrev pub FileAfter : {F E : Type 0} → OpenLine F → Result ℕ E → Option (OpenLine F) → Type 0
+FileAfter o result file = MatchResult result (λ n. IsSomeAnd file (IsMovedBy o n)) (λ _. file ≡ None)
 
--- How a line's file is opened to go on at this octet. For writing, a missing file is created if nothing has been written yet. No
--- opening empties a file, since another line may have it.
-abbrev pub options_for : Access → ℕ → OpenOptions
-options_for Reading at = record new_options { read = true }
-options_for Writing at = record new_options { write = true; create = at == 0 }
+-- the read of an open file failed with this fault, which is the file's own
+abbrev pub FailsToGive : {F : Type 0} → ReadOperation F → F → Fault → List ℕ → Type 0
+FailsToGive {F = F} reading old fault buf = (new : F) × (e : Error) × (fault ≡ System e) × ReadsOnce reading old new (Err e) buf
+
+-- the write to an open file failed with this fault, which is the file's own
+abbrev pub FailsToTake : {F : Type 0} → WriteOperation F → F → Fault → List ℕ → Type 0
+FailsToTake {F = F} writing old fault bytes = (new : F) × (e : Error) × (fault ≡ System e) × WritesOnce writing old new (Err e) bytes
+
+-- the read of an open file gave this result, which is the file's own; a file that failed is closed
+abbrev pub FileGives : {F : Type 0} → ReadOperation F → OpenLine F → Option (OpenLine F) → Result ℕ Fault → List ℕ → Type 0
+FileGives reading o file result buf =
+    MatchResult result (λ n. IsSomeAnd file (λ now. ReadsOnce reading o.file now.file (Ok n) buf)) (λ fault. FailsToGive reading o.file fault buf)
+
+-- the write to an open file gave this result, which is the file's own; a file that failed is closed
+abbrev pub FileTakes : {F : Type 0} → WriteOperation F → OpenLine F → Option (OpenLine F) → Result ℕ Fault → List ℕ → Type 0
+FileTakes writing o file result bytes =
+    MatchResult result (λ n. IsSomeAnd file (λ now. WritesOnce writing o.file now.file (Ok n) bytes)) (λ fault. FailsToTake writing o.file fault bytes)
+
+-- How a line's file is opened: to read it, or to write it, where a missing file may be made. No opening empties a file, since another line
+-- may have it.
+abbrev pub options_for : Access → Bool → OpenOptions
+options_for Reading makes = record new_options { read = true }
+options_for Writing makes = record new_options { write = true; create = makes }
 
 -- the open file in this seat, if there is one
-abbrev pub in_seat : List (Option OpenLine) → ℕ → Option OpenLine
+abbrev pub in_seat : {F : Type 0} → List (Option (OpenLine F)) → ℕ → Option (OpenLine F)
 in_seat seats k = slice_index_or seats k None
 
 -- the open file of this line, or None if it has none
-pub record IsFileOf (seats : List (Option OpenLine)) (call : ℕ) (side : Side) (file : Option OpenLine) : Type 0 where
-  pub only : (k : ℕ) (o : OpenLine) → in_seat seats k ≡ Some o → o.call ≡ call → o.side ≡ side → file ≡ Some o
+pub record IsFileOf {F : Type 0} (seats : List (Option (OpenLine F))) (call : ℕ) (side : Side) (file : Option (OpenLine F)) : Type 0 where
+  pub only : (k : ℕ) (o : OpenLine F) → in_seat seats k ≡ Some o → o.call ≡ call → o.side ≡ side → file ≡ Some o
   pub there : IfSome file (λ o. (k : ℕ) × (in_seat seats k ≡ Some o))
 
 -- nothing was opened: each seat has the file that it had, or none
-abbrev pub OnlyCloses : List (Option OpenLine) → List (Option OpenLine) → Type 0
+abbrev pub OnlyCloses : {F : Type 0} → List (Option (OpenLine F)) → List (Option (OpenLine F)) → Type 0
 OnlyCloses old new = (k : ℕ) → (in_seat new k ≡ in_seat old k) ⊎ (in_seat new k ≡ None)
 
+-- each seat but this one has the file that it had, or none
+abbrev pub OthersSit : {F : Type 0} → List (Option (OpenLine F)) → List (Option (OpenLine F)) → ℕ → Type 0
+OthersSit old new seat = (k : ℕ) → k ≢ seat → in_seat new k ≡ in_seat old k
+
 -- this line now has this open file, or none; no file of another line was opened
-pub record OpenAfter (old new : List (Option OpenLine)) (call : ℕ) (side : Side) (file : Option OpenLine) : Type 0 where
+pub record OpenAfter {F : Type 0} (old new : List (Option (OpenLine F))) (call : ℕ) (side : Side) (file : Option (OpenLine F)) : Type 0 where
   pub this : IsFileOf new call side file
   pub others : (k : ℕ) → (in_seat new k ≡ in_seat old k) ⊎ (in_seat new k ≡ None) ⊎ (in_seat new k ≡ file)
   pub number : length new ≡ length old
 
 -- a line's file is in the seat that the line's entry names
-abbrev pub AreSeated : List (Option OpenLine) → List ℕ → Type 0
-AreSeated seats seat_of = (k : ℕ) (o : OpenLine) → in_seat seats k ≡ Some o → slice_index_or seat_of (index_of_line o.call o.side) 0 ≡ k
+abbrev pub AreSeated : {F : Type 0} → List (Option (OpenLine F)) → List ℕ → Type 0
+AreSeated {F = F} seats seat_of = (k : ℕ) (o : OpenLine F) → in_seat seats k ≡ Some o → slice_index_or seat_of (index_of_line o.call o.side) 0 ≡ k
 
--- the open files, each in a seat, and which line has which file
-pub record OpenFiles : Type 0 where
-  pub seats : List (Option OpenLine)
+-- the open files, each in a seat; which line has which file; the seat of the next file that is opened, and the last one that is given; and
+-- the folder
+pub record OpenFiles (D F : Type 0) : Type 0 where
+  pub seats : List (Option (OpenLine F))
   pub claims : List (Option Claim)
-
--- all lines, the open files, and which line has which file
-pub record TrunkFiles : Type 0 where
-  pub lines : List FileLine
-  pub files : List (Option OpenLine)
-  pub claims : List (Option Claim)
-
--- a read with this result of a line that was `l` before: by the trunk's account it took the line's next octets, and nothing else
-pub record TrunkReads (old new : TrunkFiles) (call : ℕ) (side : Side) (l : FileLine) (result : Result ℕ Failed) : Type 0 where
-  pub lines : new.lines ≡ slice_set old.lines (index_of_line call side) (after_read l result)
-  pub files : OpenAfter old.files new.files call side (file_after call side Reading l.read result)
-
--- a write with this result of a line that was `l` before: by the trunk's account it followed the octets written before
-pub record TrunkWrites (old new : TrunkFiles) (call : ℕ) (side : Side) (l : FileLine) (result : Result ℕ Failed) : Type 0 where
-  pub lines : new.lines ≡ slice_set old.lines (index_of_line call side) (after_write l result)
-  pub files : OpenAfter old.files new.files call side (file_after call side Writing l.written result)
+  pub next : ℕ
+  pub last : ℕ
+  pub folder : D

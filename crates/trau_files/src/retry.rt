@@ -3,59 +3,105 @@
 //! If a signal comes before a read or a write has moved an octet, the system and the standard library return `Interrupted`
 //! and don't try again. Nothing has moved then, so trying again here loses no octet. An operation that had moved some octets
 //! returns their number.
-ghost use Rattle.std.specs.Prelude.{◌<◌, IfOk, IsErr, IsTrue};
+ghost use Rattle.std.specs.Prelude.{◌≡◌, ◌<◌, IfOk, IsErrAnd, IsTrue};
 ghost use Rattle.std.specs.Io.{ReadsAtMost, WritesAtMost};
-ghost use Rattle.std.specs.Io.KnownBytes.{ReadConsumes, WriteAppends};
+ghost use Rattle.std.specs.IoError.{error_kind};
+ghost use Rattle.std.specs.declared.io.ErrorKind.TheVariants.{Interrupted};
+ghost use Rattle.trau_files.specs.Folder.{ReadOperation, WriteOperation, OneRead, OneWrite};
+ghost use Rattle.trau_files.specs.Tries.{IsOfLastTry, ReadsOnce, WritesOnce};
 
 use std::io;
-use std::io::{ErrorKind, Read, Write};
+use std::io::{Error, ErrorKind, Read, Write};
 
 // No system interrupts an operation this often; the limit makes each loop end.
 const TRIES: u32 = 1000;
 
+/// What can be read. Clauses can say that a read was made, and with which result.
+pub trait ReadOnce {
+    // The octets to come, and what a read did.
+    ghost reading: { ReadOperation Self };
+
+    /// One read into `buf`.
+    fn read_once(&mut self, buf: &mut [u8]) -> io::Result<usize>
+        ensures { OneRead reading self.old self.new result buf.new };
+}
+
+impl<R: Read> ReadOnce for R {
+    ghost reading = { record { to_come = R.remaining; gave = λ old new result buf. Unit {0} } };
+
+    fn read_once(&mut self, buf: &mut [u8]) -> io::Result<usize> {
+        self.read(buf)
+    }
+}
+
+/// What can be written. Clauses can say that a write was made, and with which result.
+pub trait WriteOnce {
+    // The octets written, and what a write did.
+    ghost writing: { WriteOperation Self };
+
+    /// One write of `bytes`.
+    fn write_once(&mut self, bytes: &[u8]) -> io::Result<usize>
+        ensures { OneWrite writing self.old self.new result bytes.now };
+}
+
+impl<W: Write> WriteOnce for W {
+    ghost writing = { record { contents = W.contents; took = λ old new result bytes. Unit {0} } };
+
+    fn write_once(&mut self, bytes: &[u8]) -> io::Result<usize> {
+        self.write(bytes)
+    }
+}
+
 /// One read, made again if a signal interrupted it.
-pub fn read_again<R: Read>(reader: &mut R, buf: &mut [u8]) -> io::Result<usize>
+pub fn read_again<R: ReadOnce>(reader: &mut R, buf: &mut [u8]) -> io::Result<usize>
     ensures bound { ReadsAtMost result buf.new }
-    ensures octets { ReadConsumes (R.remaining reader.old) (R.remaining reader.new) result buf.new }
+    ensures once { ReadsOnce R.reading reader.old reader.new result buf.new }
+{
+    try_read(reader, buf)
+}
+
+// The same, stated by its last try.
+fn try_read<R: ReadOnce>(reader: &mut R, buf: &mut [u8]) -> io::Result<usize>
+    ensures { IsOfLastTry (OneRead R.reading) reader.old reader.new result buf.new }
 {
     for _ in 0..TRIES {
-        let done = reader.read(buf);
+        let done = reader.read_once(buf);
         if !was_interrupted(&done) {
             return done;
         }
     }
-    Err(io::Error::from(ErrorKind::Interrupted))
+    reader.read_once(buf)
 }
 
-// One write, made again if a signal interrupted it.
-fn write_again<W: Write>(writer: &mut W, bytes: &[u8]) -> io::Result<usize>
-    ensures bound { WritesAtMost result bytes.now }
-    ensures octets { WriteAppends (W.contents writer.old) (W.contents writer.new) result bytes.now }
-{
-    for _ in 0..TRIES {
-        let done = writer.write(bytes);
-        if !was_interrupted(&done) {
-            return done;
-        }
-    }
-    Err(io::Error::from(ErrorKind::Interrupted))
-}
-
-/// One write of at least one octet. A writer that takes none fails, since callers would try for ever.
-pub fn write_some<W: Write>(writer: &mut W, bytes: &[u8]) -> io::Result<usize>
+/// One write of at least one octet, made again if a signal interrupted it. A writer that takes none fails, since callers would
+/// try for ever.
+pub fn write_some<W: WriteOnce>(writer: &mut W, bytes: &[u8]) -> io::Result<usize>
     ensures some { IfOk result (λ n. 0 < n) }
     ensures bound { WritesAtMost result bytes.now }
-    ensures octets { WriteAppends (W.contents writer.old) (W.contents writer.new) result bytes.now }
+    ensures once { WritesOnce W.writing writer.old writer.new result bytes.now }
 {
-    match write_again(writer, bytes) {
-        Ok(0) => Err(io::Error::from(ErrorKind::WriteZero)),
+    match try_write(writer, bytes) {
+        Ok(0) => Err(Error::from(ErrorKind::WriteZero)),
         written => written,
     }
 }
 
+// One write, made again if a signal interrupted it.
+fn try_write<W: WriteOnce>(writer: &mut W, bytes: &[u8]) -> io::Result<usize>
+    ensures { IsOfLastTry (OneWrite W.writing) writer.old writer.new result bytes.now }
+{
+    for _ in 0..TRIES {
+        let done = writer.write_once(bytes);
+        if !was_interrupted(&done) {
+            return done;
+        }
+    }
+    writer.write_once(bytes)
+}
+
 // Whether a signal came before an operation had moved an octet.
 fn was_interrupted(done: &io::Result<usize>) -> bool
-    ensures { IsTrue result → IsErr done.now }
+    ensures { IsTrue result → IsErrAnd done.now (λ e. error_kind e ≡ Interrupted) }
 {
     matches!(done, Err(fault) if fault.kind() == ErrorKind::Interrupted)
 }

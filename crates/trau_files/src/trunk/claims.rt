@@ -6,16 +6,14 @@ ghost use Rattle.trau_io.specs.Indices.{index_of_line};
 ghost use Rattle.trau_files.specs.declared.trunk.seats.Access.TheVariants.{Writing};
 ghost use Rattle.trau_files.specs.Claims.{AreApart, Has, IsTaken, MayHave, MayShare, OthersKeep, claim_at};
 
-use super::fault::Fault;
 use super::name::name_of;
 use super::recordings::Recordings;
 use super::seats::Access;
+use crate::folder::Folder;
 use std::alloc::{AllocError, Global};
-use std::fs;
 use std::fs::Metadata;
 use std::marker::Model;
 use std::os::unix::fs::MetadataExt;
-use std::rt::Files;
 use trau_io::{LINE_INDICES, Line, line_index};
 
 /// A file on a disk: its device and its inode (stat(2)), the same for any name or link by which it is opened.
@@ -76,44 +74,51 @@ impl Claims {
         })
     }
 
-    /// Gives an opened file, which has these metadata, to the line, unless it is another line's. A pipe or a device keeps nothing
-    /// that could be lost; any number of lines may have it.
-    pub fn take<R: Files>(
+    /// Gives an opened file, which has these metadata, to the line, unless it is another line's, whose index is the error. A pipe
+    /// or a device keeps nothing that could be lost; any number of lines may have it.
+    pub fn take<D: Folder>(
         &mut self,
-        files: &R,
+        folder: &D,
         line: Line,
         claim: Claim,
         metadata: &Metadata,
-    ) -> Result<(), Fault>
+    ) -> Result<(), usize>
         ensures has { IfOk result (λ _. IsFile (file_type metadata.now) → Has (claim_at self.new (index_of_line line.call line.side)) claim) }
         ensures refused { IfErr result (λ _. self.new ≡ self.old) }
+        ensures causes { IfErr result (λ other. IsFile (file_type metadata.now)
+            × (IsTaken self.old (index_of_line line.call line.side) claim other ⊎ (claim.access ≡ Writing))) }
         ensures apart { AreApart self.old → AreApart self.new }
         ensures others { OthersKeep self.old self.new (index_of_line line.call line.side) }
     {
         if !metadata.is_file() {
             return Ok(());
         }
-        if let Some(place) = self.recorded(files, line, claim, metadata) {
-            return Err(Fault::Shared(place));
-        }
-        match self.claim(line, claim) {
-            Ok(()) => Ok(()),
-            Err(place) => Err(Fault::Shared(place)),
+        match self.recorded(folder, line, claim, metadata) {
+            Some(place) => Err(place),
+            None => self.claim(line, claim),
         }
     }
 
+    /// The file of the line with this index was removed: no incoming line has it.
+    pub fn forget(&mut self, place: usize)
+        ensures { self.new ≡ self.old }
+    {
+        self.recordings.forget(place);
+    }
+
     // The index of an incoming line, opened or not, whose file a line is to write under another name.
-    fn recorded<R: Files>(
+    fn recorded<D: Folder>(
         &mut self,
-        files: &R,
+        folder: &D,
         line: Line,
         claim: Claim,
         metadata: &Metadata,
     ) -> Option<usize>
-        ensures { self.new ≡ self.old }
+        ensures same { self.new ≡ self.old }
+        ensures written { IsSome result → claim.access ≡ Writing }
     {
-        if claim.access == Access::Writing && is_linked(files, line, metadata) {
-            self.recordings.place_of(files, claim.file)
+        if claim.access == Access::Writing && is_linked(folder, line, metadata) {
+            self.recordings.place_of(folder, claim.file)
         } else {
             None
         }
@@ -183,9 +188,9 @@ fn clash(held: Option<Claim>, claim: Claim) -> bool
 
 // Whether a line's file may have another name beside the line's: that is a symbolic link, the file has several links, or the
 // system doesn't say.
-fn is_linked<R: Files>(files: &R, line: Line, metadata: &Metadata) -> bool {
+fn is_linked<D: Folder>(folder: &D, line: Line, metadata: &Metadata) -> bool {
     metadata.nlink() > 1
-        || match fs::symlink_metadata(files, name_of(line).as_str()) {
+        || match folder.symlink_metadata(name_of(line).as_str()) {
             Ok(entry) => entry.is_symlink(),
             Err(_) => true,
         }

@@ -1,4 +1,6 @@
 //! Why a line failed.
+ghost use Rattle.std.specs.Prelude.{◌≡◌};
+ghost use Rattle.trau_files.specs.declared.trunk.fault.Fault.TheVariants.{System};
 
 use super::name::name_of;
 use std::fmt::{Display, Formatter};
@@ -18,6 +20,8 @@ pub enum Fault {
 }
 
 impl From<io::Error> for Fault {
+    ghost from_gives = { λ e fault. fault ≡ System e };
+
     fn from(fault: io::Error) -> Fault {
         Fault::System(fault)
     }

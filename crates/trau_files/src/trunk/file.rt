@@ -2,15 +2,17 @@
 
 ghost use Rattle.std.specs.Prelude.{◌≡◌, ◌≤◌};
 ghost use Rattle.trau_io.specs.Lines.{Reads, Writes};
-ghost use Rattle.trau_files.specs.declared.trunk.seats.Access.TheVariants.{Reading, Writing};
 ghost use Rattle.trau_io.specs.Indices.{index_of_line};
 ghost use Rattle.trau_files.specs.Claims.{AreApart, OthersKeep};
-ghost use Rattle.trau_files.specs.Files.{FileLine, OpenAfter, raised, after_read, after_write, file_after, state_of};
+ghost use Rattle.trau_files.specs.Files.{FileLine, raised, after_read, after_write, state_of};
+ghost use Rattle.trau_files.specs.Trunk.{PassesOn, ReadsFile, WritesFile};
+ghost use Rattle.trau_files.specs.Seats.{FreesSeats};
+ghost use Rattle.trau_files.specs.declared.trunk.seats.Access.TheVariants.{Reading, Writing};
 
 use super::fault::Fault;
 use super::open::LineFiles;
+use crate::folder::Folder;
 use std::marker::Model;
-use std::rt::Files;
 use trau_io::{Failed, Line};
 
 /// How many octets of a line's file were read and written, and how often the line failed.
@@ -40,15 +42,16 @@ impl LineFile {
     }
 
     /// Reads the next octets of the file to the start of `buf`.
-    pub fn read<R: Files + Eprint>(
+    pub fn read<D: Folder + Eprint + Drop>(
         &mut self,
-        files: &mut LineFiles<'_, R>,
+        files: &mut LineFiles<D>,
         line: Line,
         buf: &mut [u8],
     ) -> Result<usize, Failed>
         ensures reads { Reads (state_of self.old) (state_of self.new) result buf.new }
         ensures after { self.new ≡ after_read self.old result }
-        ensures place { OpenAfter files.old.seats files.new.seats line.call line.side (file_after line.call line.side Reading self.old.read result) }
+        ensures place { PassesOn result (λ found. ReadsFile D.does D.File.reading files.old files.new line.call line.side self.old.read found buf.new) }
+        ensures freed { FreesSeats D.does files.old files.new line.call line.side Reading self.old.read }
         ensures apart { AreApart files.new.claims }
         ensures others { OthersKeep files.old.claims files.new.claims (index_of_line line.call line.side) }
     {
@@ -62,15 +65,16 @@ impl LineFile {
     }
 
     /// Appends a prefix of `bytes`, at least one octet, to what was written. The first write starts the file anew.
-    pub fn write<R: Files + Eprint>(
+    pub fn write<D: Folder + Eprint + Drop>(
         &mut self,
-        files: &mut LineFiles<'_, R>,
+        files: &mut LineFiles<D>,
         line: Line,
         bytes: &[u8],
     ) -> Result<usize, Failed>
         ensures writes { Writes (state_of self.old) (state_of self.new) result bytes.now }
         ensures after { self.new ≡ after_write self.old result }
-        ensures place { OpenAfter files.old.seats files.new.seats line.call line.side (file_after line.call line.side Writing self.old.written result) }
+        ensures place { PassesOn result (λ found. WritesFile D.does D.File.writing files.old files.new line.call line.side self.old.written found bytes.now) }
+        ensures freed { FreesSeats D.does files.old files.new line.call line.side Writing self.old.written }
         ensures apart { AreApart files.new.claims }
         ensures others { OthersKeep files.old.claims files.new.claims (index_of_line line.call line.side) }
     {
@@ -84,9 +88,9 @@ impl LineFile {
     }
 
     // The reason is printed for a line's first fault only. The count stops at its highest value.
-    fn fail<R: Files + Eprint>(
+    fn fail<D: Folder + Eprint + Drop>(
         &mut self,
-        files: &mut LineFiles<'_, R>,
+        files: &mut LineFiles<D>,
         line: Line,
         fault: &Fault,
     ) -> Failed

@@ -1,23 +1,26 @@
 //! The files of all lines. Some of them are open.
 
-ghost use Rattle.std.specs.Prelude.{◌≡◌, ◌<◌, ◌↔◌, ◌⊎◌, length, pos, IfOk, IsTrue, All, Some, None};
+ghost use Rattle.std.specs.Prelude.{◌≡◌, ◌<◌, ◌↔◌, ◌⊎◌, length, pos, IfOk, IfErr, IsSomeAnd, MatchResult, IsTrue, All, Some, None, Ok, Err, Bool};
 ghost use Rattle.std.specs.IoError.{raw_os_error};
 ghost use Rattle.std.specs.Io.{ReadsAtMost, WritesAtMost};
 ghost use Rattle.trau_io.specs.Indices.{index_of_line};
 ghost use Rattle.trau_files.specs.declared.trunk.seats.Access.TheVariants.{Reading, Writing};
 ghost use Rattle.trau_files.specs.Claims.{AreApart, OthersKeep};
-ghost use Rattle.trau_files.specs.Files.{IsOpenAt, IsFileOf, OnlyCloses, OpenAfter, in_seat, file_after, opened, options_for};
+ghost use Rattle.trau_files.specs.Files.{IsOpenAt, IsFileOf, OnlyCloses, OpenAfter, in_seat, options_for};
+ghost use Rattle.trau_files.specs.Opening.{IsSeen, IsOpened, IsShared, FailsToOpen, Opens, OpensOnce, OpensOrMakes, Starts, LacksDescriptor, IsToBeMade};
+ghost use Rattle.trau_files.specs.Seats.{FreesNext, FreesSeats, HoldsOrLessens};
+ghost use Rattle.trau_files.specs.Trunk.{IsFound, IsNowOpened, ReadsFile, WritesFile};
 
-use super::claims::{Claim, Claims, FileIdentity};
+use super::claims::{Claim, Claims};
 use super::fault::{Fault, Reasons};
 use super::name::name_of;
-use super::seats::{Access, OpenFile, Seats};
+use super::seats::{Access, NextSeat, OpenFile, Seats};
+use crate::folder::Folder;
 use std::alloc::{AllocError, Global};
-use std::fs::{OpenFile as _, OpenOptions};
-use std::io::{Seek, SeekFrom};
+use std::fs::{Metadata, OpenOptions};
+use std::io;
+use std::io::ErrorKind;
 use std::marker::Model;
-use std::rt::Files;
-use std::{fs, io};
 use trau_io::Line;
 
 // The system's errors if no descriptor is left: in the whole system (ENFILE), and in this process (EMFILE).
@@ -28,37 +31,41 @@ const NONE_IN_PROCESS: i32 = 24;
 /// The files of all lines. The first 255 that are opened stay open, and of the others the latest; fewer if the system allows
 /// fewer. A fault closes the file. A file on a disk that is written for one line is no other line's.
 #[derive(Drop)]
-pub struct LineFiles<'a, R: Files> {
-    files: &'a R,
-    seats: Seats<R::File>,
+pub struct LineFiles<D: Folder + Drop> {
+    folder: D,
+    seats: Seats<D::File>,
+    place: NextSeat,
     claims: Claims,
     reasons: Reasons,
 }
 
-impl<'a, R: Files> Model for LineFiles<'a, R> {
+impl<D: Folder + Drop> Model for LineFiles<D> {
     ghost use Rattle.trau_files.specs.Claims.{AreApart};
     ghost use Rattle.trau_files.specs.Files.{OpenFiles};
 
-    ghost Value = { OpenFiles };
+    ghost Value = { OpenFiles D D.File };
 
-    ghost view = { λ f. record { seats = f.seats; claims = f.claims } };
+    ghost view = { λ f. record { seats = f.seats; claims = f.claims; next = f.place.next; last = f.place.last; folder = f.folder } };
 
     ghost invariant = { λ f. AreApart f.claims };
 }
 
-impl<'a, R: Files> LineFiles<'a, R> {
+impl<D: Folder + Drop> LineFiles<D> {
     /// No file is open yet.
-    pub fn new(alloc: Global, files: &'a R) -> Result<LineFiles<'a, R>, AllocError>
+    pub fn new(alloc: Global, folder: D) -> Result<LineFiles<D>, AllocError>
         ensures number { IfOk result (λ f. length f.seats ≡ 256) }
         ensures closed { IfOk result (λ f. All (λ seat. seat ≡ None) f.seats) }
         ensures unclaimed { IfOk result (λ f. All (λ claim. claim ≡ None) f.claims) }
         ensures apart { IfOk result (λ f. AreApart f.claims) }
+        ensures next { IfOk result (λ f. (f.next ≡ 0) × (f.last ≡ 255)) }
+        ensures untouched { IfOk result (λ f. f.folder ≡ folder) }
     {
         let claims = Claims::new(alloc)?;
         let seats = Seats::new(alloc)?;
         Ok(LineFiles {
-            files,
+            folder,
             seats,
+            place: NextSeat::new(),
             claims,
             reasons: Reasons::new(),
         })
@@ -67,7 +74,8 @@ impl<'a, R: Files> LineFiles<'a, R> {
     /// Reads octets of a line's file, from octet `at` on, to the start of `buf`.
     pub fn read_at(&mut self, line: Line, at: u64, buf: &mut [u8]) -> Result<usize, Fault>
         ensures bound { ReadsAtMost result buf.new }
-        ensures open { OpenAfter self.old.seats self.new.seats line.call line.side (file_after line.call line.side Reading at result) }
+        ensures file { ReadsFile D.does D.File.reading self.old self.new line.call line.side at result buf.new }
+        ensures freed { FreesSeats D.does self.old self.new line.call line.side Reading at }
         ensures apart { AreApart self.new.claims }
         ensures others { OthersKeep self.old.claims self.new.claims (index_of_line line.call line.side) }
     {
@@ -79,7 +87,8 @@ impl<'a, R: Files> LineFiles<'a, R> {
     pub fn write_at(&mut self, line: Line, at: u64, bytes: &[u8]) -> Result<usize, Fault>
         ensures some { IfOk result (λ n. 0 < n) }
         ensures bound { WritesAtMost result bytes.now }
-        ensures open { OpenAfter self.old.seats self.new.seats line.call line.side (file_after line.call line.side Writing at result) }
+        ensures file { WritesFile D.does D.File.writing self.old self.new line.call line.side at result bytes.now }
+        ensures freed { FreesSeats D.does self.old self.new line.call line.side Writing at }
         ensures apart { AreApart self.new.claims }
         ensures others { OthersKeep self.old.claims self.new.claims (index_of_line line.call line.side) }
     {
@@ -89,8 +98,11 @@ impl<'a, R: Files> LineFiles<'a, R> {
 
     // The seat of the line's file, at octet `at`. If the file isn't open there, it is opened.
     fn seat(&mut self, line: Line, access: Access, at: u64) -> Result<u8, Fault>
-        ensures stands { IfOk result (λ seat. IsOpenAt (in_seat self.new.seats seat) line.call line.side access at) }
-        ensures open { OpenAfter self.old.seats self.new.seats line.call line.side (opened line.call line.side access at result) }
+        ensures found { IfOk result (λ seat. IsSomeAnd (in_seat self.new.seats seat) (IsFound D.does self.old self.new.folder self.new.claims line.call line.side access at)) }
+        ensures failed { IfErr result (λ fault. IsNowOpened D.does self.old self.new.folder self.new.claims line.call line.side access at (Err fault)) }
+        ensures open { MatchResult result (λ seat. OpenAfter self.old.seats self.new.seats line.call line.side (in_seat self.new.seats seat))
+            (λ _. OpenAfter self.old.seats self.new.seats line.call line.side None) }
+        ensures freed { FreesSeats D.does self.old self.new line.call line.side access at }
         ensures apart { AreApart self.new.claims }
         ensures others { OthersKeep self.old.claims self.new.claims (index_of_line line.call line.side) }
     {
@@ -107,86 +119,143 @@ impl<'a, R: Files> LineFiles<'a, R> {
     fn open(&mut self, line: Line, access: Access, at: u64) -> Result<u8, Fault>
         requires { IsFileOf self.old.seats line.call line.side None }
         ensures stands { IfOk result (λ seat. IsOpenAt (in_seat self.new.seats seat) line.call line.side access at) }
-        ensures open { OpenAfter self.old.seats self.new.seats line.call line.side (opened line.call line.side access at result) }
+        ensures opened { IfOk result (λ seat. IsSomeAnd (in_seat self.new.seats seat)
+            (λ o. Opens D.does self.old.folder self.new.folder self.old.claims self.new.claims line.call line.side access at (Ok o.file))) }
+        ensures failed { IfErr result (λ fault. Opens D.does self.old.folder self.new.folder self.old.claims self.new.claims line.call line.side access at (Err fault)) }
+        ensures open { MatchResult result (λ seat. OpenAfter self.old.seats self.new.seats line.call line.side (in_seat self.new.seats seat))
+            (λ _. OpenAfter self.old.seats self.new.seats line.call line.side None) }
+        ensures freed { FreesNext D.does self.old self.new line.call line.side access at }
         ensures apart { AreApart self.new.claims }
         ensures others { OthersKeep self.old.claims self.new.claims (index_of_line line.call line.side) }
     {
-        self.seats.free_next();
+        self.seats.free(self.place.next);
         let file = self.open_or_lessen(line, access, at)?;
-        Ok(
-            self.seats.put(OpenFile {
+        let seat = self.place.next;
+        self.seats.put(
+            seat,
+            OpenFile {
                 file,
                 line,
                 access,
                 at,
-            }),
-        )
+            },
+        );
+        self.place.pass();
+        Ok(seat)
     }
 
     // Opens a line's file. If no descriptor is left, another file is closed first.
-    fn open_or_lessen(&mut self, line: Line, access: Access, at: u64) -> Result<R::File, Fault>
+    fn open_or_lessen(&mut self, line: Line, access: Access, at: u64) -> Result<D::File, Fault>
         ensures seats { OnlyCloses self.old.seats self.new.seats }
+        ensures held { HoldsOrLessens D.does self.old self.new line.call line.side access at }
+        ensures opens { Opens D.does self.old.folder self.new.folder self.old.claims self.new.claims line.call line.side access at result }
         ensures number { length self.new.seats ≡ length self.old.seats }
         ensures apart { AreApart self.new.claims }
         ensures others { OthersKeep self.old.claims self.new.claims (index_of_line line.call line.side) }
     {
-        match open_at(self.files, &mut self.claims, line, access, at) {
+        match open_at(&mut self.folder, &mut self.claims, line, access, at) {
             Err(Fault::System(fault)) if lacks_descriptor(&fault) => {
-                self.seats.lessen();
-                open_at(self.files, &mut self.claims, line, access, at)
+                self.place.lessen();
+                self.seats.free(self.place.next);
+                open_at(&mut self.folder, &mut self.claims, line, access, at)
             }
             opened => opened,
         }
     }
 }
 
-impl<'a, R: Files + Eprint> LineFiles<'a, R> {
+impl<D: Folder + Eprint + Drop> LineFiles<D> {
     /// Prints on standard error why a line failed.
     pub fn tell_why(&mut self, line: Line, fault: &Fault)
         ensures { self.new ≡ self.old }
     {
-        self.reasons.tell(self.files, line, fault);
+        self.reasons.tell(&self.folder, line, fault);
     }
 
     /// Prints there how many lines failed beside those whose reasons were printed.
     pub fn tell_rest(&self) {
-        self.reasons.tell_rest(self.files);
+        self.reasons.tell_rest(&self.folder);
     }
 }
 
-// Opens a line's file at this octet, unless it is another line's.
-fn open_at<R: Files>(
-    files: &R,
+// Opens a line's file at this octet, unless it is another line's. If it is, and was made only now, it is removed again.
+fn open_at<D: Folder>(
+    folder: &mut D,
     claims: &mut Claims,
     line: Line,
     access: Access,
     at: u64,
-) -> Result<R::File, Fault>
+) -> Result<D::File, Fault>
+    ensures opens { OpensOnce D.does folder.old folder.new claims.old claims.new line.call line.side access at result }
     ensures apart { AreApart claims.old → AreApart claims.new }
     ensures others { OthersKeep claims.old claims.new (index_of_line line.call line.side) }
 {
-    let mut file = options_for(access, at).open(files, name_of(line).as_str())?;
-    let metadata = file.metadata()?;
+    let (mut file, is_new) = open_or_make(folder, line, access, at)?;
+    let metadata = folder.ask(&file)?;
     let claim = Claim {
-        file: FileIdentity::of(&metadata),
+        file: folder.identify(&metadata),
         access,
     };
-    claims.take(files, line, claim, &metadata)?;
-    start(&mut file, access, at, metadata.is_file())?;
-    Ok(file)
+    match claims.take(folder, line, claim, &metadata) {
+        Ok(()) => {
+            start(folder, &mut file, access, at, &metadata)?;
+            Ok(file)
+        }
+        Err(place) => {
+            if is_new && metadata.len() == 0 {
+                let _ = folder.remove(name_of(line).as_str());
+                claims.forget(place);
+            }
+            Err(Fault::Shared(place))
+        }
+    }
+}
+
+// Opens a line's file, and says whether it was made just now. A missing file is made if it is opened for writing and nothing has
+// been written yet.
+fn open_or_make<D: Folder>(
+    folder: &mut D,
+    line: Line,
+    access: Access,
+    at: u64,
+) -> io::Result<(D::File, bool)>
+    ensures opens { MatchResult result (λ opened. OpensOrMakes D.does folder.old folder.new line.call line.side access at opened.1 (Ok opened.0))
+        (λ e. (made : Bool) × OpensOrMakes D.does folder.old folder.new line.call line.side access at made (Err e)) }
+{
+    let name = name_of(line);
+    match folder.open(&options_for(access, false), name.as_str()) {
+        Ok(file) => Ok((file, false)),
+        Err(fault) if is_to_be_made(access, at, &fault) => {
+            let file = folder.open(&options_for(access, true), name.as_str())?;
+            Ok((file, true))
+        }
+        Err(fault) => Err(fault),
+    }
+}
+
+// Whether a file that wasn't opened for this reason is made.
+fn is_to_be_made(access: Access, at: u64, fault: &io::Error) -> bool
+    ensures { IsTrue result ↔ IsToBeMade access at fault.now }
+{
+    access == Access::Writing && at == 0 && fault.kind() == ErrorKind::NotFound
 }
 
 // Goes to this octet of a line's file. Only now is a file emptied, if nothing has been written to it yet.
-fn start<F: fs::OpenFile + Seek>(
-    file: &mut F,
+fn start<D: Folder>(
+    folder: &D,
+    file: &mut D::File,
     access: Access,
     at: u64,
-    is_file: bool,
-) -> io::Result<()> {
+    metadata: &Metadata,
+) -> io::Result<()>
+    ensures { Starts D.does access at metadata.now file.old file.new result }
+{
     if at > 0 {
-        file.seek(SeekFrom::Start(at))?;
-    } else if is_file && access == Access::Writing {
-        file.set_len(0)?;
+        folder.go(file, at)?;
+        return Ok(());
+    }
+    if access == Access::Writing && metadata.is_file() {
+        return folder.empty(file);
     }
     Ok(())
 }
@@ -198,14 +267,14 @@ fn lacks_descriptor(fault: &io::Error) -> bool
     matches!(fault.raw_os_error(), Some(NONE_IN_SYSTEM | NONE_IN_PROCESS))
 }
 
-// How a line's file is opened. A missing file is created if it is opened for writing and nothing has been written yet.
-fn options_for(access: Access, at: u64) -> OpenOptions
-    ensures { result ≡ options_for access at }
+// How a line's file is opened: only to read it or only to write it. A missing file is made only if `makes` says so.
+fn options_for(access: Access, makes: bool) -> OpenOptions
+    ensures { result ≡ options_for access makes }
 {
     let is_written = access == Access::Writing;
     let mut how = OpenOptions::new();
     how.read(!is_written)
         .write(is_written)
-        .create(is_written && at == 0);
+        .create(is_written && makes);
     how
 }

@@ -2,11 +2,10 @@
 
 use super::claims::FileIdentity;
 use super::name::name_of;
+use crate::folder::Folder;
 use call_number::LAST_CALL;
 use std::alloc::{AllocError, Global};
-use std::fs;
 use std::marker::Model;
-use std::rt::Files;
 use trau_io::{LINE_INDICES, Line, Side, line_index};
 
 /// The files of the incoming lines of all calls, by the lines' indices, as they were when `place_of` was first called.
@@ -39,26 +38,33 @@ impl Recordings {
     }
 
     /// The index of an incoming line that has this file.
-    pub fn place_of<R: Files>(&mut self, files: &R, file: FileIdentity) -> Option<usize> {
+    pub fn place_of<D: Folder>(&mut self, folder: &D, file: FileIdentity) -> Option<usize> {
         if !self.is_searched {
-            self.search(files);
+            self.search(folder);
         }
         self.of_lines.iter().position(|found| *found == Some(file))
     }
 
+    /// Forgets the file of the line with this index, since it was removed.
+    pub fn forget(&mut self, place: usize) {
+        if place < LINE_INDICES {
+            self.of_lines[place] = None;
+        }
+    }
+
     // Up and Pcm of each call.
-    fn search<R: Files>(&mut self, files: &R) {
+    fn search<D: Folder>(&mut self, folder: &D) {
         self.is_searched = true;
         for call in 1..=LAST_CALL {
             self.note(
-                files,
+                folder,
                 Line {
                     call,
                     side: Side::Up,
                 },
             );
             self.note(
-                files,
+                folder,
                 Line {
                     call,
                     side: Side::Pcm,
@@ -68,8 +74,8 @@ impl Recordings {
     }
 
     // Notes the file of an incoming line, if it has one.
-    fn note<R: Files>(&mut self, files: &R, line: Line) {
-        if let Ok(metadata) = fs::metadata(files, name_of(line).as_str()) {
+    fn note<D: Folder>(&mut self, folder: &D, line: Line) {
+        if let Ok(metadata) = folder.metadata(name_of(line).as_str()) {
             self.of_lines[line_index(line)] = Some(FileIdentity::of(&metadata));
         }
     }

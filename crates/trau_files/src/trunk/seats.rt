@@ -1,14 +1,14 @@
 //! Which lines' files are open.
 
-ghost use Rattle.std.specs.Prelude.{◌≡◌, ◌⊎◌, ◌<◌, length, IfOk, IfSome, IsSome, IsTrue, false, None, Some, All};
+ghost use Rattle.std.specs.Prelude.{◌≡◌, ◌⊎◌, ◌<◌, ℕ, length, IfOk, IfSome, IsSome, IsTrue, false, None, Some, All};
 ghost use Rattle.std.specs.Io.{ReadsAtMost, WritesAtMost};
 ghost use Rattle.trau_io.specs.declared.line.Side.{Side};
-ghost use Rattle.trau_files.specs.Files.{OpenLine, IsOpenAt, IsFileOf, OnlyCloses, OpenAfter, in_seat, file_after};
+ghost use Rattle.trau_files.specs.Files.{OpenLine, IsOpenAt, IsFileOf, OnlyCloses, OthersSit, OpenAfter, FileAfter, FileGives, FileTakes, in_seat};
+ghost use Rattle.trau_files.specs.Seats.{NoneWasOpen, OthersStayOpen};
 
 use super::fault::Fault;
-use crate::retry::{read_again, write_some};
+use crate::retry::{ReadOnce, WriteOnce, read_again, write_some};
 use std::alloc::{AllocError, Global};
-use std::io::{Read, Write};
 use std::marker::Model;
 use trau_io::{LINE_INDICES, Line, line_index};
 
@@ -32,20 +32,52 @@ pub struct OpenFile<F: Drop> {
 }
 
 impl<F: Drop> Model for OpenFile<F> {
-    ghost Value = { OpenLine };
+    ghost Value = { OpenLine F };
 
-    ghost view = { λ o. record { call = o.line.call; side = o.line.side; access = o.access; at = o.at } };
+    ghost view = { λ o. record { call = o.line.call; side = o.line.side; access = o.access; at = o.at; file = o.file } };
 }
 
-/// The open files, each in a seat. The first files keep a seat each; all later ones get the last seat, one after the other.
+/// Which seat the next file that is opened gets. It rises to `last`, and stays there.
+#[derive(Clone, Copy)]
+pub struct NextSeat {
+    pub next: u8,
+    pub last: u8,
+}
+
+impl NextSeat {
+    ghost use Rattle.std.specs.Prelude.{◌≡◌, ◌+◌, ◌-◌, min};
+
+    /// The seats are given one after the other, and the last one again and again.
+    pub fn new() -> NextSeat
+        ensures { result ≡ record { next = 0; last = 255 } }
+    {
+        NextSeat { next: 0, last: 255 }
+    }
+
+    /// A file was put into the next seat.
+    pub fn pass(&mut self)
+        ensures next { self.new.next ≡ min self.old.last (self.old.next + 1) }
+        ensures last { self.new.last ≡ self.old.last }
+    {
+        self.next = self.last.min(self.next.saturating_add(1));
+    }
+
+    /// The seat before the next one is the next and the last one from now on.
+    pub fn lessen(&mut self)
+        ensures next { self.new.next ≡ self.old.next - 1 }
+        ensures last { self.new.last ≡ self.old.next - 1 }
+    {
+        self.next = self.next.saturating_sub(1);
+        self.last = self.next;
+    }
+}
+
+/// The open files, each in a seat.
 #[derive(Drop)]
 pub struct Seats<F: Drop> {
     files: Vec<Option<OpenFile<F>>>,
     // The seat that a line's file had last, by the line's index. Another line's file may have it now.
     seat_of: Vec<u8>,
-    // The seat of the next file that is opened. It rises to `last`, and stays there.
-    next: u8,
-    last: u8,
 }
 
 impl<F: Drop> Model for Seats<F> {
@@ -53,7 +85,7 @@ impl<F: Drop> Model for Seats<F> {
     ghost use Rattle.trau_files.specs.Files.{OpenLine, AreSeated};
     ghost use Rattle.trau_io.specs.declared.line_table.TheConstants.{LINE_INDICES};
 
-    ghost Value = { List (Option OpenLine) };
+    ghost Value = { List (Option (OpenLine F)) };
 
     ghost view = { λ s. s.files.items };
 
@@ -71,21 +103,19 @@ impl<F: Drop> Seats<F> {
         for _ in 0..SEATS {
             files.push_reserved(None);
         }
-        Ok(Seats {
-            files,
-            seat_of,
-            next: 0,
-            last: 255,
-        })
+        Ok(Seats { files, seat_of })
     }
 
     /// The seat of the line's file, if it is open for this access and at octet `at`. Otherwise None, and the line has no open file.
     pub fn find(&mut self, line: Line, access: Access, at: u64) -> Option<u8>
-        ensures stands { IfSome result (λ seat. IsOpenAt (in_seat self.new seat) line.call line.side access at) }
-        ensures open { IsSome result → OpenAfter self.old self.new line.call line.side
-            (Some (record { call = line.call; side = line.side; access = access; at = at })) }
+        ensures found { IfSome result (λ seat. IsOpenAt (in_seat self.new seat) line.call line.side access at) }
+        ensures same { IfSome result (λ seat. in_seat self.new seat ≡ in_seat self.old seat) }
+        ensures only { IfSome result (λ seat. (k : ℕ) → IsOpenAt (in_seat self.old k) line.call line.side access at → k ≡ seat) }
+        ensures open { IfSome result (λ seat. OpenAfter self.old self.new line.call line.side (in_seat self.new seat)) }
+        ensures missing { result ≡ None → NoneWasOpen self.old line.call line.side access at }
         ensures closed { result ≡ None → IsFileOf self.new line.call line.side None }
         ensures others { OnlyCloses self.old self.new }
+        ensures stay { OthersStayOpen self.old self.new line.call line.side (λ _. ⊥) }
         ensures number { length self.new ≡ length self.old }
     {
         let seat = self.seat_of[line_index(line)];
@@ -95,45 +125,37 @@ impl<F: Drop> Seats<F> {
         None
     }
 
-    /// Closes the file in the next seat, if there is one. No clause says which file it closes.
-    pub fn free_next(&mut self)
+    /// Closes the file in this seat, if there is one.
+    pub fn free(&mut self, seat: u8)
+        ensures freed { OthersSit self.old self.new seat }
+        ensures closed { in_seat self.new seat ≡ None }
         ensures others { OnlyCloses self.old self.new }
         ensures number { length self.new ≡ length self.old }
     {
-        self.files[self.next as usize] = None;
+        self.files[seat as usize] = None;
     }
 
-    /// Closes the file in the seat before the next one. That seat is the next and the last one from now on. No clause says which
-    /// file it closes.
-    pub fn lessen(&mut self)
-        ensures others { OnlyCloses self.old self.new }
-        ensures number { length self.new ≡ length self.old }
-    {
-        self.next = self.next.saturating_sub(1);
-        self.last = self.next;
-        self.free_next();
-    }
-
-    /// Puts the file of a line that has none open into the next seat, and returns that seat.
-    pub fn put(&mut self, file: OpenFile<F>) -> u8
+    /// Puts the file of a line that has none open into this seat.
+    pub fn put(&mut self, seat: u8, file: OpenFile<F>)
         requires { IsFileOf self.old file.call file.side None }
-        ensures there { in_seat self.new result ≡ Some file }
+        ensures there { in_seat self.new seat ≡ Some file }
+        ensures kept { OthersSit self.old self.new seat }
         ensures open { OpenAfter self.old self.new file.call file.side (Some file) }
     {
-        let seat = self.next;
         self.seat_of[line_index(file.line)] = seat;
         self.files[seat as usize] = Some(file);
-        self.next = self.last.min(seat.saturating_add(1));
-        seat
     }
 }
 
-impl<F: Read + Write + Drop> Seats<F> {
+impl<F: ReadOnce + WriteOnce + Drop> Seats<F> {
     /// Reads the next octets of the file in a seat to the start of `buf`. A fault closes the file.
     pub fn read(&mut self, seat: u8, buf: &mut [u8]) -> Result<usize, Fault>
         requires { IsSome (in_seat self.old seat) }
         ensures bound { ReadsAtMost result buf.new }
-        ensures open { IfSome (in_seat self.old seat) (λ o. OpenAfter self.old self.new o.call o.side (file_after o.call o.side o.access o.at result)) }
+        ensures after { IfSome (in_seat self.old seat) (λ o. FileAfter o result (in_seat self.new seat)) }
+        ensures once { IfSome (in_seat self.old seat) (λ o. FileGives F.reading o (in_seat self.new seat) result buf.new) }
+        ensures open { IfSome (in_seat self.old seat) (λ o. OpenAfter self.old self.new o.call o.side (in_seat self.new seat)) }
+        ensures others { OthersSit self.old self.new seat }
     {
         read_in(&mut self.files[seat as usize], buf)
     }
@@ -143,7 +165,10 @@ impl<F: Read + Write + Drop> Seats<F> {
         requires { IsSome (in_seat self.old seat) }
         ensures some { IfOk result (λ n. 0 < n) }
         ensures bound { WritesAtMost result bytes.now }
-        ensures open { IfSome (in_seat self.old seat) (λ o. OpenAfter self.old self.new o.call o.side (file_after o.call o.side o.access o.at result)) }
+        ensures after { IfSome (in_seat self.old seat) (λ o. FileAfter o result (in_seat self.new seat)) }
+        ensures once { IfSome (in_seat self.old seat) (λ o. FileTakes F.writing o (in_seat self.new seat) result bytes.now) }
+        ensures open { IfSome (in_seat self.old seat) (λ o. OpenAfter self.old self.new o.call o.side (in_seat self.new seat)) }
+        ensures others { OthersSit self.old self.new seat }
     {
         write_in(&mut self.files[seat as usize], bytes)
     }
@@ -154,8 +179,10 @@ impl<F: Read + Write + Drop> Seats<F> {
 fn stands<F: Drop>(seat: &mut Option<OpenFile<F>>, line: Line, access: Access, at: u64) -> bool
     ensures stands { IsTrue result → IsOpenAt seat.new line.call line.side access at }
     ensures same { IsTrue result → seat.new ≡ seat.old }
+    ensures missing { result ≡ false → IsOpenAt seat.old line.call line.side access at → ⊥ }
     ensures closed { result ≡ false → IfSome seat.new (λ o. o.call ≡ line.call → o.side ≡ line.side → ⊥) }
     ensures others { (seat.new ≡ seat.old) ⊎ (seat.new ≡ None) }
+    ensures stays { IfSome seat.old (λ o. (o.call ≡ line.call → o.side ≡ line.side → ⊥) → seat.new ≡ seat.old) }
 {
     match seat {
         Some(open) if open.line != line => false,
@@ -168,10 +195,14 @@ fn stands<F: Drop>(seat: &mut Option<OpenFile<F>>, line: Line, access: Access, a
 }
 
 // Reads from the file in a seat. A fault closes it.
-fn read_in<F: Read + Drop>(seat: &mut Option<OpenFile<F>>, buf: &mut [u8]) -> Result<usize, Fault>
+fn read_in<F: ReadOnce + Drop>(
+    seat: &mut Option<OpenFile<F>>,
+    buf: &mut [u8],
+) -> Result<usize, Fault>
     requires { IsSome seat.old }
     ensures bound { ReadsAtMost result buf.new }
-    ensures after { IfSome seat.old (λ o. seat.new ≡ file_after o.call o.side o.access o.at result) }
+    ensures after { IfSome seat.old (λ o. FileAfter o result seat.new) }
+    ensures once { IfSome seat.old (λ o. FileGives F.reading o seat.new result buf.new) }
 {
     match seat {
         Some(open) => match read_again(&mut open.file, buf) {
@@ -189,11 +220,15 @@ fn read_in<F: Read + Drop>(seat: &mut Option<OpenFile<F>>, buf: &mut [u8]) -> Re
 }
 
 // Writes to the file in a seat. A fault closes it.
-fn write_in<F: Write + Drop>(seat: &mut Option<OpenFile<F>>, bytes: &[u8]) -> Result<usize, Fault>
+fn write_in<F: WriteOnce + Drop>(
+    seat: &mut Option<OpenFile<F>>,
+    bytes: &[u8],
+) -> Result<usize, Fault>
     requires { IsSome seat.old }
     ensures some { IfOk result (λ n. 0 < n) }
     ensures bound { WritesAtMost result bytes.now }
-    ensures after { IfSome seat.old (λ o. seat.new ≡ file_after o.call o.side o.access o.at result) }
+    ensures after { IfSome seat.old (λ o. FileAfter o result seat.new) }
+    ensures once { IfSome seat.old (λ o. FileTakes F.writing o seat.new result bytes.now) }
 {
     match seat {
         Some(open) => match write_some(&mut open.file, bytes) {

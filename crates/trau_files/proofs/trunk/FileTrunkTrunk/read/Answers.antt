@@ -3,26 +3,30 @@ use Rattle.trau_io.proofs.Tables.{replaced}
 use Rattle.trau_io.specs.Indices.{index_of_line}
 use Rattle.trau_files.specs.declared.trunk.claims.Claim.{Claim}
 use Rattle.trau_files.specs.Claims.{OthersKeep}
+use Rattle.trau_files.specs.Files.{OpenFiles, known_line}
 use Rattle.trau_files.specs.declared.trunk.seats.Access.TheVariants.{Reading}
-use Rattle.trau_files.specs.Files.{OpenAfter, OpenLine, TrunkFiles, known_line, file_after}
+use Rattle.trau_files.specs.Seats.{FreesSeats}
+use Rattle.trau_files.specs.Trunk.{PassesOn, ReadsFile, TrunkFiles}
 use Rattle.trau_files.proofs.trunk.FileTrunkTrunk.read.Goals as goal
 
 pub returns : goal.returns
 returns g c =
-    let lines_seen = ap (λ (t : TrunkFiles). t.lines) c.self.view_is in
-    let files_seen = ap (λ (t : TrunkFiles). t.files) c.self.view_is in
-    let claims_seen = ap (λ (t : TrunkFiles). t.claims) c.self.view_is in
+    let lines_seen = ap (λ (t : TrunkFiles _ _). t.lines) c.self.view_is in
+    let files_seen = ap (λ (t : TrunkFiles _ _). t.files) c.self.view_is in
+    let claims_seen = ap (λ (t : TrunkFiles _ _). t.files.claims) c.self.view_is in
     let line = replaced known_line _ _ _ _ _ _ c.read.new.self lines_seen
     (sym c.self.inside.lines.ok.0 ∙ c.self.invariant.0) c.line_index.ensures.value c.line_index.ensures.within c.index_mut.ensures.value in
     let lines = line.put ∙ ap (slice_set _ _) c.read.ensures.after in
-    let files = subst (λ (fs : List (Option OpenLine)). OpenAfter fs c.read.new.files.seats c.args.line.call c.args.line.side
-    (file_after c.args.line.call c.args.line.side Reading c.index_mut.result.now.read c.read.result)) files_seen c.read.ensures.place in
+    let files = subst (λ (fs : OpenFiles _ _). PassesOn c.read.result (λ found. ReadsFile g.D.Folder.does g.D.File.ReadOnce.reading fs c.read.new.files c.args.line.call c.args.line.side
+    c.index_mut.result.now.read found c.read.new.buf)) files_seen c.read.ensures.place in
+    let seats = subst (λ (fs : OpenFiles _ _). FreesSeats g.D.Folder.does fs c.read.new.files c.args.line.call c.args.line.side Reading
+    c.index_mut.result.now.read) files_seen c.read.ensures.freed in
     let kept = subst (λ (cs : List (Option Claim)). OthersKeep cs c.read.new.files.claims
     (index_of_line c.args.line.call c.args.line.side)) claims_seen c.read.ensures.others in
     record {
       this = rw (line.was, line.is) c.read.ensures.reads;
       others = line.others;
-      after = rw line.found (record { lines = lines; files = files });
+      after = rw line.found (record { lines = lines; files = files; seats = seats });
       apart = c.read.ensures.apart;
       kept = kept;
     }

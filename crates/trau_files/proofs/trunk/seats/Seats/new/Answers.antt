@@ -11,7 +11,7 @@ pub loop-preserved : goal.loop-preserved
 loop-preserved g c = record {
   size = c.push_reserved.ensures.len ∙ ap (λ n. n + 1) c.loop.invariant.size;
   capacity = omega (arith, c.push_reserved.ensures.capacity, c.loop.invariant.capacity);
-  each = rw c.push_reserved.ensures.items (All-push (λ (s : Option OpenLine). s ≡ None) _ _ c.loop.invariant.each refl);
+  each = rw c.push_reserved.ensures.items (All-push (λ (s : Option (OpenLine _)). s ≡ None) _ _ c.loop.invariant.each refl);
 }
 
 pub invariant_of-result : goal.invariant_of-result

@@ -1,7 +1,7 @@
 use Rattle.std.proofs.Common.{◌≡◌, ◌∙◌, length, List, Option, None, IfSome, IsSome, arith, slice_set, sym, subst}
 use Rattle.std.proofs.lemmas.List.{get_or_read_under}
-use Rattle.trau_files.specs.Files.{OpenLine, OpenAfter, in_seat, file_after}
-use Rattle.trau_files.proofs.Seating.{moved_after, seated_moved}
+use Rattle.trau_files.specs.Files.{OpenLine, OpenAfter, FileAfter, FileTakes, in_seat}
+use Rattle.trau_files.proofs.Seating.{in_its_seat, moved_after, seated_moved}
 use Rattle.trau_files.proofs.trunk.seats.Seats.write.Given as Given
 use Rattle.trau_files.proofs.trunk.seats.Seats.write.Goals as goal
 use Rattle.trau_files.proofs.trunk.seats.Seats.write.Goals.{After-index_mut}
@@ -18,7 +18,7 @@ pub invariant_of-self : goal.invariant_of-self
 invariant_of-self g c =
     let before = (goal.at.invariant_of-self g c).After-index_mut in
     let files = c.self.inside.files.items in
-    let some = subst (λ (seats : List (Option OpenLine)). IsSome (in_seat seats c.args.seat)) (sym c.self.view_is) c.requires in (
+    let some = subst (λ (seats : List (Option (OpenLine _))). IsSome (in_seat seats c.args.seat)) (sym c.self.view_is) c.requires in (
       c.self.invariant.0,
       c.self.invariant.1,
       seated_moved files c.self.inside.seat_of.items c.args.seat c.index_mut.result.now c.write_in.new.seat c.write_in.result (here g before) some
@@ -30,8 +30,27 @@ returns-clause-open g c =
     let before = (goal.at.returns-clause-open g c).After-index_mut in
     let files = c.self.inside.files.items in
     let seat = c.args.seat in
-    let result = c.write_in.result in
-    let moved = moved_after files c.self.inside.seat_of.items seat c.index_mut.result.now c.write_in.new.seat result (here g before)
-    (omega (arith, c.ranges.seat.fits, count g before)) c.self.invariant.2 c.write_in.ensures.after in
-    subst (λ (seats : List (Option OpenLine)). IfSome (in_seat seats seat)
-    (λ o. OpenAfter seats (slice_set files seat c.write_in.new.seat) o.call o.side (file_after o.call o.side o.access o.at result))) c.self.view_is moved
+    let moved = moved_after files c.self.inside.seat_of.items seat c.index_mut.result.now c.write_in.new.seat (here g before)
+    (omega (arith, c.ranges.seat.fits, count g before)) c.self.invariant.2 in
+    subst (λ (seats : List (Option (OpenLine _))). IfSome (in_seat seats seat)
+    (λ o. OpenAfter seats (slice_set files seat c.write_in.new.seat) o.call o.side (in_seat (slice_set files seat c.write_in.new.seat) seat))) c.self.view_is moved
+
+pub returns-clause-after : goal.returns-clause-after
+returns-clause-after g c =
+    let before = (goal.at.returns-clause-after g c).After-index_mut in
+    let files = c.self.inside.files.items in
+    let seat = c.args.seat in
+    let P : OpenLine _ → Option (OpenLine _) → Type 0 = λ o file. FileAfter o c.write_in.result file in
+    subst (λ (seats : List (Option (OpenLine _))). IfSome (in_seat seats seat)
+    (λ o. FileAfter o c.write_in.result (in_seat (slice_set files seat c.write_in.new.seat) seat))) c.self.view_is
+    (in_its_seat P files seat c.index_mut.result.now c.write_in.new.seat (here g before) (omega (arith, c.ranges.seat.fits, count g before)) c.write_in.ensures.after)
+
+pub returns-clause-once : goal.returns-clause-once
+returns-clause-once g c =
+    let before = (goal.at.returns-clause-once g c).After-index_mut in
+    let files = c.self.inside.files.items in
+    let seat = c.args.seat in
+    let P : OpenLine _ → Option (OpenLine _) → Type 0 = λ o file. FileTakes g.F.WriteOnce.writing o file c.write_in.result c.args.bytes.now in
+    subst (λ (seats : List (Option (OpenLine _))). IfSome (in_seat seats seat)
+    (λ o. FileTakes g.F.WriteOnce.writing o (in_seat (slice_set files seat c.write_in.new.seat) seat) c.write_in.result c.args.bytes.now)) c.self.view_is
+    (in_its_seat P files seat c.index_mut.result.now c.write_in.new.seat (here g before) (omega (arith, c.ranges.seat.fits, count g before)) c.write_in.ensures.once)

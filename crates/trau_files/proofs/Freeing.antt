@@ -1,0 +1,139 @@
+-- Which seats are freed: step by step for one operation.
+use Rattle.std.proofs.Common.{◌≡◌, ◌⊎◌, ◌∙◌, ℕ, ◌+◌, ◌-◌, min, List, Option, None, Some, Result, Err, IfSome, IsSomeAnd, ap, arith, inl, inr, subst, sym, slice_set}
+use Rattle.std.specs.declared.io.Error.{Error}
+use Rattle.trau_io.specs.declared.line.Side.{Side}
+use Rattle.trau_files.specs.declared.trunk.claims.Claim.{Claim}
+use Rattle.trau_files.specs.declared.trunk.fault.Fault.{Fault}
+use Rattle.trau_files.specs.declared.trunk.fault.Fault.TheVariants.{System}
+use Rattle.trau_files.specs.declared.trunk.seats.Access.{Access}
+use Rattle.trau_files.specs.Files.{OpenFiles, OpenLine, OthersSit, in_seat}
+use Rattle.trau_files.specs.Folder.{Operations}
+use Rattle.trau_files.specs.Opening.{LacksDescriptor, OpensOnce}
+use Rattle.trau_files.specs.Seats.{FreesNext, FreesSeats, HoldsOrLessens, IsShort, NoneWasOpen, OthersStayOpen}
+use Rattle.trau_files.proofs.Seating.{set_place}
+
+-- the file in one seat stays, if it is another line's
+pub stay_open : {F : Type 0} (seats : List (Option (OpenLine F))) (seat : ℕ) (file : Option (OpenLine F)) (call : ℕ) (side : Side) →
+    IfSome (in_seat seats seat) (λ o. (o.call ≡ call → o.side ≡ side → ⊥) → file ≡ in_seat seats seat) →
+    OthersStayOpen seats (slice_set seats seat file) call side (λ _. ⊥)
+stay_open {F = F} seats seat file call side stays k o there other freed = elim (set_place seats seat file None k) [
+  | inl s ↦ s.1 ∙ kept (in_seat seats seat) stays (ap (in_seat seats) (sym s.0) ∙ there) ∙ ap (in_seat seats) (sym s.0) ∙ there
+  | inr s ↦ s ∙ there
+]
+  where
+    kept : (x : Option (OpenLine F)) → IfSome x (λ y. (y.call ≡ call → y.side ≡ side → ⊥) → file ≡ in_seat seats seat) → x ≡ Some o → file ≡ in_seat seats seat
+    kept None stays is = cc
+    kept (Some y) stays is = let same : y ≡ o = cc in
+        stays (λ c s. other (ap (λ (f : OpenLine F). f.call) (sym same) ∙ c) (ap (λ (f : OpenLine F). f.side) (sym same) ∙ s))
+
+module _ {D F : Type 0} (does : Operations D F) (call : ℕ) (side : Side) (access : Access) (at : ℕ) where
+  -- a first attempt failed, since no descriptor was left
+  pub is_short : (old : OpenFiles D F) (mid : D) (claims : List (Option Claim)) (first : Result F Fault) (fault : Fault) (e : Error) →
+      first ≡ Err fault → fault ≡ System e → OpensOnce does old.folder mid old.claims claims call side access at first → LacksDescriptor (System e) →
+      IsShort does old call side access at
+  is_short old mid claims first fault e failed is once lacks = record {
+    folder = mid;
+    fault = fault;
+    failed = subst (OpensOnce does old.folder mid old.claims claims call side access at) failed once;
+    lacks = rw is lacks;
+  }
+
+  pub lessens : (old new : OpenFiles D F) (seat : ℕ) → seat ≡ old.next - 1 → OthersSit old.seats new.seats seat → new.next ≡ old.next - 1 →
+      new.last ≡ old.next - 1 → IsShort does old call side access at → in_seat new.seats seat ≡ None → HoldsOrLessens does old new call side access at
+  lessens old new seat is sits next last short closed =
+      inr (subst (OthersSit old.seats new.seats) is sits, next, last, short, subst (λ k. in_seat new.seats k ≡ None) is closed)
+
+  -- the files once the next seat is freed
+  abbrev pub freed : OpenFiles D F → List (Option (OpenLine F)) → OpenFiles D F
+  freed old seats = record { seats = seats; claims = old.claims; next = old.next; last = old.last; folder = old.folder }
+
+  same_short : (old : OpenFiles D F) (seats : List (Option (OpenLine F))) → IsShort does (freed old seats) call side access at →
+      IsShort does old call side access at
+  same_short old seats short = record { folder = short.folder; fault = short.fault; failed = short.failed; lacks = short.lacks }
+
+  -- the file wasn't opened
+  pub frees_only : (old new : OpenFiles D F) (seats : List (Option (OpenLine F))) → OthersSit old.seats seats old.next →
+      HoldsOrLessens does (freed old seats) new call side access at → FreesNext does old new call side access at
+  frees_only old new seats sits held = elim held [
+    | inl h ↦ inl (λ k other. ap (λ (s : List (Option (OpenLine F))). in_seat s k) h.0 ∙ sits k other, inl h.1, h.2)
+    | inr h ↦ inr (λ k other before. h.0 k before ∙ sits k other, h.1, h.2, same_short old seats h.3)
+  ]
+
+  least : (a n m : ℕ) → n ≡ a → m ≡ a → min n (m + 1) ≡ a
+  least a n m is_n is_m = omega (arith, is_n, is_m)
+
+  -- the file was opened and put into the next seat
+  pub frees_for_it : (old mid new : OpenFiles D F) (seats : List (Option (OpenLine F))) → OthersSit old.seats seats old.next →
+      HoldsOrLessens does (freed old seats) mid call side access at → OthersSit mid.seats new.seats mid.next → new.next ≡ min mid.last (mid.next + 1) →
+      new.last ≡ mid.last → FreesNext does old new call side access at
+  frees_for_it old mid new seats sits held puts next last = elim held [
+    | inl h ↦ inl (
+      λ k other. puts k (λ e. other (e ∙ h.1)) ∙ ap (λ (s : List (Option (OpenLine F))). in_seat s k) h.0 ∙ sits k other,
+      inr (rw (sym h.1, sym h.2) next),
+      last ∙ h.2,
+    )
+    | inr h ↦ inr (
+      λ k other before. puts k (λ e. before (e ∙ h.1)) ∙ h.0 k before ∙ sits k other,
+      next ∙ least (old.next - 1) mid.last mid.next h.2 h.1,
+      last ∙ h.2,
+      same_short old seats h.3,
+    )
+  ]
+
+  -- the line's file wasn't open
+  pub frees_seats : (old new : OpenFiles D F) (seats : List (Option (OpenLine F))) → NoneWasOpen old.seats call side access at →
+      OthersStayOpen old.seats seats call side (λ _. ⊥) → FreesNext does (freed old seats) new call side access at →
+      FreesSeats does old new call side access at
+  frees_seats old new seats none stay frees = elim frees [
+    | inl h ↦ inr (inl (record {
+      none = none;
+      others = λ k o there other free. h.0 k free ∙ stay k o there other (λ e. e);
+      next = h.1;
+      last = h.2;
+    }))
+    | inr h ↦ inr (inr (record {
+      none = none;
+      others = λ k o there other free. h.0 k (λ e. free (inl e)) (λ e. free (inr e)) ∙ stay k o there other (λ e. e);
+      next = h.1;
+      last = h.2;
+      short = same_short old seats h.3;
+    }))
+  ]
+
+  -- the line's file moves on, or is closed
+  moves : (old mid new : List (Option (OpenLine F))) (seat : ℕ) (free : ℕ → Type 0) → IsSomeAnd (in_seat mid seat) (λ o. (o.call ≡ call) × (o.side ≡ side)) →
+      OthersSit mid new seat → OthersStayOpen old mid call side free → OthersStayOpen old new call side free
+  moves old mid new seat free line sits stay k o there other kept =
+      let here : in_seat mid k ≡ Some o = stay k o there other kept in
+      sits k (λ e. is_other (in_seat mid seat) (ap (in_seat mid) (sym e) ∙ here) line) ∙ here
+    where
+      is_other : (x : Option (OpenLine F)) → x ≡ Some o → IsSomeAnd x (λ y. (y.call ≡ call) × (y.side ≡ side)) → ⊥
+      is_other None is line = absurd line
+      is_other (Some y) is line = let same : y ≡ o = cc in
+          other (ap (λ (f : OpenLine F). f.call) (sym same) ∙ line.0) (ap (λ (f : OpenLine F). f.side) (sym same) ∙ line.1)
+
+  pub frees_still : (old mid : OpenFiles D F) (seats : List (Option (OpenLine F))) (seat : ℕ) →
+      IsSomeAnd (in_seat mid.seats seat) (λ o. (o.call ≡ call) × (o.side ≡ side)) → OthersSit mid.seats seats seat → FreesSeats does old mid call side access at →
+      FreesSeats does old (freed mid seats) call side access at
+  frees_still old mid seats seat line sits frees = elim frees [
+    | inl h ↦ inl (record {
+      seat = h.seat;
+      there = h.there;
+      others = moves old.seats mid.seats seats seat (λ _. ⊥) line sits h.others;
+      next = h.next;
+      last = h.last;
+    })
+    | inr (inl h) ↦ inr (inl (record {
+      none = h.none;
+      others = moves old.seats mid.seats seats seat (λ k. k ≡ old.next) line sits h.others;
+      next = h.next;
+      last = h.last;
+    }))
+    | inr (inr h) ↦ inr (inr (record {
+      none = h.none;
+      others = moves old.seats mid.seats seats seat (λ k. (k ≡ old.next) ⊎ (k ≡ old.next - 1)) line sits h.others;
+      next = h.next;
+      last = h.last;
+      short = h.short;
+    }))
+  ]

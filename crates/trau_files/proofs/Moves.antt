@@ -1,0 +1,63 @@
+-- A line's file that was found, and then moved on or closed.
+use Rattle.std.proofs.Common.{◌≡◌, ℕ, List, Option, None, Some, Result, Ok, Err, IfSome, IsSomeAnd, inr, subst}
+use Rattle.std.specs.declared.io.Error.{Error}
+use Rattle.trau_io.specs.declared.line.Side.{Side}
+use Rattle.trau_files.specs.declared.trunk.claims.Claim.{Claim}
+use Rattle.trau_files.specs.declared.trunk.fault.Fault.{Fault}
+use Rattle.trau_files.specs.declared.trunk.fault.Fault.TheVariants.{System}
+use Rattle.trau_files.specs.declared.trunk.seats.Access.{Access}
+use Rattle.trau_files.specs.declared.trunk.seats.Access.TheVariants.{Reading, Writing}
+use Rattle.trau_files.specs.Files.{FileAfter, FileGives, FileTakes, OpenAfter, OpenFiles, OpenLine}
+use Rattle.trau_files.specs.Folder.{Operations, ReadOperation, WriteOperation}
+use Rattle.trau_files.specs.Opening.{LacksDescriptor, Opens, OpensOnce}
+use Rattle.trau_files.specs.Trunk.{IsFound, ReadsFile, WritesFile}
+use Rattle.trau_files.proofs.Seating.{open_twice}
+
+-- a file that was found is the line's
+pub its_line : {D F : Type 0} (does : Operations D F) (old : OpenFiles D F) (folder : D) (claims : List (Option Claim)) (call : ℕ) (side : Side)
+    (access : Access) (at : ℕ) (was : Option (OpenLine F)) → IsSomeAnd was (IsFound does old folder claims call side access at) →
+    IsSomeAnd was (λ o. (o.call ≡ call) × (o.side ≡ side))
+its_line does old folder claims call side access at None found = absurd found
+its_line does old folder claims call side access at (Some o) found = (found.stands.0, found.stands.1)
+
+module _ {D F : Type 0} (does : Operations D F) (old new : OpenFiles D F) (mid : List (Option (OpenLine F))) (call : ℕ) (side : Side) (at : ℕ) where
+  -- the file that was found stays the line's, or is closed
+  still : (access : Access) (o : OpenLine F) (file : Option (OpenLine F)) → IsFound does old new.folder new.claims call side access at o →
+      OpenAfter old.seats mid call side (Some o) → OpenAfter mid new.seats o.call o.side file → OpenAfter old.seats new.seats call side file
+  still access o file found first second = open_twice old.seats mid new.seats o file call side found.stands.0 found.stands.1 first second
+
+  pub reads_file : (reading : ReadOperation F) (was file : Option (OpenLine F)) (result : Result ℕ Fault) (buf : List ℕ) →
+      IsSomeAnd was (IsFound does old new.folder new.claims call side Reading at) → OpenAfter old.seats mid call side was →
+      IfSome was (λ o. FileAfter o result file) → IfSome was (λ o. FileGives reading o file result buf) →
+      IfSome was (λ o. OpenAfter mid new.seats o.call o.side file) → ReadsFile does reading old new call side at result buf
+  reads_file reading None file result buf found first after gives second = absurd found
+  reads_file reading (Some o) None (Ok n) buf found first after gives second = absurd after
+  reads_file reading (Some o) (Some now) (Ok n) buf found first after gives second =
+      (o, now, record { found = found; moved = after; still = still Reading o (Some now) found first second }, gives)
+  reads_file reading (Some o) file (Err fault) buf found first after gives second =
+      (subst (OpenAfter old.seats new.seats call side) after (still Reading o file found first second), inr (o, found, gives))
+
+  pub writes_file : (writing : WriteOperation F) (was file : Option (OpenLine F)) (result : Result ℕ Fault) (bytes : List ℕ) →
+      IsSomeAnd was (IsFound does old new.folder new.claims call side Writing at) → OpenAfter old.seats mid call side was →
+      IfSome was (λ o. FileAfter o result file) → IfSome was (λ o. FileTakes writing o file result bytes) →
+      IfSome was (λ o. OpenAfter mid new.seats o.call o.side file) → WritesFile does writing old new call side at result bytes
+  writes_file writing None file result bytes found first after takes second = absurd found
+  writes_file writing (Some o) None (Ok n) bytes found first after takes second = absurd after
+  writes_file writing (Some o) (Some now) (Ok n) bytes found first after takes second =
+      (o, now, record { found = found; moved = after; still = still Writing o (Some now) found first second }, takes)
+  writes_file writing (Some o) file (Err fault) bytes found first after takes second =
+      (subst (OpenAfter old.seats new.seats call side) after (still Writing o file found first second), inr (o, found, takes))
+
+-- a second attempt, since no descriptor was left for the first
+pub opens_again : {D F : Type 0} (does : Operations D F) (old mid new : D) (old_claims mid_claims new_claims : List (Option Claim)) (call : ℕ) (side : Side)
+    (access : Access) (at : ℕ) (first result : Result F Fault) (fault : Fault) (e : Error) → first ≡ Err fault → fault ≡ System e →
+    OpensOnce does old mid old_claims mid_claims call side access at first → LacksDescriptor (System e) →
+    OpensOnce does mid new mid_claims new_claims call side access at result → Opens does old new old_claims new_claims call side access at result
+opens_again does old mid new old_claims mid_claims new_claims call side access at first result fault e failed is once lacks second = inr (record {
+  folder = mid;
+  claims = mid_claims;
+  fault = fault;
+  first = subst (OpensOnce does old mid old_claims mid_claims call side access at) failed once;
+  lacks = rw is lacks;
+  second = second;
+})

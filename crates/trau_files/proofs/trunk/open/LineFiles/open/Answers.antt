@@ -1,0 +1,26 @@
+use Rattle.std.proofs.Common.{subst, sym}
+use Rattle.trau_files.specs.Files.{OpenFiles}
+use Rattle.trau_files.specs.Seats.{FreesNext, HoldsOrLessens}
+use Rattle.trau_files.proofs.Freeing.{frees_for_it, frees_only, freed}
+use Rattle.trau_files.proofs.trunk.open.LineFiles.open.Goals as goal
+
+pub returns-in_err-file-clause-freed : goal.returns-in_err-file-clause-freed
+returns-in_err-file-clause-freed g c =
+    let line = c.args.line in
+    let old : OpenFiles g.row.D.Denot g.row.D-File.Denot = record { seats = c.self.inside.seats; claims = c.self.inside.claims; next = c.self.inside.place.next; last = c.self.inside.place.last; folder = c.self.inside.folder } in
+    subst (λ (f : OpenFiles _ _). FreesNext g.D.Folder.does f c.open_or_lessen.new.self line.call line.side c.args.access c.args.at) c.self.view_is
+    (frees_only g.D.Folder.does line.call line.side c.args.access c.args.at old c.open_or_lessen.new.self c.free.new.self c.free.ensures.freed
+    c.open_or_lessen.ensures.held)
+
+pub returns-clause-freed : goal.returns-clause-freed
+returns-clause-freed g c =
+    let line = c.args.line in
+    let old : OpenFiles g.row.D.Denot g.row.D-File.Denot = record { seats = c.self.inside.seats; claims = c.self.inside.claims; next = c.self.inside.place.next; last = c.self.inside.place.last; folder = c.self.inside.folder } in
+    let mid : OpenFiles g.row.D.Denot g.row.D-File.Denot = record { seats = c.self-2.inside.seats; claims = c.self-2.inside.claims; next = c.self-2.inside.place.next; last = c.self-2.inside.place.last; folder = c.self-2.inside.folder } in
+    let new : OpenFiles g.row.D.Denot g.row.D-File.Denot = record { seats = c.put.new.self; claims = c.self-2.inside.claims; next = c.pass.new.self.next; last = c.pass.new.self.last; folder = c.self-2.inside.folder } in
+    let without = freed g.D.Folder.does line.call line.side c.args.access c.args.at old c.free.new.self in
+    let held = subst (λ (f : OpenFiles _ _). HoldsOrLessens g.D.Folder.does without f line.call line.side c.args.access c.args.at) (sym c.self-2.view_is)
+    c.open_or_lessen.ensures.held in
+    subst (λ (f : OpenFiles _ _). FreesNext g.D.Folder.does f new line.call line.side c.args.access c.args.at) c.self.view_is
+    (frees_for_it g.D.Folder.does line.call line.side c.args.access c.args.at old mid new c.free.new.self c.free.ensures.freed held c.put.ensures.kept
+    c.pass.ensures.next c.pass.ensures.last)

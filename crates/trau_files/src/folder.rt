@@ -1,0 +1,97 @@
+//! The folder of the lines' files as a trait, and the system's files as such a folder.
+//!
+//! The standard library's contracts don't say what an opening, a seek or a new length does, and let any operation fail. So each
+//! operation of a folder gives a relation that only this operation gives (`specs/Folder.antt`). Of any folder it is then proved
+//! which operations a line makes, and that their results are passed on. For the system's files each method is one call of the
+//! standard library; that these calls do what they are asked is trusted.
+ghost use Rattle.trau_files.specs.Folder.{Operations};
+
+use crate::retry::{ReadOnce, WriteOnce};
+use crate::trunk::FileIdentity;
+use std::fs::{Metadata, OpenFile, OpenOptions};
+use std::io::{Seek, SeekFrom};
+use std::rt::Files;
+use std::{fs, io};
+
+/// A folder with files that can be opened by their names.
+pub trait Folder {
+    type File: ReadOnce + WriteOnce + Drop;
+
+    // What each operation did.
+    ghost does: { Operations Self Self.File };
+
+    /// Opens the file that `name` leads to.
+    fn open(&mut self, how: &OpenOptions, name: &str) -> io::Result<Self::File>
+        ensures { does.opened self.old self.new how.now name.now result };
+
+    /// Removes the file that `name` leads to. A link that leads to it stays.
+    fn remove(&mut self, name: &str) -> io::Result<()>
+        ensures { does.removed self.old self.new name.now };
+
+    /// The metadata of an open file.
+    fn ask(&self, file: &Self::File) -> io::Result<Metadata>
+        ensures { does.told file.now result };
+
+    /// The file on a disk that has these metadata.
+    fn identify(&self, metadata: &Metadata) -> FileIdentity
+        ensures { does.identified metadata.now result };
+
+    /// Goes to octet `at` of an open file.
+    fn go(&self, file: &mut Self::File, at: u64) -> io::Result<u64>
+        ensures { does.went file.old file.new at result };
+
+    /// Empties an open file.
+    fn empty(&self, file: &mut Self::File) -> io::Result<()>
+        ensures { does.emptied file.old file.new result };
+
+    /// The metadata of the file that `name` leads to.
+    fn metadata(&self, name: &str) -> io::Result<Metadata>;
+
+    /// The metadata of `name` itself, also if it is a link.
+    fn symlink_metadata(&self, name: &str) -> io::Result<Metadata>;
+}
+
+impl<'a, R: Files + AllocGlobal> Folder for &'a R {
+    type File = R::File;
+
+    ghost does = { record {
+      opened = λ old new how name result. Unit {0};
+      removed = λ old new name. Unit {0};
+      told = λ file result. Unit {0};
+      identified = λ metadata file. Unit {0};
+      went = λ old new at result. Unit {0};
+      emptied = λ old new result. Unit {0};
+    } };
+
+    fn open(&mut self, how: &OpenOptions, name: &str) -> io::Result<R::File> {
+        how.open(*self, name)
+    }
+
+    fn remove(&mut self, name: &str) -> io::Result<()> {
+        fs::remove_file(*self, &self.canonicalize(self.alloc(), name)?)
+    }
+
+    fn ask(&self, file: &R::File) -> io::Result<Metadata> {
+        file.metadata()
+    }
+
+    fn identify(&self, metadata: &Metadata) -> FileIdentity {
+        FileIdentity::of(metadata)
+    }
+
+    fn go(&self, file: &mut R::File, at: u64) -> io::Result<u64> {
+        file.seek(SeekFrom::Start(at))
+    }
+
+    fn empty(&self, file: &mut R::File) -> io::Result<()> {
+        file.set_len(0)
+    }
+
+    fn metadata(&self, name: &str) -> io::Result<Metadata> {
+        fs::metadata(*self, name)
+    }
+
+    fn symlink_metadata(&self, name: &str) -> io::Result<Metadata> {
+        fs::symlink_metadata(*self, name)
+    }
+}
