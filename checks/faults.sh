@@ -174,6 +174,21 @@ linked() {
     fi
 }
 
+# unmade WORDS..: 1.down fails, since its link leads to 2.up, a line that doesn't exist. It makes no file there, and the link stays.
+# 1.out, a link to another new file, is whole.
+unmade() {
+    status=0
+    (cd "$work/run" && printf '0 open 1\n' | "$top/trau" run "$@" >report.txt 2>said) || status=$?
+    if [ "$status" = 6 ] && [ "$(grep '^line ' "$work/run/report.txt")" = "line 1 down failed" ] && [ ! -e "$work/run/2.up" ] &&
+        [ -L "$work/run/1.down" ] && [ "$(cat "$work/run/said")" = "trau: 1.down: this is the file of 2.up" ] &&
+        cmp -s "$work/run/new" "$work/plain/1.out"; then
+        echo "ok $what, $*"
+    else
+        fail "$what, $*"
+        cat "$work/run/report.txt" "$work/run/said"
+    fi
+}
+
 # begin WHAT: a folder with only the incoming lines
 begin() {
     what=$1
@@ -221,6 +236,11 @@ for batch in 1 7 250; do
     begin "the same by a second name"
     ln 2.up 1.down
     linked "1 down" "this is the file of 2.up" --batch "$batch"
+    begin "an outgoing line that leads to an incoming one that doesn't exist"
+    rm 2.up
+    ln -s 2.up 1.down
+    ln -s new 1.out
+    unmade --batch "$batch"
     begin "an outgoing line that leads to a recording of no call of the run"
     ln -s 4.pcm 2.down
     linked "2 down" "this is the file of 4.pcm" --batch "$batch"
@@ -238,6 +258,21 @@ if [ "$status" = 6 ] && [ "$(grep '^line ' report.txt)" = "line 2 pcm failed" ] 
 else
     fail "$what"
     cat report.txt said
+fi
+
+# A chain of two commands: 2.pcm is a link to 1.out, which is of a run before. The first command writes 1.out anew; the second reads it.
+plain '0 open 1\n'
+begin "a chain of two commands"
+echo before >1.out
+ln -sf 1.out 2.pcm
+printf '0 open 1\n' | "$top/trau" run >report.txt || echo failed >1.out
+printf '0 open 2\n' | "$top/trau" run >report.txt || echo failed >2.down
+cp ../plain/1.out ../plain/2.pcm
+(cd ../plain && printf '0 open 2\n' | "$top/trau" run >report.txt)
+if cmp -s 1.out ../plain/1.out && cmp -s 2.down ../plain/2.down; then
+    echo "ok $what"
+else
+    fail "$what"
 fi
 
 # Devices, pipes, and files in other folders may be lines.
