@@ -3,3 +3,4 @@ pub mod Matching
 pub mod Due
 pub mod Changing
 pub mod Following
+pub mod Doing

@@ -12,6 +12,7 @@ pub mod Fronts
 pub mod Clock
 pub mod Outgoing
 pub mod Stages
+pub mod Orders
 pub mod Marking
 pub mod Saving
 pub mod Resuming

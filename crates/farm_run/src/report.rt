@@ -1,12 +1,9 @@
 //! The report of a run that has ended, from what the board, the farm and the journal know.
 
-ghost use Rattle.std.specs.Prelude.{◌≡◌, ◌≤◌, ◌-◌, ℕ, Option, length, map, IfOk, IsPermutation};
+ghost use Rattle.std.specs.Prelude.{◌≡◌, ◌≤◌, ℕ, Option, map, IfOk, IsPermutation};
 ghost use Rattle.std.specs.List.Sorted.{IsNonDecreasingBy};
-ghost use Rattle.switchboard.specs.State.{numbered, told_in};
-ghost use Rattle.switchboard.specs.Ends.{Given, spans_now, spans_of};
-ghost use Rattle.switchboard.specs.Runs.{AllEnded};
 ghost use Rattle.farm_rounds.specs.Histories.{CallHistory, CallsStand};
-ghost use Rattle.farm_run.specs.Facts.{span_line, span_lines, kept_in, call_line, settled_each};
+ghost use Rattle.farm_run.specs.Facts.{span_line, span_lines, kept_in, call_line, settled_each, Reports};
 
 use crate::journal::Journal;
 use crate::notes::BridgeNote;
@@ -92,25 +89,8 @@ pub(crate) fn report(
     journal: &mut Journal,
     orders: usize,
 ) -> Result<Report, AllocError>
-    requires few { orders ≤ 65536 }
-    ensures replies { IfOk result (λ r. r.replies ≡ numbered 0 board.now.done) }
-    ensures failed { IfOk result (λ r. r.failed ≡ farm.now.failed) }
-    ensures left { IfOk result (λ r. r.left ≡ orders - length board.now.done) }
-
-    // One line for each call that has ended, in call-number order.
-    ensures sorted { IfOk result (λ r. IsNonDecreasingBy (λ l. l.end.call) r.calls) }
-    ensures ends { IfOk result (λ r. IsPermutation journal.old.ends (map (λ l. l.end) r.calls)) }
-    ensures calls { IfOk result (λ r. (h : ℕ → Option CallHistory) → CallsStand h farm.now.calls →
-        IsPermutation (map (call_line journal.old.calls (kept_in farm.now.tallies h)) journal.old.ends) r.calls) }
-
-    // The bridges that have ended, with the numbers of frames that their calls have sent in them.
-    ensures spans { IfOk result (λ r. (h : ℕ → Option CallHistory) → CallsStand h farm.now.calls →
-        r.spans ≡ span_lines (spans_now (told_in board.now) board.now.done) (settled_each (kept_in farm.now.tallies h) journal.old.ends journal.old).bridges) }
-
-    // If each call has ended, these are all bridges.
-    ensures whole { IfOk result (λ r. (h : ℕ → Option CallHistory) (given : ℕ → Given) (periods : ℕ) → CallsStand h farm.now.calls →
-        AllEnded given periods board.now →
-        r.spans ≡ span_lines (spans_of given periods board.now.done) (settled_each (kept_in farm.now.tallies h) journal.old.ends journal.old).bridges) }
+    requires { orders ≤ 65536 }
+    ensures { IfOk result (λ r. Reports board.now farm.now journal.old orders r) }
 {
     settle_all(journal, farm);
     let calls = ended_lines(alloc, journal, farm)?;

@@ -1,22 +1,20 @@
 -- A part of a run: the orders of the clock, and behind them a round, or none where no call is open.
-use Rattle.std.proofs.Common.{◌≡◌, refl, sym, ap, ◌∙◌, subst, ℕ, ◌<◌, ◌≤◌, true, false, List, length, arith}
+use Rattle.std.proofs.Common.{◌≡◌, refl, sym, ap, ◌∙◌, subst, ℕ, ◌<◌, ◌≤◌, false, List, arith}
 use Rattle.std.specs.Prelude.{is_some, IfSome, Result, Ok, Err, IfOk}
 use Rattle.trau_io.specs.declared.line.Line.{Line}
 use Rattle.trau_io.specs.declared.line.Side.{Side}
 use Rattle.trau_io.specs.Lines.{LineState}
 use Rattle.switchboard.specs.Calls.{is_open, gone_at}
-use Rattle.switchboard.specs.State.{State, first_stamp, orders_of}
+use Rattle.switchboard.specs.State.{State, first_stamp}
 use Rattle.farm_rounds.specs.Calls.{call_in}
 use Rattle.farm_rounds.specs.Memory.{FarmMemory}
 use Rattle.run_spec.specs.Run.{Run, whole_in}
 use Rattle.farm_run.specs.declared.stage.Stage.{Stage}
-use Rattle.farm_run.specs.Ending.{AreShut}
 use Rattle.farm_run.specs.Journal.{JournalMemory}
-use Rattle.farm_run.specs.Match.{AtClock, FollowsRun}
-use Rattle.farm_run.specs.Noted.{Noted}
+use Rattle.farm_run.specs.Orders.{OrdersDone}
 use Rattle.farm_run.specs.Runs.{TellsFailed, FailedBy, is_listed}
-use Rattle.farm_run.specs.Stages.{IsStage, OpenedBefore, Reaches}
-use Rattle.farm_run.specs.Standing.{Standing, standing, is_over, KnowsListed}
+use Rattle.farm_run.specs.Stages.{IsStage, Reaches}
+use Rattle.farm_run.specs.Standing.{Standing, standing}
 use Rattle.farm_run.specs.Clock.{IsAtClock, WrittenFrom}
 use Rattle.farm_run.proofs.Worked.Short.{short_later}
 use Rattle.farm_run.proofs.Clocks.First.{fell_none}
@@ -37,60 +35,23 @@ pub ok_both : {T E : Type 0} (P Q R : T → Type 0) (o : Result T E) → ((x : T
 ok_both P Q R (Ok x) h p q = h x p q
 ok_both P Q R (Err e) h p q = tt
 
--- the orders of a clock were executed
-pub record OrdersDone (s : Stage) (b : State) (farm : FarmMemory) (j : JournalMemory) : Type 0 where
-  pub clock : AtClock s.clock b farm.calls
-  pub shut : AreShut b j.ends
-  pub bridges : length j.bridges ≤ length b.done
-  pub kept : orders_of b ≡ orders_of s.board
-  pub ended : farm.ended ≡ s.farm.ended
-  pub failed : farm.failed ≡ s.farm.failed
-  pub knows : KnowsListed b farm.failed
-  pub over : (c : ℕ) → is_over s.board c ≡ true → is_over b c ≡ true
-  pub follows : (r : Run) → s.clock < r.periods → FollowsRun r s.clock s.board s.farm.calls → FollowsRun r s.clock b farm.calls
-  pub told : b.told ≡ s.board.told
-  pub openings : (n : ℕ) → s.clock < n → OpenedBefore n s.journal.calls → OpenedBefore n j.calls
-  pub noted : (r : Run) → s.clock < r.periods → FollowsRun r s.clock s.board s.farm.calls → Noted r s.board.done s.clock s.journal s.farm.tallies →
-      Noted r b.done s.clock j farm.tallies
-
--- **The orders of the clock are done.**
-pub orders_done : (s : Stage) (b : State) (farm : FarmMemory) (j : JournalMemory) → AtClock s.clock b farm.calls → AreShut b j.ends →
-    length j.bridges ≤ length b.done → orders_of b ≡ orders_of s.board → farm.ended ≡ s.farm.ended → farm.failed ≡ s.farm.failed →
-    KnowsListed b farm.failed → ((c : ℕ) → is_over s.board c ≡ true → is_over b c ≡ true) →
-    ((r : Run) → s.clock < r.periods → FollowsRun r s.clock s.board s.farm.calls → FollowsRun r s.clock b farm.calls) → b.told ≡ s.board.told →
-    ((n : ℕ) → s.clock < n → OpenedBefore n s.journal.calls → OpenedBefore n j.calls) →
-    ((r : Run) → s.clock < r.periods → FollowsRun r s.clock s.board s.farm.calls → Noted r s.board.done s.clock s.journal s.farm.tallies →
-    Noted r b.done s.clock j farm.tallies) → OrdersDone s b farm j
-orders_done s b farm j clock shut bridges kept ended failed knows over follows told openings noted = record {
-  clock = clock;
-  shut = shut;
-  bridges = bridges;
-  kept = kept;
-  ended = ended;
-  failed = failed;
-  knows = knows;
-  over = over;
-  follows = follows;
-  told = told;
-  openings = openings;
-  noted = noted;
-}
-
-module _ (s : Stage) (b : State) (farm : FarmMemory) (j : JournalMemory) (stage : IsStage s) (o : OrdersDone s b farm j) where
+module _ (s : Stage) (b : State) (farm : FarmMemory) (j : JournalMemory) (stage : IsStage s) (o : OrdersDone s.clock s.board s.farm s.journal b farm j) where
   -- the stage at the later clock
   abbrev behind : Stage
   behind = record s { board = b; farm = farm; journal = j }
 
   -- **What holds at a clock holds behind its orders.**
   pub stage_behind : IsStage (record s { board = b; farm = farm; journal = j })
-  stage_behind = record {
-    clock = o.clock;
-    shut = o.shut;
-    bridges = o.bridges;
-    ended = (let e = stage.ended in let same = o.ended in omega (arith, e, same));
-    knows = o.knows;
-    few = (let few = stage.few in let same = ap length o.kept in omega (arith, few, same));
-  }
+  stage_behind =
+      let ready = o.ready in
+      record {
+        clock = ready.clock;
+        shut = ready.shut;
+        bridges = ready.bridges;
+        ended = (let e = stage.ended in let same = o.ended in omega (arith, e, same));
+        knows = ready.knows;
+        few = ready.few;
+      }
 
   -- **They come in front of what comes next.**
   pub orders_more : (batch : ℕ) (u : Stage) (before now : ℕ → Side → LineState) → s.clock < u.clock →

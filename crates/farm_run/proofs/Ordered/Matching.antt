@@ -5,13 +5,12 @@ use Rattle.std.proofs.lemmas.Bool.{cases_Bool, eqb-true, eq-eqb}
 use Rattle.switchboard.specs.declared.act.Act.{Act}
 use Rattle.switchboard.specs.declared.act.Act.TheVariants as act
 use Rattle.switchboard.specs.Calls.{is_this, closed_at}
-use Rattle.switchboard.specs.Replies.{IsInRange}
 use Rattle.switchboard.specs.State.{State, gone_in}
 use Rattle.switchboard.specs.Open.{opened_now, open_now, partner_now, open_after, partner_after, Finds}
 use Rattle.call_number.specs.CallNumber.{IsCallNumber}
 use Rattle.farm_rounds.specs.Calls.{Call, Kept, call_in, partner_in}
-use Rattle.farm_rounds.specs.Acts.{new_call, bridged_call, parted, set_by, changed, released, calls_after, partners_after, ActFits}
-use Rattle.farm_run.specs.Match.{Matches, AreNumbers}
+use Rattle.farm_rounds.specs.Acts.{new_call, bridged_call, parted, set_by, changed, released, calls_after, partners_after}
+use Rattle.farm_run.specs.Match.{Matches}
 
 -- two numbers are one, or neither test says so
 pub cases_eq : (m n : ℕ) → (m ≡ n) ⊎ (((m == n) ≡ false) × ((n == m) ≡ false))
@@ -28,15 +27,6 @@ none_some (Some x) e = cc
 -- a call that was never opened isn't open
 pub unopened : (b : State) (c : ℕ) → opened_now b c ≡ false → open_now b c ≡ false
 unopened b c e = ap (λ t. t && not (is_some (closed_at c b.done)) && not (gone_in b c)) e
-
--- an accepted order fits the farm
-pub fits : (b : State) (calls : List Kept) (a : Act) → Matches b calls → Finds a (opened_now b) (open_now b) (partner_now b) → IsInRange a → ActFits calls a
-fits b calls (act.Opened c law) m f r = ((omega (arith, r.0), omega (arith, r.1)), none_some _ (m.is_open c ∙ unopened b c f.1))
-fits b calls (act.Closed c p) m f r = (m.is_open c ∙ f.0, m.partner c ∙ f.1)
-fits b calls (act.Bridged a d) m f r = (f.0, m.is_open a ∙ f.1.0, m.is_open d ∙ f.1.1, m.partner a ∙ f.2.0, m.partner d ∙ f.2.1)
-fits b calls (act.Unbridged a d) m f r = m.partner a ∙ f.1.0
-fits b calls (act.LevelSet c level) m f r = (m.is_open c ∙ f, r)
-fits b calls (act.DtxSet c mode) m f r = m.is_open c ∙ f
 
 -- ---- who is open after an order
 
@@ -203,12 +193,3 @@ matches_same b b' calls m o p = record {
   partner = λ n. m.partner n ∙ sym (p n);
   number = λ n e. m.number n (sym (o n) ∙ e);
 }
-
--- what an accepted order names is in range
-pub named : (b : State) (calls : List Kept) (a : Act) → Matches b calls → Finds a (opened_now b) (open_now b) (partner_now b) → AreNumbers a
-named b calls (act.Opened c law) m f = (omega (arith, f.0.0), omega (arith, f.0.1))
-named b calls (act.Bridged a d) m f = (m.number a f.1.0, m.number d f.1.1)
-named b calls (act.Closed c p) m f = m.number c f.0
-named b calls (act.Unbridged a d) m f = tt
-named b calls (act.LevelSet c level) m f = tt
-named b calls (act.DtxSet c mode) m f = tt

@@ -3,7 +3,7 @@ use Rattle.std.proofs.Common.{◌≡◌, refl, sym, ap, ◌∙◌, subst, ℕ, �
 use Rattle.std.proofs.Common.{◌++◌, length, map, arith}
 use Rattle.std.specs.Prelude.{◌==◌, is_some, IfOk, Result, Ok, Err}
 use Rattle.std.specs.List.{All, AllByRecursion}
-use Rattle.std.specs.List.Sorted.{IsNonDecreasingBy, IsPermutation}
+use Rattle.std.specs.List.Sorted.{IsPermutation}
 use Rattle.std.proofs.lemmas.Bool.{eq-eqb, or_left, or_right}
 use Rattle.std.proofs.lemmas.List.{length-map, length-append}
 use Rattle.std.proofs.lemmas.List.Elements.{All-from_recursion}
@@ -13,16 +13,15 @@ use Rattle.switchboard.specs.declared.act.Reply.{Reply}
 use Rattle.switchboard.specs.Calls.{Done, opened_at, closed_at, is_open, gone_at}
 use Rattle.switchboard.specs.State.{State, told_in, numbered}
 use Rattle.switchboard.specs.Runs.{AllEnded}
-use Rattle.switchboard.specs.Ends.{Given, end_of, start_of, ends_at, spans_of}
+use Rattle.switchboard.specs.Ends.{end_of, start_of, ends_at, spans_of}
 use Rattle.switchboard.specs.Open.{open_now}
 use Rattle.farm_report.specs.declared.report.CallLine.{CallLine}
 use Rattle.farm_report.specs.declared.report.SpanLine.{SpanLine}
 use Rattle.farm_report.specs.View.{ReportView}
-use Rattle.farm_rounds.specs.Calls.{Kept}
 use Rattle.farm_rounds.specs.declared.tally.Tally.{Tally}
-use Rattle.farm_rounds.specs.Memory.{tally_in}
+use Rattle.farm_rounds.specs.Memory.{FarmMemory, tally_in}
 use Rattle.farm_rounds.specs.Numbers.{IsRising, is_among}
-use Rattle.farm_rounds.specs.Histories.{CallHistory, CallsStand, kept_of}
+use Rattle.farm_rounds.specs.Histories.{kept_of}
 use Rattle.run_spec.specs.Run.{Run, given_in, whole_in, done_in, periods_to, law_in}
 use Rattle.run_spec.specs.Facts.{report_of}
 use Rattle.run_spec.specs.Now.{IsSoFar, settings_now}
@@ -32,7 +31,7 @@ use Rattle.run_spec.proofs.Going.{start_run}
 use Rattle.run_spec.proofs.Ending.{end_limit, all_done, report_end}
 use Rattle.farm_run.specs.Match.{past_if, histories_at}
 use Rattle.farm_run.specs.Journal.{JournalMemory, with_ends}
-use Rattle.farm_run.specs.Facts.{span_lines, kept_in, call_line, settled_each}
+use Rattle.farm_run.specs.Facts.{span_lines, kept_in, call_line, settled_each, Reports}
 use Rattle.farm_run.specs.Going.{told_after, is_told}
 use Rattle.farm_run.specs.Ending.{limit_at}
 use Rattle.farm_run.specs.Noted.{call_end_in, is_opened, ended_at, IsKept, IsNoted, TellsTruly, IsAtEnd}
@@ -58,7 +57,7 @@ all_among P calls h = All-from_recursion P calls (each_among P calls h)
 
 -- ---- the calls that are open
 
-module _ (r : Run) (t : ℕ) (b : State) (calls : List Kept) (tallies : List Tally) (j : JournalMemory) (end : IsAtEnd r t b calls tallies j) (live : List ℕ)
+module _ (r : Run) (t : ℕ) (b : State) (farm : FarmMemory) (j : JournalMemory) (end : IsAtEnd r t b farm.calls farm.tallies j) (live : List ℕ)
     (among : (c : ℕ) → is_among live c ≡ open_now b c) where
   -- the run so far
   abbrev so : IsSoFar r t b.done b.left
@@ -66,7 +65,7 @@ module _ (r : Run) (t : ℕ) (b : State) (calls : List Kept) (tallies : List Tal
 
   -- what is kept of each call at the run's end
   abbrev tally : ℕ → Tally
-  tally = kept_in tallies (histories_at r b.done t)
+  tally = kept_in farm.tallies (histories_at r b.done t)
 
   -- the ends that the run's end makes
   abbrev last : List CallEnd
@@ -92,28 +91,28 @@ module _ (r : Run) (t : ℕ) (b : State) (calls : List Kept) (tallies : List Tal
       (λ c q. ((open_not_ended r t b.done c (open_is c ∙ q)).0, sym (limit_is c q))))
 
   -- what is kept of them is what was counted so far
-  kept_is : (c : ℕ) → is_told c last ≡ true → IsKept r j.calls c (kept_in tallies (histories_at r b.done t) c)
+  kept_is : (c : ℕ) → is_told c last ≡ true → IsKept r j.calls c (kept_in farm.tallies (histories_at r b.done t) c)
   kept_is c q =
       let k = sym (limits_told r.periods c live) ∙ q in
       let o = open_is c ∙ k in
       let noted = end.noted in
       let places = noted.places in
       subst (IsKept r j.calls c)
-      (sym (ap (λ (s : Bool). kept_of (past_if s (law_in r c) (periods_to r c (t - start_of b.done c)) (settings_now r b.done t c)) (tally_in tallies c)) o))
+      (sym (ap (λ (s : Bool). kept_of (past_if s (law_in r c) (periods_to r c (t - start_of b.done c)) (settings_now r b.done t c)) (tally_in farm.tallies c)) o))
       (kept_at_end r t b.done b.left j.calls c (settings_now r b.done t c) so (open_not_ended r t b.done c o).1 (places.latest c)
       (ap (λ (e : CallEnd). e.at) (limit_is c k) ∙ sym (end.clock c (sym (among c) ∙ k))) refl)
 
   -- of other calls what was kept stays
-  kept_same : (c : ℕ) → is_told c last ≡ false → kept_in tallies (histories_at r b.done t) c ≡ tally_in tallies c
-  kept_same c q = ap (λ (s : Bool). kept_of (past_if s (law_in r c) (periods_to r c (t - start_of b.done c)) (settings_now r b.done t c)) (tally_in tallies c))
+  kept_same : (c : ℕ) → is_told c last ≡ false → kept_in farm.tallies (histories_at r b.done t) c ≡ tally_in farm.tallies c
+  kept_same c q = ap (λ (s : Bool). kept_of (past_if s (law_in r c) (periods_to r c (t - start_of b.done c)) (settings_now r b.done t c)) (tally_in farm.tallies c))
       (open_is c ∙ sym (limits_told r.periods c live) ∙ q)
 
   -- **Then all calls that were opened have ended, and what is noted of them is right.**
-  noted_last : IsRising live → IsNoted r b.done (is_opened b.done) (with_ends last j) (kept_in tallies (histories_at r b.done t))
+  noted_last : IsRising live → IsNoted r b.done (is_opened b.done) (with_ends last j) (kept_in farm.tallies (histories_at r b.done t))
   noted_last rising =
-      noted_same r b.done (λ c. ended_at r b.done t c || is_told c last) (is_opened b.done) (with_ends last j) (kept_in tallies (histories_at r b.done t))
-      (kept_in tallies (histories_at r b.done t))
-      (noted_ends r b.done (ended_at r b.done t) j (tally_in tallies) (kept_in tallies (histories_at r b.done t)) last end.noted each_last
+      noted_same r b.done (λ c. ended_at r b.done t c || is_told c last) (is_opened b.done) (with_ends last j) (kept_in farm.tallies (histories_at r b.done t))
+      (kept_in farm.tallies (histories_at r b.done t))
+      (noted_ends r b.done (ended_at r b.done t) j (tally_in farm.tallies) (kept_in farm.tallies (histories_at r b.done t)) last end.noted each_last
       (limits_apart r.periods live rising) kept_is kept_same)
       (λ c. sym (ap (λ (s : Bool). ended_at r b.done t c || s) (limits_told r.periods c live ∙ sym (open_is c))
       ∙ all (is_opened b.done c) (is_open (gone_at (whole_in r) t b.done) b.done c) (λ o. (open_not_ended r t b.done c o).1))) (λ c. refl)
@@ -166,22 +165,19 @@ module _ (r : Run) (t : ℕ) (b : State) (calls : List Kept) (tallies : List Tal
       ∙ ap {B = ReportView} (λ (x : ℕ). record { replies = replies'; spans = spans'; calls = lines'; failed = failed; left = x }) u
 
   -- **What is reported then is the definition's report.**
-  pub reported : (now : State) (j' : JournalMemory) (report : ReportView) → IsRising live → now ≡ told_after b last →
-      ((c : ℕ) → open_now now c ≡ false) → j' ≡ with_ends last j →
-      report.replies ≡ numbered 0 now.done → report.left ≡ length r.orders - length now.done → IsNonDecreasingBy (λ l. l.end.call) report.calls →
-      IsPermutation (map (call_line j'.calls (kept_in tallies (histories_at r b.done t))) j'.ends) report.calls →
-      (AllEnded (given_in r) r.periods now → report.spans ≡ span_lines (spans_of (given_in r) r.periods now.done)
-      (settled_each (kept_in tallies (histories_at r b.done t)) j'.ends j').bridges) →
-      report ≡ report_of r report.failed
-  reported now j' report rising told none noted replies left sorted shuffled spans =
-      same_report report.replies _ report.spans _ report.calls _ report.failed report.left _ (replies ∙ ap (numbered 0) done_is)
-      (spans (all_told now told none) ∙ ap (λ (k : JournalMemory). span_lines (spans_of (given_in r) r.periods now.done)
-      (settled_each tally k.ends k).bridges) noted
+  pub reported : (now : State) (j' : JournalMemory) (report : ReportView) → IsRising live → now ≡ told_after b last → ((c : ℕ) → open_now now c ≡ false) →
+      j' ≡ with_ends last j → Reports now farm j' (length r.orders) report → report ≡ report_of r report.failed
+  reported now j' report rising told none noted reports =
+      let h = histories_at r b.done t in
+      let follows = end.follows in
+      same_report report.replies _ report.spans _ report.calls _ report.failed report.left _ (reports.replies ∙ ap (numbered 0) done_is)
+      (reports.whole h (given_in r) r.periods follows.stands (all_told now told none)
+      ∙ ap (λ (k : JournalMemory). span_lines (spans_of (given_in r) r.periods now.done) (settled_each tally k.ends k).bridges) noted
       ∙ ap (λ (ds : List Done). span_lines (spans_of (given_in r) r.periods ds) (settled_each tally (j.ends ++ last) (with_ends last j)).bridges) done_is
       ∙ spans_reported r t b.done b.left (with_ends last j) tally so all (noted_last rising))
-      (calls_reported r b.done (with_ends last j) tally report.calls all (noted_last rising) sorted
-      (subst (λ (k : JournalMemory). IsPermutation (map (call_line k.calls tally) k.ends) report.calls) noted shuffled) 4096 numbers)
-      (left ∙ rest)
+      (calls_reported r b.done (with_ends last j) tally report.calls all (noted_last rising) reports.sorted
+      (subst (λ (k : JournalMemory). IsPermutation (map (call_line k.calls tally) k.ends) report.calls) noted (reports.calls h follows.stands)) 4096 numbers)
+      (reports.left ∙ rest)
       ∙ sym (report_end r t b.done b.left report.failed so end.none_left)
     where
       done_is : now.done ≡ b.done
@@ -202,20 +198,11 @@ module _ (r : Run) (t : ℕ) (b : State) (calls : List Kept) (tallies : List Tal
           omega (arith, whole, mapped, same)
 
 -- **The same of whatever the report gives.**
-pub reported_ok : {E : Type 0} (b now : State) (calls : List Kept) (tallies : List Tally) (j j' : JournalMemory) (live : List ℕ) (orders periods : ℕ)
-    (x : Result ReportView E) →
+pub reported_ok : {E : Type 0} (b now : State) (farm : FarmMemory) (j j' : JournalMemory) (live : List ℕ) (orders periods : ℕ) (x : Result ReportView E) →
     ((c : ℕ) → is_among live c ≡ open_now b c) → IsRising live → now ≡ told_after b (map (limit_at periods) live) → ((c : ℕ) → open_now now c ≡ false) →
-    j' ≡ with_ends (map (limit_at periods) live) j →
-    IfOk x (λ v. v.replies ≡ numbered 0 now.done) → IfOk x (λ v. v.left ≡ orders - length now.done) →
-    IfOk x (λ v. IsNonDecreasingBy (λ l. l.end.call) v.calls) →
-    IfOk x (λ v. (h : ℕ → Option CallHistory) → CallsStand h calls → IsPermutation (map (call_line j'.calls (kept_in tallies h)) j'.ends) v.calls) →
-    IfOk x (λ v. (h : ℕ → Option CallHistory) (given : ℕ → Given) (last : ℕ) → CallsStand h calls → AllEnded given last now →
-    v.spans ≡ span_lines (spans_of given last now.done) (settled_each (kept_in tallies h) j'.ends j').bridges) →
-    IfOk x (λ v. (r : Run) (t : ℕ) → IsAtEnd r t b calls tallies j → r.periods ≡ periods → length r.orders ≡ orders → v ≡ report_of r v.failed)
-reported_ok b now calls tallies j j' live orders periods (Err e) among rising told none noted replies left sorted lines spans = tt
-reported_ok b now calls tallies j j' live orders periods (Ok v) among rising told none noted replies left sorted lines spans = λ r t end p o.
-    let follows = end.follows in
-    let h = histories_at r b.done t in
-    reported r t b calls tallies j end live among now j' v rising (told ∙ ap (λ (n : ℕ). told_after b (map (limit_at n) live)) (sym p)) none
-    (noted ∙ ap (λ (n : ℕ). with_ends (map (limit_at n) live) j) (sym p)) replies
-    (left ∙ ap (λ (n : ℕ). n - length now.done) (sym o)) sorted (lines h follows.stands) (spans h (given_in r) r.periods follows.stands)
+    j' ≡ with_ends (map (limit_at periods) live) j → IfOk x (Reports now farm j' orders) →
+    IfOk x (λ v. (r : Run) (t : ℕ) → IsAtEnd r t b farm.calls farm.tallies j → r.periods ≡ periods → length r.orders ≡ orders → v ≡ report_of r v.failed)
+reported_ok b now farm j j' live orders periods (Err e) among rising told none noted reports = tt
+reported_ok b now farm j j' live orders periods (Ok v) among rising told none noted reports = λ r t end p o.
+    reported r t b farm j end live among now j' v rising (told ∙ ap (λ (n : ℕ). told_after b (map (limit_at n) live)) (sym p)) none
+    (noted ∙ ap (λ (n : ℕ). with_ends (map (limit_at n) live) j) (sym p)) (subst (λ (n : ℕ). Reports now farm j' n v) (sym o) reports)

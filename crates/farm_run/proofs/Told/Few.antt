@@ -15,7 +15,7 @@ use Rattle.switchboard.specs.declared.act.Act.TheVariants as act
 use Rattle.call_number.specs.CallNumber.{IsCallNumber}
 use Rattle.farm_run.specs.Going.{told_after, is_told}
 use Rattle.farm_run.specs.Ending.{AreOpen, AreApart, AreShut, AreNew, limit_at}
-use Rattle.farm_run.specs.Journal.{HaveNumbers, ClosesOnce, ends_noted}
+use Rattle.farm_run.specs.Journal.{HaveNumbers, ends_noted}
 use Rattle.farm_run.proofs.Told.Next.{any_next, turn}
 use Rattle.farm_run.proofs.Listed.Tests.{or_cases, is_false}
 use Rattle.farm_run.proofs.Listed.Boards.{open_opened}
@@ -121,15 +121,6 @@ shut_more s n noted ends h o told is c t =
     shut false = refl
 
 -- ---- orders
-
--- **An order closes an open call, so its end isn't noted.**
-pub closes_once : (s : State) (noted : List CallEnd) (a : Act) → AreShut s noted → Finds a (opened_now s) (open_now s) (partner_now s) → ClosesOnce a noted
-closes_once s noted (act.Opened n law) h f = tt
-closes_once s noted (act.Closed n p) h f = none_noted s noted n h f.0
-closes_once s noted (act.Bridged a b) h f = tt
-closes_once s noted (act.Unbridged a b) h f = tt
-closes_once s noted (act.LevelSet n level) h f = tt
-closes_once s noted (act.DtxSet n mode) h f = tt
 
 -- **After it all whose end is noted are open no more.**
 pub shut_ordered : (s n : State) (noted : List CallEnd) (a : Act) (period : ℕ) → AreShut s noted → Finds a (opened_now s) (open_now s) (partner_now s) →

@@ -8,37 +8,25 @@ use Rattle.farm_rounds.specs.Numbers.{is_among}
 use Rattle.farm_run.specs.Stages.{Reaches}
 use Rattle.farm_run.proofs.Clocks.Idle.{none_among, goes_to, goes_by}
 use Rattle.farm_run.proofs.Lines.Cutting.{on_err}
-use Rattle.farm_run.proofs.Clocks.Stepping.{OrdersDone, orders_done, ok_both, orders_more, stage_behind, idle_reaches}
+use Rattle.farm_run.proofs.Clocks.Stepping.{ok_both, orders_more, stage_behind, idle_reaches}
 use Rattle.farm_run.proofs.clock.step.Goals as goal
 use Rattle.farm_run.proofs.clock.step.Given.{Over}
 
-pub execute_orders-requires-clause-clock : goal.execute_orders-requires-clause-clock
-execute_orders-requires-clause-clock g c = c.requires.stage.clock
-
-pub execute_orders-requires-clause-shut : goal.execute_orders-requires-clause-shut
-execute_orders-requires-clause-shut g c = c.requires.stage.shut
-
-pub execute_orders-requires-clause-knows : goal.execute_orders-requires-clause-knows
-execute_orders-requires-clause-knows g c = c.requires.stage.knows
-
-pub execute_orders-requires-clause-few : goal.execute_orders-requires-clause-few
-execute_orders-requires-clause-few g c = c.requires.stage.few
-
-pub execute_orders-requires-clause-bridges : goal.execute_orders-requires-clause-bridges
-execute_orders-requires-clause-bridges g c = c.requires.stage.bridges
+pub execute_orders-requires : goal.execute_orders-requires
+execute_orders-requires g c =
+    let s = c.requires.stage in
+    record { clock = s.clock; shut = s.shut; few = s.few; bridges = s.bridges; knows = s.knows }
 
 pub returns-then-is_empty-clause-reaches : goal.returns-then-is_empty-clause-reaches
 returns-then-is_empty-clause-reaches g c =
-    let e = c.in_ok-execute_orders.ensures in
     let lines : ℕ → Side → LineState = g.T.Trunk.lines c.args.trunk.now in
     let s = c.args.stage in
     let b = c.execute_orders.new.board in
     let farm = c.execute_orders.new.farm in
     let j = c.execute_orders.new.journal in
-    let o : OrdersDone c.args.stage b farm j = orders_done c.args.stage c.execute_orders.new.board c.execute_orders.new.farm c.execute_orders.new.journal
-    e.clock e.shut e.bridges e.kept e.ended e.failed e.knows e.over e.follows e.told e.openings e.noted in
+    let o = c.in_ok-execute_orders.ensures.done in
     let to = goes_to c.args.stage.clock c.args.until c.idle_until.result c.next_stamp-next.result _ c.idle_until.ensures c.next_stamp-next.ensures.stamp
-    c.requires.before c.in_ok-execute_orders.ensures.done in
+    c.requires.before c.in_ok-execute_orders.ensures.next in
     orders_more s b farm j c.requires.stage o c.args.pace.now.batch _ lines lines to.0
     (idle_reaches c.args.pace.now.batch (record s { board = b; farm = farm; journal = j }) c.idle_until.result lines
     (stage_behind s b farm j c.requires.stage o) (omega (arith, to.0)) to.2
@@ -49,14 +37,11 @@ goes : (g : Over) (c : goal.After-work_round-arg-1 g) → (1 ≤ c.round_periods
     × (c.args.stage.clock + c.round_periods-periods.result ≤ c.args.until)
     × IfSome (first_stamp c.execute_orders.new.board.left) (λ s. c.args.stage.clock + c.round_periods-periods.result ≤ s)
 goes g c = goes_by c.args.pace.now.batch c.args.stage.clock c.args.until c.round_periods-periods.result c.next_stamp-next.result _
-    c.round_periods-periods.ensures c.next_stamp-next.ensures.stamp c.requires.pace.some_periods c.requires.before c.in_ok-execute_orders.ensures.done
+    c.round_periods-periods.ensures c.next_stamp-next.ensures.stamp c.requires.pace.some_periods c.requires.before c.in_ok-execute_orders.ensures.next
 
 pub work_round-requires-clause-stage : goal.work_round-requires-clause-stage
 work_round-requires-clause-stage g c κs lives =
-    let e = c.in_ok-execute_orders.ensures in
-    stage_behind c.args.stage _ _ _ c.requires.stage
-    (orders_done c.args.stage c.execute_orders.new.board c.execute_orders.new.farm c.execute_orders.new.journal e.clock e.shut e.bridges e.kept e.ended e.failed
-    e.knows e.over e.follows e.told e.openings e.noted)
+    stage_behind c.args.stage _ _ _ c.requires.stage c.in_ok-execute_orders.ensures.done
 
 pub work_round-requires-clause-live : goal.work_round-requires-clause-live
 work_round-requires-clause-live g c κs lives = λ d. ap (λ (xs : List ℕ). is_among xs d) (sym c.live_calls.ensures.value) ∙ c.live_calls.ensures.calls d
@@ -78,19 +63,17 @@ went : (g : Over) (c : goal.After-work_round g) → (1 ≤ c.round_periods-perio
     × (c.args.stage.clock + c.round_periods-periods.result ≤ c.args.until)
     × IfSome (first_stamp c.execute_orders.new.board.left) (λ s. c.args.stage.clock + c.round_periods-periods.result ≤ s)
 went g c = goes_by c.args.pace.now.batch c.args.stage.clock c.args.until c.round_periods-periods.result c.next_stamp-next.result _
-    c.round_periods-periods.ensures c.next_stamp-next.ensures.stamp c.requires.pace.some_periods c.requires.before c.in_ok-execute_orders.ensures.done
+    c.round_periods-periods.ensures c.next_stamp-next.ensures.stamp c.requires.pace.some_periods c.requires.before c.in_ok-execute_orders.ensures.next
 
 pub returns-clause-reaches : goal.returns-clause-reaches
 returns-clause-reaches g c =
-    let e = c.in_ok-execute_orders.ensures in
     let before : ℕ → Side → LineState = g.T.Trunk.lines c.args.trunk.now in
     let now : ℕ → Side → LineState = g.T.Trunk.lines c.work_round.new.trunk in
     let s = c.args.stage in
     let b = c.execute_orders.new.board in
     let farm = c.execute_orders.new.farm in
     let j = c.execute_orders.new.journal in
-    let o : OrdersDone c.args.stage b farm j = orders_done c.args.stage c.execute_orders.new.board c.execute_orders.new.farm c.execute_orders.new.journal
-    e.clock e.shut e.bridges e.kept e.ended e.failed e.knows e.over e.follows e.told e.openings e.noted in
+    let o = c.in_ok-execute_orders.ensures.done in
     let some = went g c in
     ok_both (λ after. after.clock ≡ c.args.stage.clock + c.round_periods-periods.result)
     (λ after. Reaches c.args.pace.now.batch (record c.args.stage {
@@ -118,13 +101,13 @@ returns-in_err-execute_orders g c =
 pub returns-then-is_empty-clause-later : goal.returns-then-is_empty-clause-later
 returns-then-is_empty-clause-later g c =
     let to = goes_to c.args.stage.clock c.args.until c.idle_until.result c.next_stamp-next.result _ c.idle_until.ensures c.next_stamp-next.ensures.stamp
-    c.requires.before c.in_ok-execute_orders.ensures.done in
+    c.requires.before c.in_ok-execute_orders.ensures.next in
     to.0
 
 pub returns-then-is_empty-clause-within : goal.returns-then-is_empty-clause-within
 returns-then-is_empty-clause-within g c =
     let to = goes_to c.args.stage.clock c.args.until c.idle_until.result c.next_stamp-next.result _ c.idle_until.ensures c.next_stamp-next.ensures.stamp
-    c.requires.before c.in_ok-execute_orders.ensures.done in
+    c.requires.before c.in_ok-execute_orders.ensures.next in
     to.1
 
 pub returns-clause-later : goal.returns-clause-later
@@ -157,7 +140,7 @@ returns-clause-idle g c =
     (λ after e same. absurd (omega (arith, e, same, some.0, before))) c.work_round.ensures.ended
 
 pub returns-then-is_empty-clause-round : goal.returns-then-is_empty-clause-round
-returns-then-is_empty-clause-round g c = λ other. absurd (other c.in_ok-execute_orders.ensures.ended)
+returns-then-is_empty-clause-round g c = λ other. absurd (other c.in_ok-execute_orders.ensures.done.ended)
 
 pub returns-clause-round : goal.returns-clause-round
 returns-clause-round g c =

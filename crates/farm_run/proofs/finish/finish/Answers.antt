@@ -1,4 +1,5 @@
 use Rattle.std.proofs.Common.{◌≡◌, sym, ◌∙◌, ℕ, true}
+use Rattle.std.proofs.lemmas.Result.{IfOk-weaker}
 use Rattle.switchboard.specs.Open.{open_now}
 use Rattle.call_number.specs.CallNumber.{IsCallNumber}
 use Rattle.farm_rounds.specs.Numbers.{is_among}
@@ -16,14 +17,11 @@ end_all-requires-clause-numbers c = all_among IsCallNumber c.live_calls.result.n
 
 pub returns-clause-reports : goal.returns-clause-reports
 returns-clause-reports c =
-    let farm = c.args.last.farm in
     let calls = c.live_calls.result.now in
     let ended = c.end_all.ensures in
-    let h = c.report.ensures in
     let among : (d : ℕ) → is_among calls d ≡ open_now c.args.last.board d = λ d. c.live_calls.ensures.calls d ∙ c.requires.stage.clock.matches.is_open d in
-    reported_ok c.args.last.board c.end_all.new.board farm.calls farm.tallies c.args.last.journal c.end_all.new.journal calls c.args.orders
-    c.args.last.clock c.report.result
-    among c.live_calls.ensures.rising ended.told (ended.none among) ended.noted h.replies h.left h.sorted h.calls h.whole
+    reported_ok c.args.last.board c.end_all.new.board c.args.last.farm c.args.last.journal c.end_all.new.journal calls c.args.orders c.args.last.clock
+    c.report.result among c.live_calls.ensures.rising ended.told (ended.none among) ended.noted c.report.ensures
 
 pub end_all-requires-clause-rising : goal.end_all-requires-clause-rising
 end_all-requires-clause-rising c = c.live_calls.ensures.rising
@@ -35,7 +33,7 @@ end_all-requires-clause-new c =
     (λ d q. sym (c.requires.stage.clock.matches.is_open d) ∙ sym (c.live_calls.ensures.calls d) ∙ q))
 
 pub returns-clause-failed : goal.returns-clause-failed
-returns-clause-failed c = c.report.ensures.failed
+returns-clause-failed c = IfOk-weaker c.report.result _ _ (λ report h. h.failed) c.report.ensures
 
 pub end_all-requires-clause-late : goal.end_all-requires-clause-late
 end_all-requires-clause-late c = c.requires.stage.clock.past

@@ -1,92 +1,118 @@
-use Rattle.std.proofs.Common.{refl, ap, ◌∙◌, length, arith}
-use Rattle.std.proofs.lemmas.Result.{IfOk-from_err}
+use Rattle.std.proofs.Common.{◌≡◌, ◌<◌, ℕ, refl, sym, ap, ◌∙◌, subst, arith, List, length}
+use Rattle.std.specs.Prelude.{IfOk, OnErr, Err}
+use Rattle.trau_orders.specs.Lists.{AreOrders}
+use Rattle.switchboard.specs.declared.act.Act.{Act}
+use Rattle.switchboard.specs.Open.{opened_now, open_now, partner_now, opened_after, open_after, partner_after, Finds, IsAsBefore, law_now, law_after}
+use Rattle.trau_io.specs.declared.line.Line.{Line}
+use Rattle.run_spec.specs.Run.{Run}
+use Rattle.farm_run.specs.Match.{histories_at, FollowsRun}
+use Rattle.farm_run.specs.Journal.{JournalMemory}
+use Rattle.farm_run.specs.Ending.{AreShut}
+use Rattle.farm_run.specs.Standing.{KnowsListed}
+use Rattle.farm_run.specs.Noted.{Noted}
+use Rattle.farm_run.proofs.Noted.Orders.{noted_quiet}
+use Rattle.farm_run.proofs.Noted.Accepted.{noted_accepted}
+use Rattle.farm_run.proofs.Ordered.Doing.{done_then}
+use Rattle.farm_run.proofs.Ordered.Due.{due_of, told_kept, left_fewer, ahead_more}
+use Rattle.farm_run.proofs.Ordered.Following.{follows_more, follows_same}
+use Rattle.farm_run.proofs.Ordered.Matching.{matches_more, matches_same}
+use Rattle.farm_run.proofs.Told.Few.{one_more, shut_ordered, shut_same}
+use Rattle.farm_run.proofs.Listed.Boards.{over_turned, new_unlisted, knows_turned}
 use Rattle.farm_run.proofs.orders.execute_orders.Goals as goal
 
-pub loop-init : goal.loop-init
-loop-init c = record {
-  clock = c.requires.clock;
-  shut = c.requires.shut;
-  bridges = c.requires.bridges;
-  kept = refl;
-  ended = refl;
-  failed = refl;
-  knows = c.requires.knows;
-  over = λ d o. o;
-  follows = λ r under follows. follows;
-  told = refl;
-  openings = λ n early openings. openings;
-  noted = λ r under follows noted. noted;
-}
+pub apply-requires-clause-fresh : goal.apply-requires-clause-fresh
+apply-requires-clause-fresh c =
+    let b = c.loop-reply.board in
+    new_unlisted b c.loop-reply.farm.failed c.in-Ok.act
+    (subst (λ x. IfOk x (λ (a : Act). Finds a (opened_now b) (open_now b) (partner_now b))) c.in-Ok.is c.in-Some.ensures.finds)
+    c.loop-reply.invariant.ready.knows
 
-pub loop-preserved : goal.loop-preserved
-loop-preserved c =
-    let inv = c.loop.invariant in
-    let e = c.in_ok-execute.ensures in
-    record {
-      clock = e.clock;
-      shut = e.shut;
-      bridges = e.bridges;
-      kept = c.execute.ensures.kept ∙ inv.kept;
-      ended = e.ended ∙ inv.ended;
-      failed = e.failed ∙ inv.failed;
-      knows = e.knows;
-      over = λ d o. c.execute.ensures.over d (inv.over d o);
-      follows = λ r under follows. e.follows r under (inv.follows r under follows);
-      told = c.execute.ensures.told ∙ inv.told;
-      openings = λ n early openings. c.execute.ensures.openings n early (inv.openings n early openings);
-      noted = λ r under follows noted. e.noted r under (inv.follows r under follows) (inv.noted r under follows noted);
-    }
+pub loop-reply-preserved : goal.loop-reply-preserved
+loop-reply-preserved c =
+    let t = c.args.clock in
+    let b = c.loop-reply.board in
+    let farm = c.loop-reply.farm in
+    let j = c.loop-reply.journal in
+    let n = c.turn.new.self in
+    let later = c.apply.new.self in
+    let e = c.in-Some.ensures in
+    let ready = c.loop-reply.invariant.ready in
+    let due = due_of b n t c.in-Some.reply (sym c.in-Some.is ∙ c.turn.ensures.answer) c.turn.ensures.state in
+    let more = one_more b n (left_fewer _ _ _ _ due) c.turn.ensures.kept in
+    let finds = subst (λ x. IfOk x (λ (a : Act). Finds a (opened_now b) (open_now b) (partner_now b))) c.in-Ok.is e.finds in
+    let opened = subst (λ x. IfOk x (λ (a : Act). (c' : ℕ) → opened_now n c' ≡ opened_after a (opened_now b) c')) c.in-Ok.is e.opened in
+    let is_open = subst (λ x. IfOk x (λ (a : Act). (c' : ℕ) → open_now n c' ≡ open_after a (open_now b) c')) c.in-Ok.is e.open in
+    let law = subst (λ x. IfOk x (λ (a : Act). (c' : ℕ) → law_now n c' ≡ law_after a (law_now b) c')) c.in-Ok.is e.law in
+    let partner = subst (λ x. IfOk x (λ (a : Act). (c' : ℕ) → partner_now n c' ≡ partner_after a (partner_now b) c')) c.in-Ok.is e.partner in
+    let follows : (r : Run) → t < r.periods → FollowsRun r t b farm.calls → FollowsRun r t n later.calls = λ r under f.
+    follows_more r t b n c.in-Some.reply farm.calls due under (c.turn.ensures.run _ f.so_far.replies f.tells) f c.in-Ok.act c.in-Ok.is finds is_open law
+    later.calls c.in_ok-apply.ensures.history in
+    done_then t _ _ _ b n farm later j c.note.new.journal c.loop-reply.invariant (record {
+      ready = record {
+        clock = record {
+          orders = subst AreOrders (sym c.turn.ensures.kept) ready.clock.orders;
+          ahead = ahead_more b n t c.in-Some.reply ready.clock.orders due;
+          past = omega (arith, e.last refl);
+          ends = c.turn.ensures.told t ready.clock.ends;
+          matches = matches_more b n farm.calls later.calls c.in-Ok.act ready.clock.matches finds is_open partner c.in_ok-apply.ensures.calls
+              c.in_ok-apply.ensures.partners;
+        };
+        shut = subst (AreShut n) (sym c.note.ensures.ends) (shut_ordered b n j.ends c.in-Ok.act t ready.shut finds opened is_open);
+        few = omega (arith, ap length c.turn.ensures.kept, ready.few);
+        bridges = omega (arith, more.1, ready.bridges, c.note.ensures.bridges);
+        knows = subst (λ (ls : List Line). KnowsListed n ls) (sym c.apply.ensures.failed) (knows_turned b n _ farm.failed c.turn.ensures.state ready.knows);
+      };
+      kept = c.turn.ensures.kept;
+      told = told_kept b n _ c.turn.ensures.state;
+      ended = c.apply.ensures.ended;
+      failed = c.apply.ensures.failed;
+      over = over_turned b n _ c.turn.ensures.state;
+      openings = c.note.ensures.openings;
+      follows = follows;
+      noted = λ r under f noted.
+          let h = histories_at r b.done t in
+          subst (λ (j : JournalMemory). Noted r n.done t j later.tallies) (sym (c.note.ensures.noted h f.stands))
+          (noted_accepted r t b n c.in-Some.reply farm.calls later.calls due under f (follows r under f) j farm.tallies later.tallies noted c.in-Ok.act c.in-Ok.is
+          finds opened is_open (c.in_ok-apply.ensures.tallies h f.stands));
+    })
 
-pub execute-requires-clause-clock : goal.execute-requires-clause-clock
-execute-requires-clause-clock c = c.loop.invariant.clock
-
-pub execute-requires-clause-few : goal.execute-requires-clause-few
-execute-requires-clause-few c = omega (arith, ap length c.loop.invariant.kept, c.requires.few)
-
-pub execute-requires-clause-bridges : goal.execute-requires-clause-bridges
-execute-requires-clause-bridges c = c.loop.invariant.bridges
-
-pub execute-requires-clause-knows : goal.execute-requires-clause-knows
-execute-requires-clause-knows c = c.loop.invariant.knows
-
-pub execute-requires-clause-shut : goal.execute-requires-clause-shut
-execute-requires-clause-shut c = c.loop.invariant.shut
-
-pub returns : goal.returns
-returns c =
-    let inv = c.loop.invariant in
-    let e = c.in_ok-execute.ensures in
-    record {
-      clock = e.clock;
-      shut = e.shut;
-      bridges = e.bridges;
-      kept = c.execute.ensures.kept ∙ inv.kept;
-      done = e.done c.if-branch.false;
-      ended = e.ended ∙ inv.ended;
-      failed = e.failed ∙ inv.failed;
-      knows = e.knows;
-      over = λ d o. c.execute.ensures.over d (inv.over d o);
-      follows = λ r under follows. e.follows r under (inv.follows r under follows);
-      told = c.execute.ensures.told ∙ inv.told;
-      openings = λ n early openings. c.execute.ensures.openings n early (inv.openings n early openings);
-      noted = λ r under follows noted. e.noted r under (inv.follows r under follows) (inv.noted r under follows noted);
-    }
-
-pub returns-in_err-execute : goal.returns-in_err-execute
-returns-in_err-execute c =
-    let no = c.from_residual.ensures.0 in
-    record {
-      clock = IfOk-from_err _ _ no;
-      shut = IfOk-from_err _ _ no;
-      bridges = IfOk-from_err _ _ no;
-      kept = c.execute.ensures.kept ∙ c.loop.invariant.kept;
-      done = IfOk-from_err _ _ no;
-      ended = IfOk-from_err _ _ no;
-      failed = IfOk-from_err _ _ no;
-      knows = IfOk-from_err _ _ no;
-      over = λ d o. c.execute.ensures.over d (c.loop.invariant.over d o);
-      follows = λ r under follows. IfOk-from_err _ _ no;
-      told = c.execute.ensures.told ∙ c.loop.invariant.told;
-      openings = λ n early openings. c.execute.ensures.openings n early (c.loop.invariant.openings n early openings);
-      noted = λ r under follows noted. IfOk-from_err _ _ no;
-    }
+pub loop-reply-preserved-in_default-result : goal.loop-reply-preserved-in_default-result
+loop-reply-preserved-in_default-result c =
+    let t = c.args.clock in
+    let b = c.loop-reply.board in
+    let farm = c.loop-reply.farm in
+    let j = c.loop-reply.journal in
+    let n = c.turn.new.self in
+    let e = c.in-Some.ensures in
+    let ready = c.loop-reply.invariant.ready in
+    let due = due_of b n t c.in-Some.reply (sym c.in-Some.is ∙ c.turn.ensures.answer) c.turn.ensures.state in
+    let more = one_more b n (left_fewer _ _ _ _ due) c.turn.ensures.kept in
+    let same : IsAsBefore b n = subst (λ x. OnErr x (IsAsBefore b n)) c.in_default-result.is e.stays in
+    let follows : (r : Run) → t < r.periods → FollowsRun r t b farm.calls → FollowsRun r t n farm.calls = λ r under f.
+    follows_same r t b n c.in-Some.reply farm.calls due under (c.turn.ensures.run _ f.so_far.replies f.tells) f c.in_default-result.field-0
+    c.in_default-result.is same.is_open in
+    done_then t _ _ _ b n farm farm j j c.loop-reply.invariant (record {
+      ready = record {
+        clock = record {
+          orders = subst AreOrders (sym c.turn.ensures.kept) ready.clock.orders;
+          ahead = ahead_more b n t c.in-Some.reply ready.clock.orders due;
+          past = omega (arith, e.last refl);
+          ends = c.turn.ensures.told t ready.clock.ends;
+          matches = matches_same b n farm.calls ready.clock.matches same.is_open same.partner;
+        };
+        shut = shut_same b n j.ends ready.shut same.opened same.is_open;
+        few = omega (arith, ap length c.turn.ensures.kept, ready.few);
+        bridges = omega (arith, more.1, ready.bridges);
+        knows = knows_turned b n _ farm.failed c.turn.ensures.state ready.knows;
+      };
+      kept = c.turn.ensures.kept;
+      told = told_kept b n _ c.turn.ensures.state;
+      ended = refl;
+      failed = refl;
+      over = over_turned b n _ c.turn.ensures.state;
+      openings = λ m early openings. openings;
+      follows = follows;
+      noted = λ r under f noted.
+          noted_quiet r t b n c.in-Some.reply farm.calls farm.calls due under f (follows r under f) (Err c.in_default-result.field-0) j farm.tallies farm.tallies
+          c.in_default-result.is refl same.opened same.is_open (λ d. refl) noted;
+    })
