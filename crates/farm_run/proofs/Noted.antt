@@ -5,7 +5,8 @@ pub mod Orders
 pub mod Accepted
 pub mod Rounds
 pub mod Truly
-pub mod Settling
+pub mod Latest
+pub mod Bridges
 pub mod Bridging
 pub mod Places
 pub mod Openings

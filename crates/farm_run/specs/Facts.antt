@@ -1,6 +1,7 @@
 -- What the report of a run says (this project's profile).
-use Rattle.std.specs.Prelude.{◌≡◌, ℕ, ◌-◌, Option, List, [], ◌∷◌, length, map, IsPermutation}
-use Rattle.std.specs.List.{zip}
+use Rattle.std.specs.Prelude.{◌≡◌, ℕ, ◌-◌, ◌==◌, if◌then◌else◌, Option, List, [], ◌∷◌, length, map, IsPermutation}
+use Rattle.std.proofs.Common.{get_or}
+use Rattle.call_number.specs.CallNumber.{IsCallNumber}
 use Rattle.std.specs.List.Sorted.{IsNonDecreasingBy}
 use Rattle.trau_io.specs.declared.ends.CallEnd.{CallEnd}
 use Rattle.switchboard.specs.declared.act.Span.{Span}
@@ -13,32 +14,37 @@ use Rattle.farm_report.specs.View.{ReportView}
 use Rattle.farm_rounds.specs.declared.tally.Tally.{Tally}
 use Rattle.farm_rounds.specs.Memory.{FarmMemory, tally_in}
 use Rattle.farm_rounds.specs.Histories.{CallHistory, CallsStand, kept_of}
-use Rattle.farm_run.specs.declared.notes.Opening.{Opening}
-use Rattle.farm_run.specs.declared.notes.BridgeNote.{BridgeNote}
-use Rattle.farm_run.specs.Journal.{JournalMemory, opening_of, settled}
+use Rattle.farm_run.specs.declared.notes.SentBefore.{SentBefore}
+use Rattle.farm_run.specs.Journal.{JournalMemory, opening_of}
 
--- The report's line of a bridge: each call sends the other's frames, and for each period of the bridge without a sent frame, a
--- frame is lost.
-abbrev pub span_line : Span → BridgeNote → SpanLine
-span_line s x =
+-- what a call has sent in its latest bridge before these ones: the note of the first of them that is its own, or what it has sent so far
+abbrev pub sent_until : (ℕ → ℕ) → List Span → List SentBefore → ℕ → ℕ
+sent_until sent (x ∷ xs) (n ∷ ns) c = if c == x.a then n.by_a else if c == x.b then n.by_b else sent_until sent xs ns c
+sent_until sent _ _ c = sent c
+
+-- The report's line of a bridge in which its calls have sent so many frames: each sends the other's frames, and for each period of the
+-- bridge without a sent frame, a frame is lost.
+abbrev pub span_line : Span → ℕ → ℕ → SpanLine
+span_line s by_a by_b =
     let periods = s.to - s.from in
-    record { span = s; sent_a = x.sent_by_b; sent_b = x.sent_by_a; lost_a = periods - x.sent_by_b; lost_b = periods - x.sent_by_a }
+    record { span = s; sent_a = by_b; sent_b = by_a; lost_a = periods - by_b; lost_b = periods - by_a }
 
-abbrev pub span_lines : List Span → List BridgeNote → List SpanLine
-span_lines spans bridges = map (λ p. span_line p.0 p.1) (zip spans bridges)
+-- The lines of all bridges: what a call sent in one is what its next bridge notes, or what it has sent so far.
+abbrev pub span_lines : (ℕ → ℕ) → List Span → List SentBefore → List SpanLine
+span_lines sent (x ∷ xs) (n ∷ ns) = span_line x (sent_until sent xs ns x.a) (sent_until sent xs ns x.b) ∷ span_lines sent xs ns
+span_lines sent _ _ = []
+
+-- how many frames each call has sent in its latest bridge, in a table by number
+abbrev pub sent_in_table : List ℕ → ℕ → ℕ
+sent_in_table sent c = get_or sent c 0
 
 -- the tally of a call: of an open call over its periods, of an ended call the one that is kept
 abbrev pub kept_in : List Tally → (ℕ → Option CallHistory) → ℕ → Tally
 kept_in tallies h c = kept_of (h c) (tally_in tallies c)
 
 -- the report's line of a call that has ended
-abbrev pub call_line : List Opening → (ℕ → Tally) → CallEnd → CallLine
-call_line calls kept e = record { end = e; from = (opening_of calls e.call).from; counts = (kept e.call).counts }
-
--- for each of these ends in turn, how many frames its call has sent in its latest bridge is noted
-abbrev pub settled_each : (ℕ → Tally) → List CallEnd → JournalMemory → JournalMemory
-settled_each kept [] j = j
-settled_each kept (e ∷ ends) j = settled_each kept ends (settled e.call (kept e.call).sent j)
+abbrev pub call_line : List ℕ → (ℕ → Tally) → CallEnd → CallLine
+call_line calls kept e = record { end = e; from = opening_of calls e.call; counts = (kept e.call).counts }
 
 -- The report of a run of so many orders, from board, farm and journal, after the end of each call was noted.
 pub record Reports (b : State) (farm : FarmMemory) (j : JournalMemory) (orders : ℕ) (report : ReportView) : Type 0 where
@@ -50,9 +56,12 @@ pub record Reports (b : State) (farm : FarmMemory) (j : JournalMemory) (orders :
   pub ends : IsPermutation j.ends (map (λ l. l.end) report.calls)
   pub calls : (h : ℕ → Option CallHistory) → CallsStand h farm.calls →
       IsPermutation (map (call_line j.calls (kept_in farm.tallies h)) j.ends) report.calls
+  -- how many frames each call has sent in its latest bridge
+  pub sent : List ℕ
+  pub sent_is : (h : ℕ → Option CallHistory) → CallsStand h farm.calls → (c : ℕ) → IsCallNumber c →
+      sent_in_table sent c ≡ (let kept = kept_in farm.tallies h c in kept.sent)
   -- the bridges that have ended, with the numbers of frames that their calls have sent in them
-  pub spans : (h : ℕ → Option CallHistory) → CallsStand h farm.calls →
-      report.spans ≡ span_lines (spans_now (told_in b) b.done) (settled_each (kept_in farm.tallies h) j.ends j).bridges
+  pub spans : report.spans ≡ span_lines (sent_in_table sent) (spans_now (told_in b) b.done) j.bridges
   -- if each call has ended, these are all bridges
-  pub whole : (h : ℕ → Option CallHistory) (given : ℕ → Given) (periods : ℕ) → CallsStand h farm.calls → AllEnded given periods b →
-      report.spans ≡ span_lines (spans_of given periods b.done) (settled_each (kept_in farm.tallies h) j.ends j).bridges
+  pub whole : (given : ℕ → Given) (periods : ℕ) → AllEnded given periods b →
+      report.spans ≡ span_lines (sent_in_table sent) (spans_of given periods b.done) j.bridges

@@ -8,4 +8,4 @@ use Rattle.farm_run.specs.Outgoing.{sum_to}
 
 -- what a mark says of a call: its number, its first period as it is noted, and the sums of its outgoing lines so far
 abbrev pub entry_of : Stage → ℕ → MarkCall
-entry_of s c = record { call = c; from = (opening_of s.journal.calls c).from; out = sum_to s.outgoing c Out; down = sum_to s.outgoing c Down }
+entry_of s c = record { call = c; from = opening_of s.journal.calls c; out = sum_to s.outgoing c Out; down = sum_to s.outgoing c Down }

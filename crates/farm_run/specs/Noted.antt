@@ -1,6 +1,6 @@
 -- What is noted so far for the report of a run (this project's profile). `ds` are the orders that were executed, the oldest
 -- first.
-use Rattle.std.specs.Prelude.{◌≡◌, ◌≢◌, ℕ, ◌<◌, ◌==◌, if◌then◌else◌, ◌≤◌, true, false, Bool, Some, is_some, IfSome, List, length}
+use Rattle.std.specs.Prelude.{◌≡◌, ℕ, ◌==◌, if◌then◌else◌, ◌≤◌, true, Bool, Some, is_some, IfSome, List, [], ◌∷◌, ◌++◌, length}
 use Rattle.std.specs.List.{AllByRecursion}
 use Rattle.std.proofs.Common.{get_or}
 use Rattle.call_number.specs.declared.TheConstants.{NUMBERS}
@@ -8,7 +8,7 @@ use Rattle.trau_io.specs.declared.ends.CallEnd.{CallEnd}
 use Rattle.switchboard.specs.declared.act.Span.{Span}
 use Rattle.switchboard.specs.declared.table.Bridge.{Bridge}
 use Rattle.switchboard.specs.Calls.{Done, opened_at, has_ended, gone_at}
-use Rattle.switchboard.specs.Bridges.{bridges, joins, no_bridge}
+use Rattle.switchboard.specs.Bridges.{bridges, joins}
 use Rattle.switchboard.specs.Stands.{IsLatest}
 use Rattle.switchboard.specs.State.{State, told_in, first_stamp}
 use Rattle.switchboard.specs.Open.{open_now}
@@ -20,9 +20,8 @@ use Rattle.call_number.specs.CallNumber.{IsCallNumber}
 use Rattle.farm_rounds.specs.Memory.{tally_in}
 use Rattle.run_spec.specs.Run.{Run, given_in, whole_in, done_in, spans_in, periods_in}
 use Rattle.run_spec.specs.Facts.{sent_by}
-use Rattle.farm_run.specs.declared.notes.Opening.{Opening}
-use Rattle.farm_run.specs.declared.notes.BridgeNote.{BridgeNote}
-use Rattle.farm_run.specs.Journal.{JournalMemory, opening_of, no_note}
+use Rattle.farm_run.specs.declared.notes.SentBefore.{SentBefore}
+use Rattle.farm_run.specs.Journal.{JournalMemory, opening_of}
 use Rattle.farm_run.specs.Going.{is_told}
 use Rattle.farm_run.specs.Ending.{AreApart}
 use Rattle.farm_run.specs.Match.{FollowsRun}
@@ -40,20 +39,14 @@ no_span = record { a = 0; b = 0; from = 0; to = 0 }
 abbrev pub span_numbered : Run → ℕ → Span
 span_numbered r k = get_or (spans_in r) k no_span
 
-abbrev pub bridge_at : List Done → ℕ → Bridge
-bridge_at ds k = get_or (bridges ds) k no_bridge
-
 abbrev pub is_opened : List Done → ℕ → Bool
 is_opened ds c = is_some (opened_at c ds)
 
+-- what a call sends in the run's bridge at this index
+abbrev pub sent_in_bridge : Run → ℕ → ℕ → ℕ
+sent_in_bridge r k c = sent_by r (span_numbered r k) c
+
 -- ---- what is noted of it
-
-abbrev pub bridge_note_at : List BridgeNote → ℕ → BridgeNote
-bridge_note_at xs k = get_or xs k no_note
-
--- what is noted as sent by one of a bridge's calls
-abbrev pub noted_sent : ℕ → BridgeNote → ℕ
-noted_sent c x = if c == x.a then x.sent_by_a else x.sent_by_b
 
 -- Each end is the run's, no call has two, and these calls have one.
 pub record EndsNoted (r : Run) (ended : ℕ → Bool) (ends : List CallEnd) : Type 0 where
@@ -61,33 +54,35 @@ pub record EndsNoted (r : Run) (ended : ℕ → Bool) (ends : List CallEnd) : Ty
   pub apart : AreApart ends
   pub told : (c : ℕ) → is_told c ends ≡ ended c
 
--- The first period and the latest bridge of each call that was opened are noted, and the two calls of each bridge.
-pub record PlacesNoted (ds : List Done) (j : JournalMemory) : Type 0 where
-  pub long : length j.calls ≡ NUMBERS
+-- The first period of each call that was opened is noted.
+pub record CallsNoted (ds : List Done) (calls : List ℕ) : Type 0 where
+  pub long : length calls ≡ NUMBERS
   pub numbers : (c : ℕ) → is_opened ds c ≡ true → IsCallNumber c
-  pub from : (c : ℕ) → is_opened ds c ≡ true → (opening_of j.calls c).from ≡ start_of ds c
-  pub latest : (c : ℕ) → is_opened ds c ≡ true → IsLatest (bridges ds) c (opening_of j.calls c).bridge
-  pub count : length j.bridges ≡ length (bridges ds)
-  pub calls : (k : ℕ) → ((bridge_note_at j.bridges k).a ≡ (bridge_at ds k).a) × ((bridge_note_at j.bridges k).b ≡ (bridge_at ds k).b)
-  pub apart : (k : ℕ) → k < length (bridges ds) → (bridge_at ds k).a ≢ (bridge_at ds k).b
+  pub from : (c : ℕ) → is_opened ds c ≡ true → opening_of calls c ≡ start_of ds c
 
--- How many frames each call has sent in each of its bridges is noted. For its latest bridge this is required only if the call is
--- settled.
-abbrev pub SentNoted : Run → List Done → (ℕ → Bool) → JournalMemory → Type 0
-SentNoted r ds settled j = (c k : ℕ) → k < length (bridges ds) → joins c (bridge_at ds k) ≡ true → ((opening_of j.calls c).bridge ≡ Some k → settled c ≡ true) →
-    noted_sent c (bridge_note_at j.bridges k) ≡ sent_by r (span_numbered r k) c
+-- what a note says of one of a bridge's two calls
+abbrev pub sent_before : ℕ → Bridge → SentBefore → ℕ
+sent_before c x n = if c == x.a then n.by_a else n.by_b
+
+-- The notes of these bridges, which came behind those in `front`: each tells what each of its calls has sent in its latest bridge before
+-- it. `sent_in` says what a call sends in the bridge at an index.
+abbrev pub AreNotes : (ℕ → ℕ → ℕ) → List Bridge → List Bridge → List SentBefore → Type 0
+AreNotes sent_in front (x ∷ xs) (n ∷ ns) =
+    ((c k : ℕ) → joins c x ≡ true → IsLatest front c (Some k) → sent_before c x n ≡ sent_in k c) × AreNotes sent_in (front ++ x ∷ []) xs ns
+AreNotes sent_in front [] [] = Unit {0}
+AreNotes sent_in front _ _ = ⊥
 
 -- The tally that is kept of a call is that of all its periods and of its latest bridge.
-pub record IsKept (r : Run) (calls : List Opening) (c : ℕ) (kept : Tally) : Type 0 where
+pub record IsKept (r : Run) (ds : List Done) (c : ℕ) (kept : Tally) : Type 0 where
   pub counts : kept.counts ≡ call_counts (periods_in r c)
-  pub sent : (k : ℕ) → (opening_of calls c).bridge ≡ Some k → kept.sent ≡ sent_by r (span_numbered r k) c
+  pub sent : (k : ℕ) → IsLatest (bridges ds) c (Some k) → kept.sent ≡ sent_in_bridge r k c
 
--- The journal and the tallies of a run in which these calls have ended. No call is settled yet.
+-- The journal and the tallies of a run in which these calls have ended.
 pub record IsNoted (r : Run) (ds : List Done) (ended : ℕ → Bool) (j : JournalMemory) (tally : ℕ → Tally) : Type 0 where
   pub ends : EndsNoted r ended j.ends
-  pub places : PlacesNoted ds j
-  pub sent : SentNoted r ds (λ c. false) j
-  pub kept : (c : ℕ) → ended c ≡ true → IsKept r j.calls c (tally c)
+  pub calls : CallsNoted ds j.calls
+  pub bridges : AreNotes (sent_in_bridge r) [] (bridges ds) j.bridges
+  pub kept : (c : ℕ) → ended c ≡ true → IsKept r ds c (tally c)
 
 -- the calls that have ended at the clock t
 abbrev pub ended_at : Run → List Done → ℕ → ℕ → Bool

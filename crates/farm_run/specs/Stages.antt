@@ -10,7 +10,6 @@ use Rattle.farm_report.specs.Sums.{sum_of}
 use Rattle.farm_rounds.specs.Histories.{CallsStand}
 use Rattle.run_spec.specs.Run.{Run, periods_to, who_in, IsOpened, worked_to}
 use Rattle.run_spec.specs.Lines.{out_line, down_octets}
-use Rattle.farm_run.specs.declared.notes.Opening.{Opening}
 use Rattle.farm_run.specs.declared.outgoing.Outgoing.{Outgoing}
 use Rattle.farm_run.specs.declared.stage.Stage.{Stage}
 use Rattle.farm_run.specs.Journal.{opening_of, new_journal}
@@ -47,8 +46,8 @@ pub record IsFirstStage (listed : List Order) (outgoing : Outgoing) (s : Stage) 
   pub way : s.outgoing ≡ outgoing
 
 -- each call that is noted as opened was opened before this period
-abbrev pub OpenedBefore : ℕ → List Opening → Type 0
-OpenedBefore n calls = (c : ℕ) → (opening_of calls c).from < n
+abbrev pub OpenedBefore : ℕ → List ℕ → Type 0
+OpenedBefore n calls = (c : ℕ) → opening_of calls c < n
 
 -- the sums of the outgoing lines of the run's calls are those of all octets that their periods before the clock t give
 pub record SumsAt (r : Run) (t : ℕ) (sums : ℕ → Side → ℕ) : Type 0 where

@@ -29,5 +29,5 @@ pub(crate) fn finish(alloc: Global, mut last: Stage, orders: usize) -> Result<Re
         last.farm.live_calls(),
         last.clock,
     );
-    report(alloc, &last.board, &last.farm, &mut last.journal, orders)
+    report(alloc, &last.board, &last.farm, &last.journal, orders)
 }

@@ -3,22 +3,22 @@
 ghost use Rattle.std.specs.Prelude.{◌≡◌, ◌<◌, false, length, IfOk};
 ghost use Rattle.call_number.specs.CallNumber.{IsCallNumber};
 ghost use Rattle.farm_run.specs.Going.{is_told};
-ghost use Rattle.farm_run.specs.Journal.{HaveNumbers, new_journal, settled, opening_of, with_opening, with_end, with_bridge_noted};
+ghost use Rattle.farm_run.specs.Journal.{HaveNumbers, new_journal, opening_of, with_opening, with_end, with_bridge_noted};
 
-use crate::notes::{BridgeNote, Opening};
+use crate::notes::SentBefore;
 use call_number::NUMBERS;
 use std::alloc::{AllocError, Global};
 use std::marker::Model;
 use trau_io::CallEnd;
 use trau_orders::MOST_LINES;
 
-/// What the report needs to know of the past: an entry for each call number, and the ends of calls and the bridges, each in the
-/// order in which they came.
+/// What the report needs to know of the past: the first period of each call, by number; the ends of calls, in the order in which
+/// they came; and for each bridge, in the order in which they began, what its calls had sent before.
 #[derive(Drop)]
 pub(crate) struct Journal {
-    calls: Vec<Opening>,
+    calls: Vec<u32>,
     ends: Vec<CallEnd>,
-    bridges: Vec<BridgeNote>,
+    bridges: Vec<SentBefore>,
 }
 
 impl Model for Journal {
@@ -30,20 +30,15 @@ impl Model for Journal {
 
     ghost view = { λ j. record { calls = j.calls.items; ends = j.ends.items; bridges = j.bridges.items } };
 
-    ghost invariant = { λ j. IsJournal j.calls.items j.ends.items j.bridges.items × (NUMBERS ≤ vec_capacity j.ends) × (65536 ≤ vec_capacity j.bridges) };
+    ghost invariant = { λ j. IsJournal j.calls.items j.ends.items × (NUMBERS ≤ vec_capacity j.ends) × (65536 ≤ vec_capacity j.bridges) };
 }
-
-const NOT_OPENED: Opening = Opening {
-    from: 0,
-    bridge: None,
-};
 
 impl Journal {
     /// The journal before the first order. It has room for all that it will ever note, and takes no memory afterwards.
     pub(crate) fn new(alloc: Global) -> Result<Journal, AllocError>
         ensures { IfOk result (λ j. j ≡ new_journal) }
     {
-        let calls = vec![in alloc; NOT_OPENED; NUMBERS]?;
+        let calls = vec![in alloc; 0; NUMBERS]?;
         let ends = Vec::with_capacity(alloc, NUMBERS)?;
         // An order makes at most one bridge.
         let bridges = Vec::with_capacity(alloc, MOST_LINES)?;
@@ -59,10 +54,7 @@ impl Journal {
         requires { call < NUMBERS }
         ensures { self.new ≡ with_opening call period self.old }
     {
-        self.calls[call as usize] = Opening {
-            from: period,
-            bridge: None,
-        };
+        self.calls[call as usize] = period;
     }
 
     /// Notes the end of a call, which isn't noted yet.
@@ -74,45 +66,20 @@ impl Journal {
         self.ends.push_reserved(end);
     }
 
-    /// Notes that a bridge of two calls begins. Fewer than 65,536 bridges are noted.
-    pub(crate) fn bridge(&mut self, a: u32, b: u32)
-        requires a { a < NUMBERS }
-        requires b { b < NUMBERS }
-        requires room { length self.old.bridges < 65536 }
-        ensures { self.new ≡ with_bridge_noted a b self.old }
+    /// Notes that a bridge begins, whose calls have sent so many frames in their bridges before. Fewer than 65,536 bridges are noted.
+    pub(crate) fn bridge(&mut self, by_a: u32, by_b: u32)
+        requires { length self.old.bridges < 65536 }
+        ensures { self.new ≡ with_bridge_noted by_a by_b self.old }
     {
-        let place = self.bridges.len();
-        self.bridges.push_reserved(BridgeNote {
-            a,
-            b,
-            sent_by_a: 0,
-            sent_by_b: 0,
-        });
-        self.calls[a as usize].bridge = Some(place);
-        self.calls[b as usize].bridge = Some(place);
-    }
-
-    /// Notes that a call has sent `sent` handed frames in its latest bridge, if it has been bridged.
-    pub(crate) fn settle(&mut self, call: u32, sent: u32)
-        requires { call < NUMBERS }
-        ensures { self.new ≡ settled call sent self.old }
-    {
-        if let Some(place) = self.calls[call as usize].bridge {
-            let bridge = &mut self.bridges[place];
-            if call == bridge.a {
-                bridge.sent_by_a = sent;
-            } else {
-                bridge.sent_by_b = sent;
-            }
-        }
+        self.bridges.push_reserved(SentBefore { by_a, by_b });
     }
 
     /// The period at which a call was opened.
     pub(crate) fn from(&self, call: u32) -> u32
         requires { call < NUMBERS }
-        ensures { result ≡ (opening_of self.now.calls call).from }
+        ensures { result ≡ opening_of self.now.calls call }
     {
-        self.calls[call as usize].from
+        self.calls[call as usize]
     }
 
     /// The ends so far, in the order in which they came. Each is of a call.
@@ -123,8 +90,8 @@ impl Journal {
         self.ends.as_slice()
     }
 
-    /// The bridges so far, in the order in which they began.
-    pub(crate) fn bridges(&self) -> &[BridgeNote]
+    /// What was noted of the bridges, in the order in which they began.
+    pub(crate) fn bridges(&self) -> &[SentBefore]
         ensures { result.now ≡ self.now.bridges }
     {
         self.bridges.as_slice()

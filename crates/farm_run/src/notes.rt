@@ -1,19 +1,8 @@
-//! What the journal keeps of a call and of a bridge.
+//! What the journal keeps of a bridge.
 
-ghost use Rattle.std.specs.Prelude.{◌≡◌};
-
-/// A call that was opened: its first period, and the index of its latest bridge among all bridges.
+/// How many handed frames the two calls of a bridge had sent in their bridges before it. Of a call's first bridge it says nothing.
 #[derive(Clone, Copy)]
-pub(crate) struct Opening {
-    pub(crate) from: u32,
-    pub(crate) bridge: Option<usize>,
-}
-
-/// A bridge, with the handed frames that each of its calls has sent.
-#[derive(Clone, Copy)]
-pub(crate) struct BridgeNote {
-    pub(crate) a: u32,
-    pub(crate) b: u32,
-    pub(crate) sent_by_a: u32,
-    pub(crate) sent_by_b: u32,
+pub(crate) struct SentBefore {
+    pub(crate) by_a: u32,
+    pub(crate) by_b: u32,
 }

@@ -34,9 +34,7 @@ fn note(act: &Act, period: u32, farm: &Farm, journal: &mut Journal)
             cause: Cause::Closed,
         }),
         Act::Bridged { a, b } => {
-            journal.settle(a, farm.sent(a));
-            journal.settle(b, farm.sent(b));
-            journal.bridge(a, b);
+            journal.bridge(farm.sent(a), farm.sent(b));
         }
         Act::Unbridged { .. } | Act::LevelSet { .. } | Act::DtxSet { .. } => {}
     }

@@ -1,43 +1,70 @@
 //! The report of a run that has ended, from what the board, the farm and the journal know.
 
-ghost use Rattle.std.specs.Prelude.{◌≡◌, ◌≤◌, ℕ, Option, map, IfOk, IsPermutation};
+ghost use Rattle.std.specs.Prelude.{◌≡◌, ◌<◌, ◌≤◌, ℕ, Option, length, map, IfOk, IsPermutation};
+ghost use Rattle.std.specs.List.{All};
 ghost use Rattle.std.specs.List.Sorted.{IsNonDecreasingBy};
+ghost use Rattle.call_number.specs.CallNumber.{IsCallNumber};
 ghost use Rattle.farm_rounds.specs.Histories.{CallHistory, CallsStand};
-ghost use Rattle.farm_run.specs.Facts.{span_line, span_lines, kept_in, call_line, settled_each, Reports};
+ghost use Rattle.farm_run.specs.Facts.{span_line, span_lines, sent_in_table, kept_in, call_line, Reports};
 
 use crate::journal::Journal;
-use crate::notes::BridgeNote;
+use crate::notes::SentBefore;
+use call_number::NUMBERS;
 use farm_report::{CallLine, Report, SpanLine};
 use farm_rounds::Farm;
 use std::alloc::{AllocError, Global};
 use switchboard::{Board, Span};
 
-// The report's line of a bridge. A call hands over a frame in each period of the bridge. The frames that its partner hasn't sent
-// are lost.
-fn span_line(span: &Span, bridge: &BridgeNote) -> SpanLine
-    ensures { result ≡ span_line span.now bridge.now }
+// The report's line of a bridge in which its calls have sent so many frames. A call hands over a frame in each period of the bridge.
+// The frames that its partner hasn't sent are lost.
+fn span_line(span: &Span, by_a: u32, by_b: u32) -> SpanLine
+    ensures { result ≡ span_line span.now by_a by_b }
 {
     let periods = span.to.saturating_sub(span.from);
     SpanLine {
         span: *span,
-        sent_a: bridge.sent_by_b,
-        sent_b: bridge.sent_by_a,
-        lost_a: periods.saturating_sub(bridge.sent_by_b),
-        lost_b: periods.saturating_sub(bridge.sent_by_a),
+        sent_a: by_b,
+        sent_b: by_a,
+        lost_a: periods.saturating_sub(by_b),
+        lost_b: periods.saturating_sub(by_a),
     }
 }
 
+// How many handed frames each call has sent in its latest bridge, by number.
+fn sent_by_all(alloc: Global, farm: &Farm) -> Result<Vec<u32>, AllocError>
+    ensures long { IfOk result (λ sent. length sent.items ≡ NUMBERS) }
+    ensures sent { IfOk result (λ sent. (h : ℕ → Option CallHistory) → CallsStand h farm.now.calls → (c : ℕ) → IsCallNumber c →
+        sent_in_table sent.items c ≡ (kept_in farm.now.tallies h c).sent) }
+{
+    let mut sent = vec![in alloc; 0; NUMBERS]?;
+    for call in 1..NUMBERS {
+        sent[call] = farm.sent(call as u32);
+    }
+    Ok(sent)
+}
+
+// The report's lines of the bridges, from the last one back: what a call has sent in a bridge is noted of its next one, or it is what the
+// table says.
 fn span_lines(
     alloc: Global,
     spans: &[Span],
-    bridges: &[BridgeNote],
+    bridges: &[SentBefore],
+    mut sent: Vec<u32>,
 ) -> Result<Vec<SpanLine>, AllocError>
-    ensures { IfOk result (λ lines. lines.items ≡ span_lines spans.now bridges.now) }
+    requires numbers { All (λ x. (x.a < NUMBERS) × (x.b < NUMBERS)) spans.now }
+    requires long { length sent.items ≡ NUMBERS }
+    ensures { IfOk result (λ lines. lines.items ≡ span_lines (sent_in_table sent.items) spans.now bridges.now) }
 {
-    let mut lines = Vec::with_capacity(alloc, spans.len())?;
-    for (span, bridge) in spans.iter().zip(bridges) {
-        lines.push(span_line(span, bridge))?;
+    let most = spans.len().min(bridges.len());
+    let mut lines = Vec::with_capacity(alloc, most)?;
+    for k in (0..most).rev() {
+        let span = spans[k];
+        let before = bridges[k];
+        lines.push_reserved(span_line(&span, sent[span.a as usize], sent[span.b as usize]));
+        sent[span.b as usize] = before.by_b;
+        sent[span.a as usize] = before.by_a;
     }
+    lines.reverse();
     Ok(lines)
 }
 
@@ -67,36 +94,23 @@ fn by_number(mut lines: Vec<CallLine>) -> Vec<CallLine>
     lines
 }
 
-// Notes for each call that has ended how many frames it has sent in its latest bridge.
-fn settle_all(journal: &mut Journal, farm: &Farm)
-    ensures settled { (h : ℕ → Option CallHistory) → CallsStand h farm.now.calls →
-        journal.new ≡ settled_each (kept_in farm.now.tallies h) journal.old.ends journal.old }
-    ensures ends { journal.new.ends ≡ journal.old.ends }
-    ensures calls { journal.new.calls ≡ journal.old.calls }
-{
-    for k in 0..journal.ends().len() {
-        let call = journal.ends()[k].call;
-        journal.settle(call, farm.sent(call));
-    }
-}
-
 /// The report of a run of `orders` orders, of which the board has executed some, after the end of each call was noted. An error
 /// says that memory ran out.
 pub(crate) fn report(
     alloc: Global,
     board: &Board,
     farm: &Farm,
-    journal: &mut Journal,
+    journal: &Journal,
     orders: usize,
 ) -> Result<Report, AllocError>
     requires { orders ≤ 65536 }
-    ensures { IfOk result (λ r. Reports board.now farm.now journal.old orders r) }
+    ensures { IfOk result (λ r. Reports board.now farm.now journal.now orders r) }
 {
-    settle_all(journal, farm);
+    let sent = sent_by_all(alloc, farm)?;
     let calls = ended_lines(alloc, journal, farm)?;
     Ok(Report {
         replies: board.replies().to_vec(alloc)?,
-        spans: span_lines(alloc, board.spans(), journal.bridges())?,
+        spans: span_lines(alloc, board.spans(), journal.bridges(), sent)?,
         calls: by_number(calls),
         failed: farm.failed().to_vec(alloc)?,
         left: orders.saturating_sub(board.replies().len()) as u32,

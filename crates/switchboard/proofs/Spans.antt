@@ -1,8 +1,11 @@
 -- Where a bridge's span stands among the spans.
-use Rattle.std.proofs.Common.{◌≡◌, refl, sym, ap, ◌∙◌, ℕ, ◌<◌, ◌≤◌, Option, Some, None, List, [], length, map, get_or, take, replicate, suc, zero, arith}
+use Rattle.std.proofs.Common.{◌≡◌, refl, sym, ap, ◌∙◌, subst, ℕ, ◌<◌, ◌≤◌, Option, Some, None, List, [], ◌∷◌, length, map, get_or, take, replicate, suc, zero}
+use Rattle.std.proofs.Common.{arith}
 use Rattle.std.specs.Prelude.{option_map}
-use Rattle.std.specs.List.{filter_map}
+use Rattle.std.specs.List.{All, AllByRecursion, cons_option, filter_map}
 use Rattle.std.proofs.lemmas.List.{length-map, take-map, get_or-map, length-replicate}
+use Rattle.std.proofs.lemmas.List.Elements.{All-from_recursion}
+use Rattle.call_number.specs.declared.TheConstants.{NUMBERS}
 use Rattle.switchboard.specs.declared.table.Bridge.{Bridge}
 use Rattle.switchboard.specs.declared.table.Call.{Call}
 use Rattle.switchboard.specs.declared.act.Span.{Span}
@@ -58,3 +61,22 @@ sized-new bs e = record {
 pub rows-new : (cs : List Call) (bs : List Bridge) (ss : List Span) (most : ℕ) → cs ≡ replicate 4097 never → bs ≡ [] → ss ≡ [] →
     rows cs bs ss most ≡ rows (replicate 4097 never) [] [] most
 rows-new cs bs ss most p q r = cc
+
+-- both calls of a span have an entry
+abbrev pub Named : Span → Type 0
+Named x = (x.a < NUMBERS) × (x.b < NUMBERS)
+
+-- **So it is for each of them, since it is for each bridge.**
+pub named_spans : (r : Rows) → IsSized r.calls r.bridges → r.spans ≡ filter_map (span_in r) r.bridges → All Named r.spans
+named_spans r sized e =
+    subst (All Named) (sym e) (All-from_recursion Named (filter_map (span_in r) r.bridges) (each r.bridges (λ k l. let named = sized.named in named k l)))
+  where
+    one : (x : Bridge) (o : Option ℕ) (ss : List Span) → (x.a < NUMBERS) × (x.b < NUMBERS) → AllByRecursion Named ss →
+        AllByRecursion Named (cons_option (option_map (span_to x) o) ss)
+    one x None ss n h = h
+    one x (Some t) ss n h = (n, h)
+
+    each : (bs : List Bridge) → ((k : ℕ) → k < length bs → ((get_or bs k no_bridge).a < NUMBERS) × ((get_or bs k no_bridge).b < NUMBERS)) →
+        AllByRecursion Named (filter_map (span_in r) bs)
+    each [] h = tt
+    each (x ∷ bs) h = one x (bridge_end_in r x) (filter_map (span_in r) bs) (h 0 (omega arith)) (each bs (λ k l. h (suc k) (omega arith)))

@@ -190,6 +190,9 @@ impl Board {
     pub fn spans(&self) -> &[Span]
         ensures now { result.now ≡ spans_now (told_in self.now) self.now.done }
 
+        // Their calls have numbers below `NUMBERS`.
+        ensures numbers { All (λ x. (x.a < NUMBERS) × (x.b < NUMBERS)) result.now }
+
         // Once each call has ended, they are the spans of the whole run.
         ensures whole { (given : ℕ → Given) (periods : ℕ) → AllEnded given periods self.now → result.now ≡ spans_of given periods self.now.done }
     {

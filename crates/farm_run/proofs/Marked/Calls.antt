@@ -205,8 +205,8 @@ module _ (s : Stage) (live : (c : ℕ) → is_among s.farm.live c ≡ is_some (c
             let here = open_at r s.clock ds c (standing_now r s.clock ds s.board.left at.follows.so_far) (sym (is_alive c) ∙ q) in
             let opened : IsOpened r c = ap (λ (xs : List Done). is_opened xs c) all ∙ ap is_some here.opened in
             let noted = known.noted in
-            let places = noted.places in
-            let begins : (let j = s.journal in let x = entry_of s c in x.from) ≡ start_in r c = places.from c (ap is_some here.opened)
+            let calls = noted.calls in
+            let begins : (let j = s.journal in let x = entry_of s c in x.from) ≡ start_in r c = calls.from c (ap is_some here.opened)
             ∙ sym (ap (λ (xs : List Done). start_of xs c) all) in
             let whole : worked_to r s.clock c ≡ end_in r c - start_of (done_in r) c = ap (λ (t : ℕ). worked_to r t c) e
             ∙ worked_all r s.clock ds s.board.left c at.follows.so_far in

@@ -1,9 +1,9 @@
 -- What is noted of a run, from order to order.
 use Rattle.std.proofs.Common.{◌≡◌, ◌≢◌, refl, sym, ap, ◌∙◌, subst, ℕ, ◌-◌, ◌<◌, Bool, true, false, not, ◌&&◌, ◌||◌, Option, Some, None, List, [], ◌∷◌, ◌++◌}
 use Rattle.std.proofs.Common.{map, inl, inr, ◌⊎◌}
-use Rattle.std.specs.Prelude.{is_some, option_map, ◌==◌, if◌then◌else◌, Result, Ok}
+use Rattle.std.specs.Prelude.{option_map, ◌==◌, if◌then◌else◌, Result, Ok}
 use Rattle.std.proofs.Math.Bool.{or-false, or-true}
-use Rattle.std.proofs.lemmas.Bool.{cases_Bool, cases_eq, eqb-true, eq-eqb, ne_eqb, or_left, or_right}
+use Rattle.std.proofs.lemmas.Bool.{cases_Bool, cases_eq, eqb-true, eq-eqb, ne_eqb, or_cases}
 use Rattle.trau_io.specs.declared.ends.CallEnd.{CallEnd}
 use Rattle.trau_io.specs.declared.ends.Cause.TheVariants.{Closed}
 use Rattle.switchboard.specs.declared.act.Act.{Act}
@@ -26,21 +26,19 @@ use Rattle.farm_rounds.specs.Histories.{CallHistory, kept_of, tally_of, tallies_
 use Rattle.trau_alaw.specs.declared.Law.{Law}
 use Rattle.call_leg.specs.Places.{sent_now}
 use Rattle.run_spec.specs.Run.{Run, whole_in, done_in, periods_to}
-use Rattle.run_spec.specs.Facts.{sent_by}
 use Rattle.run_spec.specs.Now.{IsSoFar, settings_now}
 use Rattle.run_spec.proofs.Settling.{start_is}
 use Rattle.run_spec.proofs.OpenCalls.{open_facts}
 use Rattle.run_spec.proofs.Ending.{end_closed}
 use Rattle.run_spec.proofs.Sent.{sent_at_bridge}
 use Rattle.farm_run.specs.Match.{histories_at, FollowsRun}
-use Rattle.farm_run.specs.Journal.{JournalMemory, opening_of, with_opening, with_end, with_ends, with_bridge_noted, settled, noted_by}
+use Rattle.farm_run.specs.Journal.{JournalMemory, with_opening, with_end, with_ends, with_bridge_noted, noted_by}
 use Rattle.farm_run.specs.Facts.{kept_in}
 use Rattle.farm_run.specs.Going.{is_told}
-use Rattle.farm_run.specs.Noted.{call_end_in, span_numbered, is_opened, ended_at, IsKept, Noted}
+use Rattle.farm_run.specs.Noted.{call_end_in, sent_in_bridge, is_opened, ended_at, IsKept, Noted}
 use Rattle.farm_run.proofs.Ordered.Due.{Due}
 use Rattle.farm_run.proofs.Listed.Tests.{no}
-use Rattle.farm_run.proofs.Noted.Settling.{or_this, places_settled, sent_settled}
-use Rattle.farm_run.proofs.Noted.Noting.{told_has, SameSides, after_sides, noted_ordered, noted_same, noted_ends}
+use Rattle.farm_run.proofs.Noted.Noting.{told_has, noted_ordered, noted_same, noted_ends}
 use Rattle.farm_run.proofs.Noted.Bridging.{noted_bridged}
 use Rattle.farm_run.proofs.Noted.Rounds.{kept_at_end, open_not_ended}
 use Rattle.farm_run.proofs.Noted.Orders as ordered
@@ -69,7 +67,7 @@ module _ (r : Run) (t : ℕ) (s n : State) (reply : Reply) (calls calls' : List 
   start_stays : (c : ℕ) → is_opened s.done c ≡ true → start_of n.done c ≡ start_of s.done c
   start_stays = ordered.start_stays r t s n reply calls calls' due under f g
 
-  no_more : (x : Result Act Refusal) → d.result ≡ x → bridge_by d.order.stamp x [] ≡ [] → SameSides (bridges n.done) (bridges s.done)
+  no_more : (x : Result Act Refusal) → d.result ≡ x → bridge_by d.order.stamp x [] ≡ [] → bridges n.done ≡ map (after d) (bridges s.done)
   no_more = ordered.no_more r t s n reply calls calls' due under f g
 
   -- who has ended, who is open, and what an open call has had
@@ -107,7 +105,7 @@ module _ (r : Run) (t : ℕ) (s n : State) (reply : Reply) (calls calls' : List 
         noted_same r n.done (λ c. ended_at r s.done t c || is_told c (closing m ∷ [])) (ended_at r n.done t) (with_end (closing m) j)
         (tally_in tallies') (tally_in tallies')
         (noted_ordered r s.done n.done (λ c. ended_at r s.done t c || is_told c (closing m ∷ [])) (with_ends (closing m ∷ []) j) (tally_in tallies')
-        (record { opened = opened; start = start_stays; sides = no_more (Ok (act.Closed m p)) result refl })
+        (record { opened = opened; start = start_stays; order = d; bridges = no_more (Ok (act.Closed m p)) result refl })
         (noted_ends r s.done (ended_at r s.done t) j (tally_in tallies) (tally_in tallies') (closing m ∷ []) noted ((was.0, sym there), tt) (refl, tt) right
         (λ c q. kept c ∙ ap (λ (b : Bool). if b then kept_of (h c) (tally_in tallies c) else tally_in tallies c) (other c q))))
         (λ c. ended_is c ∙ tests c (cases_eq c m) ∙ ap (λ (b : Bool). b || is_told c (closing m ∷ [])) (sym (ended_was c))) (λ c. refl)
@@ -126,15 +124,14 @@ module _ (r : Run) (t : ℕ) (s n : State) (reply : Reply) (calls calls' : List 
         there : call_end_in r m ≡ closing m
         there = end_closed r t n.done n.left m (start_of (done_in r) m) t g.so_far closed
 
-        here : IsKept r j.calls m (tally_in tallies' m)
+        here : IsKept r s.done m (tally_in tallies' m)
         here =
-            let places = noted.places in
-            subst (IsKept r j.calls m) (sym (kept m ∙ ap (λ (b : Bool). if b then kept_of (h m) (tally_in tallies m) else tally_in tallies m) (eq-eqb m m refl)
+            subst (IsKept r s.done m) (sym (kept m ∙ ap (λ (b : Bool). if b then kept_of (h m) (tally_in tallies m) else tally_in tallies m) (eq-eqb m m refl)
             ∙ history_is m (tally_in tallies m) o))
-            (kept_at_end r t s.done s.left j.calls m (settings_now r s.done t m) f.so_far was.1 (places.latest m) (ap (λ (e : CallEnd). e.at) there) refl)
+            (kept_at_end r t s.done s.left m (settings_now r s.done t m) f.so_far was.1 (ap (λ (e : CallEnd). e.at) there) refl)
 
-        right : (c : ℕ) → is_told c (closing m ∷ []) ≡ true → IsKept r j.calls c (tally_in tallies' c)
-        right c q = subst (λ (c : ℕ). IsKept r j.calls c (tally_in tallies' c)) (sym (told_has (λ c. c ≡ m) c (closing m ∷ []) (refl, tt) q)) here
+        right : (c : ℕ) → is_told c (closing m ∷ []) ≡ true → IsKept r s.done c (tally_in tallies' c)
+        right c q = subst (λ (c : ℕ). IsKept r s.done c (tally_in tallies' c)) (sym (told_has (λ c. c ≡ m) c (closing m ∷ []) (refl, tt) q)) here
 
         other : (c : ℕ) → is_told c (closing m ∷ []) ≡ false → (m == c) ≡ false
         other c q = elim (cases_Bool (m == c)) [
@@ -154,52 +151,44 @@ module _ (r : Run) (t : ℕ) (s n : State) (reply : Reply) (calls calls' : List 
             ∙ ap (λ (b : Bool). b && not (open_now s c)) (opened c)
             ∙ sym (ap (λ (b : Bool). (opened_now s c && not (open_now s c)) || (b || false)) e ∙ or-false (opened_now s c && not (open_now s c)))
 
+    -- how many frames a call has sent in its latest bridge so far
+    abbrev sent_so_far : ℕ → ℕ
+    sent_so_far c = let kept = kept_in tallies h c in kept.sent
+
     -- **Two calls are bridged.**
     bridges_calls : (a b : ℕ) → d.result ≡ Ok (act.Bridged a b) → Finds (act.Bridged a b) (opened_now s) (open_now s) (partner_now s) →
         ((c : ℕ) → opened_now n c ≡ opened_now s c) → ((c : ℕ) → open_now n c ≡ open_now s c) →
-        ((c : ℕ) → tally_in tallies' c ≡ tally_in tallies c) → Noted r n.done t
-        (with_bridge_noted a b (settled b (kept_in tallies h b).sent (settled a (kept_in tallies h a).sent j))) tallies'
+        ((c : ℕ) → tally_in tallies' c ≡ tally_in tallies c) → Noted r n.done t (with_bridge_noted (sent_so_far a) (sent_so_far b) j) tallies'
     bridges_calls a b result finds opened open_is kept =
-        noted_same r n.done (ended_at r s.done t) (ended_at r n.done t)
-        (with_bridge_noted a b (settled b (kept_in tallies h b).sent (settled a (kept_in tallies h a).sent j))) (tally_in tallies) (tally_in tallies')
-        (noted_bridged r s.done n.done (ended_at r s.done t) (settled b (kept_in tallies h b).sent (settled a (kept_in tallies h a).sent j))
-        (tally_in tallies) a b (record {
-          both = (was_a.1, was_b.1);
-          apart = finds.0;
+        noted_same r n.done (ended_at r s.done t) (ended_at r n.done t) (with_bridge_noted (sent_so_far a) (sent_so_far b) j) (tally_in tallies)
+        (tally_in tallies')
+        (noted_bridged r s.done n.done (ended_at r s.done t) j (tally_in tallies) a b sent_so_far (record {
           opened = opened;
           start = start_stays;
-          front = map (after d) (bridges s.done);
+          order = d;
           last = record { a = a; b = b; from = due.order.stamp; ended = None };
           all = bridges_are ∙ ap (λ (x : Result Act Refusal). map (after d) (bridges s.done) ++ bridge_by d.order.stamp x []) result;
-          sides = after_sides d (bridges s.done);
           calls = (refl, refl);
-        }) (was_a.0, was_b.0) noted.ends (places_settled s.done (settled a (kept_in tallies h a).sent j) b (kept_in tallies h b).sent
-        (places_settled s.done j a (kept_in tallies h a).sent noted.places))
-        (sent_settled r s.done (or_this (λ c. false) a) (settled a (kept_in tallies h a).sent j) b (kept_in tallies h b).sent
-        (places_settled s.done j a (kept_in tallies h a).sent noted.places) was_b.1
-        (sent_settled r s.done (λ c. false) j a (kept_in tallies h a).sent noted.places was_a.1 noted.sent
-        (value a (or_left (a == a) (a == b) (eq-eqb a a refl)) finds.1.0))
-        (value b (or_right (b == a) (b == b) (eq-eqb b b refl)) finds.1.1)) noted.kept)
+        }) ((open_not_ended r t s.done a (open_there a finds.1.0)).0, (open_not_ended r t s.done b (open_there b finds.1.1)).0) noted right)
         (λ c. ended_is c ∙ ap (λ (b : Bool). b && not (open_now n c)) (opened c) ∙ ap (λ (b : Bool). opened_now s c && not b) (open_is c)
         ∙ sym (ended_was c)) kept
       where
-        was_a : (ended_at r s.done t a ≡ false) × (is_opened s.done a ≡ true)
-        was_a = open_not_ended r t s.done a (open_there a finds.1.0)
-
-        was_b : (ended_at r s.done t b ≡ false) × (is_opened s.done b ≡ true)
-        was_b = open_not_ended r t s.done b (open_there b finds.1.1)
+        -- both calls are open
+        is_open_now : (c : ℕ) → (c == a || c == b) ≡ true → open_now s c ≡ true
+        is_open_now c e = elim (or_cases (c == a) (c == b) e) [
+          | inl q ↦ ap (open_now s) (eqb-true c a q) ∙ finds.1.0
+          | inr q ↦ ap (open_now s) (eqb-true c b q) ∙ finds.1.1
+        ]
 
         -- what each of the two sent in its latest bridge
-        value : (c : ℕ) → (c == a || c == b) ≡ true → open_now s c ≡ true → (k : ℕ) → (opening_of j.calls c).bridge ≡ Some k →
-            (kept_in tallies h c).sent ≡ sent_by r (span_numbered r k) c
-        value c e o k q =
+        right : (c k : ℕ) → (c == a || c == b) ≡ true → IsLatest (bridges s.done) c (Some k) → sent_so_far c ≡ sent_in_bridge r k c
+        right c k e l =
+            let o = is_open_now c e in
             let v = open_facts (gone_at (whole_in r) t s.done) s.done c (open_there c o) in
-            let places = noted.places in
             ap (λ (x : Tally). x.sent) (history_is c (tally_in tallies c) o)
             ∙ ap (λ (u : ℕ). sent_now (periods_to r c (t - u)) (settings_now r s.done t c)) (start_is s.done c v.0 v.1)
             ∙ sym (sent_at_bridge r t s.done d due.rest a b c v.0 k _ (subst (IsSoFar r t s.done) due.left f.so_far) due.stamp under
-            (subst (IsRun (whole_in r)) done_is g.so_far.replies) result e v.1
-            (subst (IsLatest (bridges s.done) c) q (places.latest c (ap is_some v.1))))
+            (subst (IsRun (whole_in r)) done_is g.so_far.replies) result e v.1 l)
 
     -- **What is noted of an accepted order keeps all that is noted right.**
     pub noted_accepted : (a : Act) → reply.result ≡ Ok a → Finds a (opened_now s) (open_now s) (partner_now s) →

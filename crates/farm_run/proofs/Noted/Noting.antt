@@ -1,6 +1,6 @@
 -- What is noted of a run, by the ends that come, and by orders that neither open a call nor bridge two.
-use Rattle.std.proofs.Common.{◌≡◌, refl, sym, ap, ◌∙◌, subst, ℕ, zero, suc, Bool, true, false, ◌||◌, Option, Some, None, List, [], ◌∷◌, ◌++◌, length, map}
-use Rattle.std.proofs.Common.{get_or, inl, inr, arith}
+use Rattle.std.proofs.Common.{◌≡◌, refl, sym, ap, ◌∙◌, subst, ℕ, Bool, true, false, ◌||◌, Some, List, [], ◌∷◌, ◌++◌, map}
+use Rattle.std.proofs.Common.{inl, inr}
 use Rattle.std.specs.Prelude.{◌==◌}
 use Rattle.std.specs.List.{AllByRecursion}
 use Rattle.std.proofs.lemmas.Bool.{cases_eq, eq-eqb, ne_eqb, or_right}
@@ -8,20 +8,30 @@ use Rattle.std.proofs.lemmas.List.Folds.{list_any-append}
 use Rattle.trau_io.specs.declared.ends.CallEnd.{CallEnd}
 use Rattle.switchboard.specs.declared.table.Bridge.{Bridge}
 use Rattle.switchboard.specs.Calls.{Done}
-use Rattle.switchboard.specs.Bridges.{bridges, joins, no_bridge}
+use Rattle.switchboard.specs.Bridges.{bridges}
 use Rattle.switchboard.specs.Ends.{start_of}
 use Rattle.switchboard.specs.Stands.{IsLatest}
 use Rattle.switchboard.proofs.Appending.{after}
 use Rattle.farm_rounds.specs.declared.tally.Tally.{Tally}
 use Rattle.run_spec.specs.Run.{Run}
 use Rattle.run_spec.proofs.Lists.{each_append, each_weaker}
-use Rattle.farm_run.specs.declared.notes.Opening.{Opening}
-use Rattle.farm_run.specs.Journal.{JournalMemory, opening_of, with_ends}
+use Rattle.farm_run.specs.declared.notes.SentBefore.{SentBefore}
+use Rattle.farm_run.specs.Journal.{JournalMemory, with_ends}
 use Rattle.farm_run.specs.Going.{is_told}
 use Rattle.farm_run.specs.Ending.{AreApart}
-use Rattle.farm_run.specs.Noted.{call_end_in, is_opened, PlacesNoted, IsKept, IsNoted}
+use Rattle.farm_run.specs.Noted.{call_end_in, is_opened, sent_in_bridge, AreNotes, IsKept, IsNoted}
 use Rattle.farm_run.proofs.Listed.Tests.{no}
-use Rattle.farm_run.proofs.Noted.Settling.{left_true, right_true}
+use Rattle.farm_run.proofs.Noted.Bridges.{latest_before, notes_after}
+
+-- one of two facts holds where the other doesn't
+pub left_true : (a b : Bool) → b ≡ false → (a || b) ≡ true → a ≡ true
+left_true true b e h = refl
+left_true false b e h = cc
+
+-- the second test is met where the first isn't
+pub right_true : (a b : Bool) → a ≡ false → (a || b) ≡ true → b ≡ true
+right_true false b e h = h
+right_true true b e h = cc
 
 -- ---- ends
 
@@ -42,10 +52,6 @@ apart_append (e ∷ xs) ys a b h =
       apart_append xs ys a.1 b (λ c t. h c (or_right (c == e.call) (is_told c xs) t)),
     )
 
--- ends leave where the latest bridges stand
-places_ended : (ds : List Done) (j : JournalMemory) (ends : List CallEnd) → PlacesNoted ds j → PlacesNoted ds (with_ends ends j)
-places_ended ds j ends p = record { long = p.long; numbers = p.numbers; from = p.from; latest = p.latest; count = p.count; calls = p.calls; apart = p.apart }
-
 -- the end of a call that hasn't ended is the run's
 abbrev pub IsNewEnd : Run → (ℕ → Bool) → CallEnd → Type 0
 IsNewEnd r ended e = (ended e.call ≡ false) × (e ≡ call_end_in r e.call)
@@ -53,7 +59,7 @@ IsNewEnd r ended e = (ended e.call ≡ false) × (e ≡ call_end_in r e.call)
 -- **More calls have ended: their ends are noted, and what is kept of them.**
 pub noted_ends : (r : Run) (ds : List Done) (ended : ℕ → Bool) (j : JournalMemory) (tally tally' : ℕ → Tally) (ends : List CallEnd) →
     IsNoted r ds ended j tally →
-    AllByRecursion (IsNewEnd r ended) ends → AreApart ends → ((c : ℕ) → is_told c ends ≡ true → IsKept r j.calls c (tally' c)) →
+    AllByRecursion (IsNewEnd r ended) ends → AreApart ends → ((c : ℕ) → is_told c ends ≡ true → IsKept r ds c (tally' c)) →
     ((c : ℕ) → is_told c ends ≡ false → tally' c ≡ tally c) →
     IsNoted r ds (λ c. ended c || is_told c ends) (with_ends ends j) tally'
 noted_ends r ds ended j tally tally' ends n each apart kept same =
@@ -65,8 +71,8 @@ noted_ends r ds ended j tally tally' ends n each apart kept same =
         apart = apart_append j.ends ends was.apart apart (λ c t. fresh c (sym (was.told c) ∙ t) (is_told c ends) refl);
         told = λ c. list_any-append (λ (e : CallEnd). c == e.call) j.ends ends ∙ ap (λ (s : Bool). s || is_told c ends) (was.told c);
       };
-      places = places_ended ds j ends n.places;
-      sent = n.sent;
+      calls = n.calls;
+      bridges = n.bridges;
       kept = λ c h. by c (is_told c ends) refl h;
     }
   where
@@ -75,9 +81,9 @@ noted_ends r ds ended j tally tally' ends n each apart kept same =
     fresh c h true q =
         absurd (no (ended c) (told_has (λ c. ended c ≡ false) c ends (each_weaker (IsNewEnd r ended) (λ e. ended e.call ≡ false) ends (λ e k. k.0) each) q) h)
 
-    by : (c : ℕ) (b : Bool) → is_told c ends ≡ b → (ended c || is_told c ends) ≡ true → IsKept r j.calls c (tally' c)
+    by : (c : ℕ) (b : Bool) → is_told c ends ≡ b → (ended c || is_told c ends) ≡ true → IsKept r ds c (tally' c)
     by c true q h = kept c q
-    by c false q h = subst (IsKept r j.calls c) (sym (same c q)) (n.kept c (left_true (ended c) (is_told c ends) q h))
+    by c false q h = subst (IsKept r ds c) (sym (same c q)) (n.kept c (left_true (ended c) (is_told c ends) q h))
 
 -- **the same, where the same calls have ended and the same is kept of them**
 pub noted_same : (r : Run) (ds : List Done) (ended now : ℕ → Bool) (j : JournalMemory) (tally tally' : ℕ → Tally) → IsNoted r ds ended j tally →
@@ -87,79 +93,45 @@ noted_same r ds ended now j tally tally' n e f =
     let was = n.ends in
     record {
       ends = record { each = was.each; apart = was.apart; told = λ c. was.told c ∙ sym (e c) };
-      places = n.places;
-      sent = n.sent;
-      kept = λ c h. subst (IsKept r j.calls c) (sym (f c)) (n.kept c (sym (e c) ∙ h));
+      calls = n.calls;
+      bridges = n.bridges;
+      kept = λ c h. subst (IsKept r ds c) (sym (f c)) (n.kept c (sym (e c) ∙ h));
     }
-
--- ---- lists of bridges with the same calls
-
--- as many bridges, of the same calls
-pub record SameSides (xs ys : List Bridge) : Type 0 where
-  pub count : length xs ≡ length ys
-  pub a : (k : ℕ) → (get_or xs k no_bridge).a ≡ (get_or ys k no_bridge).a
-  pub b : (k : ℕ) → (get_or xs k no_bridge).b ≡ (get_or ys k no_bridge).b
-
--- the same calls are in them
-pub joins_same : (xs ys : List Bridge) (c k : ℕ) → SameSides xs ys → joins c (get_or xs k no_bridge) ≡ joins c (get_or ys k no_bridge)
-joins_same xs ys c k s = ap (λ (a : ℕ). c == a || c == (get_or xs k no_bridge).b) (s.a k) ∙ ap (λ (b : ℕ). c == (get_or ys k no_bridge).a || c == b) (s.b k)
-
--- an order ends bridges and leaves their calls
-pub after_sides : (d : Done) (bs : List Bridge) → SameSides (map (after d) bs) bs
-after_sides d bs = record { count = long bs; a = left bs; b = right bs }
-  where
-    long : (bs : List Bridge) → length (map (after d) bs) ≡ length bs
-    long [] = refl
-    long (x ∷ bs) = ap suc (long bs)
-
-    left : (bs : List Bridge) (k : ℕ) → (get_or (map (after d) bs) k no_bridge).a ≡ (get_or bs k no_bridge).a
-    left [] k = refl
-    left (x ∷ bs) zero = refl
-    left (x ∷ bs) (suc k) = left bs k
-
-    right : (bs : List Bridge) (k : ℕ) → (get_or (map (after d) bs) k no_bridge).b ≡ (get_or bs k no_bridge).b
-    right [] k = refl
-    right (x ∷ bs) zero = refl
-    right (x ∷ bs) (suc k) = right bs k
-
--- so each call's latest bridge stays
-pub latest_same : (xs ys : List Bridge) (c : ℕ) (o : Option ℕ) → SameSides xs ys → IsLatest ys c o → IsLatest xs c o
-latest_same xs ys c None s h = let count = s.count in λ j l. joins_same xs ys c j s ∙ h j (omega arith)
-latest_same xs ys c (Some k) s h =
-    let count = s.count in
-    let below = h.0 in
-    (omega arith, joins_same xs ys c k s ∙ h.1, λ j m l. joins_same xs ys c j s ∙ h.2 j m (omega arith))
 
 -- ---- an order that neither opens a call nor makes a bridge
 
--- the same calls were opened, and there are as many bridges, of the same calls
+-- what is kept of a call stays right where an order makes no bridge of it
+pub kept_after : (r : Run) (ds now : List Done) (d : Done) (c : ℕ) (x : Tally) → bridges now ≡ map (after d) (bridges ds) → IsKept r ds c x → IsKept r now c x
+kept_after r ds now d c x all k = record {
+  counts = k.counts;
+  sent = λ i l. k.sent i (latest_before d (bridges ds) c i (subst (λ (bs : List Bridge). IsLatest bs c (Some i)) all l));
+}
+
+-- the notes stay right where an order makes no bridge
+pub notes_kept : (r : Run) (ds now : List Done) (d : Done) (ns : List SentBefore) → bridges now ≡ map (after d) (bridges ds) →
+    AreNotes (sent_in_bridge r) [] (bridges ds) ns → AreNotes (sent_in_bridge r) [] (bridges now) ns
+notes_kept r ds now d ns all a =
+    subst (λ (bs : List Bridge). AreNotes (sent_in_bridge r) [] bs ns) (sym all) (notes_after (sent_in_bridge r) d [] (bridges ds) ns a)
+
+-- the same calls were opened, and there are the same bridges, of which the order may have ended some
 pub record AreSame (ds now : List Done) : Type 0 where
   pub opened : (c : ℕ) → is_opened now c ≡ is_opened ds c
   pub start : (c : ℕ) → is_opened ds c ≡ true → start_of now c ≡ start_of ds c
-  pub sides : SameSides (bridges now) (bridges ds)
+  pub order : Done
+  pub bridges : bridges now ≡ map (after order) (bridges ds)
 
 -- **It changes nothing of what is noted.**
 pub noted_ordered : (r : Run) (ds now : List Done) (ended : ℕ → Bool) (j : JournalMemory) (tally : ℕ → Tally) → AreSame ds now → IsNoted r ds ended j tally →
     IsNoted r now ended j tally
 noted_ordered r ds now ended j tally h n =
-    let p = n.places in
-    let sides = h.sides in
-    let count = sides.count in
+    let p = n.calls in
     record {
       ends = n.ends;
-      places = record {
+      calls = record {
         long = p.long;
         numbers = λ c o. p.numbers c (sym (h.opened c) ∙ o);
         from = λ c o. p.from c (sym (h.opened c) ∙ o) ∙ sym (h.start c (sym (h.opened c) ∙ o));
-        latest = λ c o. latest_same (bridges now) (bridges ds) c (opening_of j.calls c).bridge sides (p.latest c (sym (h.opened c) ∙ o));
-        count = p.count ∙ sym count;
-        calls = λ k. ((p.calls k).0 ∙ sym (sides.a k), (p.calls k).1 ∙ sym (sides.b k));
-        apart = λ k l e. p.apart k (omega arith) (sym (sides.a k) ∙ e ∙ sides.b k);
       };
-      sent = λ c k l m g. n.sent c k (omega arith) (sym (joins_same (bridges now) (bridges ds) c k sides) ∙ m) g;
-      kept = n.kept;
+      bridges = notes_kept r ds now h.order j.bridges h.bridges n.bridges;
+      kept = λ c e. kept_after r ds now h.order c (tally c) h.bridges (n.kept c e);
     }
-
--- what is kept of a call is as it was, where its opening is
-pub kept_same : (r : Run) (calls now : List Opening) (c : ℕ) (x : Tally) → opening_of now c ≡ opening_of calls c → IsKept r calls c x → IsKept r now c x
-kept_same r calls now c x e k = record { counts = k.counts; sent = λ p f. k.sent p (sym (ap (λ (o : Opening). o.bridge) e) ∙ f) }

@@ -1,11 +1,10 @@
 -- What is noted of a run where an order comes that changes nothing, or opens a call.
-use Rattle.std.proofs.Common.{◌≡◌, ◌≢◌, refl, sym, ap, ◌∙◌, subst, ℕ, ◌-◌, ◌<◌, Bool, true, false, not, ◌&&◌, ◌||◌, Option, Some, None, List, [], ◌∷◌, ◌++◌}
-use Rattle.std.proofs.Common.{length, map, inl, inr, ◌⊎◌, arith}
+use Rattle.std.proofs.Common.{◌≡◌, ◌≢◌, refl, sym, ap, ◌∙◌, ℕ, ◌-◌, ◌<◌, Bool, true, not, ◌&&◌, ◌||◌, Option, Some, None, List, [], ◌∷◌, ◌++◌}
+use Rattle.std.proofs.Common.{map, inl, inr, ◌⊎◌, arith}
 use Rattle.std.specs.Prelude.{is_some, ◌==◌, Result, Ok}
 use Rattle.std.proofs.Math.Bool.{and-false}
-use Rattle.std.proofs.lemmas.Bool.{cases_eq, eqb-true, eq-eqb, ne_eqb, or_cases}
+use Rattle.std.proofs.lemmas.Bool.{cases_eq, eq-eqb, ne_eqb}
 use Rattle.std.proofs.lemmas.List.{append-nil}
-use Rattle.std.proofs.lemmas.List.Elements.{All-from_recursion}
 use Rattle.trau_io.specs.declared.ends.CallEnd.{CallEnd}
 use Rattle.trau_io.specs.declared.ends.Cause.TheVariants.{Closed}
 use Rattle.switchboard.specs.declared.act.Act.{Act}
@@ -14,7 +13,7 @@ use Rattle.switchboard.specs.declared.act.Refusal.{Refusal}
 use Rattle.switchboard.specs.declared.act.Reply.{Reply}
 use Rattle.switchboard.specs.declared.table.Bridge.{Bridge}
 use Rattle.switchboard.specs.Calls.{Done, opened_at, is_open, gone_at}
-use Rattle.switchboard.specs.Bridges.{bridges, bridge_by, joins, no_bridge}
+use Rattle.switchboard.specs.Bridges.{bridges, bridge_by}
 use Rattle.switchboard.specs.Ends.{start_of}
 use Rattle.switchboard.specs.State.{State, done_by}
 use Rattle.switchboard.specs.Open.{opened_now, open_now, partner_now, Finds}
@@ -26,17 +25,15 @@ use Rattle.farm_rounds.specs.Histories.{CallHistory, kept_of, tally_of}
 use Rattle.trau_alaw.specs.declared.Law.{Law}
 use Rattle.run_spec.specs.Run.{Run, whole_in, periods_to, law_in}
 use Rattle.run_spec.specs.Now.{settings_now}
-use Rattle.run_spec.proofs.SoFar.{standing_now}
 use Rattle.run_spec.proofs.Settling.{start_is}
-use Rattle.run_spec.proofs.Standing.{Standing, IsSoundBridge}
 use Rattle.run_spec.proofs.OpenCalls.{opened_kept, opened_cases}
 use Rattle.run_spec.proofs.Showing.{opens}
 use Rattle.farm_run.specs.Match.{past_if, histories_at, FollowsRun}
 use Rattle.farm_run.specs.Journal.{JournalMemory, with_opening}
-use Rattle.farm_run.specs.Noted.{bridge_at, is_opened, ended_at, Noted}
+use Rattle.farm_run.specs.Noted.{is_opened, ended_at, Noted}
 use Rattle.farm_run.proofs.Ordered.Due.{Due, open_told}
 use Rattle.farm_run.proofs.Listed.Tests.{no}
-use Rattle.farm_run.proofs.Noted.Noting.{SameSides, after_sides, noted_ordered, noted_same}
+use Rattle.farm_run.proofs.Noted.Noting.{noted_ordered, noted_same}
 use Rattle.farm_run.proofs.Noted.Opened.{noted_opened}
 
 module _ (r : Run) (t : ℕ) (s n : State) (reply : Reply) (calls calls' : List Kept) (due : Due s t reply n) (under : t < r.periods)
@@ -70,12 +67,10 @@ module _ (r : Run) (t : ℕ) (s n : State) (reply : Reply) (calls calls' : List 
       by (Some v) q k = start_is n.done c v (ap (opened_at c) done_is ∙ opened_kept s.done (d ∷ []) c v q) ∙ sym (start_is s.done c v q)
 
   -- an order that makes no bridge
-  pub no_more : (x : Result Act Refusal) → d.result ≡ x → bridge_by d.order.stamp x [] ≡ [] → SameSides (bridges n.done) (bridges s.done)
+  pub no_more : (x : Result Act Refusal) → d.result ≡ x → bridge_by d.order.stamp x [] ≡ [] → bridges n.done ≡ map (after d) (bridges s.done)
   no_more x q e =
-      subst (λ (bs : List Bridge). SameSides bs (bridges s.done))
-      (sym (bridges_are ∙ ap (λ (x : Result Act Refusal). map (after d) (bridges s.done) ++ bridge_by d.order.stamp x []) q
-      ∙ ap (λ (bs : List Bridge). map (after d) (bridges s.done) ++ bs) e ∙ append-nil (map (after d) (bridges s.done))))
-      (after_sides d (bridges s.done))
+      bridges_are ∙ ap (λ (x : Result Act Refusal). map (after d) (bridges s.done) ++ bridge_by d.order.stamp x []) q
+      ∙ ap (λ (bs : List Bridge). map (after d) (bridges s.done) ++ bs) e ∙ append-nil (map (after d) (bridges s.done))
 
   -- who has ended
   pub ended_was : (c : ℕ) → ended_at r s.done t c ≡ (opened_now s c && not (open_now s c))
@@ -103,7 +98,7 @@ module _ (r : Run) (t : ℕ) (s n : State) (reply : Reply) (calls calls' : List 
       let result : d.result ≡ x = sym due.result ∙ q in
       noted_same r n.done (ended_at r s.done t) (ended_at r n.done t) j (tally_in tallies) (tally_in tallies')
       (noted_ordered r s.done n.done (ended_at r s.done t) j (tally_in tallies)
-      (record { opened = opened; start = start_stays; sides = no_more x result e }) noted)
+      (record { opened = opened; start = start_stays; order = d; bridges = no_more x result e }) noted)
       (λ c. ended_is c ∙ ap (λ (b : Bool). b && not (open_now n c)) (opened c) ∙ ap (λ (b : Bool). opened_now s c && not b) (open_same c)
       ∙ sym (ended_was c)) kept
 
@@ -116,13 +111,12 @@ module _ (r : Run) (t : ℕ) (s n : State) (reply : Reply) (calls calls' : List 
         noted_same r n.done (ended_at r s.done t) (ended_at r n.done t) (with_opening m t j) (tally_in tallies) (tally_in tallies')
         (noted_opened r s.done n.done (ended_at r s.done t) j (tally_in tallies) m t (record {
           number = (omega (arith, finds.0.0), omega (arith, finds.0.1));
-          new = finds.1;
           opened = opened;
           start = start_stays;
           begins = begins (opened_at m n.done) refl (opened m ∙ ap (λ (b : Bool). b || opened_now s m) (eq-eqb m m refl));
-          sides = no_more (Ok (act.Opened m law)) result refl;
-          alone = alone;
-        }) (ap (λ (b : Bool). b && not (is_open (gone_at (whole_in r) t s.done) s.done m)) finds.1) noted)
+          order = d;
+          bridges = no_more (Ok (act.Opened m law)) result refl;
+        }) noted)
         (λ c. ended_is c ∙ tests c (cases_eq c m) ∙ sym (ended_was c)) kept
       where
         begins : (o : Option ℕ) → opened_at m n.done ≡ o → is_some (opened_at m n.done) ≡ true → start_of n.done m ≡ t
@@ -131,25 +125,6 @@ module _ (r : Run) (t : ℕ) (s n : State) (reply : Reply) (calls calls' : List 
           | inl k ↦ absurd (no (opened_now s m) finds.1 (ap is_some k))
           | inr k ↦ start_is n.done m u q ∙ (opens m u due.order d.result k.1).1 ∙ due.stamp
         ]
-
-        alone : (k : ℕ) → k < length (bridges s.done) → joins m (bridge_at s.done k) ≡ false
-        alone k l = by (joins m (bridge_at s.done k)) refl
-          where
-            stand : Standing (whole_in r) t s.done
-            stand = standing_now r t s.done s.left f.so_far
-
-            sound : IsSoundBridge (whole_in r) t s.done (bridge_at s.done k)
-            sound = All-from_recursion (IsSoundBridge (whole_in r) t s.done) (bridges s.done) stand.sound k no_bridge l
-
-            known : (c v : ℕ) → opened_at c s.done ≡ Some v → (m == c) ≡ true → ⊥
-            known c v o e = no (opened_now s m) finds.1 (ap (λ (c : ℕ). opened_now s c) (eqb-true m c e) ∙ ap is_some o)
-
-            by : (b : Bool) → joins m (bridge_at s.done k) ≡ b → joins m (bridge_at s.done k) ≡ false
-            by false q = q
-            by true q = elim (or_cases (m == (bridge_at s.done k).a) (m == (bridge_at s.done k).b) q) [
-              | inl e ↦ absurd (known (bridge_at s.done k).a sound.start_a sound.opened_a e)
-              | inr e ↦ absurd (known (bridge_at s.done k).b sound.start_b sound.opened_b e)
-            ]
 
         tests : (c : ℕ) → (c ≡ m) ⊎ (c ≢ m) → (opened_now n c && not (open_now n c)) ≡ (opened_now s c && not (open_now s c))
         tests c (inl q) =

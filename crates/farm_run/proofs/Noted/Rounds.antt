@@ -9,9 +9,7 @@ use Rattle.std.proofs.lemmas.List.{length-replicate}
 use Rattle.trau_io.specs.declared.ends.CallEnd.{CallEnd}
 use Rattle.trau_orders.specs.declared.order.Order.{Order}
 use Rattle.switchboard.specs.Calls.{Done, opened_at, closed_at, is_open, gone_at}
-use Rattle.switchboard.specs.Bridges.{bridges}
 use Rattle.switchboard.specs.Ends.{end_of, start_of, ends_at}
-use Rattle.switchboard.specs.Stands.{IsLatest}
 use Rattle.switchboard.specs.State.{first_stamp}
 use Rattle.call_leg.specs.Periods.{CallPeriod, bridges_begun}
 use Rattle.call_leg.specs.Settings.{Settings}
@@ -31,8 +29,7 @@ use Rattle.run_spec.proofs.Settling.{start_is}
 use Rattle.run_spec.proofs.OpenCalls.{open_facts}
 use Rattle.run_spec.proofs.Going.{start_run}
 use Rattle.run_spec.proofs.Sent.{sent_at_end}
-use Rattle.farm_run.specs.declared.notes.Opening.{Opening}
-use Rattle.farm_run.specs.Journal.{JournalMemory, no_opening, opening_of, new_journal, with_ends}
+use Rattle.farm_run.specs.Journal.{JournalMemory, new_journal, with_ends}
 use Rattle.farm_run.specs.Going.{places_in, ends_within, is_told}
 use Rattle.farm_run.proofs.Rounds.Taken.{IsRound, IsSeat}
 use Rattle.farm_run.specs.Ending.{AreApart}
@@ -49,16 +46,8 @@ use Rattle.farm_run.proofs.Noted.Noting.{IsNewEnd, noted_ends, noted_same}
 pub noted_start : (r : Run) (t : ℕ) (tallies : List Tally) → Noted r [] t new_journal tallies
 noted_start r t tallies = record {
   ends = record { each = tt; apart = tt; told = λ c. refl };
-  places = record {
-    long = length-replicate 4097 no_opening;
-    numbers = λ c o. cc;
-    from = λ c o. cc;
-    latest = λ c o. cc;
-    count = refl;
-    calls = λ k. (refl, refl);
-    apart = λ k l. absurd (omega arith);
-  };
-  sent = λ c k l m h. absurd (omega arith);
+  calls = record { long = length-replicate {A = ℕ} 4097 0; numbers = λ c o. cc; from = λ c o. cc };
+  bridges = tt;
   kept = λ c h. cc;
 }
 
@@ -69,24 +58,22 @@ sent_by_start : (ts : List CallPeriod) (now other : Settings) → now.starts ≡
 sent_by_start ts now other e = ap (λ (b : Bool). carried (if b then suc (bridges_begun ts) else bridges_begun ts) (frames_of ts)) e
 
 -- **What is told of it at the period at which it ends is right.**
-pub kept_at_end : (r : Run) (t : ℕ) (ds : List Done) (left : List Order) (calls : List Opening) (c : ℕ) (now : Settings) →
-    IsSoFar r t ds left → is_opened ds c ≡ true →
-    (is_opened ds c ≡ true → IsLatest (bridges ds) c (opening_of calls c).bridge) → ends_at (given_in r) r.periods (done_in r) c ≡ t →
-    now.starts ≡ (settings_now r ds t c).starts →
-    IsKept r calls c (tally_of (periods_to r c (t - start_of ds c)) now)
-kept_at_end r t ds left calls c now so o latest e starts = by (opened_at c ds) refl o
+pub kept_at_end : (r : Run) (t : ℕ) (ds : List Done) (left : List Order) (c : ℕ) (now : Settings) → IsSoFar r t ds left → is_opened ds c ≡ true →
+    ends_at (given_in r) r.periods (done_in r) c ≡ t → now.starts ≡ (settings_now r ds t c).starts →
+    IsKept r ds c (tally_of (periods_to r c (t - start_of ds c)) now)
+kept_at_end r t ds left c now so o e starts = by (opened_at c ds) refl o
   where
-    by : (s : Option ℕ) → opened_at c ds ≡ s → is_some s ≡ true → IsKept r calls c (tally_of (periods_to r c (t - start_of ds c)) now)
+    by : (s : Option ℕ) → opened_at c ds ≡ s → is_some s ≡ true → IsKept r ds c (tally_of (periods_to r c (t - start_of ds c)) now)
     by None q f = absurd (true≢false (sym f))
     by (Some s) q f =
         let begins : start_of (done_in r) c ≡ start_of ds c = start_run r t ds left c s so q ∙ sym (start_is ds c s q) in
         record {
           counts = ap (λ (m : ℕ). call_counts (periods_to r c m))
               (sym (ap (λ (m : ℕ). ends_at (given_in r) r.periods (done_in r) c - m) begins ∙ ap (λ (m : ℕ). m - start_of ds c) e));
-          sent = λ k g.
+          sent = λ k l.
               ap (λ (m : ℕ). sent_now (periods_to r c (t - m)) now) (start_is ds c s q)
               ∙ sent_by_start (periods_to r c (t - s)) now (settings_now r ds t c) starts
-              ∙ sym (sent_at_end r t ds left c s k _ so q (subst (IsLatest (bridges ds) c) g (latest o)) e);
+              ∙ sym (sent_at_end r t ds left c s k _ so q l e);
         }
 
 -- ---- the clock goes on
@@ -191,11 +178,9 @@ noted_round r t n ds left j tallies tallies' ends h noted each apart told kept s
     within : (m : ℕ) → min n m ≤ n
     within m = omega arith
 
-    right : (c : ℕ) → ends_within r ds t n c ≡ true → IsKept r j.calls c (tally_in tallies' c)
+    right : (c : ℕ) → ends_within r ds t n c ≡ true → IsKept r ds c (tally_in tallies' c)
     right c w =
         let k = kept c w in
-        let places = noted.places in
-        subst (IsKept r j.calls c) (sym k.2)
-        (kept_at_end r (t + places_in r ds t n c) ds left j.calls c k.0 (far (places_in r ds t n c) (within (start_of ds c + whole_in r c - t)))
-        (open_not_ended r t ds c (opened c w)).1 (places.latest c)
-        (ends_there r t n ds left c h w) k.1)
+        subst (IsKept r ds c) (sym k.2)
+        (kept_at_end r (t + places_in r ds t n c) ds left c k.0 (far (places_in r ds t n c) (within (start_of ds c + whole_in r c - t)))
+        (open_not_ended r t ds c (opened c w)).1 (ends_there r t n ds left c h w) k.1)

@@ -1,10 +1,9 @@
 -- The report of a run, once all of its calls have ended.
-use Rattle.std.proofs.Common.{◌≡◌, refl, sym, ap, ◌∙◌, ℕ, suc, ◌+◌, ◌-◌, ◌<◌, ◌≤◌, Bool, true, false, ◌||◌, List, [], ◌∷◌, length, map, get_or, inl, inr, arith}
-use Rattle.std.specs.Prelude.{◌==◌, nat_lt, filter, is_some, if◌then◌else◌}
+use Rattle.std.proofs.Common.{◌≡◌, refl, sym, ap, ◌∙◌, ℕ, ◌+◌, ◌<◌, ◌≤◌, Bool, true, false, Some, subst, List, [], ◌∷◌, map, get_or, inl, inr, arith}
+use Rattle.std.specs.Prelude.{◌==◌, nat_lt, filter, is_some}
 use Rattle.std.specs.List.{AllByRecursion, count_by, range_with_len}
 use Rattle.std.specs.List.Sorted.{IsNonDecreasingBy, IsPermutation}
-use Rattle.std.proofs.lemmas.Bool.{cases_eq, eq-eqb, ne_eqb, ltb-false, or_left, or_right}
-use Rattle.std.proofs.lemmas.List.{length-map, get_or-map}
+use Rattle.std.proofs.lemmas.Bool.{cases_eq, eqb-true, eq-eqb, ne_eqb, ltb-false, or_cases, or_left, or_right}
 use Rattle.std.proofs.lemmas.List.Elements.{All-from_recursion, recursion_from_All}
 use Rattle.std.proofs.lemmas.List.Sums.{sum_by-cons}
 use Rattle.std.proofs.lemmas.List.Sorted.{All-permutation}
@@ -13,25 +12,25 @@ use Rattle.trau_io.specs.declared.ends.Counts.{Counts}
 use Rattle.trau_orders.specs.declared.order.Order.{Order}
 use Rattle.switchboard.specs.declared.act.Span.{Span}
 use Rattle.switchboard.specs.Calls.{Done}
-use Rattle.switchboard.specs.Bridges.{bridges, joins, no_bridge}
+use Rattle.switchboard.specs.Bridges.{bridges, no_bridge}
+use Rattle.switchboard.specs.Stands.{IsLatest}
+use Rattle.call_number.specs.CallNumber.{IsCallNumber}
 use Rattle.switchboard.specs.Ends.{start_of, span_of, spans_of}
 use Rattle.farm_report.specs.declared.report.CallLine.{CallLine}
-use Rattle.farm_report.specs.declared.report.SpanLine.{SpanLine}
 use Rattle.farm_rounds.specs.declared.tally.Tally.{Tally}
-use Rattle.run_spec.specs.Run.{Run, given_in, whole_in, done_in}
+use Rattle.run_spec.specs.Run.{Run, given_in, whole_in, done_in, spans_in}
 use Rattle.run_spec.specs.Facts as defined
 use Rattle.run_spec.specs.Facts.{sent_by}
 use Rattle.run_spec.specs.Now.{IsSoFar}
 use Rattle.run_spec.proofs.SoFar.{standing_now}
 use Rattle.run_spec.proofs.Standing.{IsSoundBridge}
 use Rattle.run_spec.proofs.Lists.{any_map}
-use Rattle.farm_run.specs.declared.notes.BridgeNote.{BridgeNote}
 use Rattle.farm_run.specs.Journal.{JournalMemory, opening_of}
-use Rattle.farm_run.specs.Facts.{span_line, span_lines, call_line, settled_each}
+use Rattle.farm_run.specs.Facts.{span_lines, call_line}
 use Rattle.farm_run.specs.Going.{is_told}
 use Rattle.farm_run.specs.Ending.{AreApart}
-use Rattle.farm_run.specs.Noted.{call_end_in, no_span, bridge_at, is_opened, bridge_note_at, noted_sent, PlacesNoted, SentNoted, IsKept, IsNoted}
-use Rattle.farm_run.proofs.Noted.Settling.{settled_all}
+use Rattle.farm_run.specs.Noted.{call_end_in, no_span, is_opened, AreNotes, CallsNoted, IsKept, IsNoted}
+use Rattle.farm_run.proofs.Reported.Rows.{rows_are}
 use Rattle.farm_run.proofs.Reported.Rising.{Rises, has, one_if, rising_same, range_rises, range_has, count_map, any_count, count_shuffled, sorted_rises}
 
 -- ---- the calls
@@ -69,11 +68,11 @@ apart_once c (e ∷ ends) a = elim (cases_eq c e.call) [
     once false n l e = omega arith
 
 -- the line of a call that has ended is that of the run
-line_is : (r : Run) (ds : List Done) (j : JournalMemory) (tally : ℕ → Tally) (e : CallEnd) → done_in r ≡ ds → PlacesNoted ds j → e ≡ call_end_in r e.call →
-    is_opened ds e.call ≡ true → IsKept r j.calls e.call (tally e.call) →
+line_is : (r : Run) (ds : List Done) (j : JournalMemory) (tally : ℕ → Tally) (e : CallEnd) → done_in r ≡ ds → CallsNoted ds j.calls → e ≡ call_end_in r e.call →
+    is_opened ds e.call ≡ true → IsKept r ds e.call (tally e.call) →
     call_line j.calls tally e ≡ defined.call_line r e.call
 line_is r ds j tally e all p right o kept =
-    ap (λ (x : CallEnd). line x (opening_of j.calls e.call).from (tally e.call).counts) right
+    ap (λ (x : CallEnd). line x (opening_of j.calls e.call) (tally e.call).counts) right
     ∙ ap (λ (from : ℕ). line (call_end_in r e.call) from (tally e.call).counts) (p.from e.call o ∙ ap (λ (ds : List Done). start_of ds e.call) (sym all))
     ∙ ap (line (call_end_in r e.call) (start_of (done_in r) e.call)) kept.counts
   where
@@ -108,16 +107,16 @@ module _ (r : Run) (ds : List Done) (j : JournalMemory) (tally : ℕ → Tally) 
       ∙ (let ends = n.ends in ends.told c)
 
   -- of each that ended enough is kept
-  over : AllByRecursion (λ e. (is_opened ds e.call ≡ true) × IsKept r j.calls e.call (tally e.call)) j.ends
-  over = each_told (λ c. (is_opened ds c ≡ true) × IsKept r j.calls c (tally c)) j.ends
+  over : AllByRecursion (λ e. (is_opened ds e.call ≡ true) × IsKept r ds e.call (tally e.call)) j.ends
+  over = each_told (λ c. (is_opened ds c ≡ true) × IsKept r ds c (tally c)) j.ends
       (λ c q. let ends = n.ends in (sym (ends.told c) ∙ q, n.kept c (sym (ends.told c) ∙ q)))
 
   -- so its line is the definition's
-  each_line : (ends : List CallEnd) → AllByRecursion (λ e. (is_opened ds e.call ≡ true) × IsKept r j.calls e.call (tally e.call)) ends →
+  each_line : (ends : List CallEnd) → AllByRecursion (λ e. (is_opened ds e.call ≡ true) × IsKept r ds e.call (tally e.call)) ends →
       AllByRecursion (λ e. e ≡ call_end_in r e.call) ends →
       AllByRecursion (λ l. l ≡ defined.call_line r (number_of l)) (map (call_line j.calls tally) ends)
   each_line [] a b = tt
-  each_line (e ∷ ends) a b = (line_is r ds j tally e all n.places b.0 a.0.0 a.0.1, each_line ends a.1 b.1)
+  each_line (e ∷ ends) a b = (line_is r ds j tally e all n.calls b.0 a.0.0 a.0.1, each_line ends a.1 b.1)
 
   -- **The lines of calls are those of the definition.**
   pub calls_reported : (most : ℕ) → ((c : ℕ) → is_opened ds c ≡ true → (1 ≤ c) × (c < 1 + most)) →
@@ -132,82 +131,33 @@ module _ (r : Run) (ds : List Done) (j : JournalMemory) (tally : ℕ → Tally) 
 
 -- ---- the bridges
 
--- a bridge's line, with what was sent of each of its calls
-abbrev line_with : Span → ℕ → ℕ → SpanLine
-line_with s a b = record { span = s; sent_a = a; sent_b = b; lost_a = s.to - s.from - a; lost_b = s.to - s.from - b }
-
--- lines of bridges that are the definition's, one by one, are so as a list
-lines_each : (r : Run) (spans : List Span) (xs : List BridgeNote) → length spans ≡ length xs →
-    ((k : ℕ) → k < length spans → span_line (get_or spans k no_span) (bridge_note_at xs k) ≡ defined.span_line r (get_or spans k no_span)) →
-    span_lines spans xs ≡ map (defined.span_line r) spans
-lines_each r [] [] l h = refl
-lines_each r [] (x ∷ xs) l h = refl
-lines_each r (s ∷ spans) [] l h = absurd (omega arith)
-lines_each r (s ∷ spans) (x ∷ xs) l h =
-    ap (λ (y : SpanLine). y ∷ span_lines spans xs) (h 0 (omega arith))
-    ∙ ap (λ (ys : List SpanLine). defined.span_line r s ∷ ys) (lines_each r spans xs (omega arith) (λ k m. h (suc k) (omega arith)))
-
--- **The lines of the bridges, once what each call sent in its latest one is noted, are those of the run.**
+-- **The lines of the bridges are those of the run**, by a table of what each call has sent in its latest bridge.
 module _ (r : Run) (t : ℕ) (ds : List Done) (left : List Order) (j : JournalMemory) (tally : ℕ → Tally) (so : IsSoFar r t ds left) (all : done_in r ≡ ds)
     (n : IsNoted r ds (is_opened ds) j tally) where
-  -- the journal once it is noted what the calls have sent
-  abbrev settled_now : JournalMemory
-  settled_now = settled_each tally j.ends j
-
   -- the bridges as the run says them
   abbrev spans : List Span
   spans = spans_of (given_in r) r.periods ds
 
-  -- where they stand and what was sent is noted
-  settles : PlacesNoted ds settled_now × SentNoted r ds (λ c. false || is_told c j.ends) settled_now
-  settles = settled_all r ds (λ c. false) tally j.ends j n.places
-      (each_told (λ c. (is_opened ds c ≡ true) × IsKept r j.calls c (tally c)) j.ends
-      (λ c q. let ends = n.ends in (sym (ends.told c) ∙ q, n.kept c (sym (ends.told c) ∙ q)))) n.sent
+  -- they are its spans
+  spans_are : spans_in r ≡ spans
+  spans_are = ap (λ (ds : List Done). spans_of (given_in r) r.periods ds) all
 
-  -- each bridge, by where it stands
-  there : (k : ℕ) → k < length (bridges ds) → get_or spans k no_span ≡ span_of (given_in r) r.periods ds (bridge_at ds k)
-  there k l = get_or-map (span_of (given_in r) r.periods ds) (bridges ds) k no_bridge no_span l
-
-  -- what one of a bridge's calls sent in it is noted
-  sent_of : (c k : ℕ) → k < length (bridges ds) → joins c (bridge_at ds k) ≡ true → is_opened ds c ≡ true →
-      noted_sent c (bridge_note_at settled_now.bridges k) ≡ sent_by r (get_or spans k no_span) c
-  sent_of c k l m o =
-      settles.1 c k l m (λ e. let ends = n.ends in ends.told c ∙ o)
-      ∙ ap (λ (ds : List Done). sent_by r (get_or (spans_of (given_in r) r.periods ds) k no_span) c) all
-
-  -- each bridge is one of the run's
-  sound : (k : ℕ) → k < length (bridges ds) → IsSoundBridge (whole_in r) t ds (bridge_at ds k)
-  sound k l = let stand = standing_now r t ds left so in All-from_recursion (IsSoundBridge (whole_in r) t ds) (bridges ds) stand.sound k no_bridge l
-
-  -- what its calls have sent is noted
-  sent_a : (k : ℕ) → k < length (bridges ds) → (bridge_note_at settled_now.bridges k).sent_by_a ≡ sent_by r (get_or spans k no_span) (get_or spans k no_span).a
-  sent_a k l =
-      let x = bridge_note_at settled_now.bridges k in
-      let z = bridge_at ds k in
-      let k_sound = sound k l in
-      sym (ap (λ (b : Bool). if b then x.sent_by_a else x.sent_by_b) (eq-eqb z.a x.a (sym (settles.0.calls k).0)))
-      ∙ sent_of z.a k l (or_left (z.a == z.a) (z.a == z.b) (eq-eqb z.a z.a refl)) (ap is_some k_sound.opened_a)
-      ∙ ap (sent_by r (get_or spans k no_span)) (sym (ap (λ (s : Span). s.a) (there k l)))
-
-  sent_b : (k : ℕ) → k < length (bridges ds) → (bridge_note_at settled_now.bridges k).sent_by_b ≡ sent_by r (get_or spans k no_span) (get_or spans k no_span).b
-  sent_b k l =
-      let x = bridge_note_at settled_now.bridges k in
-      let z = bridge_at ds k in
-      let k_sound = sound k l in
-      sym (ap (λ (b : Bool). if b then x.sent_by_a else x.sent_by_b) (ne_eqb z.b x.a (λ e. settles.0.apart k l (sym (settles.0.calls k).0 ∙ sym e))))
-      ∙ sent_of z.b k l (or_right (z.b == z.a) (z.b == z.b) (eq-eqb z.b z.b refl)) (ap is_some k_sound.opened_b)
-      ∙ ap (sent_by r (get_or spans k no_span)) (sym (ap (λ (s : Span). s.b) (there k l)))
-
-  -- its line is the definition's
-  line_at : (k : ℕ) → k < length (bridges ds) → span_line (get_or spans k no_span) (bridge_note_at settled_now.bridges k)
-      ≡ defined.span_line r (get_or spans k no_span)
-  line_at k l =
-      let s = get_or spans k no_span in
-      ap (λ (m : ℕ). line_with s m (bridge_note_at settled_now.bridges k).sent_by_a) (sent_b k l) ∙ ap (line_with s (sent_by r s s.b)) (sent_a k l)
+  -- a call of a bridge was opened
+  opened : (c k : ℕ) → IsLatest (bridges ds) c (Some k) → is_opened ds c ≡ true
+  opened c k l =
+      let stand = standing_now r t ds left so in
+      let sound : IsSoundBridge (whole_in r) t ds (get_or (bridges ds) k no_bridge) =
+      All-from_recursion (IsSoundBridge (whole_in r) t ds) (bridges ds) stand.sound k no_bridge l.0 in
+      elim (or_cases (c == (get_or (bridges ds) k no_bridge).a) (c == (get_or (bridges ds) k no_bridge).b) l.1) [
+        | inl q ↦ ap (is_opened ds) (eqb-true c _ q) ∙ ap is_some sound.opened_a
+        | inr q ↦ ap (is_opened ds) (eqb-true c _ q) ∙ ap is_some sound.opened_b
+      ]
 
   -- **The lines of bridges are those of the definition.**
-  pub spans_reported : span_lines spans settled_now.bridges ≡ map (defined.span_line r) spans
-  spans_reported =
-      let long = length-map (bridges ds) (span_of (given_in r) r.periods ds) in
-      let count = settles.0.count in
-      lines_each r spans settled_now.bridges (omega arith) (λ k l. line_at k (omega arith))
+  pub spans_reported : (sent : ℕ → ℕ) → ((c : ℕ) → IsCallNumber c → sent c ≡ (let kept = tally c in kept.sent)) →
+      span_lines sent spans j.bridges ≡ map (defined.span_line r) spans
+  spans_reported sent is =
+      rows_are (sent_by r) no_span sent (λ x. (span_of (given_in r) r.periods ds x).to) (bridges ds) [] (bridges ds) j.bridges refl
+      (subst (λ (ss : List Span). AreNotes (λ k c. sent_by r (get_or ss k no_span) c) [] (bridges ds) j.bridges) spans_are n.bridges)
+      (λ c k l. let o = opened c k l in let kept = n.kept c o in let calls = n.calls in
+      is c (calls.numbers c o) ∙ kept.sent k l ∙ ap (λ (ss : List Span). sent_by r (get_or ss k no_span) c) spans_are)

@@ -1,6 +1,6 @@
 -- The end of a run: the calls that are open end with it, and the report is the definition's.
 use Rattle.std.proofs.Common.{◌≡◌, refl, sym, ap, ◌∙◌, subst, ℕ, ◌+◌, ◌-◌, ◌<◌, ◌≤◌, Bool, true, false, not, ◌&&◌, ◌||◌, Option, Some, None, List, [], ◌∷◌}
-use Rattle.std.proofs.Common.{◌++◌, length, map, arith}
+use Rattle.std.proofs.Common.{length, map, arith}
 use Rattle.std.specs.Prelude.{◌==◌, is_some, IfOk, Result, Ok, Err}
 use Rattle.std.specs.List.{All, AllByRecursion}
 use Rattle.std.specs.List.Sorted.{IsPermutation}
@@ -31,7 +31,7 @@ use Rattle.run_spec.proofs.Going.{start_run}
 use Rattle.run_spec.proofs.Ending.{end_limit, all_done, report_end}
 use Rattle.farm_run.specs.Match.{past_if, histories_at}
 use Rattle.farm_run.specs.Journal.{JournalMemory, with_ends}
-use Rattle.farm_run.specs.Facts.{span_lines, kept_in, call_line, settled_each, Reports}
+use Rattle.farm_run.specs.Facts.{span_lines, sent_in_table, kept_in, call_line, Reports}
 use Rattle.farm_run.specs.Going.{told_after, is_told}
 use Rattle.farm_run.specs.Ending.{limit_at}
 use Rattle.farm_run.specs.Noted.{call_end_in, is_opened, ended_at, IsKept, IsNoted, TellsTruly, IsAtEnd}
@@ -91,15 +91,13 @@ module _ (r : Run) (t : ℕ) (b : State) (farm : FarmMemory) (j : JournalMemory)
       (λ c q. ((open_not_ended r t b.done c (open_is c ∙ q)).0, sym (limit_is c q))))
 
   -- what is kept of them is what was counted so far
-  kept_is : (c : ℕ) → is_told c last ≡ true → IsKept r j.calls c (kept_in farm.tallies (histories_at r b.done t) c)
+  kept_is : (c : ℕ) → is_told c last ≡ true → IsKept r b.done c (kept_in farm.tallies (histories_at r b.done t) c)
   kept_is c q =
       let k = sym (limits_told r.periods c live) ∙ q in
       let o = open_is c ∙ k in
-      let noted = end.noted in
-      let places = noted.places in
-      subst (IsKept r j.calls c)
+      subst (IsKept r b.done c)
       (sym (ap (λ (s : Bool). kept_of (past_if s (law_in r c) (periods_to r c (t - start_of b.done c)) (settings_now r b.done t c)) (tally_in farm.tallies c)) o))
-      (kept_at_end r t b.done b.left j.calls c (settings_now r b.done t c) so (open_not_ended r t b.done c o).1 (places.latest c)
+      (kept_at_end r t b.done b.left c (settings_now r b.done t c) so (open_not_ended r t b.done c o).1
       (ap (λ (e : CallEnd). e.at) (limit_is c k) ∙ sym (end.clock c (sym (among c) ∙ k))) refl)
 
   -- of other calls what was kept stays
@@ -171,10 +169,10 @@ module _ (r : Run) (t : ℕ) (b : State) (farm : FarmMemory) (j : JournalMemory)
       let h = histories_at r b.done t in
       let follows = end.follows in
       same_report report.replies _ report.spans _ report.calls _ report.failed report.left _ (reports.replies ∙ ap (numbered 0) done_is)
-      (reports.whole h (given_in r) r.periods follows.stands (all_told now told none)
-      ∙ ap (λ (k : JournalMemory). span_lines (spans_of (given_in r) r.periods now.done) (settled_each tally k.ends k).bridges) noted
-      ∙ ap (λ (ds : List Done). span_lines (spans_of (given_in r) r.periods ds) (settled_each tally (j.ends ++ last) (with_ends last j)).bridges) done_is
-      ∙ spans_reported r t b.done b.left (with_ends last j) tally so all (noted_last rising))
+      (reports.whole (given_in r) r.periods (all_told now told none)
+      ∙ ap (λ (k : JournalMemory). span_lines (sent_in_table reports.sent) (spans_of (given_in r) r.periods now.done) k.bridges) noted
+      ∙ ap (λ (ds : List Done). span_lines (sent_in_table reports.sent) (spans_of (given_in r) r.periods ds) j.bridges) done_is
+      ∙ spans_reported r t b.done b.left (with_ends last j) tally so all (noted_last rising) (sent_in_table reports.sent) (reports.sent_is h follows.stands))
       (calls_reported r b.done (with_ends last j) tally report.calls all (noted_last rising) reports.sorted
       (subst (λ (k : JournalMemory). IsPermutation (map (call_line k.calls tally) k.ends) report.calls) noted (reports.calls h follows.stands)) 4096 numbers)
       (reports.left ∙ rest)
@@ -187,7 +185,7 @@ module _ (r : Run) (t : ℕ) (b : State) (farm : FarmMemory) (j : JournalMemory)
       all = all_done r t b.done b.left so end.none_left
 
       numbers : (c : ℕ) → is_opened b.done c ≡ true → (1 ≤ c) × (c < 1 + 4096)
-      numbers c o = let noted = end.noted in let places = noted.places in let k = places.numbers c o in (k.0, let most = k.1 in omega arith)
+      numbers c o = let noted = end.noted in let calls = noted.calls in let k = calls.numbers c o in (k.0, let most = k.1 in omega arith)
 
       rest : length r.orders - length now.done ≡ length b.left
       rest =

@@ -1,7 +1,7 @@
 use Rattle.std.proofs.Common.{◌≡◌, ap, ◌∙◌, sym, subst, ℕ}
 use Rattle.switchboard.specs.declared.act.Act.{Act}
 use Rattle.farm_rounds.specs.declared.tally.Tally.{Tally}
-use Rattle.farm_run.specs.Journal.{JournalMemory, ClosesOnce, ends_noted, noted_by, with_bridge_noted, settled}
+use Rattle.farm_run.specs.Journal.{JournalMemory, ClosesOnce, ends_noted, noted_by, with_bridge_noted}
 use Rattle.farm_run.specs.Match.{AreNumbers}
 use Rattle.farm_run.specs.Facts.{kept_in}
 use Rattle.farm_run.proofs.Reported.Reporting.{kept_value}
@@ -32,7 +32,6 @@ returns-in-Bridged-clause-noted c = λ h g.
     let sent_b : c.sent-in-Bridged.result ≡ (kept_in farm.tallies h b).sent =
     kept_value (λ (t : Tally). t.sent) h farm.calls farm.tallies b c.sent-in-Bridged.result g
     (λ x. c.sent-in-Bridged.ensures.live h x g) c.sent-in-Bridged.ensures.ended in
-    c.bridge.ensures ∙ ap (with_bridge_noted a b) (c.settle-in-Bridged.ensures
-    ∙ ap (settled b c.sent-in-Bridged.result) (c.settle.ensures ∙ ap (λ (v : ℕ). settled a v start) sent_a)
-    ∙ ap (λ (v : ℕ). settled b v (settled a (kept_in farm.tallies h a).sent start)) sent_b)
+    c.bridge.ensures ∙ ap (λ (v : ℕ). with_bridge_noted v c.sent-in-Bridged.result start) sent_a
+    ∙ ap (λ (v : ℕ). with_bridge_noted (kept_in farm.tallies h a).sent v start) sent_b
     ∙ ap (λ (x : Act). noted_by x c.args.period (λ d. (kept_in farm.tallies h d).sent) start) (sym c.in-Bridged.is)

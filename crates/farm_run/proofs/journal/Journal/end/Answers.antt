@@ -17,8 +17,7 @@ push_reserved-requires c =
 
 pub invariant_of-self : goal.invariant_of-self
 invariant_of-self c = (
-  journal-ended c.self.inside.calls.items c.self.inside.ends.items c.push_reserved.new.self.items c.self.inside.bridges.items c.args.end
-      c.self.invariant.0 c.requires.number
+  journal-ended c.self.inside.calls.items c.self.inside.ends.items c.push_reserved.new.self.items c.args.end c.self.invariant.0 c.requires.number
       (ap (λ (j : JournalMemory). is_told c.args.end.call j.ends) c.self.view_is ∙ c.requires.new) c.push_reserved.ensures.items,
   omega (arith, c.push_reserved.ensures.capacity, c.self.invariant.1),
   c.self.invariant.2,

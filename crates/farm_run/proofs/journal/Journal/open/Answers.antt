@@ -8,7 +8,7 @@ index_mut-requires c = omega (arith, c.self.inside.calls.ok.0, c.self.invariant.
 
 pub invariant_of-self : goal.invariant_of-self
 invariant_of-self c = (
-  journal-opened c.self.inside.calls.items c.self.inside.ends.items c.self.inside.bridges.items c.args.call c.args.period c.self.invariant.0 c.requires,
+  journal-opened c.self.inside.calls.items c.self.inside.ends.items c.args.call c.args.period c.self.invariant.0,
   c.self.invariant.1,
   c.self.invariant.2,
 )
