@@ -34,8 +34,8 @@
  *     TRAU_FR_DESCRIPTOR  A silence descriptor. From now on there is comfort noise, made of it.
  *     TRAU_FR_LOST        Nothing, or nothing that can be used: the last good frame again, then muted more in each period, and from
  *                         the 17th on silence; after a descriptor, more of the noise. So are all other numbers, and a frame of the
- *                         first two kinds whose octets don't begin with 1101. The octets aren't used: any 33 will do.
- *     TRAU_FR_IDLE        The idle frame of a TRAU line: there is no call. The octets aren't used.
+ *                         first two kinds whose octets don't begin with 1101. The octets aren't heard: any 33 will do.
+ *     TRAU_FR_IDLE        The idle frame of a TRAU line: there is no call. The octets aren't heard.
  *
  *   - RTP and .gsm files don't mark descriptors: trau_fr_kind finds them by their code word. It says TRAU_FR_LOST if 2 to 15 of its
  *     bits are wrong, as on the radio. A frame of speech can be so by chance, which is rare.
@@ -47,7 +47,9 @@
  *     false then and writes zeros, the idle octet of both laws; the decoder is in its reset state. If what you send is to be what
  *     `trau run` writes to Down, take a new trau_fr_sender_home() in each quiet period, and send an idle frame.
  *   - Don't say idle for silence on a network: it resets the decoder.
- *   - In a bridge, call trau_fr_hand in place of trau_fr_receive: it gives the frame that goes on to the partner, not decoded.
+ *   - In a bridge, call trau_fr_hand in place of trau_fr_receive: it gives the frame that goes on to the partner, not decoded. It goes
+ *     on as TRAU_FR_SPEECH whatever it is, comfort noise and silence too; ask trau_fr_kind nothing. If what you send is to be what
+ *     `trau run` writes, take a new trau_fr_sender_home() in each period of a bridge as well, on both sides.
  *
  *   A host for RTP, behind a jitter buffer that gives 33 octets or null:
  *
@@ -247,12 +249,13 @@ struct trau_fr_sender trau_fr_sender_home(void);
 /* The next period, and the 33 octets that are sent for it: true for speech, false for a silence descriptor. A frame is speech if its
  * peak, the greatest magnitude of its samples after preprocessing, isn't below the level (at 0 or less each one is), or if dtx is
  * false. All others are a pause. Its first four frames are sent as they are, with true; or if one of the 23 frames before the pause
- * made a new descriptor, the last descriptor again. From the fifth frame on each makes a new one. */
+ * made a new descriptor, the last descriptor again, with false. From the fifth frame on each makes a new one, with false. */
 bool trau_fr_send(struct trau_fr_sender *sender, const int16_t samples[160], int16_t level, bool dtx, uint8_t frame[33]);
 
 /* The 40 octets on the uplink of a TRAU line (GSM 08.60) for what a period brought, in which `trau run` hears what trau_fr_receive
- * hears: alignment field 0, DTXd 0, spare and time bits 1. An unknown kind, and a frame of the first two kinds that doesn't begin
- * with 1101, is an unusable frame; its data bits are those of the frame, or zeros if it doesn't begin so. */
+ * hears: alignment field 0, DTXd 0, spare and time bits 1. TRAU_FR_LOST, an unknown kind, and a frame of the first two kinds
+ * that doesn't begin with 1101, is an unusable frame; its data bits are those of the frame, or zeros if it doesn't begin so.
+ * TRAU_FR_IDLE is an idle frame, with data bits of ones. */
 void trau_fr_write_uplink(const uint8_t frame[33], uint32_t kind, bool taf, uint8_t octets[40]);
 
 /* What 40 octets of an uplink bring, for trau_fr_receive. An invalid descriptor, and any pattern of C1 to C5 but speech and idle, is
