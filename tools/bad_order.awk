@@ -1,6 +1,6 @@
-# Prints the number of the first line of orders that isn't in their grammar (docs/OPERATORS.md), or nothing. With -v marked=1 the lines up to
-# `orders` are a mark, and aren't counted. The script trau asks, to say beforehand why the program will refuse a text; orders.py check has
-# all reasons.
+# Prints `line N` of the first line of orders that isn't in their grammar (docs/OPERATORS.md), or nothing. With -v marked=1 the lines up to
+# `orders` are a mark, which aren't counted: then `mark line N` names a bad one of these (docs/FILES.md). The script trau asks, to say
+# beforehand why the program will refuse a text; orders.py check has the reasons, and what lacks at the text's end.
 
 BEGIN { FS = "[ ]" }
 
@@ -20,15 +20,32 @@ function has_words() {
     return $2 == "dtx" && NF == 4 && ($4 == "on" || $4 == "off" || $4 == "uplink")
 }
 
-marked {
-    if ($0 == "orders") marked = 0
+function is_of_a_mark() {
+    if (NR == 1) {
+        period = $2
+        return NF == 2 && $1 == "save" && is_number($2, 1, 4294967295)
+    }
+    if (NF != 8 || $1 != "call" || $3 != "from" || $5 != "out" || $7 != "down") return 0
+    if (!is_call($2) || $2 + 0 <= call_before + 0) return 0
+    call_before = $2
+    return is_number($4, 0, period - 1) && is_number($6, 0, 4294967295) && is_number($8, 0, 4294967295)
+}
+
+marked && NR > 1 && $0 == "orders" {
+    marked = 0
     next
+}
+
+marked {
+    if (is_of_a_mark()) next
+    print "mark line " NR
+    exit
 }
 
 {
     count++
     if (!is_number($1, stamp + 0, 4294967294) || !is_call($3) || !has_words()) {
-        print count
+        print "line " count
         exit
     }
     stamp = $1

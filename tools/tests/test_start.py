@@ -20,6 +20,7 @@ from pathlib import Path
 from unittest import mock
 
 from support import EXAMPLES, HAS_LOCKS, PLAIN_PATH, TOP, InFolder, put_python
+from test_orders import MARK_FAULTS
 
 import build
 import build_for
@@ -827,6 +828,8 @@ class BadOrders(Started):
         self.assertEqual(self.run_of(b"0 open 1\n5 open  2\nx", "save", "--periods", "5")[2], said)
         marked = said.replace("check says", "check --mark says")
         self.assertEqual(self.run_of(b"save 5\ncall 1 from 0 out 1 down 1\norders\n0 open 1\n5 open  2\n", "resume")[2], marked)
+        said = "trau: line 1 of the mark: period 05: a leading zero; tools/orders.py check --mark says what is wrong with each line\n"
+        self.assertEqual(self.run_of(b"save 05\norders\n0 open  1\n", "resume")[2], said)
         self.assertEqual(self.run_of(b"x\n", "relay", "7")[2], "")
         self.assertEqual(self.run_of(b"0 open 1", "run"), (0, "the program: run\n", ""))
         self.assertEqual(self.run_of(b"", "run")[2], "")
@@ -854,11 +857,15 @@ class BadOrders(Started):
         ended = subprocess.run(["sh", "-c", script], **how)
         self.assertEqual((ended.stdout, ended.stderr), (2 * "the program: run\n", ""))
 
-    def test_the_line_is_that_of_the_checker(self):
+
+class FirstBadLine(unittest.TestCase):
+    """The line that tools/bad_order.awk names is that of orders.py check."""
+
+    def test_of_orders(self):
         chance = random.Random(1)
         words = ["open", "close", "bridge", "unbridge", "level", "dtx", "on", "uplink", "mulaw", "0", "5", "4096", "4097", "32768", "07", "", "\t", "x\r"]
         good = ["0 open 1", "0 open 2 mulaw", "0 dtx 1 on", "0 level 2 32767", "3 bridge 1 2", "4 unbridge 2", "4294967294 close 1"]
-        for _ in range(300):
+        for _ in range(100):
             lines = list(good)
             for _ in range(chance.randrange(3)):
                 at = chance.randrange(len(lines))
@@ -868,7 +875,20 @@ class BadOrders(Started):
             text = "\n".join(lines).encode()
             ran = subprocess.run(["awk", "-f", TOP / "tools" / "bad_order.awk"], input=text, capture_output=True, check=True)
             bad = min(orders.Text.read(text).faults, default=None)
-            self.assertEqual(ran.stdout.decode().strip(), "" if bad is None else str(bad), text)
+            self.assertEqual(ran.stdout.decode().strip(), "" if bad is None else f"line {bad}", text)
+
+    def bad_of(self, text):
+        """What is bad of a mark and orders."""
+        words = ["awk", "-v", "marked=1", "-f", TOP / "tools" / "bad_order.awk"]
+        return subprocess.run(words, input=text, capture_output=True, check=True).stdout.decode().strip()
+
+    def test_of_a_mark(self):
+        for line, text, said in MARK_FAULTS:
+            # What lacks at the text's end it doesn't say.
+            seen = "the text ends" not in said and "no line feed" not in said and text
+            self.assertEqual(self.bad_of(text), f"mark line {line}" if seen else "", text)
+        good = b"save 60\ncall 1 from 0 out 4294967295 down 0\ncall 4096 from 59 out 1 down 1\norders\n"
+        self.assertEqual((self.bad_of(good), self.bad_of(good + b"0 open 1\n1 open 0\n")), ("", "line 2"))
 
 
 @unittest.skipUnless(HAS_LOCKS, "there is no flock, or temporary files have no locks")
