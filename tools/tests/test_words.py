@@ -18,6 +18,7 @@ DOCS = TOP / "docs"
 # The most words that pages may have, together where several stand in a row.
 MOST_WORDS = (
     (1100, ["README.md"]),
+    (4500, ["docs/ARCHITECTURE.md"]),
     (6000, ["docs/COMMANDS.md", "docs/commands/*.md"]),
     (3000, ["docs/PERFORMANCE.md"]),
     (1000, ["bench/README.md"]),
