@@ -20,6 +20,7 @@ MOST_WORDS = (
     (1100, ["README.md"]),
     (4500, ["docs/ARCHITECTURE.md"]),
     (6000, ["docs/COMMANDS.md", "docs/commands/*.md"]),
+    (3500, ["docs/DEVELOPERS.md"]),
     (3000, ["docs/PERFORMANCE.md"]),
     (1000, ["bench/README.md"]),
 )
