@@ -1,0 +1,160 @@
+"""A call, a period at a time: what the base station sends is heard, and what goes out to both sides is made.
+
+What is decided here is what is recorded: one frame of Up and 160 octets of Pcm a period, whatever the network did.
+"""
+
+from __future__ import annotations
+
+from collections import Counter
+from functools import lru_cache
+from typing import Callable, NamedTuple, Optional, Tuple
+
+import rtp
+import trau_fr
+from incoming import Incoming
+from jitter_buffer import Content, JitterBuffer
+from rtp import SAMPLES
+from settings import Settings
+from trau_fr import OCTETS, Kind
+
+DESCRIPTOR_EACH = 24  # periods of a pause (GSM 06.31)
+SOFT = 256  # samples below it are a pause of a line, for the jitter buffer alone
+STILL_AFTER = 250  # periods without a packet, 5 s
+SILENCE = trau_fr.Receiver().hand(None)  # a receiver that is quiet hands over the frame of silence
+NO_FRAME = bytes(OCTETS)
+
+Send = Callable[[bytes], None]
+
+
+class Heard(NamedTuple):
+    """A period of the uplink: its frame on Up, the octets of Out, and the frame that goes to the partner of a bridge."""
+
+    up: bytes
+    out: bytes
+    handed: bytes
+    is_quiet: bool
+
+
+@lru_cache(maxsize=None)
+def soft_octets(law: str) -> bytes:
+    """The octets of a line's soft samples."""
+    octets = bytes(range(256))
+    return bytes(octet for octet, sample in zip(octets, trau_fr.expand(octets, law)) if abs(sample) < SOFT)
+
+
+def is_no_frame(content: Content) -> bool:
+    """Whether the base station sends nothing in this period."""
+    return content is None
+
+
+def idle_line(law: str) -> bytes:
+    """A period of an idle line."""
+    return trau_fr.compress(bytes(2 * SAMPLES), law)
+
+
+def buffers(settings: Settings) -> Tuple[Incoming, Incoming]:
+    """The two incoming streams of a call, from the base station and from the exchange."""
+    soft = soft_octets(settings.law)
+    from_station = JitterBuffer(settings.depth, NO_FRAME, is_no_frame)
+    from_exchange = JitterBuffer(settings.depth, idle_line(settings.law), lambda content: not (content or b"").translate(None, soft))
+    kind = rtp.ALAW if settings.law == "alaw" else rtp.MULAW
+    return Incoming(rtp.GSM, OCTETS, from_station), Incoming(kind, 0, from_exchange)
+
+
+class Call:
+    """One phone call. `hear` and then `speak` are called once a period; in a bridge both calls hear before one speaks."""
+
+    def __init__(self, settings: Settings, start: int) -> None:
+        self.number, self.law, self.start = settings.number, settings.law, start
+        self.level, self.dtx, self.is_to_prime = settings.level, settings.dtx, settings.prime
+        self.idle = idle_line(self.law)
+        self.receiver, self.sender = trau_fr.Receiver(self.number), trau_fr.Sender()
+        self.gsm, self.pcm = buffers(settings)
+        self.to_gsm, self.to_pcm = rtp.Outgoing(rtp.GSM), rtp.Outgoing(self.pcm.kind)
+        self.since_descriptor: Optional[int] = None  # periods, while comfort noise goes on
+        self.pause: Optional[int] = None  # descriptors that the sender has made in a row
+        self.partner: Optional[Call] = None
+        self.parted: Optional[int] = None  # the period at which its last bridge ended
+        self.counts: Counter[str] = Counter()
+
+    def frame_of(self, period: int) -> Optional[bytes]:
+        """The frame that the base station brought for a period. `prime`: the first period has a good frame of silence."""
+        frame = self.gsm.buffer.take(period)
+        if self.is_to_prime:
+            self.is_to_prime = False
+            frame = frame or SILENCE
+        if frame is not None and frame[0] >> 4 != 0xD:
+            self.counts["not-gsm"] += 1
+            return None
+        return frame
+
+    def kind_of(self, frame: Optional[bytes]) -> Tuple[Kind, bool]:
+        """What a period brought, and its TAF. RTP has no TAF: a descriptor was due in each 24th period after the last one."""
+        kind = Kind.LOST if frame is None else trau_fr.kind_of(frame)
+        if kind == Kind.SPEECH:
+            self.since_descriptor = None
+        elif kind == Kind.DESCRIPTOR:
+            self.since_descriptor = 0
+        elif self.since_descriptor is not None:
+            self.since_descriptor += 1
+        is_due = self.since_descriptor is not None and self.since_descriptor % DESCRIPTOR_EACH == 0
+        self.counts["invalid" if frame is not None and kind == Kind.LOST else kind.name.lower()] += 1
+        return kind, is_due and frame is None
+
+    def hear(self, period: int) -> None:
+        """The uplink of a period."""
+        frame = self.frame_of(period)
+        kind, taf = self.kind_of(frame)
+        up = trau_fr.write_uplink(frame, kind, taf)
+        if self.partner:
+            handed = self.receiver.hand(frame, kind, taf)
+            self.heard = Heard(up, self.idle, handed, True)
+        else:
+            samples = self.receiver.receive(frame, kind, taf)
+            self.heard = Heard(up, trau_fr.compress(samples, self.law), b"", self.receiver.quiet)
+
+    def speak(self, period: int, send_gsm: Send, send_pcm: Send) -> Tuple[bytes, bytes, bytes, bytes]:
+        """The downlink of a period, after `hear`; sends both ways. The result is the period of Up, Pcm, Down and Out."""
+        pcm = self.pcm.buffer.take(period)
+        if pcm is None:
+            self.counts["no-pcm"] += 1
+            pcm = self.idle
+        send_pcm(self.to_pcm.packet(period, self.heard.out))
+        down = self.answer(period, send_gsm) if self.heard.is_quiet else self.encode(period, pcm, send_gsm)
+        return self.heard.up, pcm, down, self.heard.out
+
+    def answer(self, period: int, send_gsm: Send) -> bytes:
+        """The downlink of a bridge, or of a quiet call: an idle frame, and nothing is sent. The sender is at home in both."""
+        self.sender, self.pause = trau_fr.Sender(), None
+        if self.partner is None:
+            self.to_gsm.after_gap = True
+            return trau_fr.write_downlink(None, Kind.IDLE)
+        handed = self.partner.heard.handed
+        send_gsm(self.to_gsm.packet(period, handed))
+        return trau_fr.write_downlink(handed, Kind.SPEECH)
+
+    def encode(self, period: int, pcm: bytes, send_gsm: Send) -> bytes:
+        """The downlink of what the exchange says. In a pause a descriptor is sent at its beginning and in each 24th period."""
+        frame = self.sender.send(trau_fr.expand(pcm, self.law), self.level, self.dtx)
+        self.pause = None if frame.speech else 0 if self.pause is None else self.pause + 1
+        if frame.speech or self.pause % DESCRIPTOR_EACH == 0:
+            send_gsm(self.to_gsm.packet(period, frame.octets))
+        if not frame.speech:
+            self.to_gsm.after_gap = True
+        return trau_fr.write_downlink(frame.octets, Kind.SPEECH if frame.speech else Kind.DESCRIPTOR)
+
+    def give_up(self, periods: int, tick: int) -> None:
+        """The clock has given up time."""
+        for incoming in (self.gsm, self.pcm):
+            incoming.give_up(periods, tick)
+        for outgoing in (self.to_gsm, self.to_pcm):
+            outgoing.give_up(periods)
+
+    def summary(self, end: int) -> str:
+        """The counts of a call that ends."""
+        words = [f"call {self.number} from {self.start} to {end}"]
+        words += [f"{name} {count}" for name, count in sorted(self.counts.items())]
+        for side, incoming in (("gsm", self.gsm), ("pcm", self.pcm)):
+            counts = incoming.counts + incoming.buffer.counts
+            words += [f"{side}-{name} {count}" for name, count in sorted(counts.items())]
+        return " ".join(words)

@@ -1,0 +1,48 @@
+"""The gateway's clock: a tick every 20 ms for each call, in four phases of 5 ms, so that not all packets leave at once."""
+
+from __future__ import annotations
+
+import time
+from typing import Callable, Iterator, NamedTuple
+
+PHASES = 4
+PERIOD = 20_000_000  # nanoseconds
+PHASE = PERIOD // PHASES
+MOST_LATE = 1_000_000_000  # that is made up for; time beyond it is given up
+
+
+class Turn(NamedTuple):
+    """A tick of the calls of one phase: its period, how many periods late it is, and how many were given up just now."""
+
+    period: int
+    phase: int
+    behind: int
+    given_up: int
+
+
+class Clock:
+    """Turn n is due at start + 5 ms n. Late turns follow one another until they are in time again."""
+
+    def __init__(
+        self, now: Callable[[], int] = time.monotonic_ns, sleep: Callable[[int], None] = lambda wait: time.sleep(wait / 1e9)
+    ) -> None:
+        """A turned clock, as tests have it, gives its own time and its own waiting, both in nanoseconds."""
+        self.now, self.sleep = now, sleep
+        self.late = self.latest = self.given_up = 0  # turns late by more than a period; nanoseconds; periods
+
+    def turns(self) -> Iterator[Turn]:
+        """The turns without end."""
+        start, number = self.now(), 0
+        while True:
+            due = start + number * PHASE
+            wait = due - self.now()
+            if wait > 0:
+                self.sleep(wait)
+            late = max(0, self.now() - due)
+            given_up = late // PERIOD if late > MOST_LATE else 0
+            start += given_up * PERIOD
+            self.given_up += given_up
+            self.late += late > PERIOD
+            self.latest = max(self.latest, late)
+            yield Turn(number // PHASES, number % PHASES, late // PERIOD - given_up, given_up)
+            number += 1

@@ -1,0 +1,168 @@
+"""The check of a recording: `trau run` makes its outgoing lines again in another folder, and they are compared octet for octet.
+
+A kill or a full disk may have cut lines anywhere. Then only whole periods count, and all calls end at one period, since a bridge would
+else end elsewhere.
+"""
+
+from __future__ import annotations
+
+import os
+import shutil
+import subprocess
+import tempfile
+from dataclasses import dataclass
+from pathlib import Path
+from typing import Dict, List, Optional
+
+import listening
+from run_texts import INCOMING, OCTETS_OF_SIDE, OUTGOING, SIDES, Order, orders_of, report_of, whole_periods
+from tool_ends import naming
+from trau_frames import Refusal
+
+CHUNK = 1 << 20
+
+
+@dataclass
+class Recorded:
+    """A call of a recording: the periods at which it begins and is closed, and how many periods all its lines have."""
+
+    number: int
+    start: int
+    closed: Optional[int]
+    whole: int
+
+    def end(self) -> int:
+        """The period at which it ends as far as its lines tell."""
+        return self.start + self.whole
+
+    def is_cut(self) -> bool:
+        """Whether it isn't closed, or its lines end before."""
+        return self.closed is None or self.end() < self.closed
+
+
+def whole_orders(folder: Path) -> List[Order]:
+    """The orders of a recording, without a last one that was cut."""
+    path = folder / "orders.txt"
+    with naming(path):
+        content = path.read_bytes()
+    return orders_of(path, content[: content.rfind(b"\n") + 1])
+
+
+def calls_of(folder: Path, orders: List[Order]) -> List[Recorded]:
+    """The calls that the orders open."""
+    closed = {order.calls[0]: order.stamp for order in orders if order.verb == "close"}
+    return [
+        Recorded(
+            order.calls[0],
+            order.stamp,
+            closed.get(order.calls[0]),
+            min(whole_periods(folder, order.calls[0], side) for side in SIDES),
+        )
+        for order in orders
+        if order.verb == "open"
+    ]
+
+
+def end_of(calls: List[Recorded]) -> Optional[int]:
+    """The period at which the comparison ends for all calls, or None if no call is cut."""
+    return min((call.end() for call in calls if call.is_cut()), default=None)
+
+
+def from_here() -> Dict[str, str]:
+    """The environment for a program that is started in another folder. The word `model` in TRAU_PROGRAM is no path."""
+    return dict(os.environ) if os.environ.get("TRAU_PROGRAM") == "model" else listening.from_here()
+
+
+def lay(folder: Path, again: Path, calls: List[Recorded]) -> None:
+    """Puts links to the incoming lines into the folder of the replay, which may be on another disk."""
+    for call in calls:
+        for side in INCOMING:
+            line = folder / f"{call.number}.{side}"
+            if line.exists():
+                (again / line.name).symlink_to(line.resolve())
+
+
+def replayed(program: str, again: Path, orders: List[Order], end: Optional[int]) -> str:
+    """Runs the orders in the folder of the replay; the result is empty, or what was wrong with the run."""
+    words = [program, "run"] + ([] if end is None else ["--periods", str(end)])
+    given = "".join(f"{order.line()}\n" for order in orders).encode()
+    (again / "orders.txt").write_bytes(given)
+    try:
+        ran = subprocess.run(words, cwd=again, input=given, stdout=subprocess.PIPE, env=from_here())
+    except OSError as failure:
+        raise Refusal(f"{program}: {failure.strerror}") from None
+    report = again / "report.txt"
+    report.write_bytes(ran.stdout)
+    if ran.returncode:
+        return f"{program} run ended with status {ran.returncode}: {ran.stdout[:200].decode(errors='replace').strip()}"
+    replies = report_of(report, ran.stdout).replies
+    refused = next((order for order, reply in zip(orders, replies) if reply.refusal), None)
+    return f"the run refused the order {refused.line()}" if refused else ""
+
+
+def first_difference(one: Path, other: Path, octets: int) -> Optional[int]:
+    """The first octet at which a file with this many octets differs from the beginning of the recorded line."""
+    if octets == 0:
+        return None
+    at = 0
+    with open(one, "rb") as recorded, open(other, "rb") as made:
+        while at < octets:
+            first, second = recorded.read(min(CHUNK, octets - at)), made.read(min(CHUNK, octets - at))
+            if first != second:
+                pairs = zip(first, second)
+                return at + next((k for k, (a, b) in enumerate(pairs) if a != b), min(len(first), len(second)))
+            at += len(first)
+        return at if made.read(1) else None
+
+
+def compared(folder: Path, again: Path, call: Recorded, end: Optional[int]) -> str:
+    """What is said of a call: its periods, and where a line differs."""
+    last = call.end() if call.closed is None else call.closed
+    periods = max(0, (last if end is None else min(last, end)) - call.start)
+    for side in OUTGOING:
+        size = OCTETS_OF_SIDE[side]
+        name = f"{call.number}.{side}"
+        at = first_difference(folder / name, again / name, size * periods)
+        if at is not None:
+            return f"call {call.number} periods {periods} {side} differs in period {at // size}, octet {at}"
+    return f"call {call.number} periods {periods} equal"
+
+
+def replay_in(folder: Path, again: Path, program: str) -> bool:
+    """Replays and compares in this folder; the result is whether all is equal."""
+    orders = whole_orders(folder)
+    calls = calls_of(folder, orders)
+    end = end_of(calls)
+    if end is not None:
+        print(f"cut at period {end}")
+    if end == 0 or not calls:
+        print("calls 0 differ 0")
+        return True
+    lay(folder, again, calls)
+    wrong = replayed(program, again, orders, end)
+    if wrong:
+        print(wrong)
+        return False
+    lines = [compared(folder, again, call, end) for call in calls]
+    differ = sum(not line.endswith(" equal") for line in lines)
+    print(*lines, f"calls {len(calls)} differ {differ}", sep="\n")
+    return differ == 0
+
+
+def check(folder: Path, trau: Optional[str], again: Optional[Path]) -> int:
+    """Checks a recording. Status 0 if all is equal, 1 if not."""
+    program = listening.program_named(trau) if trau else listening.program_beside()
+    if again:
+        with naming(again):
+            again.mkdir(parents=True)
+    made = again or Path(tempfile.mkdtemp(prefix="trau-gateway-"))
+    is_kept = again is not None
+    try:
+        is_equal = replay_in(folder, made, program)
+        is_kept = is_kept or not is_equal
+    finally:
+        if not is_kept:
+            shutil.rmtree(made, ignore_errors=True)
+    if not is_equal:
+        print(f"the replay is in {made}")
+    return 0 if is_equal else 1

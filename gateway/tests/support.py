@@ -1,0 +1,201 @@
+"""What the tests of the gateway share: speech, and a gateway on a clock that the test turns, with a network of packets at given times."""
+
+from __future__ import annotations
+
+import contextlib
+import heapq
+import io
+import os
+import sys
+import tempfile
+import unittest
+from collections import defaultdict
+from pathlib import Path
+from typing import Callable, Dict, Iterable, List, Tuple
+
+GATEWAY = Path(__file__).resolve().parents[1]
+TOP = GATEWAY.parent
+sys.path.insert(0, str(GATEWAY))
+
+import beside
+import replay
+import trau_fr
+from clock import Clock
+from incoming import Incoming
+from live import Commands, Gateway
+from network import Endpoint
+from recorder import Recorder
+from settings import Address, Side
+from spoiler import Sent
+from switchboard import Switchboard
+
+# The program that replays; ./trau alone would prove and build one.
+PROGRAM = os.environ.get("TRAU_PROGRAM")
+with_program = unittest.skipUnless(PROGRAM, "TRAU_PROGRAM names no program")
+
+FRAMES = 33
+PERIOD = 160
+
+
+def cut(data: bytes, size: int) -> List[bytes]:
+    """The whole parts of this size."""
+    return [data[at : at + size] for at in range(0, len(data) - size + 1, size)]
+
+
+# Speech of an exchange, and the same as a base station sends it.
+LINE = cut((TOP / "checks/vectors/speech-en-m3.pcm").read_bytes(), PERIOD)
+SPEECH = cut(trau_fr.Encoder().encode(trau_fr.expand(b"".join(LINE))), FRAMES)
+
+
+def repeated(contents: List[bytes], periods: int, first: int = 0) -> List[bytes]:
+    """This number of periods of a recording, again and again, from its period `first` on."""
+    return [contents[(first + k) % len(contents)] for k in range(periods)]
+
+
+class TurnedClock:
+    """Time that passes only where the gateway waits."""
+
+    def __init__(self) -> None:
+        self.time = 0
+        self.clock = Clock(lambda: self.time, self.sleep)
+
+    def sleep(self, wait: int) -> None:
+        """Time passes."""
+        self.time += wait
+
+
+class TurnedEndpoint(Endpoint):
+    """An endpoint without a socket."""
+
+    def __init__(self, side: Side, is_strict: bool, incoming: Incoming) -> None:
+        super().__init__(side, is_strict, incoming)
+        self.address = side.port
+        self.sent: List[bytes] = []
+
+    def count_control(self) -> None:
+        """As SocketEndpoint.count_control."""
+
+    def send(self, datagram: bytes) -> None:
+        """Keeps what is sent."""
+        self.sent.append(datagram)
+
+
+class TurnedNetwork:
+    """Packets that come at given times, to endpoints by their ports."""
+
+    def __init__(self, clock: TurnedClock) -> None:
+        self.clock = clock
+        self.phases: Dict[int, int] = {}
+        self.endpoints: Dict[int, TurnedEndpoint] = {}
+        self.coming: Dict[int, List[Tuple[int, int, bytes, Address]]] = defaultdict(list)
+        self.count = 0
+
+    def bring(self, port: int, sender: Address, packets: Iterable[Sent]) -> None:
+        """Packets that come to a port."""
+        for time, packet in packets:
+            self.count += 1
+            heapq.heappush(self.coming[port], (time, self.count, packet, sender))
+
+    def open(self, side: Side, is_strict: bool, incoming: Incoming, phase: int) -> TurnedEndpoint:
+        """As Network.open."""
+        self.endpoints[side.port], self.phases[side.port] = TurnedEndpoint(side, is_strict, incoming), phase
+        return self.endpoints[side.port]
+
+    def move(self, endpoint: TurnedEndpoint, old: int, new: int) -> None:
+        """As Network.move."""
+        assert self.phases[endpoint.address] == old
+        self.phases[endpoint.address] = new
+
+    def close(self, endpoint: TurnedEndpoint, phase: int) -> None:
+        """As Network.close."""
+        assert self.phases.pop(endpoint.address) == phase
+
+    def read(self, phase: int, tick: int, behind: int) -> None:
+        """As Network.read."""
+        for port in [port for port, each in self.phases.items() if each == phase]:
+            queue = self.coming[port]
+            while queue and queue[0][0] <= self.clock.time:
+                _, _, packet, sender = heapq.heappop(queue)
+                self.endpoints[port].arrived(packet, sender, tick, behind)
+
+
+class GivenCommands(Commands):
+    """Lines at given periods."""
+
+    def __init__(self, lines: Dict[int, List[str]]) -> None:
+        super().__init__(None)
+        self.given, self.period = lines, 0
+
+    def taken(self) -> List[str]:
+        """The lines of the next period."""
+        self.period += 1
+        return self.given.get(self.period - 1, [])
+
+
+def ports_of(call: int) -> Tuple[int, int]:
+    """The gateway's ports of a call, from the base station and from the exchange; the peers' are the next ones."""
+    return 10000 + 4 * call, 10002 + 4 * call
+
+
+def open_line(call: int, words: str = "") -> str:
+    """The line that opens a call."""
+    gsm, pcm = ports_of(call)
+    return f"open {call} gsm {gsm} 127.0.0.1:{gsm + 1} pcm {pcm} 127.0.0.1:{pcm + 1} {words}".strip()
+
+
+class Turned:
+    """A gateway on a turned clock."""
+
+    def __init__(self, folder: Path, every: int = 1) -> None:
+        self.said: List[str] = []
+        self.time = TurnedClock()
+        self.network = TurnedNetwork(self.time)
+        self.recorder = Recorder(folder, every, self.said.append)
+        self.board = Switchboard(self.network, self.recorder, 100, self.said.append)
+
+    def bring(self, call: int, from_station: Iterable[Sent] = (), from_exchange: Iterable[Sent] = ()) -> None:
+        """Packets that come to a call from its peers."""
+        for port, packets in zip(ports_of(call), (from_station, from_exchange)):
+            self.network.bring(port, ("127.0.0.1", port + 1), packets)
+
+    def sent(self, call: int) -> Tuple[List[bytes], List[bytes]]:
+        """What went out to both sides of a call."""
+        return tuple(self.network.endpoints[port].sent for port in ports_of(call))
+
+    def run(self, lines: Dict[int, List[str]], periods: int) -> List[str]:
+        """Runs the lines at their periods; the result is what the gateway said."""
+        gateway = Gateway(self.board, self.time.clock, GivenCommands(lines), self.said.append)
+        gateway.run(periods)
+        return self.said
+
+
+class InFolder(unittest.TestCase):
+    """A test with an empty folder of its own."""
+
+    def setUp(self) -> None:
+        folder = tempfile.TemporaryDirectory()
+        self.addCleanup(folder.cleanup)
+        self.folder = Path(folder.name).resolve()
+
+    def checked(self, folder: Path) -> Tuple[int, List[str]]:
+        """The status of the check of a recording, and what it prints."""
+        out = io.StringIO()
+        with contextlib.redirect_stdout(out):
+            status = replay.check(folder, PROGRAM, None)
+        return status, out.getvalue().splitlines()
+
+    def assert_replays(self, folder: Path) -> List[str]:
+        """A run makes the lines of the recording again."""
+        status, lines = self.checked(folder)
+        self.assertEqual(status, 0, lines)
+        return lines
+
+    def run_tool(self, main: Callable[[List[str]], int], words: List[str]) -> Tuple[int, str, str]:
+        """The status of a tool, and what it said on standard output and standard error."""
+        out, err = io.StringIO(), io.StringIO()
+        with contextlib.redirect_stdout(out), contextlib.redirect_stderr(err):
+            try:
+                status = main(words)
+            except SystemExit as end:
+                status = end.code
+        return status, out.getvalue(), err.getvalue()

@@ -1,0 +1,137 @@
+"""The gateway with sockets of its own, for some seconds: how it starts and ends, kills, a full disk, bridges, hostile packets. All that is
+compared is a recording with its replay, so a slow machine changes no result."""
+
+import contextlib
+import random
+import signal
+import subprocess
+import sys
+import unittest
+
+from live_support import LOOPBACK, Ended, Live, Peers, bound, hostile_packet, playing, talk, with_loopback
+from support import GATEWAY, InFolder, with_program
+
+from rtp import ALAW, GSM
+from spoiler import Faults
+
+SPOILED = Faults(loss=0.05, jitter=0.04, swapped=0.05, doubled=0.1)
+
+
+@with_loopback
+class Starts(InFolder):
+    def with_file(self, name):
+        """A gateway with a file of lines. (Somebody may have taken a port in the meantime.)"""
+        peers = Peers()
+        self.addCleanup(peers.close)
+        for turn in range(20):
+            lines = self.folder / "calls.txt"
+            lines.write_text(f"# the first call\n\n{peers.line(7, 'dtx on')}\n")
+            with contextlib.suppress(Ended):
+                return Live(self.folder / f"{name}-{turn}", "--calls", str(lines))
+        raise AssertionError("twenty times no ports")
+
+    def test_a_file_of_lines_and_both_signals(self):
+        for number in (signal.SIGTERM, signal.SIGINT):
+            live = self.with_file(f"rec{number}")
+            live.wait_for_periods(7, 3)
+            self.assertEqual(live.end(number), 0)
+            self.assertRegex(live.said[-1], r"^end period \d+ late \d+ latest \d+ ms given-up \d+ dropped 0 processor \d+\.\d\d s$")
+            self.assertIn("0 dtx 7 on\n", (live.folder / "orders.txt").read_text())
+
+    def test_a_file_with_a_mistake(self):
+        lines = self.folder / "calls.txt"
+        lines.write_text("\nopen 7\n")
+        ran = subprocess.run(
+            [sys.executable, "-B", str(GATEWAY / "gateway.py"), "run", str(self.folder / "rec"), "--calls", str(lines)],
+            stdin=subprocess.DEVNULL,
+            stdout=subprocess.PIPE,
+            stderr=subprocess.PIPE,
+            text=True,
+        )
+        self.assertEqual((ran.returncode, ran.stdout, ran.stderr.count("\n")), (2, "", 1), ran.stderr)
+        self.assertIn("calls.txt line 2: both sides are needed", ran.stderr)
+
+    def test_seconds(self):
+        live = Live(self.folder / "rec", "--seconds", "1")
+        self.assertEqual((live.finish(), live.said[-1][:14]), (0, "end period 50 "))
+
+    def test_few_descriptors(self):
+        live = Live(self.folder / "rec", descriptor_limit=64 + 8 * 2)
+        for call in (1, 2):
+            live.open(call)
+        self.assertRegex(live.ask("open 3 gsm 2 127.0.0.1:2 pcm 4 127.0.0.1:2"), r"^refused \d+ open 3 .*: 2 calls are open$")
+        self.assertEqual(live.end(), 0)
+
+    def test_a_line_that_is_refused(self):
+        live = Live(self.folder / "rec")
+        self.assertRegex(live.ask("bridge 1 2"), r"^refused \d+ bridge 1 2: the call isn't open$")
+        self.assertRegex(live.ask("x" * 3000), r"^refused \d+ x{80}: the line is too long$")
+        taken = bound()
+        self.addCleanup(taken.close)
+        port = taken.getsockname()[1] // 2 * 2
+        said = live.ask(f"open 1 gsm {port} {LOOPBACK}:9 pcm {port} {LOOPBACK}:9")
+        self.assertRegex(said, r"^refused \d+ open 1 .*: Address already in use$")
+        self.assertEqual(live.end(), 0)
+
+
+@with_loopback
+@with_program
+class Calls(InFolder):
+    def test_spoiled_calls_and_a_bridge(self):
+        live = Live(self.folder / "rec", "--every", "5")
+        rows = []
+        for call in (1, 2, 3):
+            rows += talk(live.open(call, "mulaw dtx on level 2000" if call == 2 else ""), call, 400, SPOILED, call == 2)
+        with playing(rows):
+            live.wait_for_periods(1, 20)
+            self.assertRegex(live.ask("bridge 1 2"), "^ok ")
+            live.wait_for_periods(1, 50)
+            self.assertRegex(live.ask("close 2"), "^ok ")
+            live.wait_for_periods(1, 70)
+        self.assertEqual(live.end(), 0)
+        self.assert_replays(live.folder)
+
+    def test_kills(self):
+        draw = random.Random(11)
+        for turn in range(3):
+            live = Live(self.folder / f"rec{turn}")
+            rows = [row for call in (1, 2, 3, 4) for row in talk(live.open(call, "dtx on"), call, 400)]
+            with playing(rows):
+                live.wait_for_periods(1, 10)
+                live.ask("bridge 1 2")
+                live.ask("close 4")
+                live.wait_for_periods(1, 20 + draw.randrange(30))
+                self.assertEqual(live.end(signal.SIGKILL), -signal.SIGKILL)
+            lines = self.assert_replays(live.folder)
+            self.assertRegex(lines[0], r"^cut at period \d+$")
+
+    def test_a_full_disk(self):
+        live = Live(self.folder / "rec", file_limit=160 * 40 + 7)
+        rows = [row for call in (1, 2) for row in talk(live.open(call), call, 400)]
+        with playing(rows):
+            live.wait_for("recording ended: ")
+            self.assertRegex(live.ask("level 1 300"), "^ok ")
+            self.assertRegex(live.ask("close 2"), "^ok ")
+            self.assertEqual(live.end(), 1)
+        lines = self.assert_replays(live.folder)
+        self.assertRegex(lines[0], r"^cut at period \d+$")
+
+    def test_hostile_packets(self):
+        live = Live(self.folder / "rec")
+        rows = [row for call, words in ((1, ""), (2, "strict off"), (3, "")) for row in talk(live.open(call, words), call, 400)]
+        draw = random.Random(5)
+        stranger = bound("127.0.0.2")
+        self.addCleanup(stranger.close)
+        with playing(rows):
+            for k in range(2000):
+                peers, kind = live.peers[1 + k % 2], draw.choice((GSM, ALAW))
+                port = peers.ports[0 if kind == GSM else 1]
+                draw.choice((stranger, peers.gsm, peers.pcm)).sendto(hostile_packet(draw, kind), (LOOPBACK, port))
+                if k % 50 == 0:
+                    live.wait_for_periods(3, k // 50)
+        self.assertEqual(live.end(), 0)
+        self.assert_replays(live.folder)
+
+
+if __name__ == "__main__":
+    unittest.main()

@@ -1,0 +1,333 @@
+"""The parts of the gateway one by one: packets, jitter buffer, streams, clock, settings, endpoints, recorder."""
+
+import itertools
+import random
+import socket
+import struct
+import unittest
+
+from live_support import hostile_packet, with_loopback
+from support import SPEECH, InFolder, TurnedClock
+
+import rtp
+from calls import SILENCE, idle_line, is_no_frame, soft_octets
+from clock import PERIOD, Clock
+from incoming import Incoming
+from jitter_buffer import LIMIT, PATIENCE, WINDOW, JitterBuffer
+from network import KEEPS_PORT, Endpoint, SocketEndpoint
+from recorder import CLOSE_OCTETS, Recorder
+from run_texts import MOST_ORDERS
+from settings import Side, read_open
+from spoiler import header
+from trau_fr import Kind, kind_of
+from trau_frames import Refusal
+
+ONE = bytes(33)
+
+
+def buffer_of(depth=3):
+    return JitterBuffer(depth, ONE, is_no_frame)
+
+
+def gsm_stream(depth=3):
+    return Incoming(rtp.GSM, 33, buffer_of(depth))
+
+
+class Packets(unittest.TestCase):
+    def refused(self, data):
+        with self.assertRaises(rtp.Refused) as said:
+            rtp.parse(data)
+        return str(said.exception)
+
+    def test_a_packet(self):
+        self.assertEqual(rtp.parse(header(3, 7, 160, 9) + ONE), (3, 7, 160, 9, ONE))
+
+    def test_what_stands_before_and_after_the_payload(self):
+        fields = header(3, 7, 160, 9)[1:]
+        sources = b"\x82" + fields + bytes(8)
+        extension = b"\x90" + fields + b"\xbe\xde\x00\x01" + bytes(4)
+        padding = b"\xa0" + fields
+        self.assertEqual(rtp.parse(sources + ONE).payload, ONE)
+        self.assertEqual(rtp.parse(extension + ONE).payload, ONE)
+        self.assertEqual(rtp.parse(padding + ONE + b"\0\0\3").payload, ONE)
+
+    def test_no_packets(self):
+        fields = header(3, 7, 160, 9)[1:]
+        for data in (b"", b"\x80" * 11, b"\x40" + fields, b"\x8f" + fields, b"\x90" + fields, b"\x90" + fields + b"\0\0\xff\xff"):
+            self.assertEqual(self.refused(data), "not-rtp")
+        self.assertEqual(self.refused(b"\xa0" + fields + b"\0"), "not-rtp")
+        self.assertEqual(self.refused(b"\xa0" + fields + b"\5"), "not-rtp")
+        self.assertEqual(self.refused(bytes([0x80, 200]) + bytes(26)), "rtcp")
+
+    def test_what_is_sent(self):
+        out = rtp.Outgoing(rtp.GSM, lambda size: struct.pack(">HII", 0xFFFF, 0xFFFFFF60, 5))
+        self.assertEqual(out.packet(0, b"a"), struct.pack(">BBHII", 0x80, 0x83, 0xFFFF, 0xFFFFFF60, 5) + b"a")
+        out.give_up(2)
+        self.assertEqual(out.packet(3, b"b"), struct.pack(">BBHII", 0x80, 0x83, 0, 640, 5) + b"b")
+        self.assertEqual(out.packet(4, b"c"), struct.pack(">BBHII", 0x80, 3, 1, 800, 5) + b"c")
+
+
+class Buffers(unittest.TestCase):
+    def test_depth_and_order(self):
+        buffer = buffer_of()
+        buffer.start(10)
+        for period in (0, 2, 1):
+            self.assertEqual(buffer.put(period, 0, bytes([period]) * 33, 10), "")
+        self.assertEqual([buffer.take(tick) for tick in range(10, 17)], [None] * 3 + [bytes([p]) * 33 for p in range(3)] + [None])
+
+    def test_late_and_doubled(self):
+        buffer = buffer_of(0)
+        buffer.start(0)
+        self.assertEqual(buffer.put(0, 0, ONE, 0), "")
+        self.assertEqual(buffer.put(0, 0, ONE, 0), "doubled")
+        self.assertEqual(buffer.put(0, 0, ONE, 1), "late")
+        self.assertEqual(buffer.put(1, 0, ONE, 2), "")
+        self.assertEqual((buffer.counts["slips-back"], buffer.take(2)), (1, ONE))
+
+    def moved(self, margin, is_sent):
+        """The slips of a stream whose packets stand so far ahead, and the ticks until the first one."""
+        buffer = buffer_of(3)
+        buffer.start(0)
+        before, first = buffer.shift, None
+        for tick in range(WINDOW + PATIENCE + 5):
+            period = tick + before + margin
+            buffer.watch(buffer.margin(period, tick))
+            if is_sent(period):
+                buffer.put(period, 0, ONE, tick)
+            buffer.take(tick)
+            if buffer.shift != before and first is None:
+                first = tick
+        return buffer.shift - before, first
+
+    def test_a_slip_on_waits_for_a_pause(self):
+        slips, first = self.moved(4, lambda period: True)
+        self.assertEqual((slips, first), (1, WINDOW + PATIENCE - 1))
+        slips, first = self.moved(4, lambda period: period % 100 != 0)
+        self.assertEqual(slips, 1)
+        self.assertLess(first, WINDOW + 101)
+
+    def test_a_slip_back(self):
+        slips, first = self.moved(0, lambda period: True)
+        self.assertEqual((slips, first), (-1, WINDOW + PATIENCE - 1))
+
+    def test_time_that_is_given_up(self):
+        buffer = buffer_of(0)
+        buffer.start(0)
+        for period in range(10):
+            buffer.put(period, 0, bytes([period]) * 33, 0)
+        buffer.give_up(4, 0)
+        self.assertEqual((len(buffer.periods), buffer.take(0)), (6, bytes([4]) * 33))
+
+
+class Streams(unittest.TestCase):
+    def taken(self, stream, ticks):
+        return [stream.buffer.take(tick) for tick in ticks]
+
+    def test_packets_of_several_frames(self):
+        stream = gsm_stream(0)
+        stream.packet(header(3, 1, 0, 5) + SPEECH[0] + SPEECH[1], 0, 0)
+        stream.packet(header(3, 2, 320, 5) + SPEECH[2], 0, 0)
+        self.assertEqual(self.taken(stream, range(4)), SPEECH[:3] + [None])
+
+    def test_octets_of_any_length(self):
+        line = bytes(range(1, 251)) * 4
+        for size in (80, 160, 240, 999):
+            stream = Incoming(rtp.ALAW, 0, JitterBuffer(0, idle_line("alaw"), is_no_frame))
+            for number, at in enumerate(range(0, len(line), size)):
+                stream.packet(header(8, number, 0xFFFFFF00 + at, 5) + line[at : at + size], 0, 0)
+            got = b"".join(self.taken(stream, range(7)))
+            self.assertEqual(got, line + b"\xd5" * 120, size)
+
+    def test_counts(self):
+        stream = gsm_stream()
+        stream.packet(header(3, 1, 0, 5) + ONE, 0, 0)
+        for packet in (header(8, 2, 160, 5) + ONE, b"", *(header(3, 2, 160, 5) + part for part in (b"", ONE[1:], 51 * ONE))):
+            stream.packet(packet, 0, 0)
+        wanted = {"other-type": 1, "empty": 1, "odd-size": 1, "not-rtp": 1, "too-long": 1}
+        self.assertEqual(stream.counts, wanted)
+
+    def test_another_source_brings_two_packets(self):
+        stream = gsm_stream()
+        for source, number in ((5, 1), (6, 100), (7, 3), (6, 101), (6, 102), (6, 103)):
+            stream.packet(header(3, number, 160 * number, source) + ONE, 0, 0)
+        self.assertEqual((stream.source, stream.counts["probation"], stream.counts["new-source"]), (6, 3, 1))
+
+    def test_a_jump_is_believed_if_the_next_packet_follows_it(self):
+        stream = gsm_stream()
+        for number, stamp in ((1, 0), (2, 160 * 500), (2, 160), (3, 160 * 900), (4, 160 * 901), (5, 160 * 902)):
+            stream.packet(header(3, number, stamp, 5) + ONE, 0, 0)
+        self.assertEqual((stream.counts["far"], stream.counts["jumps"], len(stream.buffer.periods)), (2, 1, 2))
+
+    def nearly(self, draw, kind):
+        """A packet of one of two sources, with a number and a stamp that may follow one another."""
+        stamp = draw.choice((80 * draw.randrange(400), draw.getrandbits(32)))
+        return header(kind, draw.randrange(3), stamp, draw.randrange(2)) + ONE * draw.randrange(60)
+
+    def test_nonsense(self):
+        draw = random.Random(4)
+        line = JitterBuffer(3, idle_line("alaw"), is_no_frame)
+        for stream in (gsm_stream(), Incoming(rtp.ALAW, 0, line)):
+            count = 20_000
+            for k in range(count):
+                packet = draw.choice((hostile_packet, self.nearly))(draw, stream.kind)
+                stream.packet(packet, k // 20, draw.randrange(3))
+                if k % 20 == 0:
+                    stream.buffer.take(k // 20)
+                    self.assertLessEqual(len(stream.buffer.periods), 3 * LIMIT)
+            self.assertGreater(sum(stream.counts.values()), count // 2)
+            self.assertGreater(stream.counts["new-source"], 0)
+
+    def test_what_is_held_is_bounded(self):
+        stream = gsm_stream()
+        for number in range(3000):
+            stream.packet(header(3, number, 160 * number % 30000, 5) + ONE * (number % 7), 0, number % 50)
+        self.assertLessEqual(len(stream.buffer.periods), 3 * LIMIT)
+
+
+class Clocks(unittest.TestCase):
+    def test_four_phases(self):
+        turned = TurnedClock()
+        turns = list(itertools.islice(turned.clock.turns(), 9))
+        self.assertEqual([(turn.period, turn.phase) for turn in turns], [divmod(n, 4) for n in range(9)])
+        self.assertEqual((turned.time, turned.clock.late, turned.clock.given_up), (2 * PERIOD, 0, 0))
+
+    def test_late_turns_are_made_up_for(self):
+        turned = TurnedClock()
+        turns = turned.clock.turns()
+        next(turns)
+        turned.time += 10 * PERIOD
+        self.assertEqual([next(turns).behind for _ in range(45)], [max(0, 9 - k // 4) for k in range(45)])
+        self.assertEqual(turned.clock.given_up, 0)
+
+    def test_more_than_a_second_is_given_up(self):
+        turned = TurnedClock()
+        turns = turned.clock.turns()
+        next(turns)
+        turned.time += 100 * PERIOD
+        turn = next(turns)
+        self.assertEqual((turn, turned.clock.given_up), ((0, 1, 0, 99), 99))
+        self.assertEqual(next(turns).behind, 0)
+
+    def test_time_passes(self):
+        clock = Clock()
+        begun = clock.now()
+        for turn in clock.turns():
+            if turn.period == 1:
+                break
+        self.assertGreaterEqual(clock.now() - begun, PERIOD)
+
+
+class OpenLines(unittest.TestCase):
+    LINE = "7 gsm 6000 127.0.0.1:6002 pcm 6004 10.0.0.1:6006"
+
+    def test_what_is_left_out(self):
+        settings = read_open(self.LINE.split())
+        self.assertEqual((settings.law, settings.level, settings.dtx, settings.prime, settings.strict), ("alaw", 256, False, True, True))
+        self.assertEqual(settings.sides["pcm"], Side(6004, ("10.0.0.1", 6006)))
+
+    def test_all_words(self):
+        settings = read_open(f"{self.LINE} mulaw level 0 dtx on depth 5 prime off strict off".split())
+        self.assertEqual((settings.law, settings.level, settings.dtx, settings.depth), ("mulaw", 0, True, 5))
+        self.assertEqual((settings.prime, settings.strict), (False, False))
+
+    def test_the_addresses_of_both_networks(self):
+        settings = read_open("7 gsm 10.0.1.1:6000 10.0.1.2:6002 pcm 10.0.2.1:6004 10.0.2.2:6006".split())
+        self.assertEqual(settings.sides["gsm"], Side(6000, ("10.0.1.2", 6002), "10.0.1.1"))
+        self.assertEqual(settings.sides["pcm"], Side(6004, ("10.0.2.2", 6006), "10.0.2.1"))
+
+    def test_refusals(self):
+        bad = (
+            ("", "missing"),
+            ("0", "isn't 1 to 4,096"),
+            ("7 gsm 6000", "missing"),
+            ("7 gsm 6001 127.0.0.1:6002", "is odd"),
+            ("7 gsm 6000 host:6002", "host isn't an IPv4 address"),
+            ("7 gsm 6000 6002", " isn't an IPv4 address"),
+            ("7 gsm here:6000 127.0.0.1:6002", "here isn't an IPv4 address"),
+            ("7 gsm 6000 127.0.0.1:0", "isn't 1 to 65,535"),
+            ("7 gsm 6000 127.0.0.1:6002", "both sides"),
+            (f"{self.LINE} level 32768", "isn't 0 to 32,767"),
+            (f"{self.LINE} dtx maybe", "isn't on or off"),
+            (f"{self.LINE} loud", "the form is"),
+        )
+        for line, part in bad:
+            with self.assertRaisesRegex(Refusal, part, msg=line):
+                read_open(line.split())
+
+
+class Endpoints(unittest.TestCase):
+    PEER = ("127.0.0.1", 6002)
+
+    def packet(self, number):
+        return header(3, number, 160 * number, 5) + ONE
+
+    def test_strict(self):
+        endpoint = Endpoint(Side(6000, self.PEER), True, gsm_stream())
+        for number, sender in enumerate((self.PEER, ("127.0.0.1", 6004), ("127.0.0.2", 6002))):
+            endpoint.arrived(self.packet(number), sender, 0, 0)
+        self.assertEqual((endpoint.incoming.counts["stranger"], len(endpoint.incoming.buffer.periods)), (2, 1))
+
+    @with_loopback
+    def test_rtcp_is_counted(self):
+        while True:
+            with socket.socket(socket.AF_INET, socket.SOCK_DGRAM) as one:
+                one.bind(("127.0.0.1", 0))
+                port = one.getsockname()[1] // 2 * 2
+            try:
+                endpoint = SocketEndpoint("127.0.0.1", Side(port, self.PEER), True, gsm_stream())
+                break
+            except OSError:  # somebody has one of the two ports
+                continue
+        self.addCleanup(endpoint.close)
+        with socket.socket(socket.AF_INET, socket.SOCK_DGRAM) as sender:
+            for _ in range(3):
+                sender.sendto(bytes(28), ("127.0.0.1", port + 1))
+        while endpoint.incoming.counts["rtcp"] < 3:
+            endpoint.count_control()
+        endpoint.count_control()
+        self.assertEqual(endpoint.incoming.counts["rtcp"], 3)
+
+    def test_a_port_that_is_heard_is_kept(self):
+        endpoint = Endpoint(Side(6000, self.PEER), False, gsm_stream())
+        for tick, port in ((0, 7000), (1, 7002), (KEEPS_PORT, 7004)):
+            endpoint.arrived(self.packet(tick), ("127.0.0.1", port), tick, 0)
+        self.assertEqual((endpoint.incoming.counts["other-port"], endpoint.port), (1, 7004))
+
+
+class Recordings(InFolder):
+    def test_room_for_orders(self):
+        recorder = Recorder(self.folder / "new", 1, print)
+        recorder.orders = MOST_ORDERS - 4
+        self.assertTrue(recorder.has_room(3, 1))
+        recorder.orders += 1
+        self.assertFalse(recorder.has_room(3, 1))
+        recorder.orders, recorder.order_octets = 0, (1 << 20) - 96 - CLOSE_OCTETS
+        self.assertTrue(recorder.has_room(3, 1))
+        recorder.order_octets += 1
+        self.assertFalse(recorder.has_room(3, 1))
+
+    def test_the_lines_end_alike(self):
+        for every in (1, 3, 50):
+            recorder = Recorder(self.folder / str(every), every, print)
+            recorder.open(1)
+            for _ in range(7):
+                recorder.period(1, b"u" * 40, b"p" * 160, b"d" * 40, b"o" * 160)
+                recorder.write(1)
+            recorder.close(1)
+            read = {side: (self.folder / str(every) / f"1.{side}").read_bytes() for side in ("up", "pcm", "down", "out")}
+            wanted = {"up": b"u" * 280, "pcm": b"p" * 1120, "down": b"\xff" * 40 + b"d" * 240, "out": b"o" * 1120}
+            self.assertEqual(read, wanted)
+
+
+class Silence(unittest.TestCase):
+    def test_the_frame_of_silence_is_good_speech(self):
+        self.assertEqual((kind_of(SILENCE), len(SILENCE)), (Kind.SPEECH, 33))
+
+    def test_soft_octets(self):
+        self.assertIn(0xD5, soft_octets("alaw"))
+        self.assertIn(0xFF, soft_octets("mulaw"))
+        self.assertLess(len(soft_octets("alaw")), 40)
+
+
+if __name__ == "__main__":
+    unittest.main()

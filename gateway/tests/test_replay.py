@@ -1,0 +1,118 @@
+"""The check of a recording: it says which octet differs, and what a kill or a full disk left is compared as far as it goes."""
+
+import ctypes.util
+import os
+import subprocess
+import sys
+import unittest
+import unittest.mock
+
+from support import GATEWAY, LINE, SPEECH, InFolder, Turned, open_line, repeated, with_program
+
+import gateway
+from rtp import ALAW, GSM
+from spoiler import Faults, schedule
+
+
+@with_program
+class Checks(InFolder):
+    def record(self, periods=60):
+        """A recording of three calls, of which two are bridged for a while."""
+        folder = self.folder / "rec"
+        turned = Turned(folder)
+        for call in (1, 2, 3):
+            faults = Faults(loss=0.1)
+            gsm, pcm = repeated(SPEECH, periods), repeated(LINE, periods, 9 * call)
+            turned.bring(call, schedule(gsm, GSM, call, faults), schedule(pcm, ALAW, call + 9, faults))
+        turned.run({0: [open_line(1), open_line(2)], 10: [open_line(3), "bridge 1 2"], 40: ["unbridge 1"], 50: ["close 3"]}, periods)
+        return folder
+
+    def cut(self, name, octets):
+        """Cuts octets off a file of the recording."""
+        path = self.folder / "rec" / name
+        os.truncate(path, path.stat().st_size - octets)
+
+    def test_equal(self):
+        lines = ["call 1 periods 60 equal", "call 2 periods 60 equal", "call 3 periods 40 equal", "calls 3 differ 0"]
+        self.assertEqual(self.checked(self.record()), (0, lines))
+
+    def test_one_changed_octet(self):
+        for name, octet, place in (("2.out", 8123, "period 50, octet 8123"), ("1.down", 999, "period 24, octet 999")):
+            folder, said = self.record(), f"{name[2:]} differs in {place}"
+            path = folder / name
+            data = bytearray(path.read_bytes())
+            data[octet] ^= 1
+            path.write_bytes(bytes(data))
+            status, lines = self.checked(folder)
+            self.assertEqual(status, 1)
+            self.assertIn(f"call {name[0]} periods 60 {said}", lines)
+            self.assertEqual(lines[-2], "calls 3 differ 1")
+            folder.rename(self.folder / name)
+
+    def test_what_a_kill_leaves(self):
+        folder = self.record()
+        self.cut("orders.txt", len("60 close 2\n") + 4)
+        self.cut("1.down", 15 * 40)
+        self.cut("2.up", 41)
+        lines = ["cut at period 45", "call 1 periods 45 equal", "call 2 periods 45 equal", "call 3 periods 35 equal", "calls 3 differ 0"]
+        self.assertEqual(self.checked(folder), (0, lines))
+
+    def test_nothing_is_left(self):
+        folder = self.record()
+        for name in ("1.up", "2.up", "3.up"):
+            (folder / name).unlink()
+        self.assertEqual(self.checked(folder), (0, ["cut at period 0", "calls 0 differ 0"]))
+
+    def test_an_order_that_a_run_refuses(self):
+        folder = self.record()
+        orders = folder / "orders.txt"
+        orders.write_text(orders.read_text().replace("40 unbridge 1", "40 unbridge 3"))
+        status, lines = self.checked(folder)
+        self.assertEqual((status, lines[0]), (1, "the run refused the order 40 unbridge 3"))
+
+    def test_by_the_model(self):
+        folder = self.record(20)
+        with unittest.mock.patch.dict(os.environ, {"TRAU_PROGRAM": "model"}):
+            self.assertEqual(self.run_tool(gateway.main, ["check", str(folder)])[0], 0)
+
+    def test_the_folder_of_the_replay(self):
+        folder, again = self.record(20), self.folder / "again"
+        self.assertEqual(self.run_tool(gateway.main, ["check", str(folder), "--again", str(again)])[0], 0)
+        self.assertEqual((again / "1.out").read_bytes(), (folder / "1.out").read_bytes())
+
+
+class Ends(InFolder):
+    def test_bad_words(self):
+        none = str(self.folder / "none")
+        bad = (
+            (["check", none], "No such file"),
+            (["check"], "FOLDER"),
+            ([], "run|check"),
+            (["run", none, "--most", "0"], "--most"),
+            (["run", none, "--address", "host"], "host isn't an IPv4 address"),
+        )
+        for words, said in bad:
+            status, _, err = self.run_tool(gateway.main, words)
+            self.assertEqual((status, err.count("\n")), (2, 1), err)
+            self.assertIn(said, err)
+
+    def test_help(self):
+        for words in (["--help"], ["run", "--help"], ["check", "--help"]):
+            status, out, _ = self.run_tool(gateway.main, words)
+            self.assertEqual((status, out[:6]), (0, "usage:"))
+
+    @unittest.skipIf(ctypes.util.find_library("trau_fr"), "the system has the library")
+    def test_without_the_library(self):
+        words = [sys.executable, "-B", str(GATEWAY / "gateway.py"), "run", str(self.folder / "rec")]
+        given = {**os.environ, "TRAU_CLIB": str(self.folder)}
+        ran = subprocess.run(words, env=given, stdin=subprocess.DEVNULL, stdout=subprocess.PIPE, stderr=subprocess.PIPE, text=True)
+        self.assertEqual((ran.returncode, ran.stdout, ran.stderr.count("\n")), (2, "", 1), ran.stderr)
+        self.assertIn("clib/build makes it", ran.stderr)
+
+    def test_an_old_folder(self):
+        status, _, err = self.run_tool(gateway.main, ["run", str(self.folder)])
+        self.assertEqual((status, err), (2, f"gateway.py: {self.folder}: File exists\n"))
+
+
+if __name__ == "__main__":
+    unittest.main()

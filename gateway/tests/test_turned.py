@@ -1,0 +1,282 @@
+"""Calls on a turned clock, and their replay: spoiled networks, all kinds of frames, levels, DTX, bridges, late ticks."""
+
+import random
+import struct
+import unittest
+
+from support import LINE, SPEECH, InFolder, Turned, cut, open_line, ports_of, repeated, with_program
+
+import trau_fr
+from calls import SILENCE
+from rtp import ALAW, GSM, MULAW
+from run_texts import MOST_ORDERS
+from spoiler import Faults, schedule
+
+SPOILED = {
+    "clean": Faults(),
+    "loss 5 %": Faults(loss=0.05),
+    "loss 20 %": Faults(loss=0.2),
+    "jitter 80 ms": Faults(jitter=0.08),
+    "swapped and doubled": Faults(swapped=0.05, doubled=0.1),
+    "8040 Hz": Faults(rate=8040, jitter=0.02),
+    "7960 Hz": Faults(rate=7960, jitter=0.02),
+    "all": Faults(loss=0.05, jitter=0.04, swapped=0.05, doubled=0.1),
+}
+
+
+def descriptors():
+    """Silence descriptors of a sender that hears speech below its level."""
+    sender = trau_fr.Sender()
+    sent = [sender.send(trau_fr.expand(period), 32767, True) for period in LINE[:80]]
+    return [frame.octets for frame in sent if not frame.speech]
+
+
+DESCRIPTORS = descriptors()
+
+
+def damaged(frame, draw, bits):
+    """A frame with this number of wrong bits behind its first four."""
+    number = int.from_bytes(frame, "big")
+    for place in draw.sample(range(260), bits):
+        number ^= 1 << place
+    return number.to_bytes(33, "big")
+
+
+class Station:
+    """A base station that speaks, pauses, sends nonsense or nothing, by turns."""
+
+    def __init__(self, draw):
+        self.draw, self.mode, self.count = draw, "speech", 0
+
+    def nonsense(self):
+        draw = self.draw
+        return draw.choice(
+            (
+                draw.choice(DESCRIPTORS),
+                damaged(draw.choice(DESCRIPTORS), draw, draw.randrange(21)),
+                bytes(draw.randrange(256) for _ in range(33)),
+                b"\xd7" + bytes(draw.randrange(256) for _ in range(32)),
+            )
+        )
+
+    def frame(self):
+        """What comes in the next period, or None."""
+        draw = self.draw
+        self.count += 1
+        if draw.random() < 0.03:
+            self.mode = draw.choice(("speech", "pause", "nonsense", "gone"))
+        if self.mode == "speech":
+            return SPEECH[self.count % len(SPEECH)]
+        if self.mode == "pause":
+            return draw.choice(DESCRIPTORS) if self.count % 24 == 0 else None
+        return self.nonsense() if self.mode == "nonsense" else None
+
+
+def packets_of(station, periods, seed):
+    """The packets of a base station."""
+    frames = [station.frame() for _ in range(periods)]
+    return schedule([frame or b"" for frame in frames], GSM, seed, is_sent=lambda period: frames[period] is not None)
+
+
+def random_lines(draw, calls, periods):
+    """Lines that change calls; some are refused."""
+    lines = {}
+    for period in range(1, periods):
+        if draw.random() < 0.15:
+            one, other = draw.choice(calls), draw.choice(calls)
+            lines[period] = draw.choice(
+                (
+                    [f"level {one} {draw.choice((0, 256, 1000, 32767))}"],
+                    [f"dtx {one} {draw.choice(('on', 'off'))}"],
+                    [f"bridge {one} {other}"],
+                    [f"bridge {one} {other}"],
+                    [f"unbridge {one}", f"bridge {one} {other}"],
+                    [f"unbridge {one}"],
+                )
+            )
+    return lines
+
+
+class Spoiled(InFolder):
+    @with_program
+    def test_spoiled_networks(self):
+        periods = 150
+        turned = Turned(self.folder / "rec", every=7)
+        opens = []
+        for call, faults in enumerate(SPOILED.values(), 1):
+            is_mulaw = call % 2 == 0
+            kind = MULAW if is_mulaw else ALAW
+            opens.append(open_line(call, "mulaw dtx on level 900" if is_mulaw else ""))
+            turned.bring(
+                call,
+                schedule(repeated(SPEECH, periods), GSM, call, faults, 0.013),
+                schedule(repeated(LINE, periods, 20 * call), kind, call + 50, faults, 0.017),
+            )
+        said = turned.run({0: opens}, periods)
+        self.assertEqual(sum(line.startswith("ok 0 open") for line in said), len(SPOILED))
+        lines = self.assert_replays(self.folder / "rec")
+        self.assertEqual(lines[-1], f"calls {len(SPOILED)} differ 0")
+
+    def test_a_clean_network_loses_nothing(self):
+        periods = 120
+        turned = Turned(self.folder / "rec")
+        turned.bring(1, schedule(SPEECH[:100], GSM, 1, start=0.011), schedule(LINE[:100], ALAW, 2, start=0.011))
+        turned.run({0: [open_line(1, "prime off")]}, periods)
+        up = cut((self.folder / "rec/1.up").read_bytes(), 40)
+        heard = [trau_fr.read_uplink(frame) for frame in up]
+        self.assertEqual([line.octets for line in heard if line.kind == trau_fr.Kind.SPEECH], SPEECH[:100])
+        self.assertIn(b"".join(LINE[:100]), (self.folder / "rec/1.pcm").read_bytes())
+
+    def test_what_is_sent_is_what_is_recorded(self):
+        periods = 60
+        turned = Turned(self.folder / "rec")
+        turned.bring(1, schedule(SPEECH[:50], GSM, 1), schedule(LINE[:50], ALAW, 2))
+        turned.run({0: [open_line(1)]}, periods)
+        to_gsm, to_pcm = turned.sent(1)
+        self.assertEqual(b"".join(packet[12:] for packet in to_pcm), (self.folder / "rec/1.out").read_bytes())
+        down = cut((self.folder / "rec/1.down").read_bytes(), 40)[1:]
+        self.assertEqual([packet[12:] for packet in to_gsm[:-1]], [trau_fr.read_downlink(frame).octets for frame in down])
+
+
+class Kinds(InFolder):
+    def run_at_random(self, seed, calls, periods):
+        """A recording of calls with all kinds of frames, and lines at random."""
+        draw = random.Random(seed)
+        turned = Turned(self.folder / "rec", every=draw.choice((1, 5)))
+        opens = []
+        for call in calls:
+            law = draw.choice(("", "mulaw"))
+            opens.append(open_line(call, f"{law} depth {draw.randrange(5)} prime {draw.choice(('on', 'off'))}".strip()))
+            line = repeated(LINE, periods, 17 * call)
+            exchange = schedule(line, MULAW if law else ALAW, call, Faults(loss=0.03))
+            turned.bring(call, packets_of(Station(draw), periods, seed + call), exchange)
+        turned.run({0: opens, **random_lines(draw, calls, periods)}, periods)
+        return turned
+
+    @with_program
+    def test_all_kinds_and_bridges(self):
+        self.run_at_random(7, range(1, 9), 300)
+        orders = (self.folder / "rec/orders.txt").read_text()
+        for verb in ("bridge", "unbridge", "level", "dtx"):
+            self.assertGreater(orders.count(f" {verb} "), 2)
+        self.assert_replays(self.folder / "rec")
+
+
+class Quiet(InFolder):
+    @with_program
+    def test_without_prime_nothing_goes_to_the_base_station(self):
+        turned = Turned(self.folder / "rec")
+        turned.bring(1, (), schedule(LINE[:40], ALAW, 2))
+        turned.bring(2, (), schedule(LINE[:40], ALAW, 3))
+        turned.run({0: [open_line(1, "prime off"), open_line(2)]}, 50)
+        self.assertEqual([len(sent) for sent in turned.sent(1) + turned.sent(2)], [0, 50, 50, 50])
+        self.assertEqual(trau_fr.read_uplink((self.folder / "rec/2.up").read_bytes()[:40]).octets, SILENCE)
+        self.assert_replays(self.folder / "rec")
+
+    def test_descriptors_leave_at_the_beginning_and_each_24th_period(self):
+        turned = Turned(self.folder / "rec")
+        turned.run({0: [open_line(1, "dtx on")]}, 60)
+        to_gsm, _ = turned.sent(1)
+        stamps = [struct.unpack_from(">I", packet, 4)[0] for packet in to_gsm]
+        self.assertEqual([(stamp - stamps[0] & 0xFFFFFFFF) // 160 for stamp in stamps], [0, 1, 2, 3, 4, 28, 52])
+        self.assertEqual([packet[1] >> 7 for packet in to_gsm], [1, 0, 0, 0, 0, 1, 1])
+
+    def test_a_call_that_hears_nothing_is_told(self):
+        turned = Turned(self.folder / "rec")
+        turned.bring(1, schedule(repeated(SPEECH, 300), GSM, 1, start=6.0), ())
+        said = turned.run({0: [open_line(1)]}, 401)
+        self.assertIn("call 1 gsm hears nothing at 250", said)
+        self.assertIn("call 1 gsm hears again at 350", said)
+
+
+class Late(InFolder):
+    @with_program
+    def test_late_ticks(self):
+        turned = Turned(self.folder / "rec")
+        periods = 200
+        for call in (1, 2):
+            turned.bring(call, schedule(repeated(SPEECH, 400), GSM, call), schedule(repeated(LINE, 400), ALAW, call + 9))
+        board, process = turned.board, turned.board.process
+        stops = {50: 0.7, 120: 3.3}
+
+        def slow(phase, period, behind):
+            process(phase, period, behind)
+            turned.time.time += int(stops.pop(period, 0) * 1e9)
+
+        board.process = slow
+        said = turned.run({0: [open_line(1), open_line(2)], 121: ["bridge 1 2"]}, periods)
+        self.assertEqual((turned.time.clock.given_up, stops), (164, {}))
+        first, second = (self.folder / "rec/clock.txt").read_text().splitlines()
+        self.assertRegex(first, r"^0 at \d{4}-\d\d-\d\dT\d\d:\d\d:\d\d\.\d{3}\+00:00$")
+        self.assertEqual(second, "120 given-up 164")
+        closing = next(line for line in said if line.startswith("call 1 from"))
+        self.assertIn("gsm-given-up", closing)
+        for word in ("late", "jumps", "slips"):
+            self.assertNotIn(word, closing)
+        self.assert_replays(self.folder / "rec")
+
+
+class Lines(InFolder):
+    def test_refusals(self):
+        turned = Turned(self.folder / "rec")
+        first = [open_line(n) for n in (1, 2, 3)] + [open_line(1), "close 9", "bridge 1 1", "bridge 1 2", "bridge 3 2", "unbridge 3"]
+        first += ["level 1 32768", "level 1", "dtx 1 x", "what", "open"]
+        said = turned.run({0: first, 1: ["unbridge 1", "bridge 1 3"], 2: ["bridge 1 3", "close 1", "bridge 3 2"], 3: [open_line(1)]}, 4)
+        refusals = [line.split(": ", 1)[1] for line in said if line.startswith("refused")]
+        self.assertEqual(
+            refusals[:5],
+            ["the call is open", "the call isn't open", "a bridge of a call with itself", "the call is bridged", "the call isn't bridged"],
+        )
+        self.assertEqual(refusals[-3:], ["its bridge ended in this very period"] * 2 + ["the number was used before"])
+        self.assertEqual(len(refusals), 13)
+
+    def test_nonsense(self):
+        draw = random.Random(9)
+        words = "open close level dtx bridge unbridge gsm pcm mulaw depth prime strict on off".split()
+        words += "1 2 3 0 -1 99999 10.0.0.1:5 :: \x00 é ٣".split()
+        words += [f"{port}" for port in ports_of(1)] + ["127.0.0.1:7"]
+        sizes = (1, 2, 3, 3, 3, 12)
+        lines = {k: [" ".join(draw.choices(words, k=draw.choice(sizes))) for _ in range(40)] for k in range(200)}
+        turned = Turned(self.folder / "rec")
+        said = turned.run({**lines, 0: [open_line(1), open_line(2)]}, 200)
+        self.assertGreater(sum(line.startswith("ok") for line in said), 5)
+        self.assertGreater(sum(line.startswith("refused") for line in said), 7900)
+
+    def test_the_most_calls(self):
+        turned = Turned(self.folder / "rec")
+        turned.board.most_calls = 2
+        said = turned.run({0: [open_line(n) for n in (1, 2, 3)], 1: ["close 1", open_line(4)]}, 2)
+        self.assertEqual(sum(line.endswith(": 2 calls are open") for line in said), 1)
+        self.assertIn("ok 1 open 4", said)
+
+    def test_a_recording_that_is_full(self):
+        turned = Turned(self.folder / "rec")
+        board, recorder = turned.board, turned.recorder
+
+        def fill(phase, period, behind):
+            recorder.orders = MOST_ORDERS - 2 if period == 1 else recorder.orders
+            process(phase, period, behind)
+
+        process, board.process = board.process, fill
+        said = turned.run({0: [open_line(1)], 2: [open_line(2), "level 1 5", "dtx 1 on", "close 1"]}, 4)
+        full = [line.split()[2] for line in said if line.endswith("as many orders as a run takes")]
+        self.assertEqual((full, recorder.orders), (["open", "dtx"], MOST_ORDERS))
+        self.assertIn("ok 2 close 1", said)
+
+    def test_both_calls_of_a_bridge_are_in_one_phase(self):
+        turned = Turned(self.folder / "rec")
+        phases = []
+        process = turned.board.process
+
+        def seen(phase, period, behind):
+            process(phase, period, behind)
+            phases.append((period, sorted(each.phase for each in turned.board.connections.values())))
+
+        turned.board.process = seen
+        turned.run({0: [open_line(n) for n in (1, 2, 3, 4)], 3: ["bridge 2 4"]}, 5)
+        self.assertEqual((phases[0], phases[-1]), ((0, [0, 1, 2, 3]), (4, [0, 1, 1, 2])))
+        self.assertEqual(turned.network.phases, {})
+
+
+if __name__ == "__main__":
+    unittest.main()
