@@ -6,13 +6,12 @@ else end elsewhere.
 
 from __future__ import annotations
 
-import os
 import shutil
 import subprocess
 import tempfile
 from dataclasses import dataclass
 from pathlib import Path
-from typing import Dict, List, Optional
+from typing import List, Optional
 
 import listening
 from run_texts import INCOMING, OCTETS_OF_SIDE, OUTGOING, SIDES, Order, orders_of, report_of, whole_periods
@@ -68,11 +67,6 @@ def end_of(calls: List[Recorded]) -> Optional[int]:
     return min((call.end() for call in calls if call.is_cut()), default=None)
 
 
-def from_here() -> Dict[str, str]:
-    """The environment for a program that is started in another folder. The word `model` in TRAU_PROGRAM is no path."""
-    return dict(os.environ) if os.environ.get("TRAU_PROGRAM") == "model" else listening.from_here()
-
-
 def lay(folder: Path, again: Path, calls: List[Recorded]) -> None:
     """Puts links to the incoming lines into the folder of the replay, which may be on another disk."""
     for call in calls:
@@ -88,7 +82,7 @@ def replayed(program: str, again: Path, orders: List[Order], end: Optional[int])
     given = "".join(f"{order.line()}\n" for order in orders).encode()
     (again / "orders.txt").write_bytes(given)
     try:
-        ran = subprocess.run(words, cwd=again, input=given, stdout=subprocess.PIPE, env=from_here())
+        ran = subprocess.run(words, cwd=again, input=given, stdout=subprocess.PIPE, env=listening.from_here())
     except OSError as failure:
         raise Refusal(f"{program}: {failure.strerror}") from None
     report = again / "report.txt"

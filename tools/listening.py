@@ -62,9 +62,9 @@ def decoded_by_library(frames: List[str], library: ModuleType) -> bytes:
 
 
 def from_here() -> Dict[str, str]:
-    """The environment for a program that is started in another folder: TRAU_PROGRAM may name a path from this one."""
+    """The environment for a program that is started in another folder: TRAU_PROGRAM may name a path from this one. The word `model` is none."""
     named = os.environ.get("TRAU_PROGRAM")
-    return {**os.environ, "TRAU_PROGRAM": os.path.abspath(named)} if named else dict(os.environ)
+    return {**os.environ, "TRAU_PROGRAM": os.path.abspath(named)} if named and named != "model" else dict(os.environ)
 
 
 def said_by_program(trau: str, words: Sequence[str], folder: str, given: bytes = b"") -> bytes:

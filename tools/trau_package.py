@@ -1,5 +1,5 @@
 """Packs the proved program: a tarball with the program for x86-64-v2 and for x86-64-v3, the scripts, man pages, word completion for bash,
-the documents, the examples, the tools, the C library of the codec, SHA256SUMS and a script `install`. With --deb it makes Debian packages
+the documents, the examples, the tools, the gateway, the C library, SHA256SUMS and a script `install`. With --deb it makes Debian packages
 too. The installed program needs only the system's C library; the tools need Python 3.
 
 tools/build.py proves and builds the programs, and clib/build the library; both come first if a source changed. If TRAU_PROGRAM names the program,
@@ -191,6 +191,9 @@ def members(state: State, library: Dict[str, bytes]) -> Dict[str, Member]:
         found[f"tools/{name}"] = Member(trau_frames.read_file(TOP / "tools" / name), name in TOOLS)
     found.update((name, Member(content)) for name, content in library.items())
     found["clib/with"] = Member(trau_frames.read_file(TOP / "clib" / "with"), True)
+    for name, path in files_below(TOP / "gateway").items():
+        if not name.startswith("tests/"):
+            found[f"gateway/{name}"] = Member(trau_frames.read_file(path), name == "gateway.py")
     for name, path in files_below(TOP / "examples").items():
         if EXAMPLES.fullmatch(name):
             found[f"examples/{name}"] = Member(trau_frames.read_file(path))

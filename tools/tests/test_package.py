@@ -197,6 +197,17 @@ class Package(InFolder):
         self.assertIn("octet for octet what is recorded in examples/farm/wanted", out)
         self.assertEqual(self.said(package / "demo", "--unproved")[0], 2)
 
+    def test_the_gateway(self):
+        package = self.unpack()
+        status, out, err = self.said(package / "gateway" / "gateway.py", "--help")
+        self.assertEqual((status, err), (0, ""))
+        self.assertFalse((package / "gateway" / "tests").exists())
+        recording = self.path("recording")
+        recording.mkdir()
+        (recording / "orders.txt").write_text("")
+        status, out, err = self.said(package / "gateway" / "gateway.py", "check", recording)
+        self.assertEqual((status, out, err), (0, "calls 0 differ 0\n", ""))
+
     def test_install_and_remove(self):
         package, prefix = self.unpack(), self.folder / "a prefix"
         install = package / "install"
