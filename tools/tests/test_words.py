@@ -22,6 +22,7 @@ MOST_WORDS = (
     (6000, ["docs/COMMANDS.md", "docs/commands/*.md"]),
     (3500, ["docs/DEVELOPERS.md"]),
     (3000, ["docs/PERFORMANCE.md"]),
+    (4500, ["docs/DECISIONS.md"]),
     (1000, ["bench/README.md"]),
 )
 
