@@ -23,6 +23,7 @@ MOST_WORDS = (
     (3500, ["docs/DEVELOPERS.md"]),
     (3000, ["docs/PERFORMANCE.md"]),
     (4500, ["docs/DECISIONS.md"]),
+    (3000, ["tools/README.md"]),
     (1000, ["bench/README.md"]),
 )
 
