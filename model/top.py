@@ -50,7 +50,7 @@ def refuse(failure: Failure, desk: Desk) -> Status:
 
 
 def say(text: str, has_failed_lines: bool, desk: Desk) -> Status:
-    """Writes a command's text at its end: a standard output that fails goes before lines that failed (docs/commands/run.md,
+    """Writes a command's text at its end: a standard output that fails goes before lines that failed (docs/COMMANDS.md,
     "Statuses").
     """
     if not desk.write(text):
@@ -59,7 +59,7 @@ def say(text: str, has_failed_lines: bool, desk: Desk) -> Status:
 
 
 def read_desk(most: int, desk: Desk) -> Union[bytes, Failure]:
-    """All of standard input where it has `most` octets at most: a failure goes before too many octets (docs/commands/run.md,
+    """All of standard input where it has `most` octets at most: a failure goes before too many octets (docs/COMMANDS.md,
     "Statuses").
     """
     given = desk.read(most + 1)

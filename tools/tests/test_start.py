@@ -822,6 +822,15 @@ class BadOrders(Started):
             ended = subprocess.run([self.top / "trau", *words], stdin=orders, **how)
         return ended.returncode, ended.stdout, ended.stderr
 
+    def test_a_limit_on_the_size_of_files(self):
+        # What the script says is a write past the limit, too, if standard error is a file.
+        path = self.path("orders.txt", b"0 open 1\n5 open  2\n")
+        limit = lambda: resource.setrlimit(resource.RLIMIT_FSIZE, (0, 0))
+        how = {"stdout": subprocess.PIPE, "text": True, "cwd": self.folder, "env": self.surroundings, "preexec_fn": limit}
+        with open(path, "rb") as orders, open(self.folder / "said", "wb") as said:
+            ended = subprocess.run([self.top / "trau", "run"], stdin=orders, stderr=said, **how)
+        self.assertEqual((ended.returncode, ended.stdout), (0, "the program: run\n"))
+
     def test_the_first_bad_line(self):
         said = "trau: line 2 of the orders: two spaces; tools/orders.py check says what is wrong with each line\n"
         self.assertEqual(self.run_of(b"0 open 1\n5 open  2\nx", "run"), (0, "the program: run\n", said))
