@@ -1,15 +1,15 @@
 -- Which seats are freed: step by step for one operation.
-use Rattle.std.proofs.Common.{◌≡◌, ◌⊎◌, ◌∙◌, ℕ, ◌+◌, ◌-◌, min, List, Option, None, Some, Result, Err, IfSome, IsSomeAnd, ap, arith, inl, inr, subst, sym, slice_set}
+use Rattle.std.proofs.Common.{◌≡◌, ◌≢◌, ◌⊎◌, ◌∙◌, ℕ, ◌+◌, ◌-◌, min, List, Option, None, Some, Result, Ok, Err, IfOk, IfSome, IsSomeAnd, ap, arith, inl, inr, refl, subst, sym, slice_set}
 use Rattle.std.specs.declared.io.Error.{Error}
 use Rattle.trau_io.specs.declared.line.Side.{Side}
 use Rattle.trau_files.specs.declared.trunk.claims.Claim.{Claim}
 use Rattle.trau_files.specs.declared.trunk.fault.Fault.{Fault}
 use Rattle.trau_files.specs.declared.trunk.fault.Fault.TheVariants.{System}
 use Rattle.trau_files.specs.declared.trunk.seats.Access.{Access}
-use Rattle.trau_files.specs.Files.{OpenFiles, OpenLine, OthersSit, in_seat}
+use Rattle.trau_files.specs.Files.{IsFileOf, OpenFiles, OpenLine, OthersSit, in_seat}
 use Rattle.trau_files.specs.Folder.{Operations}
-use Rattle.trau_files.specs.Opening.{LacksDescriptor, OpensOnce}
-use Rattle.trau_files.specs.Seats.{FreesNext, FreesSeats, HoldsOrLessens, IsShort, NoneWasOpen, OthersStayOpen}
+use Rattle.trau_files.specs.Opening.{LacksDescriptor, Opens, OpensOnce}
+use Rattle.trau_files.specs.Seats.{FreesNext, FreesSeats, HoldsOrLessens, IsShort, NoneWasOpen, OthersStayOpen, SitsHere}
 use Rattle.trau_files.proofs.Seating.{set_place}
 
 -- the file in one seat stays, if it is another line's
@@ -52,10 +52,14 @@ module _ {D F : Type 0} (does : Operations D F) (call : ℕ) (side : Side) (acce
   same_short old seats short = record { folder = short.folder; fault = short.fault; failed = short.failed; lacks = short.lacks }
 
   -- the file wasn't opened
-  pub frees_only : (old new : OpenFiles D F) (seats : List (Option (OpenLine F))) → OthersSit old.seats seats old.next →
-      HoldsOrLessens does (freed old seats) new call side access at → FreesNext does old new call side access at
-  frees_only old new seats sits held = elim held [
-    | inl h ↦ inl (λ k other. ap (λ (s : List (Option (OpenLine F))). in_seat s k) h.0 ∙ sits k other, inl h.1, h.2)
+  pub frees_only : (old new : OpenFiles D F) (seats : List (Option (OpenLine F))) (fault : Fault) → OthersSit old.seats seats old.next →
+      HoldsOrLessens does (freed old seats) new call side access at →
+      Opens does old.folder new.folder old.claims new.claims call side access at (Err fault) → FreesNext does old new call side access at
+  frees_only old new seats fault sits held opens = elim held [
+    | inl h ↦ inl (
+      λ k other. ap (λ (s : List (Option (OpenLine F))). in_seat s k) h.0 ∙ sits k other,
+      record { result = Err fault; opens = opens; seat = tt; next = h.1; last = h.2 },
+    )
     | inr h ↦ inr (λ k other before. h.0 k before ∙ sits k other, h.1, h.2, same_short old seats h.3)
   ]
 
@@ -63,14 +67,24 @@ module _ {D F : Type 0} (does : Operations D F) (call : ℕ) (side : Side) (acce
   least a n m is_n is_m = omega (arith, is_n, is_m)
 
   -- the file was opened and put into the next seat
-  pub frees_for_it : (old mid new : OpenFiles D F) (seats : List (Option (OpenLine F))) → OthersSit old.seats seats old.next →
+  pub frees_for_it : (old mid new : OpenFiles D F) (seats : List (Option (OpenLine F))) (file : F) → OthersSit old.seats seats old.next →
       HoldsOrLessens does (freed old seats) mid call side access at → OthersSit mid.seats new.seats mid.next → new.next ≡ min mid.last (mid.next + 1) →
-      new.last ≡ mid.last → FreesNext does old new call side access at
-  frees_for_it old mid new seats sits held puts next last = elim held [
+      new.last ≡ mid.last → Opens does old.folder new.folder old.claims new.claims call side access at (Ok file) →
+      IsFileOf old.seats call side None → FreesNext does old new call side access at
+  frees_for_it old mid new seats file sits held puts next last opens closed = elim held [
     | inl h ↦ inl (
       λ k other. puts k (λ e. other (e ∙ h.1)) ∙ ap (λ (s : List (Option (OpenLine F))). in_seat s k) h.0 ∙ sits k other,
-      inr (rw (sym h.1, sym h.2) next),
-      last ∙ h.2,
+      record {
+        result = Ok file;
+        opens = opens;
+        seat = λ k o other there c s.
+            let before : in_seat old.seats k ≡ Some o =
+            sym (puts k (λ e. other (e ∙ h.1)) ∙ ap (λ (s : List (Option (OpenLine F))). in_seat s k) h.0 ∙ sits k other) ∙ there in
+            let none = closed.only k o before c s in
+            cc;
+        next = rw (sym h.1, sym h.2) next;
+        last = last ∙ h.2;
+      },
     )
     | inr h ↦ inr (
       λ k other before. puts k (λ e. before (e ∙ h.1)) ∙ h.0 k before ∙ sits k other,
@@ -88,8 +102,7 @@ module _ {D F : Type 0} (does : Operations D F) (call : ℕ) (side : Side) (acce
     | inl h ↦ inr (inl (record {
       none = none;
       others = λ k o there other free. h.0 k free ∙ stay k o there other (λ e. e);
-      next = h.1;
-      last = h.2;
+      passes = record { result = h.1.result; opens = h.1.opens; seat = h.1.seat; next = h.1.next; last = h.1.last };
     }))
     | inr h ↦ inr (inr (record {
       none = none;
@@ -112,6 +125,23 @@ module _ {D F : Type 0} (does : Operations D F) (call : ℕ) (side : Side) (acce
       is_other (Some y) is line = let same : y ≡ o = cc in
           other (ap (λ (f : OpenLine F). f.call) (sym same) ∙ line.0) (ap (λ (f : OpenLine F). f.side) (sym same) ∙ line.1)
 
+  -- so it stays in its seat
+  sits_here : (mid new : List (Option (OpenLine F))) (seat p : ℕ) → IsSomeAnd (in_seat mid seat) (λ o. (o.call ≡ call) × (o.side ≡ side)) →
+      OthersSit mid new seat → SitsHere mid p call side → SitsHere new p call side
+  sits_here mid new seat p line sits here k o other there c s =
+      let elsewhere : k ≢ seat → ⊥ = λ far. here k o other (sym (sits k far) ∙ there) c s in
+      elsewhere (λ e. is_there (in_seat mid seat) refl line (λ f. other (e ∙ f)))
+    where
+      is_there : (x : Option (OpenLine F)) → in_seat mid seat ≡ x → IsSomeAnd x (λ y. (y.call ≡ call) × (y.side ≡ side)) → seat ≢ p → ⊥
+      is_there None is line far = absurd line
+      is_there (Some y) is line far = here seat y far is line.0 line.1
+
+  sits_still : (mid new : List (Option (OpenLine F))) (seat p : ℕ) (result : Result F Fault) →
+      IsSomeAnd (in_seat mid seat) (λ o. (o.call ≡ call) × (o.side ≡ side)) → OthersSit mid new seat → IfOk result (λ _. SitsHere mid p call side) →
+      IfOk result (λ _. SitsHere new p call side)
+  sits_still mid new seat p (Ok file) line sits here = sits_here mid new seat p line sits here
+  sits_still mid new seat p (Err fault) line sits here = tt
+
   pub frees_still : (old mid : OpenFiles D F) (seats : List (Option (OpenLine F))) (seat : ℕ) →
       IsSomeAnd (in_seat mid.seats seat) (λ o. (o.call ≡ call) × (o.side ≡ side)) → OthersSit mid.seats seats seat → FreesSeats does old mid call side access at →
       FreesSeats does old (freed mid seats) call side access at
@@ -126,8 +156,13 @@ module _ {D F : Type 0} (does : Operations D F) (call : ℕ) (side : Side) (acce
     | inr (inl h) ↦ inr (inl (record {
       none = h.none;
       others = moves old.seats mid.seats seats seat (λ k. k ≡ old.next) line sits h.others;
-      next = h.next;
-      last = h.last;
+      passes = record {
+        result = h.passes.result;
+        opens = h.passes.opens;
+        seat = sits_still mid.seats seats seat old.next h.passes.result line sits h.passes.seat;
+        next = h.passes.next;
+        last = h.passes.last;
+      };
     }))
     | inr (inr h) ↦ inr (inr (record {
       none = h.none;

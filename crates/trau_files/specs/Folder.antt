@@ -20,8 +20,10 @@ pub record Operations (D F : Type 0) : Type 1 where
   pub identified : Metadata → FileIdentity → Type 0
   -- going to this octet took an open file from the first state to the second
   pub went : F → F → ℕ → Result ℕ Error → Type 0
-  -- emptying an open file took it from the first state to the second
-  pub emptied : F → F → Result Unit Error → Type 0
+  -- emptying an open file took the folder from the first state to the second, and the file from the third to the fourth
+  pub emptied : D → D → F → F → Result Unit Error → Type 0
+  -- closing an open file in this state took the folder from the first state to the second
+  pub closed : D → D → F → Type 0
 
 -- reads of a file: the octets that they will give, where these are known, and what one read did
 pub record ReadOperation (F : Type 0) : Type 1 where

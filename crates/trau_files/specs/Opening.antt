@@ -13,7 +13,7 @@ use Rattle.trau_files.specs.declared.trunk.fault.Fault.{Fault}
 use Rattle.trau_files.specs.declared.trunk.fault.Fault.TheVariants.{System, Shared}
 use Rattle.trau_files.specs.declared.trunk.seats.Access.{Access}
 use Rattle.trau_files.specs.declared.trunk.seats.Access.TheVariants.{Writing}
-use Rattle.trau_files.specs.Claims.{Has, IsTaken, claim_at}
+use Rattle.trau_files.specs.Claims.{Has, IsTaken, OthersKeep, claim_at}
 use Rattle.trau_files.specs.Files.{file_name, options_for}
 use Rattle.trau_files.specs.Folder.{Operations}
 
@@ -29,12 +29,14 @@ OpensOrMakes {D = D} does old new call side access at true result =
     (mid : D) × (e : Error) × does.opened old mid (options_for access false) (file_name call side) (Err e) × IsToBeMade access at e
     × does.opened mid new (options_for access true) (file_name call side) result
 
--- a file that was just opened goes to its octet; a file of a disk that is to be written from its first octet on is emptied; no other is
-pub record Starts {D F : Type 0} (does : Operations D F) (access : Access) (at : ℕ) (metadata : Metadata) (old new : F) (result : Result Unit Error) : Type 0 where
-  pub goes : 0 < at → (moved : Result ℕ Error) × does.went old new at moved
-      × MatchResult moved (λ _. result ≡ Ok tt) (λ e. result ≡ Err e)
-  pub empties : at ≡ 0 → access ≡ Writing → IsFile (file_type metadata) → does.emptied old new result
-  pub stays : at ≡ 0 → (access ≡ Writing → IsFile (file_type metadata) → ⊥) → (new ≡ old) × (result ≡ Ok tt)
+-- A file that was just opened goes to its octet; a file of a disk that is to be written from its first octet on is emptied; no other is. This
+-- takes the folder from `before` to `after`, and the file from `old` to `new`.
+pub record Starts {D F : Type 0} (does : Operations D F) (access : Access) (at : ℕ) (metadata : Metadata) (before after : D) (old new : F)
+    (result : Result Unit Error) : Type 0 where
+  pub goes : 0 < at → (after ≡ before) × ((moved : Result ℕ Error) × does.went old new at moved
+      × MatchResult moved (λ _. result ≡ Ok tt) (λ e. result ≡ Err e))
+  pub empties : at ≡ 0 → access ≡ Writing → IsFile (file_type metadata) → does.emptied before after old new result
+  pub stays : at ≡ 0 → (access ≡ Writing → IsFile (file_type metadata) → ⊥) → (after ≡ before) × (new ≡ old) × (result ≡ Ok tt)
 
 -- a line's file was opened, made or not, and has these metadata
 pub record IsSeen {D F : Type 0} (does : Operations D F) (old new : D) (call : ℕ) (side : Side) (access : Access) (at : ℕ) (file : F) (made : Bool)
@@ -48,22 +50,25 @@ pub record IsOpened {D F : Type 0} (does : Operations D F) (old new : D) (claims
   pub fresh : F
   pub made : Bool
   pub metadata : Metadata
-  pub seen : IsSeen does old new call side access at fresh made metadata
-  pub started : Starts does access at metadata fresh file (Ok tt)
+  pub mid : D
+  pub seen : IsSeen does old mid call side access at fresh made metadata
+  pub started : Starts does access at metadata mid new fresh file (Ok tt)
   pub identity : FileIdentity
   pub identified : does.identified metadata identity
   pub noted : IsFile (file_type metadata) → Has (claim_at claims (index_of_line call side)) (record { file = identity; access = access })
 
--- an operation of the folder failed with this error
+-- an operation of the folder failed with this error; an open file was closed as that operation left it
 abbrev pub IsRefused : {D F : Type 0} → Operations D F → D → D → ℕ → Side → Access → ℕ → Error → Type 0
-IsRefused {F = F} does old new call side access at e =
+IsRefused {D = D} {F = F} does old new call side access at e =
     ((made : Bool) × OpensOrMakes does old new call side access at made (Err e))
-    ⊎ ((file : F) × (made : Bool) × OpensOrMakes does old new call side access at made (Ok file) × does.told file (Err e))
-    ⊎ ((fresh : F) × (made : Bool) × (metadata : Metadata) × (file : F) × IsSeen does old new call side access at fresh made metadata
-    × Starts does access at metadata fresh file (Err e))
+    ⊎ ((file : F) × (made : Bool) × (mid : D) × OpensOrMakes does old mid call side access at made (Ok file) × does.told file (Err e)
+    × does.closed mid new file)
+    ⊎ ((fresh : F) × (made : Bool) × (metadata : Metadata) × (file : F) × (mid : D) × (started : D)
+    × IsSeen does old mid call side access at fresh made metadata × Starts does access at metadata mid started fresh file (Err e)
+    × does.closed started new file)
 
 -- the file is one of a disk that another line has, one of the two to be written, or that is to be written and was found as a recording;
--- what the name leads to is removed only if it was made now and is empty
+-- it is closed as it was opened, and what the name leads to is removed only if it was made now and is empty
 pub record IsShared {D F : Type 0} (does : Operations D F) (old new : D) (claims : List (Option Claim)) (call : ℕ) (side : Side) (access : Access) (at : ℕ)
     (other : ℕ) : Type 0 where
   pub file : F
@@ -75,7 +80,9 @@ pub record IsShared {D F : Type 0} (does : Operations D F) (old new : D) (claims
   pub identity : FileIdentity
   pub identified : does.identified metadata identity
   pub taken : IsTaken claims (index_of_line call side) (record { file = identity; access = access }) other ⊎ (access ≡ Writing)
-  pub left : (new ≡ mid) ⊎ ((made ≡ true) × (metadata_len metadata ≡ 0) × does.removed mid new (file_name call side))
+  pub without : D
+  pub closed : does.closed mid without file
+  pub left : (new ≡ without) ⊎ ((made ≡ true) × (metadata_len metadata ≡ 0) × does.removed without new (file_name call side))
 
 -- why a line's file wasn't opened
 abbrev pub FailsToOpen : {D F : Type 0} → Operations D F → D → D → List (Option Claim) → ℕ → Side → Access → ℕ → Fault → Type 0
@@ -98,6 +105,7 @@ pub record OpensAgain {D F : Type 0} (does : Operations D F) (old new : D) (old_
     (access : Access) (at : ℕ) (result : Result F Fault) : Type 0 where
   pub folder : D
   pub claims : List (Option Claim)
+  pub others : OthersKeep old_claims claims (index_of_line call side)
   pub fault : Fault
   pub first : FailsToOpen does old folder old_claims call side access at fault
   pub lacks : LacksDescriptor fault

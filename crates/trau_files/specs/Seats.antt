@@ -1,11 +1,11 @@
 -- Which seats are freed for a file that is opened (this project's profile).
-use Rattle.std.specs.Prelude.{◌≡◌, ◌≢◌, ◌⊎◌, ℕ, ◌+◌, ◌-◌, min, List, Option, None, Some}
+use Rattle.std.specs.Prelude.{◌≡◌, ◌≢◌, ◌⊎◌, ℕ, ◌+◌, ◌-◌, min, List, Option, None, Some, Result, Ok, Err, IfOk}
 use Rattle.trau_io.specs.declared.line.Side.{Side}
 use Rattle.trau_files.specs.declared.trunk.fault.Fault.{Fault}
 use Rattle.trau_files.specs.declared.trunk.seats.Access.{Access}
 use Rattle.trau_files.specs.Files.{IsOpenAt, OpenFiles, OpenLine, OthersSit, in_seat}
 use Rattle.trau_files.specs.Folder.{Operations}
-use Rattle.trau_files.specs.Opening.{FailsToOpen, LacksDescriptor}
+use Rattle.trau_files.specs.Opening.{FailsToOpen, LacksDescriptor, Opens}
 
 -- the line had no file open at this octet
 abbrev pub NoneWasOpen : {F : Type 0} → List (Option (OpenLine F)) → ℕ → Side → Access → ℕ → Type 0
@@ -25,10 +25,27 @@ HoldsOrLessens does old new call side access at =
     ⊎ (OthersSit old.seats new.seats (old.next - 1) × (new.next ≡ old.next - 1) × (new.last ≡ old.next - 1) × IsShort does old call side access at
     × (in_seat new.seats (old.next - 1) ≡ None))
 
+-- the next seat after an opening with this result: the one after it, up to the last, if the file was opened; else it stays
+abbrev pub seat_after : {F : Type 0} → ℕ → ℕ → Result F Fault → ℕ
+seat_after next last (Ok file) = min last (next + 1)
+seat_after next last (Err fault) = next
+
+-- no seat but this one has an open file of the line
+abbrev pub SitsHere : {F : Type 0} → List (Option (OpenLine F)) → ℕ → ℕ → Side → Type 0
+SitsHere {F = F} seats seat call side = (k : ℕ) (o : OpenLine F) → k ≢ seat → in_seat seats k ≡ Some o → o.call ≡ call → o.side ≡ side → ⊥
+
+-- opening the line's file gave this result; only if it was opened, it got the next seat, which is passed on
+pub record PassesSeat {D F : Type 0} (does : Operations D F) (old new : OpenFiles D F) (call : ℕ) (side : Side) (access : Access) (at : ℕ) : Type 0 where
+  pub result : Result F Fault
+  pub opens : Opens does old.folder new.folder old.claims new.claims call side access at result
+  pub seat : IfOk result (λ _. SitsHere new.seats old.next call side)
+  pub next : new.next ≡ seat_after old.next old.last result
+  pub last : new.last ≡ old.last
+
 -- for a file that is opened only the next seat is freed; where no descriptor was left, also the one before it
 abbrev pub FreesNext : {D F : Type 0} → Operations D F → OpenFiles D F → OpenFiles D F → ℕ → Side → Access → ℕ → Type 0
 FreesNext does old new call side access at =
-    (OthersSit old.seats new.seats old.next × ((new.next ≡ old.next) ⊎ (new.next ≡ min old.last (old.next + 1))) × (new.last ≡ old.last))
+    (OthersSit old.seats new.seats old.next × PassesSeat does old new call side access at)
     ⊎ (((k : ℕ) → k ≢ old.next → k ≢ old.next - 1 → in_seat new.seats k ≡ in_seat old.seats k) × (new.next ≡ old.next - 1) × (new.last ≡ old.next - 1)
     × IsShort does old call side access at)
 
@@ -45,12 +62,11 @@ pub record FreesNone {D F : Type 0} (old new : OpenFiles D F) (call : ℕ) (side
   pub next : new.next ≡ old.next
   pub last : new.last ≡ old.last
 
--- the line's file wasn't open: the next seat is freed for it, and the seat after it is the next one, up to the last
-pub record FreesOne {D F : Type 0} (old new : OpenFiles D F) (call : ℕ) (side : Side) (access : Access) (at : ℕ) : Type 0 where
+-- the line's file wasn't open: the next seat is freed for it, and passed on if it was opened
+pub record FreesOne {D F : Type 0} (does : Operations D F) (old new : OpenFiles D F) (call : ℕ) (side : Side) (access : Access) (at : ℕ) : Type 0 where
   pub none : NoneWasOpen old.seats call side access at
   pub others : OthersStayOpen old.seats new.seats call side (λ k. k ≡ old.next)
-  pub next : (new.next ≡ old.next) ⊎ (new.next ≡ min old.last (old.next + 1))
-  pub last : new.last ≡ old.last
+  pub passes : PassesSeat does old new call side access at
 
 -- no descriptor was left for it: the seat before is freed too, and is the next and the last one from then on
 pub record FreesTwo {D F : Type 0} (does : Operations D F) (old new : OpenFiles D F) (call : ℕ) (side : Side) (access : Access) (at : ℕ) : Type 0 where
@@ -63,4 +79,4 @@ pub record FreesTwo {D F : Type 0} (does : Operations D F) (old new : OpenFiles 
 -- which seats are freed for a line's file
 abbrev pub FreesSeats : {D F : Type 0} → Operations D F → OpenFiles D F → OpenFiles D F → ℕ → Side → Access → ℕ → Type 0
 FreesSeats does old new call side access at =
-    FreesNone old new call side access at ⊎ FreesOne old new call side access at ⊎ FreesTwo does old new call side access at
+    FreesNone old new call side access at ⊎ FreesOne does old new call side access at ⊎ FreesTwo does old new call side access at

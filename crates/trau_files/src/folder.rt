@@ -2,8 +2,9 @@
 //!
 //! The standard library's contracts don't say what an opening, a seek or a new length does, and let any operation fail. So each
 //! operation of a folder gives a relation that only this operation gives (`specs/Folder.antt`). Of any folder it is then proved
-//! which operations a line makes, and that their results are passed on. For the system's files each method is one call of the
-//! standard library; that these calls do what they are asked is trusted.
+//! which operations a line makes, and that their results are passed on. Emptying and closing change the folder too, so that they
+//! show of a file that no clause names afterwards. For the system's files each method is one call of the standard library; that
+//! these calls do what they are asked is trusted.
 ghost use Rattle.trau_files.specs.Folder.{Operations};
 
 use crate::retry::{ReadOnce, WriteOnce};
@@ -41,8 +42,12 @@ pub trait Folder {
         ensures { does.went file.old file.new at result };
 
     /// Empties an open file.
-    fn empty(&self, file: &mut Self::File) -> io::Result<()>
-        ensures { does.emptied file.old file.new result };
+    fn empty(&mut self, file: &mut Self::File) -> io::Result<()>
+        ensures { does.emptied self.old self.new file.old file.new result };
+
+    /// Closes an open file that isn't used, as it is.
+    fn close(&mut self, file: Self::File)
+        ensures { does.closed self.old self.new file };
 
     /// The metadata of the file that `name` leads to.
     fn metadata(&self, name: &str) -> io::Result<Metadata>;
@@ -60,7 +65,8 @@ impl<'a, R: Files + AllocGlobal> Folder for &'a R {
       told = λ file result. Unit {0};
       identified = λ metadata file. Unit {0};
       went = λ old new at result. Unit {0};
-      emptied = λ old new result. Unit {0};
+      emptied = λ before after old new result. Unit {0};
+      closed = λ before after file. Unit {0};
     } };
 
     fn open(&mut self, how: &OpenOptions, name: &str) -> io::Result<R::File> {
@@ -83,8 +89,12 @@ impl<'a, R: Files + AllocGlobal> Folder for &'a R {
         file.seek(SeekFrom::Start(at))
     }
 
-    fn empty(&self, file: &mut R::File) -> io::Result<()> {
+    fn empty(&mut self, file: &mut R::File) -> io::Result<()> {
         file.set_len(0)
+    }
+
+    fn close(&mut self, file: R::File) {
+        drop(file);
     }
 
     fn metadata(&self, name: &str) -> io::Result<Metadata> {

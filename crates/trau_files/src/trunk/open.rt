@@ -178,7 +178,8 @@ impl<D: Folder + Eprint + Drop> LineFiles<D> {
     }
 }
 
-// Opens a line's file at this octet, unless it is another line's. If it is, and was made only now, it is removed again.
+// Opens a line's file at this octet, unless it is another line's. If it is, it is closed as it was opened, and removed if it was
+// made only now.
 fn open_at<D: Folder>(
     folder: &mut D,
     claims: &mut Claims,
@@ -191,22 +192,30 @@ fn open_at<D: Folder>(
     ensures others { OthersKeep claims.old claims.new (index_of_line line.call line.side) }
 {
     let (mut file, is_new) = open_or_make(folder, line, access, at)?;
-    let metadata = folder.ask(&file)?;
+    let metadata = match folder.ask(&file) {
+        Ok(metadata) => metadata,
+        Err(fault) => {
+            folder.close(file);
+            return Err(Fault::System(fault));
+        }
+    };
     let claim = Claim {
         file: folder.identify(&metadata),
         access,
     };
-    match claims.take(folder, line, claim, &metadata) {
-        Ok(()) => {
-            start(folder, &mut file, access, at, &metadata)?;
-            Ok(file)
+    if let Err(place) = claims.take(folder, line, claim, &metadata) {
+        folder.close(file);
+        if is_new && metadata.len() == 0 {
+            let _ = folder.remove(name_of(line).as_str());
+            claims.forget(place);
         }
-        Err(place) => {
-            if is_new && metadata.len() == 0 {
-                let _ = folder.remove(name_of(line).as_str());
-                claims.forget(place);
-            }
-            Err(Fault::Shared(place))
+        return Err(Fault::Shared(place));
+    }
+    match start(folder, &mut file, access, at, &metadata) {
+        Ok(()) => Ok(file),
+        Err(fault) => {
+            folder.close(file);
+            Err(Fault::System(fault))
         }
     }
 }
@@ -242,13 +251,13 @@ fn is_to_be_made(access: Access, at: u64, fault: &io::Error) -> bool
 
 // Goes to this octet of a line's file. Only now is a file emptied, if nothing has been written to it yet.
 fn start<D: Folder>(
-    folder: &D,
+    folder: &mut D,
     file: &mut D::File,
     access: Access,
     at: u64,
     metadata: &Metadata,
 ) -> io::Result<()>
-    ensures { Starts D.does access at metadata.now file.old file.new result }
+    ensures { Starts D.does access at metadata.now folder.old folder.new file.old file.new result }
 {
     if at > 0 {
         folder.go(file, at)?;

@@ -1,5 +1,6 @@
-use Rattle.std.proofs.Common.{subst, sym}
-use Rattle.trau_files.specs.Files.{OpenFiles}
+use Rattle.std.proofs.Common.{None, Ok, subst, sym}
+use Rattle.trau_files.specs.Files.{IsFileOf, OpenFiles}
+use Rattle.trau_files.specs.Opening.{Opens}
 use Rattle.trau_files.specs.Seats.{FreesNext, HoldsOrLessens}
 use Rattle.trau_files.proofs.Freeing.{frees_for_it, frees_only, freed}
 use Rattle.trau_files.proofs.trunk.open.LineFiles.open.Goals as goal
@@ -9,8 +10,8 @@ returns-in_err-file-clause-freed g c =
     let line = c.args.line in
     let old : OpenFiles g.row.D.Denot g.row.D-File.Denot = record { seats = c.self.inside.seats; claims = c.self.inside.claims; next = c.self.inside.place.next; last = c.self.inside.place.last; folder = c.self.inside.folder } in
     subst (λ (f : OpenFiles _ _). FreesNext g.D.Folder.does f c.open_or_lessen.new.self line.call line.side c.args.access c.args.at) c.self.view_is
-    (frees_only g.D.Folder.does line.call line.side c.args.access c.args.at old c.open_or_lessen.new.self c.free.new.self c.free.ensures.freed
-    c.open_or_lessen.ensures.held)
+    (frees_only g.D.Folder.does line.call line.side c.args.access c.args.at old c.open_or_lessen.new.self c.free.new.self _ c.free.ensures.freed
+    c.open_or_lessen.ensures.held c.in_err-file.ensures.opens)
 
 pub returns-clause-freed : goal.returns-clause-freed
 returns-clause-freed g c =
@@ -21,6 +22,9 @@ returns-clause-freed g c =
     let without = freed g.D.Folder.does line.call line.side c.args.access c.args.at old c.free.new.self in
     let held = subst (λ (f : OpenFiles _ _). HoldsOrLessens g.D.Folder.does without f line.call line.side c.args.access c.args.at) (sym c.self-2.view_is)
     c.open_or_lessen.ensures.held in
+    let opens = subst (λ (f : OpenFiles _ _). Opens g.D.Folder.does old.folder f.folder old.claims f.claims line.call line.side c.args.access c.args.at
+    (Ok c.in_ok-file.file)) (sym c.self-2.view_is) c.in_ok-file.ensures.opens in
+    let closed = subst (λ (f : OpenFiles _ _). IsFileOf f.seats line.call line.side None) (sym c.self.view_is) c.requires in
     subst (λ (f : OpenFiles _ _). FreesNext g.D.Folder.does f new line.call line.side c.args.access c.args.at) c.self.view_is
-    (frees_for_it g.D.Folder.does line.call line.side c.args.access c.args.at old mid new c.free.new.self c.free.ensures.freed held c.put.ensures.kept
-    c.pass.ensures.next c.pass.ensures.last)
+    (frees_for_it g.D.Folder.does line.call line.side c.args.access c.args.at old mid new c.free.new.self c.in_ok-file.file c.free.ensures.freed held c.put.ensures.kept
+    c.pass.ensures.next c.pass.ensures.last opens closed)
