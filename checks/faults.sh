@@ -189,6 +189,21 @@ unmade() {
     fi
 }
 
+# both_unmade WORDS..: both outgoing lines of call 1 fail, since their links lead to lines that don't exist. No file is made for either.
+both_unmade() {
+    status=0
+    (cd "$work/run" && printf '0 open 1\n' | "$top/trau" run "$@" >report.txt 2>said) || status=$?
+    printf 'line 1 down failed\nline 1 out failed\n' >"$work/told"
+    printf 'trau: 1.down: this is the file of 2.up\ntrau: 1.out: this is the file of 2.pcm\n' >"$work/reasons"
+    if [ "$status" = 6 ] && grep '^line ' "$work/run/report.txt" | cmp -s - "$work/told" && cmp -s "$work/run/said" "$work/reasons" &&
+        [ ! -e "$work/run/2.up" ] && [ ! -e "$work/run/2.pcm" ] && [ -L "$work/run/1.down" ] && [ -L "$work/run/1.out" ]; then
+        echo "ok $what, $*"
+    else
+        fail "$what, $*"
+        cat "$work/run/report.txt" "$work/run/said"
+    fi
+}
+
 # begin WHAT: a folder with only the incoming lines
 begin() {
     what=$1
@@ -241,6 +256,11 @@ for batch in 1 7 250; do
     ln -s 2.up 1.down
     ln -s new 1.out
     unmade --batch "$batch"
+    begin "two outgoing lines that lead to incoming ones that don't exist"
+    rm 2.up 2.pcm
+    ln -s 2.up 1.down
+    ln -s 2.pcm 1.out
+    both_unmade --batch "$batch"
     begin "an outgoing line that leads to a recording of no call of the run"
     ln -s 4.pcm 2.down
     linked "2 down" "this is the file of 4.pcm" --batch "$batch"

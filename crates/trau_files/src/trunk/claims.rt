@@ -75,13 +75,14 @@ impl Claims {
     }
 
     /// Gives an opened file, which has these metadata, to the line, unless it is another line's, whose index is the error. A pipe
-    /// or a device keeps nothing that could be lost; any number of lines may have it.
+    /// or a device keeps nothing that could be lost; any number of lines may have it. `is_new` says that the file was made just now.
     pub fn take<D: Folder>(
         &mut self,
         folder: &D,
         line: Line,
         claim: Claim,
         metadata: &Metadata,
+        is_new: bool,
     ) -> Result<(), usize>
         ensures has { IfOk result (λ _. IsFile (file_type metadata.now) → Has (claim_at self.new (index_of_line line.call line.side)) claim) }
         ensures refused { IfErr result (λ _. self.new ≡ self.old) }
@@ -93,17 +94,17 @@ impl Claims {
         if !metadata.is_file() {
             return Ok(());
         }
-        match self.recorded(folder, line, claim, metadata) {
+        match self.recorded(folder, line, claim, metadata, is_new) {
             Some(place) => Err(place),
             None => self.claim(line, claim),
         }
     }
 
-    /// The file of the line with this index was removed: no incoming line has it.
-    pub fn forget(&mut self, place: usize)
+    /// This file was removed: no incoming line has it.
+    pub fn forget(&mut self, file: FileIdentity)
         ensures { self.new ≡ self.old }
     {
-        self.recordings.forget(place);
+        self.recordings.forget(file);
     }
 
     // The index of an incoming line, opened or not, whose file a line is to write under another name.
@@ -113,12 +114,13 @@ impl Claims {
         line: Line,
         claim: Claim,
         metadata: &Metadata,
+        is_new: bool,
     ) -> Option<usize>
         ensures same { self.new ≡ self.old }
         ensures written { IsSome result → claim.access ≡ Writing }
     {
         if claim.access == Access::Writing && is_linked(folder, line, metadata) {
-            self.recordings.place_of(folder, claim.file)
+            self.recordings.place_of(folder, claim.file, is_new)
         } else {
             None
         }

@@ -6,12 +6,12 @@ ghost use Rattle.std.specs.Io.{ReadsAtMost, WritesAtMost};
 ghost use Rattle.trau_io.specs.Indices.{index_of_line};
 ghost use Rattle.trau_files.specs.declared.trunk.seats.Access.TheVariants.{Reading, Writing};
 ghost use Rattle.trau_files.specs.Claims.{AreApart, OthersKeep};
-ghost use Rattle.trau_files.specs.Files.{IsOpenAt, IsFileOf, OnlyCloses, OpenAfter, in_seat, options_for};
+ghost use Rattle.trau_files.specs.Files.{IsOpenAt, IsFileOf, OnlyCloses, OpenAfter, file_name, in_seat, options_for};
 ghost use Rattle.trau_files.specs.Opening.{IsSeen, IsOpened, IsShared, FailsToOpen, Opens, OpensOnce, OpensOrMakes, Starts, LacksDescriptor, IsToBeMade};
 ghost use Rattle.trau_files.specs.Seats.{FreesNext, FreesSeats, HoldsOrLessens};
 ghost use Rattle.trau_files.specs.Trunk.{IsFound, IsNowOpened, ReadsFile, WritesFile};
 
-use super::claims::{Claim, Claims};
+use super::claims::{Claim, Claims, FileIdentity};
 use super::fault::{Fault, Reasons};
 use super::name::name_of;
 use super::seats::{Access, NextSeat, OpenFile, Seats};
@@ -203,11 +203,10 @@ fn open_at<D: Folder>(
         file: folder.identify(&metadata),
         access,
     };
-    if let Err(place) = claims.take(folder, line, claim, &metadata) {
+    if let Err(place) = claims.take(folder, line, claim, &metadata, is_new) {
         folder.close(file);
         if is_new && metadata.len() == 0 {
-            let _ = folder.remove(name_of(line).as_str());
-            claims.forget(place);
+            unmake(folder, claims, line, claim.file);
         }
         return Err(Fault::Shared(place));
     }
@@ -217,6 +216,16 @@ fn open_at<D: Folder>(
             folder.close(file);
             Err(Fault::System(fault))
         }
+    }
+}
+
+// Removes the file that was made for a line.
+fn unmake<D: Folder>(folder: &mut D, claims: &mut Claims, line: Line, file: FileIdentity)
+    ensures removed { D.does.removed folder.old folder.new (file_name line.call line.side) }
+    ensures same { claims.new ≡ claims.old }
+{
+    if folder.remove(name_of(line).as_str()).is_ok() {
+        claims.forget(file);
     }
 }
 

@@ -8,7 +8,7 @@ use std::alloc::{AllocError, Global};
 use std::marker::Model;
 use trau_io::{LINE_INDICES, Line, Side, line_index};
 
-/// The files of the incoming lines of all calls, by the lines' indices, as they were when `place_of` was first called.
+/// The files of the incoming lines of all calls, by the lines' indices, as they were when `place_of` first met them.
 #[derive(Drop)]
 pub struct Recordings {
     of_lines: Vec<Option<FileIdentity>>,
@@ -37,22 +37,35 @@ impl Recordings {
         })
     }
 
-    /// The index of an incoming line that has this file.
-    pub fn place_of<D: Folder>(&mut self, folder: &D, file: FileIdentity) -> Option<usize> {
-        if !self.is_searched {
+    /// The index of an incoming line that has this file. If the file was made just now, its making may have given one to a line
+    /// that had none, so the folder is searched again.
+    pub fn place_of<D: Folder>(
+        &mut self,
+        folder: &D,
+        file: FileIdentity,
+        is_new: bool,
+    ) -> Option<usize> {
+        if is_new || !self.is_searched {
             self.search(folder);
         }
         self.of_lines.iter().position(|found| *found == Some(file))
     }
 
-    /// Forgets the file of the line with this index, since it was removed.
-    pub fn forget(&mut self, place: usize) {
-        if place < LINE_INDICES {
+    /// Forgets a file, since it was removed.
+    pub fn forget(&mut self, file: FileIdentity) {
+        for place in 0..LINE_INDICES {
+            self.forget_at(place, file);
+        }
+    }
+
+    // Forgets the file of the line with this index, if it is this one.
+    fn forget_at(&mut self, place: usize, file: FileIdentity) {
+        if place < LINE_INDICES && self.of_lines[place] == Some(file) {
             self.of_lines[place] = None;
         }
     }
 
-    // Up and Pcm of each call.
+    // Up and Pcm of each call, unless their files are known.
     fn search<D: Folder>(&mut self, folder: &D) {
         self.is_searched = true;
         for call in 1..=LAST_CALL {
@@ -75,8 +88,12 @@ impl Recordings {
 
     // Notes the file of an incoming line, if it has one.
     fn note<D: Folder>(&mut self, folder: &D, line: Line) {
+        let place = line_index(line);
+        if self.of_lines[place].is_some() {
+            return;
+        }
         if let Ok(metadata) = folder.metadata(name_of(line).as_str()) {
-            self.of_lines[line_index(line)] = Some(FileIdentity::of(&metadata));
+            self.of_lines[place] = Some(FileIdentity::of(&metadata));
         }
     }
 }
