@@ -24,6 +24,7 @@ MOST_WORDS = (
     (3000, ["docs/PERFORMANCE.md"]),
     (4500, ["docs/DECISIONS.md"]),
     (3000, ["tools/README.md"]),
+    (6500, ["docs/PROVED.md"]),
     (1000, ["bench/README.md"]),
 )
 
