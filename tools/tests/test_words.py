@@ -26,6 +26,7 @@ MOST_WORDS = (
     (3000, ["tools/README.md"]),
     (6500, ["docs/PROVED.md"]),
     (1000, ["bench/README.md"]),
+    (6800, ["docs/FILES.md", "docs/OPERATORS.md", "docs/INSTALL.md"]),
 )
 
 
