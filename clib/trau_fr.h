@@ -49,7 +49,8 @@
  *   - Don't say idle for silence on a network: it resets the decoder.
  *   - In a bridge, call trau_fr_hand in place of trau_fr_receive: it gives the frame that goes on to the partner, not decoded. It goes
  *     on as TRAU_FR_SPEECH whatever it is, comfort noise and silence too; ask trau_fr_kind nothing. If what you send is to be what
- *     `trau run` writes, take a new trau_fr_sender_home() in each period of a bridge as well, on both sides.
+ *     `trau run` writes, take a new trau_fr_sender_home() in each period of a bridge as well, on both sides. A bridge that ends before
+ *     its first period resets both as well: copy the decoder of a trau_fr_receiver_home.
  *
  *   A host for RTP, behind a jitter buffer that gives 33 octets or null:
  *

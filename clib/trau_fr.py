@@ -293,6 +293,10 @@ class Receiver:
         self._turn(_library.trau_fr_hand, octets, kind, taf, handed)
         return bytes(handed)
 
+    def begin_bridge(self) -> None:
+        """A bridge begins: the decoder is reset. `hand` does it in each period; this counts where the bridge ends before its first one."""
+        self._state.decoder = _library.trau_fr_receiver_home(0).decoder
+
 
 class Sender:
     """The transmit side of one phone call, a period at a time."""

@@ -143,6 +143,11 @@ class Call:
             self.to_gsm.after_gap = True
         return trau_fr.write_downlink(frame.octets, Kind.SPEECH if frame.speech else Kind.DESCRIPTOR)
 
+    def begin_bridge(self) -> None:
+        """A bridge resets both coders and DTX when it begins, also if it ends before its first period."""
+        self.sender, self.pause = trau_fr.Sender(), None
+        self.receiver.begin_bridge()
+
     def give_up(self, periods: int, tick: int) -> None:
         """The clock has given up time."""
         for incoming in (self.gsm, self.pcm):

@@ -132,6 +132,8 @@ class Switchboard:
             if holds(one.call) or holds(other.call):
                 raise Refusal(REFUSALS[reason])
         one.call.partner, other.call.partner = other.call, one.call
+        for connection in (one, other):
+            connection.call.begin_bridge()
         for endpoint in other.endpoints.values():
             self.network.move(endpoint, other.phase, one.phase)
         other.phase = one.phase

@@ -133,6 +133,12 @@ class Sides(unittest.TestCase):
         self.assertEqual(receiver.hand(None), self.frame)
         self.assertNotEqual(receiver.hand(None), self.frame)
 
+    def test_a_bridge_that_ends_before_its_first_period(self) -> None:
+        receiver = trau_fr.Receiver(7)
+        receiver.receive(self.frame)
+        receiver.begin_bridge()
+        self.assertEqual(receiver.receive(self.frame), trau_fr.Decoder().decode(self.frame))
+
     def test_a_sender(self) -> None:
         samples = trau_fr.expand((VECTORS / "harsh.pcm").read_bytes())
         sender, quiet = trau_fr.Sender(), trau_fr.Sender()

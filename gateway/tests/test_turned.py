@@ -92,6 +92,8 @@ def random_lines(draw, calls, periods):
                     [f"bridge {one} {other}"],
                     [f"unbridge {one}", f"bridge {one} {other}"],
                     [f"unbridge {one}"],
+                    [f"bridge {one} {other}", f"unbridge {one}"],
+                    [open_line(calls[-1] + period), f"bridge {one} {calls[-1] + period}", f"close {calls[-1] + period}"],
                 )
             )
     return lines
@@ -160,6 +162,23 @@ class Kinds(InFolder):
         for verb in ("bridge", "unbridge", "level", "dtx"):
             self.assertGreater(orders.count(f" {verb} "), 2)
         self.assert_replays(self.folder / "rec")
+
+
+class Bridges(InFolder):
+    def assert_replays_if_it_ends_at_once(self, line):
+        turned = Turned(self.folder / "rec")
+        for call in (1, 2):
+            turned.bring(call, schedule(SPEECH[:60], GSM, call), schedule(repeated(LINE, 60, 9 * call), ALAW, call + 9))
+        turned.run({0: [open_line(1), open_line(2)], 20: ["bridge 1 2", line]}, 60)
+        self.assert_replays(self.folder / "rec")
+
+    @with_program
+    def test_a_bridge_that_is_ended_in_the_period_in_which_it_began(self):
+        self.assert_replays_if_it_ends_at_once("unbridge 1")
+
+    @with_program
+    def test_a_bridge_whose_call_is_closed_in_the_period_in_which_it_began(self):
+        self.assert_replays_if_it_ends_at_once("close 1")
 
 
 class Quiet(InFolder):
