@@ -34,8 +34,8 @@ class Incoming:
             self.counts[str(refused)] += 1
             return
         self.heard = tick
-        for period, part, piece in self.pieces(packet.payload, first):
-            reason = self.buffer.put(period, part, piece, tick)
+        for count, (period, part, piece) in enumerate(self.pieces(packet.payload, first)):
+            reason = self.buffer.put(period, part, piece, tick, count == 0)
             if reason:
                 self.counts[reason] += 1
 
@@ -76,7 +76,8 @@ class Incoming:
         """The place of the packet in samples. A jump of the time stamps is believed if the next packet follows it."""
         ahead = (packet.stamp - self.stamp + 0x80000000 & rtp.STAMPS) - 0x80000000
         place = self.position + ahead
-        margin = self.buffer.margin(place // SAMPLES, tick)
+        period, _ = self.period_of(place)
+        margin = self.buffer.margin(period, tick)
         if self.is_given_up(margin, tick):
             raise Refused("given-up")
         if not -LIMIT <= margin <= LIMIT + behind:
@@ -88,7 +89,7 @@ class Incoming:
             return 0
         if ahead > 0:
             self.stamp, self.position = packet.stamp, place
-        if behind == 0:  # a late tick says nothing about the path
+        if behind == 0 and not self.buffer.has(period):  # a late tick and a doubled packet say nothing about the path
             self.buffer.watch(margin)
         return place
 
@@ -103,11 +104,15 @@ class Incoming:
             self.stale = 0
         return -self.stale - LIMIT <= margin < 0 < self.stale
 
+    def period_of(self, place: int) -> Tuple[int, int]:
+        """The period of a place in samples, and the place in it. A frame belongs to the nearest period."""
+        return ((place + SAMPLES // 2) // SAMPLES, 0) if self.frame else divmod(place, SAMPLES)
+
     def pieces(self, payload: bytes, place: int) -> Iterator[Tuple[int, int, bytes]]:
         """The parts of a payload by periods: each with its period, its place there, and its octets."""
-        period, part = divmod(place, SAMPLES)
+        period, part = self.period_of(place)
         if self.frame:
-            if part:
+            if place % SAMPLES:
                 self.counts["off-the-grid"] += 1
             for at in range(0, len(payload), self.frame):
                 yield period + at // self.frame, 0, payload[at : at + self.frame]

@@ -6,14 +6,27 @@ change; so now and then a period is left out (a slip on) or one without content 
 
 from __future__ import annotations
 
-from collections import Counter
-from typing import Callable, Dict, Optional
+from collections import Counter, deque
+from dataclasses import dataclass
+from typing import Callable, Deque, Dict, List, Optional
 
 LIMIT = 50  # periods that a packet may stand ahead; one that is further away is a jump
-WINDOW = 500  # packets over which the least margin is watched, some 10 s
+WINDOW = 500  # packets or ticks over which margins are watched, 10 s
+FEWEST = 50  # packets that say something about a path
+STRAGGLERS = 100  # one packet in so many may come too late without a slip back
+MOST_MARGIN = 40  # periods; where packets wait so long, stragglers no longer bring slips back
+NEARLY = 20  # octets by which a packet may miss the end of the one before it
 PATIENCE = 250  # ticks that a slip waits for a pause
 
 Content = Optional[bytes]
+
+
+@dataclass
+class Laid:
+    """A period as far as it came, and how many of its octets didn't."""
+
+    octets: bytearray
+    missing: int
 
 
 class JitterBuffer:
@@ -27,16 +40,18 @@ class JitterBuffer:
 
     def start(self, tick: int) -> None:
         """Begins anew: the sender's period 0 has come at this tick."""
-        self.periods: Dict[int, bytes] = {}
+        self.periods: Dict[int, Laid] = {}
+        self.played: Deque[int] = deque(maxlen=2 * LIMIT)  # whole periods
         self.shift = -tick - self.depth
-        self.last_late: Optional[int] = None
+        self.late_end: Optional[int] = None  # of the last late piece, in octets
         self.owed = 0  # slips on, or below 0 slips back, that wait for a pause
         self.patience = 0
-        self.watch_anew()
+        self.watch_anew(tick)
 
-    def watch_anew(self) -> None:
+    def watch_anew(self, tick: int) -> None:
         """Forgets the margins that were seen."""
-        self.least, self.seen = LIMIT, 0
+        self.margins: List[int] = []
+        self.watched_from = tick
 
     def margin(self, period: int, tick: int) -> int:
         """The ticks until a period is played; below 0 it is too late."""
@@ -44,55 +59,66 @@ class JitterBuffer:
 
     def watch(self, margin: int) -> None:
         """Takes the margin of a packet that was read in time into account."""
-        self.least = min(self.least, margin)
-        self.seen += 1
+        self.margins.append(margin)
 
-    def put(self, period: int, part: int, piece: bytes, tick: int) -> str:
-        """Puts a piece at a place of a period; the result is empty, or the reason why it isn't taken."""
-        if self.margin(period, tick) < 0 and not self.plays_later(period, tick):
-            return "late"
-        if len(piece) < len(self.filler):
-            whole = bytearray(self.periods.get(period, self.filler))
-            whole[part : part + len(piece)] = piece
-            piece = bytes(whole)
-        elif period in self.periods:
+    def has(self, period: int) -> bool:
+        """Whether all of a period came: it is held, or was played."""
+        laid = self.periods.get(period)
+        return period in self.played if laid is None else laid.missing <= 0
+
+    def put(self, period: int, part: int, piece: bytes, tick: int, is_first: bool = True) -> str:
+        """Puts a piece at a place of a period; the result is empty, or the reason why it isn't taken. `is_first`: of its packet."""
+        if self.has(period):
             return "doubled"
-        self.periods[period] = piece
+        if self.margin(period, tick) < 0:
+            begin = period * len(self.filler) + part
+            is_next = is_first and self.late_end is not None and abs(begin - self.late_end) < NEARLY
+            if not is_next:
+                self.late_end = begin + len(piece)
+                return "late"
+            self.play_later(period, tick)
+        laid = self.periods.setdefault(period, Laid(bytearray(self.filler), len(self.filler)))
+        laid.octets[part : part + len(piece)] = piece
+        laid.missing -= len(piece)
         return ""
 
-    def plays_later(self, period: int, tick: int) -> bool:
-        """Whether the second late period in a row moves the playing: the path got longer, or the sender is slow."""
-        if self.last_late != period - 1:
-            self.last_late = period
-            return False
+    def play_later(self, period: int, tick: int) -> None:
+        """The second late packet in a row moves the playing: the path got longer, or the sender is slow."""
+        self.counts["slips-back"] -= self.margin(period, tick)
         self.shift += self.margin(period, tick)
-        self.owed, self.last_late = 0, None
-        self.counts["slips-back"] += 1
-        self.watch_anew()
-        return True
+        self.owed, self.late_end = 0, None
+        self.watch_anew(tick)
 
     def take(self, tick: int) -> Content:
         """The period that is played at this tick, or None if it didn't come."""
         if self.owed:
             self.slip(tick)
-        elif self.seen >= WINDOW:
+        elif len(self.margins) >= WINDOW or tick - self.watched_from >= WINDOW and len(self.margins) >= FEWEST:
             self.review(tick)
-        return self.periods.pop(tick + self.shift, None)
+        laid = self.periods.pop(tick + self.shift, None)
+        if laid is None:
+            return None
+        if laid.missing <= 0:
+            self.played.append(tick + self.shift)
+        return bytes(laid.octets)
 
     def review(self, tick: int) -> None:
-        """Decides on slips by the least margin: all packets wait longer than the depth, or some come just in time."""
-        if self.least > self.depth:
-            self.owed = self.least - self.depth
-        elif self.least < 1:
+        """Decides on slips by the margins of all packets but the stragglers: they wait longer than the depth, or come just in time."""
+        margins = sorted(self.margins)
+        least = margins[len(margins) // STRAGGLERS]
+        if least > self.depth:
+            self.owed = least - self.depth
+        elif least < min(1, self.depth) and margins[-1] < MOST_MARGIN:
             self.owed = -1
         self.patience = PATIENCE
-        self.watch_anew()
+        self.watch_anew(tick)
         self.drop_past(tick)
 
     def slip(self, tick: int) -> None:
         """Makes one slip that is owed, in a pause, or where none has come in time."""
         self.patience -= 1
-        if self.patience > 0 and not self.is_pause(self.periods.get(tick + self.shift)):
+        laid = self.periods.get(tick + self.shift)
+        if self.patience > 0 and not self.is_pause(laid and bytes(laid.octets)):
             return
         if self.owed > 0:
             self.periods.pop(tick + self.shift, None)
@@ -103,7 +129,7 @@ class JitterBuffer:
             self.shift -= 1
             self.owed += 1
             self.counts["slips-back"] += 1
-        self.watch_anew()
+        self.watch_anew(tick)
 
     def give_up(self, periods: int, tick: int) -> None:
         """The clock has given up time: what would have been played in it is left out."""

@@ -13,7 +13,7 @@ import rtp
 from calls import SILENCE, idle_line, is_no_frame, soft_octets
 from clock import PERIOD, Clock
 from incoming import Incoming
-from jitter_buffer import LIMIT, PATIENCE, WINDOW, JitterBuffer
+from jitter_buffer import LIMIT, MOST_MARGIN, PATIENCE, WINDOW, JitterBuffer
 from network import KEEPS_PORT, Endpoint, SocketEndpoint
 from recorder import CLOSE_OCTETS, Recorder
 from run_texts import MOST_ORDERS
@@ -79,10 +79,11 @@ class Buffers(unittest.TestCase):
         buffer = buffer_of(0)
         buffer.start(0)
         self.assertEqual(buffer.put(0, 0, ONE, 0), "")
-        self.assertEqual(buffer.put(0, 0, ONE, 0), "doubled")
-        self.assertEqual(buffer.put(0, 0, ONE, 1), "late")
-        self.assertEqual(buffer.put(1, 0, ONE, 2), "")
-        self.assertEqual((buffer.counts["slips-back"], buffer.take(2)), (1, ONE))
+        self.assertEqual((buffer.put(0, 0, ONE, 0), buffer.take(0)), ("doubled", ONE))
+        self.assertEqual(buffer.put(0, 0, ONE, 1), "doubled")
+        self.assertEqual(buffer.put(1, 0, ONE, 2), "late")
+        self.assertEqual(buffer.put(2, 0, ONE, 3), "")
+        self.assertEqual((buffer.counts["slips-back"], buffer.take(3)), (1, ONE))
 
     def moved(self, margin, is_sent):
         """The slips of a stream whose packets stand so far ahead, and the ticks until the first one."""
@@ -182,6 +183,103 @@ class Streams(unittest.TestCase):
         for number in range(3000):
             stream.packet(header(3, number, 160 * number % 30000, 5) + ONE * (number % 7), 0, number % 50)
         self.assertLessEqual(len(stream.buffer.periods), 3 * LIMIT)
+
+
+class Playing(unittest.TestCase):
+    """What is played of the packets that come at each tick. A frame carries its number."""
+
+    def frame(self, number):
+        return b"\xd0" + number.to_bytes(4, "big") + bytes(28)
+
+    def packet(self, number, stamp=None):
+        return header(3, number, 160 * number if stamp is None else stamp, 5) + self.frame(number)
+
+    def played(self, stream, packets, ticks):
+        for tick in range(ticks):
+            for packet in packets(tick):
+                stream.packet(packet, tick, 0)
+            yield stream.buffer.take(tick)
+
+    def numbers(self, stream, packets, ticks):
+        return [int.from_bytes(frame[1:5], "big") for frame in self.played(stream, packets, ticks) if frame]
+
+    def test_depth_0_has_no_slips_on_a_perfect_network(self):
+        stream = gsm_stream(0)
+        self.numbers(stream, lambda tick: [self.packet(tick)], 6000)
+        self.assertEqual(dict(stream.buffer.counts), {})
+
+    def test_late_doubles_move_nothing(self):
+        def packets(tick):
+            return [self.packet(tick)] + ([self.packet(tick - 40)] if tick in (100, 101) else [])
+
+        stream = gsm_stream()
+        self.assertEqual(self.numbers(stream, packets, 300), list(range(297)))
+        self.assertEqual((stream.counts["doubled"], stream.counts["late"]), (2, 0))
+
+    def test_doubles_say_nothing_about_the_path(self):
+        stream = gsm_stream()
+        for tick in range(100):
+            for number in {tick, max(0, tick - 2), max(0, tick - 30)}:
+                stream.packet(self.packet(number), tick, 0)
+            stream.buffer.take(tick)
+        self.assertEqual(set(stream.buffer.margins), {3})
+
+    def test_stamps_of_frames_that_are_one_unit_off(self):
+        numbers = self.numbers(gsm_stream(), lambda tick: [self.packet(tick, 1000 + 160 * tick - tick % 2)], 103)
+        self.assertEqual(numbers, list(range(100)))
+
+    def test_stamps_of_octets_that_are_one_unit_off(self):
+        stream = Incoming(rtp.ALAW, 0, JitterBuffer(3, idle_line("alaw"), is_no_frame))
+        played = list(self.played(stream, lambda tick: [header(8, tick, 160 * tick + tick % 2, 5) + b"\x11" * 160], 103))
+        self.assertEqual([period.count(0xD5) for period in played[3:]], [0, 1] * 50)
+
+    def test_one_late_packet_of_three_frames_is_no_slip(self):
+        def packets(tick):
+            number = (tick - 5 if tick == 127 else tick) // 3
+            frames = b"".join(self.frame(3 * number + k) for k in range(3))
+            return [header(3, number, 480 * number, 5) + frames] if tick % 3 == 2 and tick != 122 or tick == 127 else []
+
+        stream = gsm_stream()
+        self.numbers(stream, packets, 300)
+        self.assertEqual(stream.buffer.counts["slips-back"], 0)
+
+    def test_a_longer_path_moves_the_playing_by_its_periods(self):
+        for place, late in ((0, 1), (80, 2)):  # in a period, and the periods that are touched by a late packet
+
+            def packets(tick):
+                numbers = [] if 100 <= tick < 110 else [tick - 10 if tick >= 110 else tick]
+                return [header(8, n, 160 * n + (place if n else 0), 5) + b"\x11" * 160 for n in numbers]
+
+            stream = Incoming(rtp.ALAW, 0, JitterBuffer(3, idle_line("alaw"), is_no_frame))
+            list(self.played(stream, packets, 200))
+            self.assertEqual((stream.counts["late"], stream.buffer.counts), (late, {"slips-back": 7}), place)
+
+    def test_lone_stragglers_dont_raise_the_delay(self):
+        def packets(tick):
+            numbers = [tick] if tick % 400 else []
+            numbers += [tick - 48] if tick > 48 and (tick - 48) % 400 == 0 else []
+            return [header(3, n & 0xFFFF, 160 * n, 5) + self.frame(n) for n in numbers]
+
+        stream = gsm_stream()
+        self.assertEqual(39_999 - self.numbers(stream, packets, 40_000)[-1], 3)
+        self.assertEqual(stream.counts["late"], 99)
+
+    def test_the_delay_has_an_end(self):
+        def packets(tick):  # one in fifty comes late
+            numbers = [tick] if tick % 50 else []
+            numbers += [tick - 45] if tick > 45 and (tick - 45) % 50 == 0 else []
+            return [self.packet(n, 160 * n) for n in numbers]
+
+        stream = gsm_stream()
+        self.assertEqual(39_999 - self.numbers(stream, packets, 40_000)[-1], MOST_MARGIN)
+
+    def test_margins_are_watched_by_ticks_too(self):
+        def packets(tick):  # each sixth period, in time but for the last tick
+            return [self.packet(tick)] if tick % 6 == 0 and tick < 3 else [self.packet(tick - 3)] if tick % 6 == 3 else []
+
+        stream = gsm_stream()
+        self.numbers(stream, packets, WINDOW + PATIENCE + 1)
+        self.assertEqual(stream.buffer.counts["slips-back"], 1)
 
 
 class Clocks(unittest.TestCase):
