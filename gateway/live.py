@@ -7,6 +7,7 @@ import gc
 import os
 import resource
 import select
+import shutil
 import signal
 import sys
 import time
@@ -19,12 +20,13 @@ from clock import Clock, Turn
 from network import Network
 from recorder import Recorder
 from switchboard import Switchboard
-from tool_ends import naming
+from tool_ends import complain, naming
 from trau_frames import Refusal
 
 PERIODS = 50  # in a second
 MOST_LINES = 50  # that are executed in a period
 MOST_LINE = 1000  # octets
+MOST_REPLY = 1000  # characters: a pipe takes them whole or not at all (PIPE_BUF)
 DESCRIPTORS = (8, 64)  # of a call, and of all else
 
 
@@ -66,15 +68,27 @@ class Commands:
         """Takes what has come, without waiting. Standard input may end; the calls go on."""
         if self.descriptor is None or len(self.lines) >= MOST_LINES:
             return
-        if not select.select([self.descriptor], [], [], 0)[0]:
+        try:
+            if not select.select([self.descriptor], [], [], 0)[0]:
+                return
+            data = os.read(self.descriptor, 65536)
+        except BlockingIOError:
             return
-        data = os.read(self.descriptor, 65536)
+        except OSError as failure:  # nohup gives one that can't be read, and a terminal may go
+            complain("gateway.py", f"standard input: {failure.strerror}")
+            data = b""
         if not data:
-            self.descriptor = None
-            data = b"\n"
+            self.end()
+            return
         *lines, self.rest = (self.rest + data).split(b"\n")
         self.rest = self.rest[: MOST_LINE + 1]
         self.lines.extend(line.decode("utf-8", "replace") for line in lines)
+
+    def end(self) -> None:
+        """Standard input has ended. A line without its end may have been cut, and isn't executed."""
+        if self.rest:
+            complain("gateway.py", "standard input: the last line has no end, and isn't executed")
+        self.descriptor, self.rest = None, b""
 
     def taken(self) -> List[str]:
         """The lines that are executed now; comments and empty ones are left out."""
@@ -107,7 +121,7 @@ class Gateway:
             self.board.execute(line, period)
             self.say(f"ok {period} {' '.join(line.split()[:2])}")
         except (Refusal, OSError) as refused:
-            self.say(f"refused {period} {line[:80]}: {getattr(refused, 'strerror', None) or refused}")
+            self.say(f"refused {period} {line[:80]}: {getattr(refused, 'strerror', None) or refused}"[:MOST_REPLY])
 
     def begin_period(self, turn: Turn) -> None:
         """What is done once a period, before its calls."""
@@ -119,15 +133,18 @@ class Gateway:
     def run(self, periods: Optional[int]) -> int:
         """Processes this number of periods, or until it is ended; the result is how many there were."""
         self.board.recorder.time(f"0 at {datetime.now(timezone.utc).isoformat(timespec='milliseconds')}")
-        for turn in self.clock.turns():
-            if turn.given_up:
-                self.board.give_up(turn.given_up, turn.period)
-            if turn.phase == 0:
-                if self.is_to_end or turn.period == periods:
-                    break
-                self.begin_period(turn)
-            self.board.process(turn.phase, turn.period, turn.behind)
-        self.board.end(turn.period)
+        try:
+            for turn in self.clock.turns():
+                if turn.given_up:
+                    self.board.give_up(turn.given_up, turn.period)
+                if turn.phase == 0:
+                    if self.is_to_end or turn.period == periods:
+                        break
+                    self.begin_period(turn)
+                self.board.process(turn.phase, turn.period, turn.behind)
+            self.board.end(turn.period)
+        finally:
+            self.board.recorder.end()
         return turn.period
 
 
@@ -141,6 +158,17 @@ def open_file(board: Switchboard, path: Path) -> None:
                 board.execute(line, 0)
             except (Refusal, OSError) as refused:
                 raise Refusal(f"{path} line {number}: {getattr(refused, 'strerror', None) or refused}") from None
+
+
+def begin(board: Switchboard, calls: Optional[Path]) -> None:
+    """Opens the calls of a file, if there is one. If a line is refused, nothing is left of the recording."""
+    try:
+        if calls:
+            open_file(board, calls)
+    except (Refusal, OSError):
+        board.recorder.end()
+        shutil.rmtree(board.recorder.folder)
+        raise
 
 
 def most_calls(wanted: int) -> int:
@@ -163,8 +191,7 @@ def run(options: Options) -> int:
     board = Switchboard(Network(options.address), recorder, most_calls(options.most_calls), say)
     clock = Clock()
     gateway = Gateway(board, clock, Commands(None if sys.stdin is None else 0), say)
-    if options.calls:
-        open_file(board, options.calls)
+    begin(board, options.calls)
     for number in (signal.SIGINT, signal.SIGTERM):
         signal.signal(number, gateway.end)
     gc.collect()

@@ -29,9 +29,9 @@ class Recorder:
 
     def __init__(self, folder: Path, every: int, say: Callable[[str], None]) -> None:
         """`every` is the number of periods that are held before a write; `say` is told once if the recording ends."""
-        folder.mkdir(parents=True)
+        folder.mkdir(mode=0o700, parents=True)
         self.folder, self.every, self.say = folder, every, say
-        self.text, self.times = (os.open(folder / name, NEW, 0o644) for name in ("orders.txt", "clock.txt"))
+        self.text, self.times = (os.open(folder / name, NEW, 0o600) for name in ("orders.txt", "clock.txt"))
         self.descriptors: Dict[int, List[int]] = {}
         self.held: Dict[int, List[List[bytes]]] = {}
         self.orders = self.order_octets = 0
@@ -49,6 +49,11 @@ class Recorder:
         try:
             work()
         except OSError as failure:
+            self.fail(failure)
+
+    def fail(self, failure: OSError) -> None:
+        """Ends the recording, and says so once."""
+        if not self.has_ended:
             self.has_ended = True
             self.say(f"recording ended: {failure.strerror}")
 
@@ -66,7 +71,7 @@ class Recorder:
     def open(self, call: int) -> None:
         """Makes the lines of a call."""
         self.descriptors[call], self.held[call] = [], [[], [], [FIRST_DOWN], []]
-        self.attempt(lambda: self.descriptors[call].extend(os.open(self.folder / f"{call}.{side}", NEW, 0o644) for side in SIDES))
+        self.attempt(lambda: self.descriptors[call].extend(os.open(self.folder / f"{call}.{side}", NEW, 0o600) for side in SIDES))
 
     def period(self, call: int, up: bytes, pcm: bytes, down: bytes, out: bytes) -> None:
         """Holds a period of a call. It is written by `write`, after the packets of all calls have left."""
@@ -89,11 +94,20 @@ class Recorder:
     def close(self, call: int) -> None:
         """Writes what is held of a call and closes its lines."""
         self.write(call, 1)
-        for descriptor in self.descriptors.pop(call):
-            os.close(descriptor)
         del self.held[call]
+        for descriptor in self.descriptors.pop(call):
+            self.close_file(descriptor)
 
     def end(self) -> None:
-        """Closes the recording, after its calls."""
-        os.close(self.text)
-        os.close(self.times)
+        """Closes the recording. What is held of calls that weren't closed is written."""
+        for call in list(self.held):
+            self.close(call)
+        for descriptor in (self.text, self.times):
+            self.close_file(descriptor)
+
+    def close_file(self, descriptor: int) -> None:
+        """Closes a file. A file system of the network may say only then that there is no room."""
+        try:
+            os.close(descriptor)
+        except OSError as failure:
+            self.fail(failure)

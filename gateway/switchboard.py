@@ -183,7 +183,6 @@ class Switchboard:
                     self.say(f"{name} {'hears nothing' if is_still else 'hears again'} at {period}")
 
     def end(self, period: int) -> None:
-        """Closes all calls and the recording."""
+        """Closes all calls."""
         for call in list(self.connections):
             self.close([str(call)], period)
-        self.recorder.end()

@@ -15,9 +15,9 @@ import threading
 import time
 import unittest
 from pathlib import Path
-from typing import Callable, Dict, Iterable, Iterator, List, Optional, Tuple
+from typing import Any, Callable, Dict, Iterable, Iterator, List, Optional, Tuple
 
-from support import GATEWAY, LINE, SPEECH, repeated
+from support import GATEWAY, LINE, SPEECH, InFolder, repeated
 
 from rtp import ALAW, GSM, MULAW
 from spoiler import CLEAN, Faults, Sent, schedule
@@ -156,6 +156,11 @@ class Live:
         self.process.send_signal(number)
         return self.finish()
 
+    def kill(self) -> None:
+        """Ends it if it still runs."""
+        if self.process.poll() is None:
+            self.end(signal.SIGKILL)
+
     def finish(self) -> int:
         """Reads the rest of what it says; the result is its status."""
         self.said += self.process.stdout.read().splitlines()
@@ -165,6 +170,16 @@ class Live:
         for peers in self.peers.values():
             peers.close()
         return status
+
+
+class WithLive(InFolder):
+    """A test of gateways in processes of their own, which don't outlive it."""
+
+    def live(self, folder: Path, *words: str, **limits: Any) -> Live:
+        """A gateway, as Live."""
+        live = Live(folder, *words, **limits)
+        self.addCleanup(live.kill)
+        return live
 
 
 @contextlib.contextmanager

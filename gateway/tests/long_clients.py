@@ -8,8 +8,8 @@ import time
 import unittest
 import wave
 
-from live_support import LOOPBACK, Live, even_port
-from support import LINE, SPEECH, InFolder, cut, repeated, with_program
+from live_support import LOOPBACK, WithLive, even_port
+from support import LINE, SPEECH, cut, repeated, with_program
 
 import trau_fr
 from spoiler import SAMPLES
@@ -60,7 +60,7 @@ def programs():
             one.wait()
 
 
-class Clients(InFolder):
+class Clients(WithLive):
     def setUp(self):
         super().setUp()
         self.ports = [even_port() for _ in range(4)]
@@ -70,7 +70,7 @@ class Clients(InFolder):
 
     def start(self, words):
         """A gateway with call 1."""
-        live = Live(self.folder / "rec")
+        live = self.live(self.folder / "rec")
         here, gsm, there, pcm = self.ports
         said = live.ask(f"open 1 gsm {here} {LOOPBACK}:{gsm} pcm {there} {LOOPBACK}:{pcm} {words}")
         self.assertTrue(said.startswith("ok"), said)

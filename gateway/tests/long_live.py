@@ -8,19 +8,19 @@ import subprocess
 import time
 import unittest
 
-from live_support import LOOPBACK, Live, bound, hostile_packet, playing, talk
-from support import LINE, SPEECH, InFolder, repeated, with_program
+from live_support import LOOPBACK, WithLive, bound, hostile_packet, playing, talk
+from support import LINE, SPEECH, repeated, with_program
 
 from rtp import ALAW, GSM
 from spoiler import SECOND, Faults, header, schedule
 
 
 @with_program
-class Long(InFolder):
+class Long(WithLive):
     def test_ten_kills(self):
         draw = random.Random(3)
         for turn in range(10):
-            live = Live(self.folder / f"rec{turn}", "--every", str(draw.choice((1, 20))))
+            live = self.live(self.folder / f"rec{turn}", "--every", str(draw.choice((1, 20))))
             rows = [row for call in range(1, 31) for row in talk(live.open(call, "dtx on"), call, 400, Faults(loss=0.1))]
             with playing(rows):
                 live.wait_for_periods(1, 20)
@@ -31,7 +31,7 @@ class Long(InFolder):
             print(f"kill {turn}: {self.assert_replays(live.folder)[0]}", flush=True)
 
     def test_hostile_packets(self):
-        live = Live(self.folder / "rec")
+        live = self.live(self.folder / "rec")
         rows = [row for call, words in ((1, ""), (2, "strict off"), (3, "")) for row in talk(live.open(call, words), call, 3000)]
         draw, stranger = random.Random(5), bound("127.0.0.2")
         self.addCleanup(stranger.close)
@@ -48,7 +48,7 @@ class Long(InFolder):
         self.assert_replays(live.folder)
 
     def test_senders_that_change(self):
-        live = Live(self.folder / "rec")
+        live = self.live(self.folder / "rec")
         speech, line = repeated(SPEECH, 200), b"".join(repeated(LINE, 200))
         rows = []
         one, other = schedule(speech, GSM, 1), schedule(speech, GSM, 2, start=4.1)
@@ -77,7 +77,7 @@ class Long(InFolder):
         if subprocess.run(mount, stderr=subprocess.DEVNULL).returncode:
             self.skipTest("nothing can be mounted here")
         self.addCleanup(subprocess.run, ["umount", str(disk)], check=True)
-        live = Live(disk / "rec")
+        live = self.live(disk / "rec")
         with playing([row for call in (1, 2) for row in talk(live.open(call), call, 800)]):
             print(live.wait_for("recording ended"))
             self.assertRegex(live.ask("level 1 300"), "^ok ")

@@ -9,9 +9,9 @@ import sys
 import unittest
 import wave
 
-from live_support import Live, playing, talk
+from live_support import WithLive, playing, talk
 from long_clients import Clients, programs
-from support import LINE, InFolder, cut, repeated, with_program
+from support import LINE, cut, repeated, with_program
 
 import trau_fr
 from spoiler import SAMPLES
@@ -140,7 +140,7 @@ class Softphones(Clients):
 
     def open(self, gsm, pcm):
         """A gateway whose call 1 has these ports of the peers."""
-        live = Live(self.folder / "rec", address=ADDRESS)
+        live = self.live(self.folder / "rec", address=ADDRESS)
         said = live.ask(f"open 1 gsm 7000 {ADDRESS}:{gsm} pcm 7004 {ADDRESS}:{pcm} strict off")
         self.assertTrue(said.startswith("ok"), said)
         return live
@@ -230,14 +230,14 @@ class Baresip(Softphones):
 
 
 @with_program
-class Netem(InFolder):
+class Netem(WithLive):
     def test_delay_loss_and_swaps(self):
         faults = "delay 40ms 20ms distribution normal loss 5% duplicate 5% reorder 10%".split()
         words = ["tc", "qdisc", "add", "dev", "lo", "root", "netem", *faults]
         if not shutil.which("tc") or subprocess.run(words, stderr=subprocess.DEVNULL).returncode:
             self.skipTest("the kernel has no netem")
         self.addCleanup(subprocess.run, ["tc", "qdisc", "del", "dev", "lo", "root"], check=True)
-        live = Live(self.folder / "rec")
+        live = self.live(self.folder / "rec")
         with playing([row for call in (1, 2, 3) for row in talk(live.open(call), call, 600)]):
             live.wait_for_periods(1, 500)
         self.assertEqual(live.end(), 0)

@@ -8,8 +8,8 @@ import subprocess
 import sys
 import unittest
 
-from live_support import LOOPBACK, Ended, Live, Peers, bound, hostile_packet, playing, talk, with_loopback
-from support import GATEWAY, InFolder, with_program
+from live_support import LOOPBACK, Ended, Peers, WithLive, bound, hostile_packet, playing, talk, with_loopback
+from support import GATEWAY, with_program
 
 from rtp import ALAW, GSM
 from spoiler import Faults
@@ -18,7 +18,7 @@ SPOILED = Faults(loss=0.05, jitter=0.04, swapped=0.05, doubled=0.1)
 
 
 @with_loopback
-class Starts(InFolder):
+class Starts(WithLive):
     def with_file(self, name):
         """A gateway with a file of lines. (Somebody may have taken a port in the meantime.)"""
         peers = Peers()
@@ -27,7 +27,7 @@ class Starts(InFolder):
             lines = self.folder / "calls.txt"
             lines.write_text(f"# the first call\n\n{peers.line(7, 'dtx on')}\n")
             with contextlib.suppress(Ended):
-                return Live(self.folder / f"{name}-{turn}", "--calls", str(lines))
+                return self.live(self.folder / f"{name}-{turn}", "--calls", str(lines))
         raise AssertionError("twenty times no ports")
 
     def test_a_file_of_lines_and_both_signals(self):
@@ -50,35 +50,42 @@ class Starts(InFolder):
         )
         self.assertEqual((ran.returncode, ran.stdout, ran.stderr.count("\n")), (2, "", 1), ran.stderr)
         self.assertIn("calls.txt line 2: both sides are needed", ran.stderr)
+        self.assertFalse((self.folder / "rec").exists())
+
+    def test_standard_input_that_cant_be_read(self):  # as nohup leaves it
+        words = [sys.executable, "-B", str(GATEWAY / "gateway.py"), "run", str(self.folder / "rec"), "--seconds", "1"]
+        with open("/dev/null", "wb") as sink:
+            ran = subprocess.run(words, stdin=sink, stdout=subprocess.DEVNULL, stderr=subprocess.PIPE, text=True)
+        self.assertEqual((ran.returncode, ran.stderr), (0, "gateway.py: standard input: Bad file descriptor\n"))
 
     def test_seconds(self):
-        live = Live(self.folder / "rec", "--seconds", "1")
+        live = self.live(self.folder / "rec", "--seconds", "1")
         self.assertEqual((live.finish(), live.said[-1][:14]), (0, "end period 50 "))
 
     def test_few_descriptors(self):
-        live = Live(self.folder / "rec", descriptor_limit=64 + 8 * 2)
+        live = self.live(self.folder / "rec", descriptor_limit=64 + 8 * 2)
         for call in (1, 2):
             live.open(call)
         self.assertRegex(live.ask("open 3 gsm 2 127.0.0.1:2 pcm 4 127.0.0.1:2"), r"^refused \d+ open 3 .*: 2 calls are open$")
         self.assertEqual(live.end(), 0)
 
     def test_a_line_that_is_refused(self):
-        live = Live(self.folder / "rec")
+        live = self.live(self.folder / "rec")
         self.assertRegex(live.ask("bridge 1 2"), r"^refused \d+ bridge 1 2: the call isn't open$")
         self.assertRegex(live.ask("x" * 3000), r"^refused \d+ x{80}: the line is too long$")
         taken = bound()
         self.addCleanup(taken.close)
         port = taken.getsockname()[1] // 2 * 2
         said = live.ask(f"open 1 gsm {port} {LOOPBACK}:9 pcm {port} {LOOPBACK}:9")
-        self.assertRegex(said, r"^refused \d+ open 1 .*: Address already in use$")
+        self.assertRegex(said, r"^refused \d+ open 1 .*: 127\.0\.0\.1:\d+: Address already in use$")
         self.assertEqual(live.end(), 0)
 
 
 @with_loopback
 @with_program
-class Calls(InFolder):
+class Calls(WithLive):
     def test_spoiled_calls_and_a_bridge(self):
-        live = Live(self.folder / "rec", "--every", "5")
+        live = self.live(self.folder / "rec", "--every", "5")
         rows = []
         for call in (1, 2, 3):
             rows += talk(live.open(call, "mulaw dtx on level 2000" if call == 2 else ""), call, 400, SPOILED, call == 2)
@@ -94,7 +101,7 @@ class Calls(InFolder):
     def test_kills(self):
         draw = random.Random(11)
         for turn in range(3):
-            live = Live(self.folder / f"rec{turn}")
+            live = self.live(self.folder / f"rec{turn}")
             rows = [row for call in (1, 2, 3, 4) for row in talk(live.open(call, "dtx on"), call, 400)]
             with playing(rows):
                 live.wait_for_periods(1, 10)
@@ -106,7 +113,7 @@ class Calls(InFolder):
             self.assertRegex(lines[0], r"^cut at period \d+$")
 
     def test_a_full_disk(self):
-        live = Live(self.folder / "rec", file_limit=160 * 40 + 7)
+        live = self.live(self.folder / "rec", file_limit=160 * 40 + 7)
         rows = [row for call in (1, 2) for row in talk(live.open(call), call, 400)]
         with playing(rows):
             live.wait_for("recording ended: ")
@@ -117,7 +124,7 @@ class Calls(InFolder):
         self.assertRegex(lines[0], r"^cut at period \d+$")
 
     def test_hostile_packets(self):
-        live = Live(self.folder / "rec")
+        live = self.live(self.folder / "rec")
         rows = [row for call, words in ((1, ""), (2, "strict off"), (3, "")) for row in talk(live.open(call, words), call, 400)]
         draw = random.Random(5)
         stranger = bound("127.0.0.2")

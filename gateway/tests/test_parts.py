@@ -1,20 +1,28 @@
 """The parts of the gateway one by one: packets, jitter buffer, streams, clock, settings, endpoints, recorder."""
 
+import contextlib
+import errno
+import io
 import itertools
+import os
 import random
+import select
 import socket
 import struct
 import unittest
+import unittest.mock
 
-from live_support import hostile_packet, with_loopback
+from live_support import bound, even_port, hostile_packet, with_loopback
 from support import SPEECH, InFolder, TurnedClock
 
+import recorder
 import rtp
 from calls import SILENCE, idle_line, is_no_frame, soft_octets
 from clock import PERIOD, Clock
 from incoming import Incoming
 from jitter_buffer import LIMIT, MOST_MARGIN, PATIENCE, WINDOW, JitterBuffer
-from network import KEEPS_PORT, Endpoint, SocketEndpoint
+from live import Commands, Gateway
+from network import FEWEST_SOCKETS, KEEPS_PORT, MOST_OCTETS, MOST_PACKETS, Endpoint, Network
 from recorder import CLOSE_OCTETS, Recorder
 from run_texts import MOST_ORDERS
 from settings import Side, read_open
@@ -365,18 +373,43 @@ class Endpoints(unittest.TestCase):
             endpoint.arrived(self.packet(number), sender, 0, 0)
         self.assertEqual((endpoint.incoming.counts["stranger"], len(endpoint.incoming.buffer.periods)), (2, 1))
 
+    def opened(self, is_strict):
+        """A network with one endpoint in phase 0, its port, and the peer's socket."""
+        peer, network = bound(), Network("127.0.0.1")
+        self.addCleanup(peer.close)
+        while True:
+            with contextlib.suppress(OSError):  # somebody may have one of the two ports
+                side = Side(even_port(), peer.getsockname())
+                endpoint = network.open(side, is_strict, gsm_stream(), 0)
+                self.addCleanup(network.close, endpoint, 0)
+                return network, endpoint, side.port, peer
+
+    @with_loopback
+    def test_the_kernel_drops_what_a_strict_peer_didnt_send(self):
+        network, endpoint, port, peer = self.opened(True)
+        with bound() as stranger:
+            for _ in range(3):
+                stranger.sendto(self.packet(1), ("127.0.0.1", port))
+        peer.sendto(self.packet(2), ("127.0.0.1", port))
+        while not endpoint.incoming.buffer.periods:
+            network.read(0, 0, 0)
+        self.assertEqual(endpoint.incoming.counts, {})
+
+    @with_loopback
+    def test_what_is_read_at_a_tick_is_bounded(self):
+        network, endpoint, port, peer = self.opened(False)
+        for size, count, most in ((50, 150, MOST_PACKETS * FEWEST_SOCKETS), (8000, 10, MOST_OCTETS * FEWEST_SOCKETS // 8000 + 1)):
+            with unittest.mock.patch.object(endpoint, "arrived") as arrived:
+                for _ in range(count):
+                    peer.sendto(bytes(size), ("127.0.0.1", port))
+                while arrived.call_count < count:
+                    before = arrived.call_count
+                    network.read(0, 0, 0)
+                    self.assertLessEqual(arrived.call_count - before, most)
+
     @with_loopback
     def test_rtcp_is_counted(self):
-        while True:
-            with socket.socket(socket.AF_INET, socket.SOCK_DGRAM) as one:
-                one.bind(("127.0.0.1", 0))
-                port = one.getsockname()[1] // 2 * 2
-            try:
-                endpoint = SocketEndpoint("127.0.0.1", Side(port, self.PEER), True, gsm_stream())
-                break
-            except OSError:  # somebody has one of the two ports
-                continue
-        self.addCleanup(endpoint.close)
+        _, endpoint, port, _ = self.opened(True)
         with socket.socket(socket.AF_INET, socket.SOCK_DGRAM) as sender:
             for _ in range(3):
                 sender.sendto(bytes(28), ("127.0.0.1", port + 1))
@@ -415,6 +448,56 @@ class Recordings(InFolder):
             read = {side: (self.folder / str(every) / f"1.{side}").read_bytes() for side in ("up", "pcm", "down", "out")}
             wanted = {"up": b"u" * 280, "pcm": b"p" * 1120, "down": b"\xff" * 40 + b"d" * 240, "out": b"o" * 1120}
             self.assertEqual(read, wanted)
+
+
+    def test_a_close_that_fails_ends_the_recording_once(self):
+        def close(descriptor):
+            really(descriptor)
+            raise OSError(errno.EDQUOT, "Disk quota exceeded")
+
+        really, said = os.close, []
+        one = Recorder(self.folder / "new", 1, said.append)
+        one.open(1)
+        with unittest.mock.patch.object(recorder.os, "close", close):
+            one.close(1)
+            one.end()
+        self.assertEqual((said, one.has_ended), (["recording ended: Disk quota exceeded"], True))
+
+    def test_recordings_are_private(self):
+        one = Recorder(self.folder / "new", 1, print)
+        one.open(1)
+        one.end()
+        modes = {path.stat().st_mode & 0o777 for path in one.folder.iterdir()}
+        self.assertEqual((one.folder.stat().st_mode & 0o777, modes), (0o700, {0o600}))
+
+
+class Inputs(unittest.TestCase):
+    """The lines of standard input, and the replies."""
+
+    def lines(self, given):
+        """The lines that are taken of an input with this content, and what is said on standard error."""
+        read, write = os.pipe()
+        os.write(write, given)
+        os.close(write)
+        commands, err, lines = Commands(read), io.StringIO(), []
+        with contextlib.redirect_stderr(err):
+            while commands.descriptor is not None:
+                lines += commands.taken()
+        os.close(read)
+        return lines, err.getvalue()
+
+    def test_a_last_line_without_end_isnt_executed(self):
+        self.assertEqual(self.lines(b"close 1\n# a comment\nclose 2\n"), (["close 1", "close 2"], ""))
+        lines, said = self.lines(b"close 1\nclose 12")
+        self.assertEqual((lines, said.count("\n")), (["close 1"], 1))
+        self.assertIn("the last line has no end", said)
+
+    def test_a_pipe_takes_each_reply_whole(self):
+        said = []
+        board = unittest.mock.Mock()
+        board.execute = lambda line, period: read_open(line.split()[1:])
+        Gateway(board, Clock(), Commands(None), said.append).obey("open 1 " + "\U0001d11e" * 990, 0)
+        self.assertLess(len(said[0].encode()), select.PIPE_BUF)
 
 
 class Silence(unittest.TestCase):

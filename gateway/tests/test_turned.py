@@ -235,6 +235,23 @@ class Late(InFolder):
         self.assert_replays(self.folder / "rec")
 
 
+class Ends(InFolder):
+    @with_program
+    def test_what_is_held_at_a_fault_of_the_gateway_is_written(self):
+        turned = Turned(self.folder / "rec", every=50)
+        process = turned.board.process
+
+        def faulty(phase, period, behind):
+            if (period, phase) == (20, 1):
+                raise MemoryError
+            process(phase, period, behind)
+
+        turned.board.process = faulty
+        with self.assertRaises(MemoryError):
+            turned.run({0: [open_line(1), open_line(2)]}, 60)
+        self.assertEqual(self.assert_replays(self.folder / "rec")[1:3], ["call 1 periods 20 equal", "call 2 periods 20 equal"])
+
+
 class Lines(InFolder):
     def test_refusals(self):
         turned = Turned(self.folder / "rec")
