@@ -23,16 +23,27 @@ CHUNK = 1 << 20
 
 @dataclass
 class Recorded:
-    """A call of a recording: the periods at which it begins and is closed, and how many periods all its lines have."""
+    """A call of a recording: the periods at which it begins and is closed, how many periods all its lines have, and how many the longest
+    has."""
 
     number: int
     start: int
     closed: Optional[int]
     whole: int
+    longest: int
 
     def end(self) -> int:
         """The period at which it ends as far as its lines tell."""
         return self.start + self.whole
+
+    def is_over(self, end: Optional[int]) -> bool:
+        """Whether it is closed before the comparison ends, so that nothing of it is cut."""
+        return self.closed is not None and (end is None or self.closed <= end)
+
+    def periods(self, end: Optional[int]) -> int:
+        """How many of its periods are compared."""
+        last = self.end() if self.closed is None else self.closed
+        return max(0, (last if end is None else min(last, end)) - self.start)
 
     def is_cut(self) -> bool:
         """Whether it isn't closed, or its lines end before."""
@@ -50,16 +61,13 @@ def whole_orders(folder: Path) -> List[Order]:
 def calls_of(folder: Path, orders: List[Order]) -> List[Recorded]:
     """The calls that the orders open."""
     closed = {order.calls[0]: order.stamp for order in orders if order.verb == "close"}
-    return [
-        Recorded(
-            order.calls[0],
-            order.stamp,
-            closed.get(order.calls[0]),
-            min(whole_periods(folder, order.calls[0], side) for side in SIDES),
-        )
-        for order in orders
-        if order.verb == "open"
-    ]
+    calls = []
+    for order in orders:
+        if order.verb == "open":
+            number = order.calls[0]
+            sizes = [whole_periods(folder, number, side) for side in SIDES]
+            calls.append(Recorded(number, order.stamp, closed.get(number), min(sizes), max(sizes)))
+    return calls
 
 
 def end_of(calls: List[Recorded]) -> Optional[int]:
@@ -77,7 +85,7 @@ def lay(folder: Path, again: Path, calls: List[Recorded]) -> None:
 
 
 def replayed(program: str, again: Path, orders: List[Order], end: Optional[int]) -> str:
-    """Runs the orders in the folder of the replay; the result is empty, or what was wrong with the run."""
+    """Runs the orders in the folder of the replay; the result is empty, or which order the run refused. Raises Refusal if it failed."""
     words = [program, "run"] + ([] if end is None else ["--periods", str(end)])
     given = "".join(f"{order.line()}\n" for order in orders).encode()
     (again / "orders.txt").write_bytes(given)
@@ -88,7 +96,8 @@ def replayed(program: str, again: Path, orders: List[Order], end: Optional[int])
     report = again / "report.txt"
     report.write_bytes(ran.stdout)
     if ran.returncode:
-        return f"{program} run ended with status {ran.returncode}: {ran.stdout[:200].decode(errors='replace').strip()}"
+        said = ran.stdout[:200].decode(errors="replace").partition("\n")[0]
+        raise Refusal(f"{program} run ended with status {ran.returncode}: {said}")
     replies = report_of(report, ran.stdout).replies
     refused = next((order for order, reply in zip(orders, replies) if reply.refusal), None)
     return f"the run refused the order {refused.line()}" if refused else ""
@@ -109,10 +118,20 @@ def first_difference(one: Path, other: Path, octets: int) -> Optional[int]:
         return at if made.read(1) else None
 
 
+def wrong_size(folder: Path, call: Recorded, periods: int) -> str:
+    """Empty, or which line of a call of which nothing is cut has another size than its periods."""
+    for side in SIDES:
+        size = (folder / f"{call.number}.{side}").stat().st_size
+        if size != OCTETS_OF_SIDE[side] * periods:
+            return f"{side} differs: it has {size} octets"
+    return ""
+
+
 def compared(folder: Path, again: Path, call: Recorded, end: Optional[int]) -> str:
     """What is said of a call: its periods, and where a line differs."""
-    last = call.end() if call.closed is None else call.closed
-    periods = max(0, (last if end is None else min(last, end)) - call.start)
+    periods = call.periods(end)
+    if call.is_over(end) and (wrong := wrong_size(folder, call, periods)):
+        return f"call {call.number} periods {periods} {wrong}"
     for side in OUTGOING:
         size = OCTETS_OF_SIDE[side]
         name = f"{call.number}.{side}"
@@ -128,7 +147,8 @@ def replay_in(folder: Path, again: Path, program: str) -> bool:
     calls = calls_of(folder, orders)
     end = end_of(calls)
     if end is not None:
-        print(f"cut at period {end}")
+        rest = sum(call.longest - call.periods(end) for call in calls)
+        print(f"cut at period {end}, {rest} recorded periods of calls not compared")
     if end == 0 or not calls:
         print("calls 0 differ 0")
         return True

@@ -110,7 +110,7 @@ class Calls(WithLive):
                 live.wait_for_periods(1, 20 + draw.randrange(30))
                 self.assertEqual(live.end(signal.SIGKILL), -signal.SIGKILL)
             lines = self.assert_replays(live.folder)
-            self.assertRegex(lines[0], r"^cut at period \d+$")
+            self.assertRegex(lines[0], r"^cut at period \d+, \d+ recorded periods of calls not compared$")
 
     def test_a_full_disk(self):
         live = self.live(self.folder / "rec", file_limit=160 * 40 + 7)
@@ -121,7 +121,7 @@ class Calls(WithLive):
             self.assertRegex(live.ask("close 2"), "^ok ")
             self.assertEqual(live.end(), 1)
         lines = self.assert_replays(live.folder)
-        self.assertRegex(lines[0], r"^cut at period \d+$")
+        self.assertRegex(lines[0], r"^cut at period \d+, \d+ recorded periods of calls not compared$")
 
     def test_hostile_packets(self):
         live = self.live(self.folder / "rec")

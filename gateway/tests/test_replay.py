@@ -49,19 +49,37 @@ class Checks(InFolder):
             self.assertEqual(lines[-2], "calls 3 differ 1")
             folder.rename(self.folder / name)
 
+    def test_a_line_that_is_too_long(self):
+        for name, size in (("1.out", 160), ("2.up", 1), ("3.pcm", 160)):
+            folder = self.record()
+            with open(folder / name, "ab") as line:
+                line.write(bytes(size))
+            status, lines = self.checked(folder)
+            self.assertEqual((status, lines[-2]), (1, "calls 3 differ 1"))
+            self.assertIn(f" {name[2:]} differs: it has {(folder / name).stat().st_size} octets", lines[int(name[0]) - 1])
+            folder.rename(self.folder / name)
+
+    def test_a_run_that_fails(self):
+        folder, program = self.record(20), self.folder / "program"
+        program.write_text("#!/bin/sh\necho out of order; exit 1\n")
+        program.chmod(0o755)
+        status, _, err = self.run_tool(gateway.main, ["check", str(folder), "--trau", str(program)])
+        self.assertEqual((status, err), (2, f"gateway.py: {program} run ended with status 1: out of order\n"))
+
     def test_what_a_kill_leaves(self):
         folder = self.record()
         self.cut("orders.txt", len("60 close 2\n") + 4)
         self.cut("1.down", 15 * 40)
         self.cut("2.up", 41)
-        lines = ["cut at period 45", "call 1 periods 45 equal", "call 2 periods 45 equal", "call 3 periods 35 equal", "calls 3 differ 0"]
+        cut = "cut at period 45, 35 recorded periods of calls not compared"
+        lines = [cut, "call 1 periods 45 equal", "call 2 periods 45 equal", "call 3 periods 35 equal", "calls 3 differ 0"]
         self.assertEqual(self.checked(folder), (0, lines))
 
     def test_nothing_is_left(self):
         folder = self.record()
         for name in ("1.up", "2.up", "3.up"):
             (folder / name).unlink()
-        self.assertEqual(self.checked(folder), (0, ["cut at period 0", "calls 0 differ 0"]))
+        self.assertEqual(self.checked(folder), (0, ["cut at period 0, 160 recorded periods of calls not compared", "calls 0 differ 0"]))
 
     def test_an_order_that_a_run_refuses(self):
         folder = self.record()
