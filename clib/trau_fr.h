@@ -10,9 +10,8 @@
  * What the caller must ensure
  *   - A state (struct trau_fr_encoder, _decoder, _receiver, _sender) comes from its `_home` function; all zeros aren't a state. Only
  *     the functions below write in it. There is nothing to free.
- *   - Wherever a struct trau_fr_params is passed, each of its fields is within its width, even if the function only writes it. So
- *     initialise it: `struct trau_fr_params frame = {0};`. A frame that a function has written is within the widths. The functions
- *     on octets need no such struct. A bool that a function only writes is initialised too; arrays and integers need not be.
+ *   - Each field of a struct trau_fr_params that a function reads is within its width. A frame that a function has written is.
+ *   - A bool that a function only writes is initialised. Frames, arrays and integers that it only writes need not be.
  *   - Each pointer is not null and points to a whole, aligned object of the declared size. An object that a function writes
  *     overlaps no other argument.
  *   The functions don't test this. If it holds, they always return, whatever the samples, octets, kinds and fields are.

@@ -27,7 +27,7 @@ static struct given sums[UNITS][MOST_IN_A_ROW + 1];
 
 static struct given measured(const uint8_t octets[TRAU_FR_OCTETS], const struct trau_fr_params *last)
 {
-    struct trau_fr_params frame = {0};
+    struct trau_fr_params frame;
     struct given found = {.frames = 1};
 
     if (!trau_fr_unpack(octets, &frame))

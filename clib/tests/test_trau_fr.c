@@ -95,6 +95,40 @@ static void decoded_frames(void)
     expect(same_pair, "pairs unpack to the same frames");
 }
 
+/* Frames that are only written, over octets of ones and over zeros. */
+static void overwritten(void)
+{
+    struct trau_fr_encoder over_ones = trau_fr_encoder_home(), over_zeros = over_ones;
+    struct trau_fr_params ones[2], zeros[2], before[2];
+    int16_t samples[160];
+    int same_encoded = 1, same_unpacked = 1, same_pair = 1, kept = 1;
+
+    memset(before, 0xFF, sizeof before);
+    for (int k = 0; k < FRAMES; k++) {
+        trau_alaw_expand(line[k], samples);
+        memset(ones, 0xFF, sizeof ones);
+        memset(zeros, 0, sizeof zeros);
+        trau_fr_encode(&over_ones, samples, &ones[0]);
+        trau_fr_encode(&over_zeros, samples, &zeros[0]);
+        same_encoded &= !memcmp(&ones[0], &zeros[0], sizeof ones[0]);
+        memset(ones, 0xFF, sizeof ones);
+        memset(zeros, 0, sizeof zeros);
+        same_unpacked &= trau_fr_unpack(gsm[k], &ones[0]) && trau_fr_unpack(gsm[k], &zeros[0]);
+        same_unpacked &= !memcmp(&ones[0], &zeros[0], sizeof ones[0]);
+        memset(ones, 0xFF, sizeof ones);
+        memset(zeros, 0, sizeof zeros);
+        trau_fr_unpack_pair(wav49[k / 2], &ones[0], &ones[1]);
+        trau_fr_unpack_pair(wav49[k / 2], &zeros[0], &zeros[1]);
+        same_pair &= !memcmp(ones, zeros, sizeof ones);
+        memset(ones, 0xFF, sizeof ones);
+        kept &= !trau_fr_unpack((const uint8_t[33]){0}, &ones[0]) && !memcmp(ones, before, sizeof ones);
+    }
+    expect(same_encoded, "a frame is encoded over anything");
+    expect(same_unpacked, "a frame is unpacked over anything");
+    expect(same_pair, "a pair is unpacked over anything");
+    expect(kept, "refused octets leave a frame of ones as it is");
+}
+
 static void refused(void)
 {
     struct trau_fr_decoder decoder = trau_fr_decoder_home(), before;
@@ -265,6 +299,7 @@ int main(int argc, char **argv)
     home_states();
     encoded();
     decoded_frames();
+    overwritten();
     refused();
     compressed(argv[1]);
     quiet_calls();

@@ -1,1 +1,2 @@
 pub mod DecodedOctets
+pub mod Frame

@@ -8,13 +8,15 @@
 //! unpacks and decodes, `trau_fr_encode_octets` encodes and packs.
 //!
 //! The exports don't test what C passes. The header says what the C program must ensure: good pointers, states that
-//! come from these four functions and that only exports write, and each field of a frame within its width.
+//! come from these four functions and that only exports write, and each field of a frame that is read within its width.
+//! A frame that is only written is a `Frame`, which asks for no widths.
 //!
-//! Definition: `specs/DecodedOctets.antt`.
+//! Definitions: `specs/DecodedOctets.antt`, `specs/Frame.antt` (a frame that an export writes).
 #![tactic(auto)]
 
 mod decoder;
 mod encoder;
+mod frame;
 mod law;
 mod lines;
 mod octets;

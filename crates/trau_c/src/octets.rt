@@ -3,9 +3,11 @@
 ghost use Rattle.std.specs.Prelude.{◌≡◌, ◌/◌, ◌++◌, ◌↔◌, IsTrue, false, slice_index};
 ghost use Rattle.gsm_frame.specs.Packed.{magic, Carries};
 ghost use Rattle.gsm_frame.specs.Pair.{bits_of_pair};
-ghost use Rattle.trau_params.specs.Bits260.{bits260_of};
+ghost use Rattle.trau_params.specs.Bits260.{bits260, bits260_of};
 ghost use Rattle.trau_params.specs.Fields.{fields_of};
+ghost use Rattle.trau_c.specs.Frame.{fields_of_frame, Fits};
 
+use crate::frame::Frame;
 use gsm_frame::{pack, pack_pair, unpack, unpack_pair};
 use trau_params::Params;
 
@@ -18,17 +20,18 @@ pub extern "C" fn trau_fr_pack(params: &Params, octets: &mut [u8; 33])
     *octets = pack(params);
 }
 
-/// Reads the frame that 33 octets carry. If they don't begin with the four bits 1101, the result is false, and `params`
+/// Reads the frame that 33 octets carry. If they don't begin with the four bits 1101, the result is false, and `frame`
 /// stays unchanged.
 #[unsafe(no_mangle)]
-pub extern "C" fn trau_fr_unpack(octets: &[u8; 33], params: &mut Params) -> bool
+pub extern "C" fn trau_fr_unpack(octets: &[u8; 33], frame: &mut Frame) -> bool
     ensures variant { IsTrue result ↔ (slice_index octets.now 0 / 16 ≡ magic) }
-    ensures carried { IsTrue result → Carries octets.now (fields_of params.new) }
-    ensures refused { result ≡ false → params.new ≡ params.old }
+    ensures carried { IsTrue result → Carries octets.now (fields_of_frame frame.new) }
+    ensures fit { IsTrue result → Fits frame.new }
+    ensures refused { result ≡ false → frame.new ≡ frame.old }
 {
     match unpack(octets) {
-        Some(frame) => {
-            *params = frame;
+        Some(params) => {
+            *frame = Frame::of(&params);
             true
         }
         None => false,
@@ -44,11 +47,14 @@ pub extern "C" fn trau_fr_pack_pair(first: &Params, second: &Params, octets: &mu
 }
 
 /// Reads the two frames that 65 octets of WAV49 carry. Any octets carry two.
+#[tactic(auto, unfolding(trau_params::specs::Bits260::bits260_of))]
 #[unsafe(no_mangle)]
-pub extern "C" fn trau_fr_unpack_pair(octets: &[u8; 65], first: &mut Params, second: &mut Params)
-    ensures { bits260_of first.new ++ bits260_of second.new ≡ bits_of_pair octets.now }
+pub extern "C" fn trau_fr_unpack_pair(octets: &[u8; 65], first: &mut Frame, second: &mut Frame)
+    ensures bits { bits260 (fields_of_frame first.new) ++ bits260 (fields_of_frame second.new) ≡ bits_of_pair octets.now }
+    ensures fit_first { Fits first.new }
+    ensures fit_second { Fits second.new }
 {
     let (one, other) = unpack_pair(octets);
-    *first = one;
-    *second = other;
+    *first = Frame::of(&one);
+    *second = Frame::of(&other);
 }
