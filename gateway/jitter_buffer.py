@@ -42,6 +42,7 @@ class JitterBuffer:
         """Begins anew: the sender's period 0 has come at this tick."""
         self.periods: Dict[int, Laid] = {}
         self.played: Deque[int] = deque(maxlen=2 * LIMIT)  # whole periods
+        self.newest = 0  # of these; most packets are newer, and then nothing is searched
         self.shift = -tick - self.depth
         self.late_end: Optional[int] = None  # of the last late piece, in octets
         self.owed = 0  # slips on, or below 0 slips back, that wait for a pause
@@ -64,7 +65,9 @@ class JitterBuffer:
     def has(self, period: int) -> bool:
         """Whether all of a period came: it is held, or was played."""
         laid = self.periods.get(period)
-        return period in self.played if laid is None else laid.missing <= 0
+        if laid is None:
+            return period <= self.newest and period in self.played
+        return laid.missing <= 0
 
     def put(self, period: int, part: int, piece: bytes, tick: int, is_first: bool = True) -> str:
         """Puts a piece at a place of a period; the result is empty, or the reason why it isn't taken. `is_first`: of its packet."""
@@ -95,11 +98,13 @@ class JitterBuffer:
             self.slip(tick)
         elif len(self.margins) >= WINDOW or tick - self.watched_from >= WINDOW and len(self.margins) >= FEWEST:
             self.review(tick)
-        laid = self.periods.pop(tick + self.shift, None)
+        period = tick + self.shift
+        laid = self.periods.pop(period, None)
         if laid is None:
             return None
         if laid.missing <= 0:
-            self.played.append(tick + self.shift)
+            self.played.append(period)
+            self.newest = max(self.newest, period)
         return bytes(laid.octets)
 
     def review(self, tick: int) -> None:
