@@ -60,7 +60,7 @@ fn an_uplink_frame(rt: HostRuntime) {
 
 #[test]
 fn a_downlink_frame(rt: HostRuntime) {
-    // Speech: C1 to C5 are 11100, and the spare bits of the second row 1.
+    // Speech: C1 to C5 are 11100, and the spare bits of the second row are ones.
     let mut down = UP;
     down[2] = 0xf0;
     down[3] = 0x0f;
