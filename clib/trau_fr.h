@@ -78,8 +78,21 @@
  *   the radio and on RTP is sent at a pause's beginning and then in each 24th period; a TRAU line takes each. A peer that knows no
  *   descriptors, as libgsm, plays them as a buzz: for it, dtx is false.
  *
- *     struct trau_fr_sender sender = trau_fr_sender_home();
- *     bool speech = trau_fr_send(&sender, samples, TRAU_FR_LEVEL, true, octets);
+ *   A host for RTP:
+ *
+ *     struct talk {
+ *         struct trau_fr_sender sender;    // = trau_fr_sender_home()
+ *         unsigned pause;                  // = 0; its periods so far
+ *     };
+ *
+ *     // The frame of the next period, and whether it is sent.
+ *     static bool next(struct talk *talk, const int16_t samples[160], uint8_t octets[33])
+ *     {
+ *         bool speech = trau_fr_send(&talk->sender, samples, TRAU_FR_LEVEL, true, octets);
+ *
+ *         talk->pause = speech ? 0 : talk->pause + 1;
+ *         return speech || talk->pause % 24 == 1;
+ *     }
  *
  * Example: encode raw samples on standard input to a .gsm file on standard output (cc example.c -ltrau_fr).
  *

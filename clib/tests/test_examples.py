@@ -85,7 +85,7 @@ class Header(InFolder):
 
     # For the host: a period is an octet, 0 if nothing came, and a frame.
     BEFORE = "#include <stdio.h>\n#include <trau_fr.h>\n"
-    MAIN = """
+    RECEIVES = """
 int main(void)
 {
     struct call call = {trau_fr_receiver_home(1), 0};
@@ -94,6 +94,22 @@ int main(void)
     while (fread(period, sizeof period, 1, stdin) == 1) {
         tick(&call, period[0] ? period + 1 : NULL, line);
         fwrite(line, sizeof line, 1, stdout);
+    }
+    return 0;
+}
+"""
+
+    # It writes an octet for each period, 1 if its frame is sent, and the frame.
+    SENDS = """
+int main(void)
+{
+    struct talk talk = {trau_fr_sender_home(), 0};
+    int16_t samples[TRAU_FR_SAMPLES];
+    uint8_t octets[TRAU_FR_OCTETS];
+
+    while (fread(samples, sizeof samples, 1, stdin) == 1) {
+        putchar(next(&talk, samples, octets));
+        fwrite(octets, sizeof octets, 1, stdout);
     }
     return 0;
 }
@@ -124,7 +140,19 @@ int main(void)
         for due in range(last + 24, 150, 24):
             periods[due] = periods[due]._replace(taf=True)
         given = b"".join(bytes([frame is not None]) + (frame or bytes(33)) for frame in came)
-        self.assertEqual(self.output("struct call {", given, self.BEFORE, self.MAIN), self.out_line(periods))
+        self.assertEqual(self.output("struct call {", given, self.BEFORE, self.RECEIVES), self.out_line(periods))
+
+    def test_sending_host(self) -> None:
+        # Speech, a pause, and speech: of the descriptors of the pause the first and each 24th after it are sent.
+        speech = struct.pack("<160h", *(8000 if k % 40 < 20 else -8000 for k in range(160))) * 40
+        samples = speech + bytes(320 * 80) + speech
+        sender = trau_fr.Sender()
+        made = [sender.send(samples[at : at + 320], dtx=True) for at in range(0, len(samples), 320)]
+        descriptors = [k for k, frame in enumerate(made) if not frame.speech]
+        self.assertEqual(descriptors, list(range(45, 120)))
+        sent = [frame.speech or k in (45, 69, 93, 117) for k, frame in enumerate(made)]
+        wanted = b"".join(bytes([is_sent]) + frame.octets for is_sent, frame in zip(sent, made))
+        self.assertEqual(self.output("struct talk {", samples, self.BEFORE, self.SENDS), wanted)
 
 
 class Conform(InFolder):
