@@ -4,8 +4,12 @@ import array
 import sys
 from pathlib import Path
 
-sys.path.insert(0, str(Path(__file__).resolve().parents[1] / "tools"))
-from trau_frames import FRAME_OCTETS, Law, Parameters, bits_of, data_of, gsm_of_data  # noqa: E402
+sys.path.insert(0, str(Path(__file__).resolve().parents[1]))
+
+from core.frame import bits_of, data_of  # noqa: E402
+from core.g711 import Law, octets_by_sample, samples_by_octet  # noqa: E402
+from core.parameters import gsm_of_data, parameters_of_bits, values_of  # noqa: E402
+from core.profile import FRAME_OCTETS  # noqa: E402
 
 
 def blocks(octets, length):
@@ -27,7 +31,7 @@ def frame_33(trau_frame):
 
 def frame_76(trau_frame):
     """An octet for each parameter."""
-    return bytes(Parameters.read(data_of(bits_of(trau_frame))).values())
+    return bytes(values_of(parameters_of_bits(data_of(bits_of(trau_frame)))))
 
 
 FRAME_FORMS = {"libgsm": frame_33, "spandsp-33": frame_33, "spandsp-76": frame_76}
@@ -38,8 +42,8 @@ def frames_for(codec, trau_line):
     return b"".join(map(FRAME_FORMS[codec], blocks(trau_line, FRAME_OCTETS)))
 
 
-SAMPLE_OF = [Law.A.expand(octet) for octet in range(256)]
-OCTET_OF = Law.A.octets_by_sample()
+SAMPLE_OF = samples_by_octet(Law.A)
+OCTET_OF = octets_by_sample(Law.A)
 
 
 def samples_of(alaw_line):

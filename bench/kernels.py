@@ -4,9 +4,9 @@ import collections
 import os
 
 import files
-import frames  # puts tools/ on the path
+import frames  # puts the top of the repository on the path
+from core.profile import FRAME_OCTETS, PCM_OCTETS
 from measure import Command, difference, least_processor, say
-from trau_frames import FRAME_OCTETS, PCM_OCTETS
 
 PEERS = {
     "libgsm": "libgsm `gsm_{way}`",

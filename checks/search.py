@@ -8,9 +8,11 @@ import pathlib
 import sys
 
 sys.dont_write_bytecode = True
-sys.path.insert(0, str(pathlib.Path(__file__).resolve().parents[1] / "tools"))
+sys.path.insert(0, str(pathlib.Path(__file__).resolve().parents[1]))
 
-from trau_frames import FRAME_BITS, bits_of, octets_of  # noqa: E402
+from core.frame import bits_of, octets_of  # noqa: E402
+from core.profile import FRAME_BITS  # noqa: E402
+
 
 PERIODS = 12
 # The places of the frames of the lines in lines.txt.

@@ -17,8 +17,8 @@ import sys
 from pathlib import Path
 from typing import Sequence
 
+from core.words import Refusal, Words, number_within
 from tool_ends import tool
-from trau_frames import Refusal, Words, number_within
 
 try:
     import trau_fr

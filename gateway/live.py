@@ -3,6 +3,7 @@
 from __future__ import annotations
 
 import contextlib
+from core.words import Refusal
 import gc
 import os
 import resource
@@ -21,7 +22,6 @@ from network import Network
 from recorder import Recorder
 from switchboard import Switchboard
 from tool_ends import complain, naming
-from trau_frames import Refusal
 
 PERIODS = 50  # in a second
 MOST_LINES = 50  # that are executed in a period

@@ -11,7 +11,9 @@ import os
 from pathlib import Path
 from typing import Callable, Dict, List
 
-from run_texts import MOST_ORDER_OCTETS, MOST_ORDERS, SIDES
+from core.lines import SIDES
+from core.profile import MOST_ORDERS, MOST_ORDER_OCTETS
+
 
 NEW = os.O_WRONLY | os.O_CREAT | os.O_EXCL | os.O_APPEND
 FIRST_DOWN = b"\xff" * 40

@@ -13,10 +13,12 @@ from dataclasses import dataclass
 from pathlib import Path
 from typing import List, Optional
 
+from core.lines import INCOMING, OCTETS_OF_SIDE, OUTGOING, SIDES, whole_periods
+from core.orders import Order
+from core.words import Refusal
 import listening
-from run_texts import INCOMING, OCTETS_OF_SIDE, OUTGOING, SIDES, Order, orders_of, report_of, whole_periods
+from run_texts import read_orders, report_of
 from tool_ends import naming
-from trau_frames import Refusal
 
 CHUNK = 1 << 20
 
@@ -55,7 +57,7 @@ def whole_orders(folder: Path) -> List[Order]:
     path = folder / "orders.txt"
     with naming(path):
         content = path.read_bytes()
-    return orders_of(path, content[: content.rfind(b"\n") + 1])
+    return read_orders(path, content[: content.rfind(b"\n") + 1])
 
 
 def calls_of(folder: Path, orders: List[Order]) -> List[Recorded]:

@@ -6,8 +6,9 @@ import ipaddress
 from dataclasses import dataclass, field
 from typing import Callable, Dict, List, Tuple
 
-from run_texts import MOST_CALLS, MOST_LEVEL, is_whole_number
-from trau_frames import Refusal
+from core.profile import MOST_CALLS, MOST_LEVEL
+from core.words import Refusal
+from core.words import number as number_of
 
 MOST_DEPTH = 25  # periods
 FORM = "open C gsm [HOST:]PORT HOST:PORT pcm [HOST:]PORT HOST:PORT [mulaw] [level V] [dtx on|off] [depth N] [prime on|off] [strict on|off]"
@@ -40,7 +41,7 @@ class Settings:
 
 def number(word: str, least: int, most: int, what: str) -> int:
     """A number between these ends."""
-    if not is_whole_number(word) or not least <= int(word) <= most:
+    if number_of(word, least, most) is None:
         raise Refusal(f"{what} {word} isn't {least:,} to {most:,}")
     return int(word)
 

@@ -5,14 +5,15 @@ from __future__ import annotations
 from dataclasses import dataclass
 from typing import Callable, Dict, List, Set, Tuple
 
+from core.profile import MOST_CALLS, MOST_LEVEL
+from core.words import Refusal
 from calls import STILL_AFTER, Call
 from clock import PHASES
 from incoming import Incoming
 from network import Network, SocketEndpoint
 from recorder import Recorder
-from run_texts import MOST_CALLS, MOST_LEVEL, REFUSALS
+from run_texts import REFUSALS
 from settings import Settings, number, read_open, switch
-from trau_frames import Refusal
 
 Say = Callable[[str], None]
 

@@ -5,9 +5,9 @@ Places are counted in bits from the start of the line. What is asked for, and ho
 
 from typing import List, NamedTuple, Sequence
 
-from . import profile
-from .frame import DownFrame, FrameClass, Kind, UpFrame, read_down
-from .search import first_match, text_of
+from core import profile
+from core.frame import DownFrame, Kind, Sort, UpFrame, bits_of, read_down
+from core.search import FRAME_OF_DOWNLINK
 
 
 class Heard(NamedTuple):
@@ -19,21 +19,14 @@ class Heard(NamedTuple):
 
 def heard_frames(octets: bytes) -> List[Heard]:
     """The frames of a downlink: each at the first place that matches, 316 bits or more behind the one before (docs/commands/follow.md)."""
-    line = text_of(octets)
-    heard: List[Heard] = []
-    place = first_match(line, 0, profile.FOUND_BITS)
-    while place is not None:
-        bits = [int(bit) for bit in line[place:place + profile.FOUND_BITS]]
-        heard.append(Heard(place, read_down(bits)))
-        place = first_match(line, place + profile.FOUND_BITS, profile.FOUND_BITS)
-    return heard
+    return [Heard(found.start(), read_down(found.group())) for found in FRAME_OF_DOWNLINK.finditer(bits_of(octets))]
 
 
 def heard_by_period(octets: bytes) -> List[List[Heard]]:
     """For each whole period of the line the frames whose bit 315 it holds: two at most (docs/commands/follow.md)."""
-    periods = len(octets) // profile.UP_OCTETS
+    periods = len(octets) // profile.FRAME_OCTETS
     by_period: List[List[Heard]] = [[] for _ in range(periods)]
-    for one in heard_frames(octets[:profile.UP_OCTETS * periods]):
+    for one in heard_frames(octets[:profile.FRAME_OCTETS * periods]):
         by_period[(one.place + profile.FOUND_BITS - 1) // profile.FRAME_BITS].append(one)
     return by_period
 
@@ -74,8 +67,8 @@ def asked_fields(by_period: Sequence[Sequence[Heard]], wanted: int) -> List[int]
 def answer(heard: Sequence[Heard], field: int) -> UpFrame:
     """The frame that is sent up in a period in which these were found (docs/commands/follow.md)."""
     if heard and heard[-1].frame.kind is Kind.SPEECH:
-        return UpFrame(Kind.SPEECH, FrameClass.GOOD, False, True, field, heard[-1].frame.data)
-    return UpFrame(Kind.IDLE, FrameClass.UNUSABLE, False, True, field, (1,) * 260)
+        return UpFrame(Sort.GOOD, False, True, field, heard[-1].frame.data)
+    return UpFrame(Sort.IDLE, False, True, field)
 
 
 def answers(by_period: Sequence[Sequence[Heard]], wanted: int) -> List[UpFrame]:

@@ -9,13 +9,15 @@ from bisect import bisect_right
 from itertools import accumulate
 from typing import List, NamedTuple, Optional, Sequence, Tuple
 
-from . import profile
+from core import profile
+from core.frame import Bits, DownFrame, Kind, Sort, UpFrame, bits_of, octets_of, read_up, write_down
+from core.g711 import Law, compress_all, expand_all
+from core.parameters import SILENCE, bits_of_parameters
+from core.search import sort_of_period, yields_by_period
+
 from .codec import Decoder, Encoder
 from .downlink import Made, asked_shifts, down_bits, made_frames
-from .frame import Bits, DownFrame, FrameClass, Kind, bits_of_parameters, octets_of, silence, write_down
-from .g711 import Law, compress_all, expand_all, idle_octet
 from .receive import Effective, effective_frames
-from .search import Found, Miss, Yield, yields_by_period
 from .transmit import Coded, Dtx, sent_frames
 
 
@@ -38,7 +40,8 @@ class Span(NamedTuple):
 class Uplink(NamedTuple):
     """The uplink half of a call, period by period."""
 
-    yields: List[Optional[Yield]]
+    sorts: List[Sort]
+    frames: List[Optional[UpFrame]]
     effective: List[Effective]
 
 
@@ -54,26 +57,12 @@ class Call(NamedTuple):
     spans: Sequence[Span]  # in order, a period or more between two
 
 
-class Counts(NamedTuple):
-    """What a call's report counts (docs/OPERATORS.md, "The report, line by line")."""
-
-    good: int
-    sid: int
-    invalid: int
-    bad: int
-    idle: int
-    other: int
-    miss: int
-    none: int
-    made: int
-
-
 class Outgoing(NamedTuple):
     """What a call writes, and what its report says of it."""
 
     out: bytes  # 160 octets a period
     down: bytes  # 40 octets a period
-    counts: Counts
+    counts: List[int]  # how many periods yielded each sort, and how many frames were made
     sent: List[int]  # for each bridge how many of the frames that were handed to this call went out
 
 
@@ -81,15 +70,15 @@ class Outgoing(NamedTuple):
 
 
 def uplink(number: int, up: bytes) -> Uplink:
-    """The yields and the effective frames of the whole periods of an Up line (docs/commands/frames.md, docs/PROFILE.md)."""
-    yields = yields_by_period(up)
-    frames = [one.frame if isinstance(one, Found) else None for one in yields]
-    return Uplink(yields, effective_frames(number, frames))
+    """The frames and the effective frames of the whole periods of an Up line (docs/commands/frames.md, docs/PROFILE.md)."""
+    yields = yields_by_period(bits_of(up))
+    frames = [read_up(one.frame) if one and one.frame else None for one in yields]
+    return Uplink(list(map(sort_of_period, yields)), frames, effective_frames(number, frames))
 
 
 def handed(up: Uplink, start: int, end: int) -> List[Bits]:
     """What a call hands to its partner in the periods from `start` up to `end` (docs/OPERATORS.md, "Bridges")."""
-    return [bits_of_parameters(parameters or silence()) for parameters in up.effective[start:end]]
+    return [bits_of_parameters(parameters or SILENCE) for parameters in up.effective[start:end]]
 
 
 # The Out line.
@@ -117,7 +106,7 @@ def out_line(call: Call) -> bytes:
     """
     starts = {span.start for span in call.spans}
     plain = [frame is not None and not covered for frame, covered in zip(call.up.effective, in_bridge(call))]
-    blocks = [bytes([idle_octet(call.law)]) * profile.PCM_OCTETS] * call.periods
+    blocks = [bytes([call.law.idle()]) * profile.PCM_OCTETS] * call.periods
     for first, end in runs(plain, [k in starts for k in range(call.periods)]):
         decoder = Decoder()
         for k in range(first, end):
@@ -145,9 +134,7 @@ def in_force(call: Call) -> List[Tuple[int, Dtx]]:
 
 def asked_dtx(call: Call) -> List[bool]:
     """For each period whether the last uplink speech frame so far had DTXd 1 (docs/OPERATORS.md, "Orders")."""
-    said = [
-        one.frame.dtxd if isinstance(one, Found) and one.frame.kind is Kind.SPEECH else None for one in call.up.yields[:call.periods]
-    ]
+    said = [frame.dtxd if frame is not None and frame.is_speech() else None for frame in call.up.frames[:call.periods]]
     return list(accumulate(said, lambda old, new: old if new is None else new, initial=False))[1:]
 
 
@@ -188,20 +175,15 @@ def breaks_of_coding(call: Call, made: Sequence[Made]) -> List[bool]:
 # The whole.
 
 
-def counts_of(call: Call, made: int) -> Counts:
+def counts_of(call: Call, made: int) -> List[int]:
     """The counts of a call's report (docs/OPERATORS.md, "The report, line by line")."""
-    yields = call.up.yields[:call.periods]
-    frames = [one.frame for one in yields if isinstance(one, Found)]
-    classes = [frame.frame_class for frame in frames if frame.kind is Kind.SPEECH]
-    by_class = [classes.count(one) for one in (FrameClass.GOOD, FrameClass.SID, FrameClass.INVALID_SID, FrameClass.UNUSABLE)]
-    by_kind = [sum(frame.kind is kind for frame in frames) for kind in (Kind.IDLE, Kind.OTHER)]
-    misses = sum(isinstance(one, Miss) for one in yields)
-    return Counts(*by_class, *by_kind, misses, yields.count(None), made)
+    sorts = call.up.sorts[:call.periods]
+    return [*map(sorts.count, Sort), made]
 
 
 def outgoing(call: Call) -> Outgoing:
     """The Out and Down lines of a call, its counts, and how many handed frames went out of each bridge."""
-    made = made_frames(call.periods, asked_shifts(call.up.yields[:call.periods]), [(span.start, span.end) for span in call.spans])
+    made = made_frames(call.periods, asked_shifts(call.up.frames[:call.periods]), [(span.start, span.end) for span in call.spans])
     bits = [write_down(frame) for frame in down_frames(call, made)]
     carried = [frame.item.span for frame in made if frame.item is not None]
     sent = [carried.count(span) for span in range(len(call.spans))]

@@ -3,13 +3,14 @@
 from __future__ import annotations
 
 import re
-from typing import List, NamedTuple, Optional, Sequence, Tuple, Union
+from typing import List, NamedTuple, Optional, Sequence, Tuple
 
-from . import profile
+from core import profile
+from core.orders import BadLine
+from core.report import text_of
+from core.words import number
+
 from .farm import Cause, Farm
-from .orders import BadLine
-from .report import text_of
-from .words import number
 
 
 class MarkCall(NamedTuple):
@@ -38,10 +39,7 @@ def mark_of(farm: Farm, period: int) -> Mark:
     mark").
     """
     at_limit = [call for call in farm.calls if call.end.cause is Cause.LIMIT]
-    return Mark(
-        period,
-        [MarkCall(call.number, call.opening, sum_of(call.outgoing.out), sum_of(call.outgoing.down)) for call in at_limit],
-    )
+    return Mark(period, [MarkCall(call.number, call.opening, sum_of(call.outgoing.out), sum_of(call.outgoing.down)) for call in at_limit])
 
 
 def text_of_mark(mark: Mark) -> str:
@@ -58,24 +56,24 @@ def differs(mark: Mark, other: Mark) -> Optional[int]:
     return min((call.call for call in different), default=None)
 
 
-def read_mark(text: bytes) -> Union[Tuple[Mark, bytes], BadLine]:
-    """The mark at the beginning of a text, and what follows it; else the first line that isn't in the grammar (docs/FILES.md, "A mark").
+def read_mark(text: bytes) -> Tuple[Mark, bytes]:
+    """The mark at the beginning of a text, and what follows it; else raises the first line that isn't in the grammar (docs/FILES.md, "A mark").
 
     A line without its line feed isn't in the grammar. Where the text ends before the line `orders`, the line after its last is bad.
     """
     *lines, _ = text.split(b"\n")
     period = _period_of(lines[0]) if lines else None
     if period is None:
-        return BadLine(1)
+        raise BadLine(1)
     calls: List[MarkCall] = []
     for place, line in enumerate(lines[1:], 1):
         if line == b"orders":
             return Mark(period, calls), b"\n".join(text.split(b"\n")[place + 1 :])
         call = _call_of(line, period, calls[-1].call if calls else 0)
         if call is None:
-            return BadLine(place + 1)
+            raise BadLine(place + 1)
         calls.append(call)
-    return BadLine(len(lines) + 1)
+    raise BadLine(len(lines) + 1)
 
 
 def _period_of(line: bytes) -> Optional[int]:
@@ -91,6 +89,6 @@ def _call_of(line: bytes, period: int, above: int) -> Optional[MarkCall]:
     words = re.fullmatch("call ([0-9]+) from ([0-9]+) out ([0-9]+) down ([0-9]+)", line.decode("latin-1"))
     if not words:
         return None
-    call, opening = number(words[1], above + 1, profile.MOST_CALL), number(words[2], 0, period - 1)
+    call, opening = number(words[1], above + 1, profile.MOST_CALLS), number(words[2], 0, period - 1)
     out, down = (number(words[place], 0, profile.SUM_MODULUS - 1) for place in (3, 4))
     return None if None in (call, opening, out, down) else MarkCall(call, opening, out, down)

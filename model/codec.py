@@ -8,28 +8,13 @@ Each function is a numbered section of the standard's fixed point description (G
 from operator import mul
 from typing import List, NamedTuple, Sequence, Tuple
 
-from .arithmetic import add, div, magnitude, mult, mult_r, norm, saturate, saturate_all, saturate_long, sub
+from core.arithmetic import add, div, magnitude, mult, mult_r, norm, saturate, saturate_all, sub
+from core.parameters import Block, Parameters
+from core.preprocessing import Preprocessing
 
 SAMPLES = 160  # of a frame
 BLOCK = 40  # samples of a block
 LEAST_LAG, MOST_LAG = 40, 120
-
-
-class Block(NamedTuple):
-    """The parameters of a block of 40 samples (GSM 06.10 section 1.7): as they are coded."""
-
-    nc: int  # the lag, 7 bits
-    bc: int  # the lag's gain, 2 bits
-    mc: int  # the grid position, 2 bits
-    xmaxc: int  # the block maximum, 6 bits
-    xmc: Tuple[int, ...]  # thirteen pulses, 3 bits each
-
-
-class Parameters(NamedTuple):
-    """The parameters of a frame (GSM 06.10 section 1.7): as they are coded."""
-
-    larc: Tuple[int, ...]  # eight log area ratios, of 6, 6, 5, 5, 4, 4, 3 and 3 bits
-    blocks: Tuple[Block, ...]  # four
 
 
 class Trace(NamedTuple):
@@ -67,29 +52,6 @@ FAC = (18431, 20479, 22527, 24575, 26623, 28671, 30719, 32767)
 
 
 # The encoder (GSM 06.10 section 4.2).
-
-
-class Preprocessing:
-    """Downscaling, offset compensation and preemphasis (GSM 06.10 sections 4.2.1 to 4.2.3); all is 0 at home."""
-
-    def __init__(self) -> None:
-        self.z1 = 0  # the sample before, scaled
-        self.offset = 0  # L_z2: the offset compensation's memory, 31 bits
-        self.mp = 0  # the sample before, without its offset
-
-    def run(self, samples: Sequence[int]) -> List[int]:
-        """The samples that follow those of before, downscaled, without offset and with preemphasis."""
-        emphasised = []
-        for sample in samples:
-            scaled = (sample >> 3) << 2
-            high, low = self.offset >> 15, self.offset & 0x7FFF
-            step = ((scaled - self.z1) << 15) + mult_r(low, 32735)
-            self.z1 = scaled
-            self.offset = saturate_long(high * 32735 + step)
-            level = saturate(saturate_long(self.offset + 16384) >> 15)
-            emphasised.append(add(level, mult_r(self.mp, -28180)))
-            self.mp = level
-        return emphasised
 
 
 def scaling(values: Sequence[int], room: int) -> int:

@@ -6,17 +6,19 @@ reads and writes, since a fault stops it there.
 
 from typing import Callable, Dict, Iterable, List, NamedTuple, Optional, Sequence
 
-from . import profile
+from core import profile
+from core.frame import Bits, DownFrame, Kind, Sort, bits_of, octets_of, read_up, write_down, write_up
+from core.g711 import Law, compress_all, expand_all
+from core.lines import DOWN, OCTETS_OF_SIDE, OUT, PCM, UP
+from core.parameters import bits_of_parameters, parameters_of_bits
+from core.search import FRAME, end_of_text, yields_by_period
+from core.slots import merge, split
+from core.words import number
+
 from .basestation import Heard, answers, heard_by_period
 from .codec import Decoder, Encoder
-from .frame import Bits, DownFrame, Kind, bits_of, bits_of_parameters, is_good, octets_of, parameters_of_bits, read_up, sync_matches
-from .frame import write_down, write_up
-from .g711 import Law, compress_all, expand_all
-from .outside import Desk, Given, Lines, Side
-from .search import Found, Yield, yields_by_period
-from .slots import merge, split
+from .outside import Desk, Given, Lines
 from .status import Status
-from .words import number
 
 
 class Stopped(Exception):
@@ -27,12 +29,12 @@ class Stopped(Exception):
         self.status, self.text = status, text
 
 
-def line_failure(call: int, side: Side) -> Stopped:
+def line_failure(call: int, side: str) -> Stopped:
     """A line failed (docs/commands, status 6)."""
-    return Stopped(Status.LINE_FAILED, "line %d %s failed\n" % (call, side.value))
+    return Stopped(Status.LINE_FAILED, f"line {call} {side} failed\n")
 
 
-def write_line(lines: Lines, call: int, side: Side, octets: bytes) -> None:
+def write_line(lines: Lines, call: int, side: str, octets: bytes) -> None:
     """Writes octets to a line; no octets are no write."""
     if octets and not lines.write(call, side, octets):
         raise line_failure(call, side)
@@ -44,22 +46,19 @@ def write_text(desk: Desk, text: str) -> None:
         raise Stopped(Status.UNWRITTEN)
 
 
-SIZES = {Side.UP: profile.UP_OCTETS, Side.PCM: profile.PCM_OCTETS}
-
-
-def read_line(lines: Lines, call: int, side: Side) -> Given:
+def read_line(lines: Lines, call: int, side: str) -> Given:
     """What an incoming line gives, to the most periods that a command takes; nothing is read behind them."""
-    return lines.read(call, side, profile.MOST_PERIODS * SIZES[side])
+    return lines.read(call, side, profile.MOST_PERIODS * OCTETS_OF_SIDE[side])
 
 
-def block(octets: bytes, size: int, number: int) -> bytes:
-    """The block of this number, from 0; it is shorter where the octets end inside it."""
-    return octets[size * number:size * (number + 1)]
+def block(octets: bytes, size: int, place: int) -> bytes:
+    """The block at this place, from 0; it is shorter where the octets end inside it."""
+    return octets[size * place:size * (place + 1)]
 
 
 def blocks_of(octets: bytes, size: int) -> List[bytes]:
     """The whole blocks of this size."""
-    return [block(octets, size, number) for number in range(len(octets) // size)]
+    return [block(octets, size, place) for place in range(len(octets) // size)]
 
 
 # `relay` and `decode`: blocks of good speech frames.
@@ -68,16 +67,14 @@ def blocks_of(octets: bytes, size: int) -> List[bytes]:
 def speech_of(octets: bytes) -> Optional[Bits]:
     """D1 to D260 of a block that is a good speech frame, else None (docs/commands/relay.md)."""
     bits = bits_of(octets)
-    if not sync_matches(bits):
-        return None
-    frame = read_up(bits)
-    return frame.data if is_good(frame) else None
+    frame = read_up(bits) if FRAME.fullmatch(bits) else None
+    return frame.data if frame is not None and frame.sort is Sort.GOOD else None
 
 
 def good_blocks(given: Given) -> List[Bits]:
     """The data bits of the blocks before the first that isn't a good speech frame (docs/commands/relay.md)."""
     data: List[Bits] = []
-    for octets in blocks_of(given.octets, profile.UP_OCTETS):
+    for octets in blocks_of(given.octets, profile.FRAME_OCTETS):
         speech = speech_of(octets)
         if speech is None:
             break
@@ -100,12 +97,12 @@ class SpeechCommand(NamedTuple):
     """A command that takes blocks of good speech frames."""
 
     word: str
-    side: Side  # where what is made of the blocks goes
+    side: str  # where what is made of the blocks goes
     make: Callable[[Sequence[Bits]], List[bytes]]  # of the data bits of all blocks the octets of each
 
 
-RELAY = SpeechCommand("relay", Side.DOWN, relayed)
-DECODE = SpeechCommand("decode", Side.OUT, decoded)
+RELAY = SpeechCommand("relay", DOWN, relayed)
+DECODE = SpeechCommand("decode", OUT, decoded)
 
 
 def work_speech(asked_for: SpeechCommand, call: int, lines: Lines, desk: Desk) -> Status:
@@ -114,15 +111,15 @@ def work_speech(asked_for: SpeechCommand, call: int, lines: Lines, desk: Desk) -
     What is made of a block is written before the next one is read. So a fault in writing goes before a refused block, and a refused
     block before a fault of reading behind it.
     """
-    given = read_line(lines, call, Side.UP)
+    given = read_line(lines, call, UP)
     data = good_blocks(given)
     for octets in asked_for.make(data):
         write_line(lines, call, asked_for.side, octets)
-    following = block(given.octets, profile.UP_OCTETS, len(data))
-    if len(following) == profile.UP_OCTETS or following and not given.failed:
+    following = block(given.octets, profile.FRAME_OCTETS, len(data))
+    if len(following) == profile.FRAME_OCTETS or following and not given.failed:
         raise Stopped(Status.REFUSED, "%s refused %d\n" % (asked_for.word, len(data)))
     if given.failed:
-        raise line_failure(call, Side.UP)
+        raise line_failure(call, UP)
     write_text(desk, "%s frames %d\n" % (asked_for.word, len(data)))
     return Status.DONE
 
@@ -150,12 +147,12 @@ def encoded(blocks: Sequence[bytes]) -> Iterable[bytes]:
 
 def encode(call: int, lines: Lines, desk: Desk) -> Status:
     """`encode C`: a line from the exchange to downlink speech frames (docs/commands/encode.md)."""
-    given = read_line(lines, call, Side.PCM)
+    given = read_line(lines, call, PCM)
     blocks = blocks_of(given.octets, profile.PCM_OCTETS)
     for octets in encoded(blocks):
-        write_line(lines, call, Side.DOWN, octets)
+        write_line(lines, call, DOWN, octets)
     if given.failed:
-        raise line_failure(call, Side.PCM)
+        raise line_failure(call, PCM)
     write_text(desk, "encode frames %d left %d\n" % (len(blocks), len(given.octets) % profile.PCM_OCTETS))
     return Status.DONE
 
@@ -163,23 +160,15 @@ def encode(call: int, lines: Lines, desk: Desk) -> Status:
 # `frames`.
 
 
-def line_of_yield(one: Yield) -> str:
-    """The line of text of a yield (docs/commands/frames.md)."""
-    if not isinstance(one, Found):
-        return "%d miss\n" % one.place
-    kind = one.frame.kind
-    return "%d %s\n" % (one.place, one.frame.frame_class.value if kind is Kind.SPEECH else kind.value)
-
-
 def frames(call: int, lines: Lines, desk: Desk) -> Status:
     """`frames C`: the yields of the search on an uplink (docs/commands/frames.md)."""
-    given = read_line(lines, call, Side.UP)
-    yields = [one for one in yields_by_period(given.octets) if one is not None]
+    given = read_line(lines, call, UP)
+    yields = [one for one in yields_by_period(bits_of(given.octets)) if one is not None]
     for one in yields:
-        write_text(desk, line_of_yield(one))
+        write_text(desk, one.line())
     if given.failed:
-        raise line_failure(call, Side.UP)
-    write_text(desk, "frames %d left %d\n" % (len(yields), len(given.octets) % profile.UP_OCTETS))
+        raise line_failure(call, UP)
+    write_text(desk, end_of_text(len(yields), len(given.octets)))
     return Status.DONE
 
 
@@ -188,14 +177,14 @@ def frames(call: int, lines: Lines, desk: Desk) -> Status:
 
 def split_slot(call: int, lines: Lines, desk: Desk) -> Status:
     """`split C`: the channels of a time slot to the Down lines of four calls (docs/commands/split.md)."""
-    given = read_line(lines, call, Side.PCM)
+    given = read_line(lines, call, PCM)
     blocks = blocks_of(given.octets, profile.PCM_OCTETS)
     rest = b"" if given.failed else block(given.octets, profile.PCM_OCTETS, len(blocks))
     for octets in blocks + [rest]:
         for channel, own in enumerate(split(octets)):
-            write_line(lines, call + channel, Side.DOWN, own)
+            write_line(lines, call + channel, DOWN, own)
     if given.failed:
-        raise line_failure(call, Side.PCM)
+        raise line_failure(call, PCM)
     left = len(rest) % 4
     write_text(desk, "split octets %d left %d\n" % (len(given.octets) - left, left))
     return Status.DONE
@@ -206,17 +195,17 @@ def merge_slot(call: int, lines: Lines, desk: Desk) -> Status:
 
     All four lines are read, block by block, before anything of a block is written; the first block that is short on a line is the last.
     """
-    given = [read_line(lines, call + channel, Side.UP) for channel in range(profile.CHANNELS)]
-    whole = min(len(one.octets) // profile.UP_OCTETS for one in given)
-    for number in range(whole):
-        write_line(lines, call, Side.OUT, merge([block(one.octets, profile.UP_OCTETS, number) for one in given]))
-    last = [block(one.octets, profile.UP_OCTETS, whole) for one in given]
+    given = [read_line(lines, call + channel, UP) for channel in range(profile.CHANNELS)]
+    whole = min(len(one.octets) // profile.FRAME_OCTETS for one in given)
+    for place in range(whole):
+        write_line(lines, call, OUT, merge([block(one.octets, profile.FRAME_OCTETS, place) for one in given]))
+    last = [block(one.octets, profile.FRAME_OCTETS, whole) for one in given]
     for channel, one in enumerate(given):
-        if one.failed and len(last[channel]) < profile.UP_OCTETS:
-            raise line_failure(call + channel, Side.UP)
+        if one.failed and len(last[channel]) < profile.FRAME_OCTETS:
+            raise line_failure(call + channel, UP)
     used = min(map(len, last))
-    write_line(lines, call, Side.OUT, merge([octets[:used] for octets in last]))
-    taken = profile.CHANNELS * (profile.UP_OCTETS * whole + used)
+    write_line(lines, call, OUT, merge([octets[:used] for octets in last]))
+    taken = profile.CHANNELS * (profile.FRAME_OCTETS * whole + used)
     write_text(desk, "merge octets %d left %s\n" % (taken, " ".join(str(len(octets) - used) for octets in last)))
     return Status.DONE
 
@@ -234,14 +223,14 @@ def follow(call: int, wanted: int, lines: Lines, desk: Desk) -> Status:
 
     The answer of a period is written before the lines of text of its frames.
     """
-    given = read_line(lines, call, Side.UP)
+    given = read_line(lines, call, UP)
     by_period = heard_by_period(given.octets)
     for heard, frame in zip(by_period, answers(by_period, wanted)):
-        write_line(lines, call, Side.DOWN, octets_of(write_up(frame)))
+        write_line(lines, call, DOWN, octets_of(write_up(frame)))
         write_text(desk, "".join(map(line_of_heard, heard)))
     if given.failed:
-        raise line_failure(call, Side.UP)
-    write_text(desk, "follow frames %d left %d\n" % (sum(map(len, by_period)), len(given.octets) % profile.UP_OCTETS))
+        raise line_failure(call, UP)
+    write_text(desk, "follow frames %d left %d\n" % (sum(map(len, by_period)), len(given.octets) % profile.FRAME_OCTETS))
     return Status.DONE
 
 
@@ -252,7 +241,7 @@ class Command(NamedTuple):
     """A command on one call."""
 
     work: Callable[[int, Lines, Desk], Status]
-    most_call: int = profile.MOST_CALL
+    most_call: int = profile.MOST_CALLS
 
 
 COMMANDS: Dict[str, Command] = {
@@ -269,7 +258,7 @@ FOLLOW = "follow"
 def asked(words: Sequence[str]) -> Optional[Callable[[Lines, Desk], Status]]:
     """What the words of a command ask for, or None where they are wrong (docs/commands)."""
     if words[0] == FOLLOW:
-        call = number(words[1], 1, profile.MOST_CALL) if len(words) == 3 else None
+        call = number(words[1], 1, profile.MOST_CALLS) if len(words) == 3 else None
         wanted = number(words[2], 0, profile.MOST_WANTED) if len(words) == 3 else None
         if call is None or wanted is None or wanted % profile.WANTED_STEP != 0:
             return None

@@ -64,9 +64,7 @@ def run_step(program: Path, step: Step, before: bytes, folder: Path) -> Answer:
     words = [str(program), *step.words]
     status: Optional[int] = None
     try:
-        status = subprocess.run(
-            words, cwd=folder, stdin=reads, stdout=writes, env=surroundings, preexec_fn=limit, timeout=PATIENCE
-        ).returncode
+        status = subprocess.run(words, cwd=folder, stdin=reads, stdout=writes, env=surroundings, preexec_fn=limit, timeout=PATIENCE).returncode
     except subprocess.TimeoutExpired:
         pass
     finally:

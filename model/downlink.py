@@ -8,9 +8,8 @@ shifts, and what becomes of them in a bridge, are this project's profile (docs/F
 from bisect import bisect_left, bisect_right
 from typing import Dict, List, NamedTuple, Optional, Sequence, Tuple
 
-from . import profile
-from .frame import Bits, Kind
-from .search import Found, Yield
+from core import profile
+from core.frame import Bits, Sort, UpFrame, shift_of
 
 
 class Item(NamedTuple):
@@ -38,19 +37,11 @@ def period_of(start: int) -> int:
     return (start + profile.PCM_OCTETS - 1) // profile.PCM_OCTETS
 
 
-def shift_of(field: int) -> Optional[int]:
-    """The shift that an alignment field asks for, in octets of the Pcm line, or None (docs/FILES.md, "Time alignment")."""
-    others = {profile.SMALL_DELAY_FIELD: profile.SMALL_DELAY_OCTETS, profile.ADVANCE_FIELD: profile.ADVANCE_OCTETS}
-    if 1 <= field <= profile.MOST_STEPS:
-        return profile.STEP_OCTETS * field
-    return others.get(field)
-
-
-def asked_shifts(yields: Sequence[Optional[Yield]]) -> Dict[int, int]:
+def asked_shifts(frames: Sequence[Optional[UpFrame]]) -> Dict[int, int]:
     """The shift that is asked for in each period in which one is: by a speech or idle frame (docs/FILES.md, "Time alignment")."""
-    fields = {k: one.frame.field for k, one in enumerate(yields) if isinstance(one, Found) and one.frame.kind is not Kind.OTHER}
+    fields = {k: frame.field for k, frame in enumerate(frames) if frame is not None and frame.sort is not Sort.OTHER}
     shifts = {k: shift_of(field) for k, field in fields.items()}
-    return {k: shift for k, shift in shifts.items() if shift is not None}
+    return {k: shift for k, shift in shifts.items() if shift}
 
 
 def made_frames(periods: int, asked: Dict[int, int], spans: Sequence[Tuple[int, int]]) -> List[Made]:
@@ -98,13 +89,11 @@ def bits_between(frame: Made, bits: Bits) -> Bits:
     """What the Down line has from a frame on to the next: with the ones that a delay puts in, without the time bits that an advance
     leaves out (docs/FILES.md, "Time alignment")."""
     if frame.shift >= 0:
-        return bits + (1,) * (2 * frame.shift)
+        return bits + "1" * (2 * frame.shift)
     return bits[:2 * frame.shift]
 
 
-def down_bits(made: Sequence[Made], bits: Sequence[Bits], periods: int) -> List[int]:
+def down_bits(made: Sequence[Made], bits: Sequence[Bits], periods: int) -> Bits:
     """The Down line of so many periods: ones, and then the frames (docs/FILES.md, "Time alignment")."""
-    line = [1] * profile.LEADING_ONES
-    for frame, own in zip(made, bits):
-        line += bits_between(frame, own)
+    line = "1" * profile.LEADING_ONES + "".join(map(bits_between, made, bits))
     return line[:profile.FRAME_BITS * periods]

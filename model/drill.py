@@ -8,14 +8,15 @@ from __future__ import annotations
 from itertools import islice
 from typing import Iterator, List, NamedTuple
 
-from . import profile
+from core import profile
+from core.frame import Bits, Sort, UpFrame, octets_of, write_up
+from core.orders import Order, read_order
+from core.report import text_of
+
 from .checkpoint import sum_of
 from .farm import Farm, Incoming, farm_of, plan_of
-from .frame import Bits, FrameClass, Kind, UpFrame, octets_of, write_up
-from .g711 import Law
-from .orders import Bridge, Open, Order, Unbridge
 from .outside import Given
-from .report import report_of, text_of
+from .report import report_of
 
 
 class Drawn(NamedTuple):
@@ -38,7 +39,7 @@ def drawn_period(source: Iterator[int], period: int) -> Drawn:
     "What is drawn").
     """
     frame = next(source)
-    data = tuple(draw * 2 // profile.DRILL_DRAWS for draw in islice(source, 260))
+    data = "".join([str(draw * 2 // profile.DRILL_DRAWS) for draw in islice(source, 260)])
     field = profile.DRILL_FIELDS.get(next(source), 0)
     is_drawn = period // profile.DRILL_PCM_PERIODS % 2 == 1
     pcm = islice(source, profile.PCM_OCTETS) if is_drawn else [profile.IDLE_A] * profile.PCM_OCTETS
@@ -49,11 +50,11 @@ def uplink_octets(draw: int, data: Bits, field: int, period: int) -> bytes:
     """The octets of Up that a draw stands for: a frame, also an idle one, with the drawn data bits, or no frame and zeros
     (docs/commands/drill.md, "What is drawn").
     """
-    shape = next(shape for least, shape in profile.DRILL_FRAMES if draw >= least)
-    if shape is None:
-        return bytes(profile.UP_OCTETS)
+    sort = next(sort for least, sort in profile.DRILL_FRAMES if draw >= least)
+    if sort is None:
+        return bytes(profile.FRAME_OCTETS)
     taf = period % profile.DRILL_TAF_PERIODS == profile.DRILL_TAF_PERIODS - 1
-    return octets_of(write_up(UpFrame(Kind[shape[0]], FrameClass[shape[1]], taf, True, field, data)))
+    return octets_of(write_up(UpFrame(Sort(sort), taf, True, field, data)))
 
 
 def drawn_lines(seed: int, call: int, periods: int) -> Incoming:
@@ -71,9 +72,10 @@ def drawn_orders(calls: int, periods: int) -> List[Order]:
     (docs/commands/drill.md, "What is drawn").
     """
     firsts = [call for call in range(1, calls) if call % profile.DRILL_BRIDGE_CALLS == 1]
-    opens = [Order(0, Open(call, Law.A)) for call in range(1, calls + 1)]
-    bridges = [Order(periods // 4, Bridge(call, call + 1)) for call in firsts]
-    return opens + bridges + [Order(periods // 2, Unbridge(call)) for call in firsts]
+    lines = [f"0 open {call}" for call in range(1, calls + 1)]
+    lines += [f"{periods // 4} bridge {call} {call + 1}" for call in firsts]
+    lines += [f"{periods // 2} unbridge {call}" for call in firsts]
+    return [read_order(place, line) for place, line in enumerate(lines, 1)]
 
 
 def drill_farm(seed: int, calls: int, periods: int) -> Farm:
@@ -90,4 +92,4 @@ def sum_lines(farm: Farm) -> List[str]:
 def drill_text(seed: int, calls: int, periods: int) -> str:
     """The text of a drill: the report of its run, and the sums (docs/commands/drill.md)."""
     farm = drill_farm(seed, calls, periods)
-    return report_of(farm, []) + text_of(sum_lines(farm))
+    return report_of(farm, []).text() + text_of(sum_lines(farm))

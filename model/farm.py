@@ -9,25 +9,16 @@ from __future__ import annotations
 import enum
 from typing import Dict, List, Mapping, NamedTuple, Optional, Sequence, Tuple
 
-from . import profile
-from .board import (
-    Act,
-    Reply,
-    Span,
-    acts_of,
-    closings,
-    executed,
-    last_moments,
-    openings,
-    replies_of,
-    settings_of,
-    spans_of,
-)
-from .call import Call, Outgoing, Setting, Uplink, handed, outgoing, uplink
-from .call import Span as CallSpan
-from .g711 import Law
-from .orders import Level, Open, Order
-from .outside import Given, Lines, Side
+from core import profile
+from core.board import Board, Bridge
+from core.g711 import Law
+from core.lines import DOWN, OUT, PCM, SIDES, UP
+from core.orders import Order
+from core.report import FailedLine, Reply
+
+from .call import Call, Outgoing, Setting, Span, Uplink, handed, outgoing, uplink
+from .outside import Given, Lines
+from .transmit import Dtx
 
 
 class Cause(enum.Enum):
@@ -45,7 +36,7 @@ class End(NamedTuple):
 
     at: int
     cause: Cause
-    side: Optional[Side] = None
+    side: Optional[str] = None
     left: int = 0
 
 
@@ -58,11 +49,11 @@ class Incoming(NamedTuple):
     @property
     def periods(self) -> int:
         """The number of whole periods that both lines give (docs/FILES.md)."""
-        return min(len(self.up.octets) // profile.UP_OCTETS, len(self.pcm.octets) // profile.PCM_OCTETS)
+        return min(len(self.up.octets) // profile.FRAME_OCTETS, len(self.pcm.octets) // profile.PCM_OCTETS)
 
 
 class Plan(NamedTuple):
-    """All of a run that is known without working any octet."""
+    """All of a run that is known without working any octet. `accepted` has the accepted orders, `bridges` the bridges with their ends."""
 
     orders: Sequence[Order]
     periods: int
@@ -70,13 +61,9 @@ class Plan(NamedTuple):
     incoming: Mapping[int, Incoming]
     opening: Mapping[int, int]
     replies: Sequence[Reply]
+    accepted: Sequence[Order]
     ends: Mapping[int, End]
-    spans: Sequence[Span]
-
-    @property
-    def acts(self) -> List[Act]:
-        """The accepted orders (docs/OPERATORS.md, "When an order takes effect")."""
-        return acts_of(self.replies)
+    bridges: Sequence[Bridge]
 
 
 class CallOfRun(NamedTuple):
@@ -91,7 +78,7 @@ class CallOfRun(NamedTuple):
 class BridgeOfRun(NamedTuple):
     """A bridge, and how many frames of its first and of its second call went out on the other's downlink."""
 
-    span: Span
+    bridge: Bridge
     sent_of_first: int
     sent_of_second: int
 
@@ -106,6 +93,36 @@ class Farm(NamedTuple):
 
 
 # What is read
+
+
+def executed(orders: Sequence[Order], periods: int) -> List[Order]:
+    """The orders that a run of so many periods executes: those with a stamp below that (docs/OPERATORS.md, "When an order takes
+    effect").
+    """
+    return [order for order in orders if order.stamp < periods]
+
+
+def openings(orders: Sequence[Order]) -> Dict[int, int]:
+    """The opening of each call, by number: the stamp of its first `open`, which is never refused (docs/OPERATORS.md, "When an order
+    takes effect").
+    """
+    return {order.calls[0]: order.stamp for order in reversed(orders) if order.verb == "open"}
+
+
+def last_moments(orders: Sequence[Order], periods: int) -> Dict[int, int]:
+    """For each opened call the period past which it can't go: the stamp of its first `close` after its `open`, else `periods`
+    (docs/OPERATORS.md, "When an order takes effect").
+
+    That `close` is accepted, or the call's lines have ended by then. A call for which this is its opening has no period.
+    """
+    latest: Dict[int, int] = {}
+    closed: Dict[int, int] = {}
+    for order in orders:
+        if order.verb == "open":
+            latest.setdefault(order.calls[0], periods)
+        elif order.verb == "close" and order.calls[0] in latest:
+            closed.setdefault(order.calls[0], order.stamp)
+    return {**latest, **closed}
 
 
 def read_incoming(orders: Sequence[Order], periods: int, lines: Lines) -> Dict[int, Incoming]:
@@ -125,8 +142,8 @@ def read_incoming(orders: Sequence[Order], periods: int, lines: Lines) -> Dict[i
 
 def _read_both(number: int, most: int, lines: Lines) -> Incoming:
     """Both incoming lines of a call, to so many periods at most (docs/commands/run.md)."""
-    up = lines.read(number, Side.UP, most * profile.UP_OCTETS)
-    return Incoming(up, lines.read(number, Side.PCM, most * profile.PCM_OCTETS))
+    up = lines.read(number, UP, most * profile.FRAME_OCTETS)
+    return Incoming(up, lines.read(number, PCM, most * profile.PCM_OCTETS))
 
 
 # What follows from orders and lines
@@ -136,11 +153,18 @@ def plan_of(orders: Sequence[Order], periods: int, incoming: Mapping[int, Incomi
     """Replies, ends and bridges of a run that ends at so many periods, over what its incoming lines gave (docs/commands/run.md)."""
     known = executed(orders, periods)
     opening = openings(known)
-    replies = replies_of(known, {number: opening[number] + incoming[number].periods for number in opening})
-    closed = closings(acts_of(replies))
-    ends = {number: end_of(opening[number], incoming[number], closed.get(number), periods) for number in sorted(opening)}
-    spans = spans_of(acts_of(replies), {number: end.at for number, end in ends.items()})
-    return Plan(known, periods, len(orders) - len(known), incoming, opening, replies, ends, spans)
+    board = Board(lambda order: order.stamp + incoming[order.calls[0]].periods)
+    replies = [board.execute(order) for order in known]
+    accepted = [order for order, reply in zip(known, replies) if reply.refusal is None]
+    ends = {number: end_of(opening[number], incoming[number], board.closed.get(number), periods) for number in sorted(opening)}
+    bridges = [ended_bridge(bridge, ends) for bridge in board.bridges]
+    return Plan(known, periods, len(orders) - len(known), incoming, opening, replies, accepted, ends, bridges)
+
+
+def ended_bridge(bridge: Bridge, ends: Mapping[int, End]) -> Bridge:
+    """A bridge with its end: by the order that ended it, or with the first of its calls that ends (docs/OPERATORS.md, "Bridges")."""
+    by_calls = min(ends[call].at for call in bridge.calls)
+    return Bridge(bridge.calls, bridge.start, by_calls if bridge.end is None else min(bridge.end, by_calls))
 
 
 def end_of(opening: int, incoming: Incoming, closing: Optional[int], periods: int) -> End:
@@ -152,9 +176,9 @@ def end_of(opening: int, incoming: Incoming, closing: Optional[int], periods: in
         return End(closing, Cause.CLOSED)
     if natural >= periods:
         return End(periods, Cause.LIMIT)
-    lacks_up = len(incoming.up.octets) // profile.UP_OCTETS == incoming.periods
-    side, given = (Side.UP, incoming.up) if lacks_up else (Side.PCM, incoming.pcm)
-    unit = profile.UP_OCTETS if lacks_up else profile.PCM_OCTETS
+    lacks_up = len(incoming.up.octets) // profile.FRAME_OCTETS == incoming.periods
+    side, given = (UP, incoming.up) if lacks_up else (PCM, incoming.pcm)
+    unit = profile.FRAME_OCTETS if lacks_up else profile.PCM_OCTETS
     return End(natural, Cause.FAULT, side) if given.failed else End(natural, Cause.END, side, len(given.octets) % unit)
 
 
@@ -164,22 +188,19 @@ def end_of(opening: int, incoming: Incoming, closing: Optional[int], periods: in
 def farm_of(plan: Plan) -> Farm:
     """The octets and counts of each call of a run, and what went out in each bridge (docs/commands/run.md)."""
     uplinks = {
-        number: uplink(number, plan.incoming[number].up.octets[: profile.UP_OCTETS * (end.at - plan.opening[number])])
+        number: uplink(number, plan.incoming[number].up.octets[: profile.FRAME_OCTETS * (end.at - plan.opening[number])])
         for number, end in plan.ends.items()
     }
     calls = {number: _call_of(plan, uplinks, number) for number in plan.ends}
-    bridges = [
-        BridgeOfRun(span, _sent_to(plan, calls, span, span.second), _sent_to(plan, calls, span, span.first))
-        for span in plan.spans
-    ]
+    bridges = [BridgeOfRun(each, *(_sent_to(plan, calls, each, call) for call in reversed(each.calls))) for each in plan.bridges]
     return Farm(plan.replies, bridges, list(calls.values()), plan.left)
 
 
 def _call_of(plan: Plan, uplinks: Mapping[int, Uplink], number: int) -> CallOfRun:
     """One call of a run, from its own lines and orders, and in bridges from its partner's uplink (docs/commands/run.md)."""
     opening, end = plan.opening[number], plan.ends[number]
-    spans = [_span_of_call(plan, uplinks, number, span) for span in _spans_of_call(plan, number)]
-    settings = [_setting(order, opening) for order in settings_of(plan.acts, number)]
+    spans = [_span_of_call(plan, uplinks, number, bridge) for bridge in _bridges_of_call(plan, number)]
+    settings = [_setting(order, opening) for order in plan.accepted if order.verb in ("level", "dtx") and order.calls[0] == number]
     pcm = plan.incoming[number].pcm.octets
     sent = outgoing(Call(number, law_of(plan, number), end.at - opening, uplinks[number], pcm, settings, spans))
     return CallOfRun(number, opening, end, sent)
@@ -187,34 +208,34 @@ def _call_of(plan: Plan, uplinks: Mapping[int, Uplink], number: int) -> CallOfRu
 
 def law_of(plan: Plan, number: int) -> Law:
     """The law of a call: that of the order that opened it (docs/OPERATORS.md, "Orders")."""
-    return next(act.order.what.law for act in plan.acts if isinstance(act.order.what, Open) and act.order.what.call == number)
+    return next(order.law() for order in plan.accepted if order.verb == "open" and order.calls[0] == number)
 
 
 def _setting(order: Order, opening: int) -> Setting:
     """A `level` or `dtx` order as the call sees it, its period counted from the call's opening (docs/OPERATORS.md, "Orders")."""
-    if isinstance(order.what, Level):
-        return Setting(order.stamp - opening, level=order.what.level)
-    return Setting(order.stamp - opening, dtx=order.what.mode)
+    if order.verb == "level":
+        return Setting(order.stamp - opening, level=int(order.value()))
+    return Setting(order.stamp - opening, dtx=Dtx(order.value()))
 
 
-def _spans_of_call(plan: Plan, number: int) -> List[Span]:
+def _bridges_of_call(plan: Plan, number: int) -> List[Bridge]:
     """The bridges of a call, in order (docs/OPERATORS.md, "Bridges")."""
-    return [span for span in plan.spans if number in (span.first, span.second)]
+    return [bridge for bridge in plan.bridges if number in bridge.calls]
 
 
-def _span_of_call(plan: Plan, uplinks: Mapping[int, Uplink], number: int, span: Span) -> CallSpan:
+def _span_of_call(plan: Plan, uplinks: Mapping[int, Uplink], number: int, bridge: Bridge) -> Span:
     """A bridge as one of its calls sees it: its own periods, and what its partner hands over in these (docs/OPERATORS.md, "Bridges")."""
-    partner = span.second if number == span.first else span.first
+    partner = bridge.partner_of(number)
     opening, of_partner = plan.opening[number], plan.opening[partner]
-    items = handed(uplinks[partner], span.start - of_partner, span.end - of_partner)
-    return CallSpan(span.start - opening, span.end - opening, items)
+    items = handed(uplinks[partner], bridge.start - of_partner, bridge.end - of_partner)
+    return Span(bridge.start - opening, bridge.end - opening, items)
 
 
-def _sent_to(plan: Plan, calls: Mapping[int, CallOfRun], span: Span, number: int) -> int:
+def _sent_to(plan: Plan, calls: Mapping[int, CallOfRun], bridge: Bridge, number: int) -> int:
     """How many of the frames that a bridge handed to one of its calls went out on that call's downlink (docs/OPERATORS.md, "The
     report, line by line").
     """
-    return calls[number].outgoing.sent[_spans_of_call(plan, number).index(span)]
+    return calls[number].outgoing.sent[_bridges_of_call(plan, number).index(bridge)]
 
 
 # What is read ahead, and what fails
@@ -247,22 +268,22 @@ def is_read_at(plan: Plan, number: int, clock: int) -> bool:
     return plan.opening[number] <= clock and (clock < end.at if end.cause in (Cause.CLOSED, Cause.LIMIT) else clock <= end.at)
 
 
-def faults_met(plan: Plan, batch: int, also: Sequence[int] = ()) -> List[Tuple[int, Side]]:
+def faults_met(plan: Plan, batch: int, also: Sequence[int] = ()) -> List[Tuple[int, str]]:
     """The incoming lines that failed in a run: those of which a round asked for more octets than they gave before a failure
     (docs/OPERATORS.md, "Faults").
     """
     failing = [number for number, both in plan.incoming.items() if both.up.failed or both.pcm.failed]
     turns = rounds(plan, batch, also) if failing else []
-    found: List[Tuple[int, Side]] = []
+    found: List[Tuple[int, str]] = []
     for number in failing:
         asked = [stop - plan.opening[number] for start, stop in turns if is_read_at(plan, number, start)]
         most, both = max(asked, default=0), plan.incoming[number]
-        found += [(number, Side.UP)] if both.up.failed and len(both.up.octets) < most * profile.UP_OCTETS else []
-        found += [(number, Side.PCM)] if both.pcm.failed and len(both.pcm.octets) < most * profile.PCM_OCTETS else []
+        found += [(number, UP)] if both.up.failed and len(both.up.octets) < most * profile.FRAME_OCTETS else []
+        found += [(number, PCM)] if both.pcm.failed and len(both.pcm.octets) < most * profile.PCM_OCTETS else []
     return found
 
 
-def write_outgoing(farm: Farm, lines: Lines, since: int = 0) -> List[Tuple[int, Side]]:
+def write_outgoing(farm: Farm, lines: Lines, since: int = 0) -> List[Tuple[int, str]]:
     """Writes the octets of all calls' periods from `since` on, and answers the lines that failed, Down before Out, by number
     (docs/commands/run.md).
 
@@ -272,16 +293,13 @@ def write_outgoing(farm: Farm, lines: Lines, since: int = 0) -> List[Tuple[int, 
     for call in farm.calls:
         past = max(0, since - call.opening)
         for side, octets in (
-            (Side.DOWN, call.outgoing.down[profile.UP_OCTETS * past :]),
-            (Side.OUT, call.outgoing.out[profile.PCM_OCTETS * past :]),
+            (DOWN, call.outgoing.down[profile.FRAME_OCTETS * past :]),
+            (OUT, call.outgoing.out[profile.PCM_OCTETS * past :]),
         ):
             failed += [(call.number, side)] if octets and not lines.write(call.number, side, octets) else []
     return failed
 
 
-SIDES = (Side.UP, Side.PCM, Side.DOWN, Side.OUT)
-
-
-def in_order(failed: Sequence[Tuple[int, Side]]) -> List[Tuple[int, Side]]:
+def in_order(failed: Sequence[Tuple[int, str]]) -> List[FailedLine]:
     """Failed lines by call, and of a call in the order up, pcm, down, out (docs/OPERATORS.md, "The report, line by line")."""
-    return sorted(failed, key=lambda line: (line[0], SIDES.index(line[1])))
+    return sorted(FailedLine(call, SIDES.index(side)) for call, side in failed)

@@ -7,10 +7,11 @@ import random
 from pathlib import Path
 from typing import Dict, Iterator, List, NamedTuple, Optional, Sequence, Tuple
 
-from .arithmetic import saturate
-from .codec import SAMPLES, Decoder, Encoder, Parameters
-from .frame import WIDTHS, parameters_of_values, values_of
-from .g711 import Law, expand_all
+from core.arithmetic import saturate
+from core.g711 import Law, expand_all
+from core.parameters import GSM_OCTETS, WIDTHS, Parameters, parameters_of_values, values_of
+
+from .codec import SAMPLES, Decoder, Encoder
 
 FRAMES = 50  # of a stream, from home
 DATA = Path(__file__).resolve().parents[1] / "checks" / "vectors"
@@ -27,7 +28,7 @@ class Libgsm:
 
     def encode(self, samples: Sequence[int]) -> Parameters:
         """The parameters of the next 160 samples."""
-        octets = ctypes.create_string_buffer(33)
+        octets = ctypes.create_string_buffer(GSM_OCTETS)
         values = (ctypes.c_int16 * 76)()
         self.library.gsm_encode(self.coder, (ctypes.c_int16 * SAMPLES)(*samples), octets)
         self.library.gsm_explode(self.coder, octets, values)
@@ -35,7 +36,7 @@ class Libgsm:
 
     def decode(self, parameters: Parameters) -> List[int]:
         """The 160 samples of the next parameters."""
-        octets = ctypes.create_string_buffer(33)
+        octets = ctypes.create_string_buffer(GSM_OCTETS)
         samples = (ctypes.c_int16 * SAMPLES)()
         self.library.gsm_implode(self.coder, (ctypes.c_int16 * 76)(*values_of(parameters)), octets)
         self.library.gsm_decode(self.coder, octets, samples)

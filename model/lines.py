@@ -12,8 +12,10 @@ import stat
 from pathlib import Path
 from typing import Callable, Dict, Optional, Tuple
 
-from . import profile
-from .outside import Given, Side
+from core.lines import INCOMING, name_of
+from core.profile import MOST_CALLS
+
+from .outside import Given
 
 # So much is read at a time; lines are read to the end where nobody says how far.
 MOST_AT_ONCE = 1 << 20
@@ -62,7 +64,7 @@ def identity_of(found: os.stat_result) -> Identity:
 
 def is_recording(identity: Identity) -> bool:
     """Whether an incoming line of the current folder has this file (docs/FILES.md)."""
-    names = [f"{call}.{side.value}" for call in range(1, profile.MOST_CALL + 1) for side in (Side.UP, Side.PCM)]
+    names = [name_of(call, side) for call in range(1, MOST_CALLS + 1) for side in INCOMING]
     return any(os.path.exists(name) and identity_of(os.stat(name)) == identity for name in names)
 
 
@@ -71,12 +73,12 @@ class Folder:
     line has which file of a disk."""
 
     def __init__(self) -> None:
-        self._moved: Dict[Tuple[int, Side], int] = {}
+        self._moved: Dict[Tuple[int, str], int] = {}
         self._files: Dict[Identity, Dict[str, bool]] = {}  # the lines that have the file, and whether each is written
 
-    def read(self, call: int, side: Side, most: Optional[int] = None) -> Given:
+    def read(self, call: int, side: str, most: Optional[int] = None) -> Given:
         """The next octets of a line, `most` at most; the file is opened for it, so a missing one fails here (docs/FILES.md)."""
-        name = f"{call}.{side.value}"
+        name = name_of(call, side)
         try:
             descriptor = os.open(name, os.O_RDONLY)
         except OSError:
@@ -92,11 +94,11 @@ class Folder:
         self._moved[call, side] = self._moved.get((call, side), 0) + len(given.octets)
         return given
 
-    def write(self, call: int, side: Side, octets: bytes) -> bool:
+    def write(self, call: int, side: str, octets: bytes) -> bool:
         """Appends octets to what this program wrote of the line; the first write makes its file, or empties an older one
         (docs/FILES.md).
         """
-        name, before = f"{call}.{side.value}", self._moved.get((call, side), 0)
+        name, before = name_of(call, side), self._moved.get((call, side), 0)
         try:
             descriptor = os.open(name, os.O_WRONLY | (0 if before else os.O_CREAT), 0o666)
         except OSError:

@@ -1,16 +1,6 @@
 """Lines and the standard streams as the commands see them: what can be read and written, and that it can fail (docs/FILES.md)."""
 
-import enum
 from typing import Dict, Iterable, List, NamedTuple, Optional, Protocol, Tuple
-
-
-class Side(enum.Enum):
-    """A side of a call; the value is the ending of the line's file and its word in texts (docs/FILES.md)."""
-
-    UP = "up"
-    PCM = "pcm"
-    DOWN = "down"
-    OUT = "out"
 
 
 class Given(NamedTuple):
@@ -23,10 +13,10 @@ class Given(NamedTuple):
 class Lines(Protocol):
     """The lines of all calls. A line that failed is never used again (docs/OPERATORS.md, "Faults")."""
 
-    def read(self, call: int, side: Side, most: Optional[int] = None) -> Given:
+    def read(self, call: int, side: str, most: Optional[int] = None) -> Given:
         """The next octets of an incoming line, `most` of them or all; fewer than that, and no fault: the line has ended."""
 
-    def write(self, call: int, side: Side, octets: bytes) -> bool:
+    def write(self, call: int, side: str, octets: bytes) -> bool:
         """Appends octets, one or more, to an outgoing line. False: it failed, and has a proper prefix of them."""
 
 
@@ -40,7 +30,7 @@ class Desk(Protocol):
         """Writes a text to standard output. False: that failed, and a proper prefix of it went out."""
 
 
-Place = Tuple[int, Side]
+Place = Tuple[int, str]
 
 
 class MemoryLines:
@@ -53,7 +43,7 @@ class MemoryLines:
         self.places: Dict[Place, int] = {}
         self.written: Dict[Place, bytes] = {}
 
-    def read(self, call: int, side: Side, most: Optional[int] = None) -> Given:
+    def read(self, call: int, side: str, most: Optional[int] = None) -> Given:
         """As `Lines.read`; a line without contents fails."""
         line = (call, side)
         contents = self.contents.get(line, b"")
@@ -63,7 +53,7 @@ class MemoryLines:
         ended = most is None or end - start < most
         return Given(contents[start:end], ended and (line in self.failing or line not in self.contents))
 
-    def write(self, call: int, side: Side, octets: bytes) -> bool:
+    def write(self, call: int, side: str, octets: bytes) -> bool:
         """As `Lines.write`."""
         line = (call, side)
         before = self.written.get(line, b"")

@@ -6,7 +6,7 @@
 import pathlib
 import sys
 
-# This folder's modules are the package `model`; by themselves they would hide modules of the standard library.
+# This folder's modules are the package `model`; by themselves they would hide modules of the standard library. The top has the package `core` too.
 sys.path[0] = str(pathlib.Path(__file__).resolve().parents[1])
 
 from model.lines import Folder, Streams  # noqa: E402

@@ -5,15 +5,14 @@ quiet. It is found by looking back over the list of periods to the last one that
 descriptor (SID) or an idle frame. All numbers are this project's profile (docs/PROFILE.md, "Lost speech" and "Comfort noise").
 """
 
-from itertools import accumulate
-from typing import Callable, List, NamedTuple, Optional, Sequence, Union
+from typing import List, NamedTuple, Optional, Sequence, Union
 
-from . import profile
-from .codec import Block, Parameters
-from .frame import FrameClass, Kind, UpFrame, is_good, parameters_of_bits, silence
+from core import profile
+from core.frame import Sort, UpFrame
+from core.noise import RandomSource, comfort_noise
+from core.parameters import SILENCE, Parameters, parameters_of_bits
 
 Effective = Optional[Parameters]  # None where the call is quiet
-Draw = Callable[[int, int], int]  # the draw of this number, from 0, below this bound
 
 
 class Lost(NamedTuple):
@@ -22,18 +21,14 @@ class Lost(NamedTuple):
     good: Parameters
     n: int
 
-    def draws(self) -> int:
-        """How many random numbers it takes: one a block."""
-        return 4 if 2 <= self.n < profile.SILENT_AFTER else 0
-
-    def made(self, draw: Draw) -> Parameters:
-        """The frame, of draws that are numbered from 0."""
+    def made(self, source: RandomSource) -> Parameters:
+        """The frame, with a draw of the grid in each block (docs/PROFILE.md, "Lost speech")."""
         if self.n >= profile.SILENT_AFTER:
-            return silence()
+            return SILENCE
         if self.n <= 1:
             return self.good
         fall = profile.MUTING_STEP * (self.n - 1)
-        blocks = [b._replace(xmaxc=max(0, b.xmaxc - fall), mc=draw(i, profile.GRIDS)) for i, b in enumerate(self.good.blocks)]
+        blocks = [b._replace(xmaxc=max(0, b.xmaxc - fall), mc=source.draw(profile.GRIDS)) for b in self.good.blocks]
         return self.good._replace(blocks=tuple(blocks))
 
 
@@ -43,22 +38,9 @@ class Noise(NamedTuple):
     base: Parameters
     fall: int
 
-    def draws(self) -> int:
-        """How many random numbers it takes: in each block one for the grid and one for each of thirteen pulses."""
-        return 4 * 14 if self.fall < profile.SILENT_AFTER else 0
-
-    def made(self, draw: Draw) -> Parameters:
-        """The frame, of draws that are numbered from 0."""
-        if self.fall >= profile.SILENT_AFTER:
-            return silence()
-        return self.base._replace(blocks=tuple(self.block(draw, i) for i in range(4)))
-
-    def block(self, draw: Draw, i: int) -> Block:
-        """Block i, from 0, of the frame."""
-        xmaxc = max(0, self.base.blocks[i].xmaxc - profile.MUTING_STEP * self.fall)
-        grid = draw(14 * i, profile.GRIDS)
-        pulses = [profile.LEAST_NOISE_PULSE + draw(14 * i + 1 + k, profile.NOISE_PULSES) for k in range(13)]
-        return Block(profile.NOISE_LAGS[i], 0, grid, xmaxc, tuple(pulses))
+    def made(self, source: RandomSource) -> Parameters:
+        """The frame (docs/PROFILE.md, "Comfort noise")."""
+        return SILENCE if self.fall >= profile.SILENT_AFTER else comfort_noise(self.base, source, self.fall)
 
 
 Need = Union[None, Lost, Noise]  # None where the call is quiet
@@ -74,19 +56,14 @@ def mixed(old: Parameters, new: Parameters, step: int) -> Parameters:
     return Parameters(tuple(map(between, old.larc, new.larc)), tuple(blocks))
 
 
-def is_sid(frame: Optional[UpFrame]) -> bool:
-    """Whether it is a valid silence descriptor (docs/FILES.md, "Classes")."""
-    return frame is not None and frame.frame_class is FrameClass.SID
-
-
 def is_anchor(frame: Optional[UpFrame]) -> bool:
     """Whether the periods after it look back to this frame (docs/PROFILE.md, "Lost speech")."""
-    return is_good(frame) or is_sid(frame) or (frame is not None and frame.kind is Kind.IDLE)
+    return frame is not None and frame.sort in (Sort.GOOD, Sort.SID, Sort.IDLE)
 
 
 def missed_descriptor(frame: Optional[UpFrame]) -> bool:
     """Whether a silence descriptor was due in this period and what came is an unusable speech frame (GSM 06.31, TAF)."""
-    return frame is not None and frame.kind is Kind.SPEECH and frame.frame_class is FrameClass.UNUSABLE and frame.taf
+    return frame is not None and frame.sort is Sort.BAD and frame.taf
 
 
 def stretches(frames: Sequence[Optional[UpFrame]]) -> List[List[Optional[UpFrame]]]:
@@ -122,9 +99,9 @@ def noise(stretch: Sequence[Optional[UpFrame]], before: Need) -> List[Need]:
 def needs_of_stretch(stretch: Sequence[Optional[UpFrame]], before: Need) -> List[Need]:
     """What each period of a stretch needs; `before` is what the period before it needed (docs/PROFILE.md, "Lost speech")."""
     first = stretch[0]
-    if is_sid(first):
+    if first is not None and first.sort is Sort.SID:
         return noise(stretch, before)
-    if first is not None and is_good(first):
+    if first is not None and first.sort is Sort.GOOD:
         good = parameters_of_bits(first.data)
         return [Lost(good, min(n, profile.SILENT_AFTER)) for n in range(len(stretch))]
     return [None] * len(stretch)
@@ -139,25 +116,10 @@ def needs(frames: Sequence[Optional[UpFrame]]) -> List[Need]:
     return found
 
 
-def random_values(number: int, count: int) -> List[int]:
-    """The first values of the random source of the call of this number (docs/PROFILE.md, "Random numbers")."""
-
-    def following(r: int, _: int) -> int:
-        return (profile.RANDOM_STEP * r + profile.RANDOM_ADD) % profile.RANDOM_MODULUS
-
-    return list(accumulate(range(count), following, initial=number))[1:]
-
-
 def effective_frames(number: int, frames: Sequence[Optional[UpFrame]]) -> List[Effective]:
     """The effective frame of each period of the call of this number (docs/PROFILE.md, "Lost speech" and "Comfort noise").
 
-    `frames` has the frame of each period, None for a miss and for a period without a yield. Draws are numbered over the whole call.
+    `frames` has the frame of each period, None for a miss and for a period without a yield. The draws go on over the whole call.
     """
-    needed = needs(frames)
-    starts = list(accumulate((need.draws() if need else 0 for need in needed), initial=0))
-    values = random_values(number, starts[-1])
-
-    def drawer(start: int) -> Draw:
-        return lambda i, bound: (values[start + i] * bound) // profile.RANDOM_MODULUS
-
-    return [need.made(drawer(start)) if need else None for need, start in zip(needed, starts)]
+    source = RandomSource(number)
+    return [need.made(source) if need else None for need in needs(frames)]

@@ -8,7 +8,9 @@ from __future__ import annotations
 from pathlib import Path
 from typing import Callable, Dict, List, NamedTuple, Sequence, Tuple
 
-from .outside import MemoryDesk, MemoryLines, Side
+from core.lines import name_of
+
+from .outside import MemoryDesk, MemoryLines
 from .top import top
 from .trials import TOP
 
@@ -30,14 +32,14 @@ def run_command(words: Sequence[str], incoming: Dict[str, bytes], stdin: bytes =
     lines = MemoryLines({place_of(name): octets for name, octets in incoming.items()})
     desk = MemoryDesk(stdin)
     status = top(words, lines, desk)
-    written = {f"{call}.{side.value}": octets for (call, side), octets in lines.written.items()}
+    written = {name_of(call, side): octets for (call, side), octets in lines.written.items()}
     return Ran(status, desk.text.encode("ascii"), written)
 
 
-def place_of(name: str) -> Tuple[int, Side]:
+def place_of(name: str) -> Tuple[int, str]:
     """The call and the side of a line's file name."""
     call, side = name.split(".")
-    return int(call), Side(side)
+    return int(call), side
 
 
 def lines_in(folder: Path) -> Dict[str, bytes]:
@@ -63,9 +65,7 @@ def checksum(octets: bytes) -> bytes:
 def mixed_incoming() -> Tuple[Dict[str, bytes], bytes]:
     """The incoming lines and the orders of the farm of examples."""
     folder = TOP / "examples/farm"
-    return {name: octets for name, octets in lines_in(folder).items() if name[0] in "1234" and name[1] == "."}, (
-        folder / "orders.txt"
-    ).read_bytes()
+    return {name: octets for name, octets in lines_in(folder).items() if name[0] in "1234" and name[1] == "."}, (folder / "orders.txt").read_bytes()
 
 
 def harsh_incoming() -> Tuple[Dict[str, bytes], bytes]:

@@ -4,17 +4,19 @@ from __future__ import annotations
 
 from typing import List, NamedTuple, Optional, Sequence, Tuple, Union
 
-from . import profile
+from core import profile
+from core.orders import BadLine, Order, TooLong, orders_of
+from core.report import FailedLine, text_of
+
 from .checkpoint import Mark, differs, mark_of, read_mark, text_of_mark
 from .commands import command
 from .drill import drill_text
 from .farm import Farm, faults_met, farm_of, in_order, plan_of, read_incoming, write_outgoing
 from .live import live_text
-from .orders import BadLine, Order, TooLong, orders_of
-from .outside import Desk, Lines, Side
-from .report import failed_lines, report_of, text_of
+from .outside import Desk, Lines
+from .report import report_of
 from .status import Status
-from .words import Asked, Drill, Live, Resume, Run, Save, asked
+from .words import Asked, asked
 
 
 class Failure(NamedTuple):
@@ -34,13 +36,10 @@ def _others(command: Optional[Asked], lines: Lines, desk: Desk) -> Status:
     """Carries out `run`, `save`, `resume`, `drill` or `live` (docs/commands)."""
     if command is None:
         return refuse(Failure(Status.USAGE, "usage"), desk)
-    if isinstance(command, Drill):
-        return say(drill_text(command.seed, command.calls, command.periods), False, desk)
-    if isinstance(command, Live):
-        return say(live_text(command.seed, command.calls, command.periods), False, desk)
-    if isinstance(command, Resume):
-        return resume(command, lines, desk)
-    return save(command, lines, desk) if isinstance(command, Save) else run(command, lines, desk)
+    if command.command in ("drill", "live"):
+        text = drill_text if command.command == "drill" else live_text
+        return say(text(command.seed, command.calls, command.periods), False, desk)
+    return {"run": run, "save": save, "resume": resume}[command.command](command, lines, desk)
 
 
 def refuse(failure: Failure, desk: Desk) -> Status:
@@ -70,10 +69,12 @@ def read_desk(most: int, desk: Desk) -> Union[bytes, Failure]:
 
 def orders_or_failure(text: bytes) -> Union[List[Order], Failure]:
     """The orders of a text, or why there are none (docs/COMMANDS.md, "Statuses")."""
-    orders = orders_of(text)
-    if isinstance(orders, TooLong):
+    try:
+        return orders_of(text)
+    except TooLong:
         return Failure(Status.TOO_LONG, "orders too long")
-    return Failure(Status.BAD_LINE, f"orders line {orders.line}") if isinstance(orders, BadLine) else orders
+    except BadLine as bad:
+        return Failure(Status.BAD_LINE, f"orders line {bad.line}")
 
 
 def read_orders(desk: Desk) -> Union[List[Order], Failure]:
@@ -82,7 +83,7 @@ def read_orders(desk: Desk) -> Union[List[Order], Failure]:
     return text if isinstance(text, Failure) else orders_or_failure(text)
 
 
-def work(orders: Sequence[Order], command: Union[Run, Save], lines: Lines) -> Tuple[Farm, List[Tuple[int, Side]]]:
+def work(orders: Sequence[Order], command: Asked, lines: Lines) -> Tuple[Farm, List[FailedLine]]:
     """Reads the lines that the orders ask for, writes what comes of them, and answers that with the lines that failed
     (docs/commands/run.md).
     """
@@ -91,22 +92,22 @@ def work(orders: Sequence[Order], command: Union[Run, Save], lines: Lines) -> Tu
     return farm, in_order(faults_met(plan, command.batch) + write_outgoing(farm, lines))
 
 
-def run(command: Run, lines: Lines, desk: Desk) -> Status:
+def run(command: Asked, lines: Lines, desk: Desk) -> Status:
     """`run`: the orders' calls, and the report (docs/commands/run.md)."""
     orders = read_orders(desk)
     if isinstance(orders, Failure):
         return refuse(orders, desk)
     farm, failed = work(orders, command, lines)
-    return say(report_of(farm, failed), bool(failed), desk)
+    return say(report_of(farm, failed).text(), bool(failed), desk)
 
 
-def save(command: Save, lines: Lines, desk: Desk) -> Status:
+def save(command: Asked, lines: Lines, desk: Desk) -> Status:
     """`save`: a run to the mark's period, and the mark, or the lines that failed (docs/commands/save.md)."""
     orders = read_orders(desk)
     if isinstance(orders, Failure):
         return refuse(orders, desk)
     farm, failed = work(orders, command, lines)
-    text = text_of(failed_lines(failed)) if failed else text_of_mark(mark_of(farm, command.periods))
+    text = text_of([line.line() for line in failed]) if failed else text_of_mark(mark_of(farm, command.periods))
     return say(text, bool(failed), desk)
 
 
@@ -117,14 +118,15 @@ def read_marked(desk: Desk) -> Union[Tuple[Mark, List[Order]], Failure]:
     text = read_desk(profile.MOST_MARKED_OCTETS, desk)
     if isinstance(text, Failure):
         return text
-    marked = read_mark(text)
-    if isinstance(marked, BadLine):
-        return Failure(Status.BAD_LINE, f"save line {marked.line}")
-    orders = orders_or_failure(marked[1])
-    return orders if isinstance(orders, Failure) else (marked[0], orders)
+    try:
+        mark, rest = read_mark(text)
+    except BadLine as bad:
+        return Failure(Status.BAD_LINE, f"save line {bad.line}")
+    orders = orders_or_failure(rest)
+    return orders if isinstance(orders, Failure) else (mark, orders)
 
 
-def resume(command: Resume, lines: Lines, desk: Desk) -> Status:
+def resume(command: Asked, lines: Lines, desk: Desk) -> Status:
     """`resume`: the whole run again, of which the octets from the mark's period on are written (docs/commands/resume.md).
 
     Before anything is written, the calls that are open at the mark's period are compared with the mark's.
@@ -141,4 +143,4 @@ def resume(command: Resume, lines: Lines, desk: Desk) -> Status:
     plan = plan_of(orders, periods, incoming)
     farm = farm_of(plan)
     failed = in_order(faults_met(plan, command.batch, [mark.period]) + write_outgoing(farm, lines, mark.period))
-    return say(report_of(farm, failed), bool(failed), desk)
+    return say(report_of(farm, failed).text(), bool(failed), desk)

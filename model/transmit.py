@@ -8,8 +8,10 @@ import enum
 from itertools import accumulate
 from typing import List, NamedTuple, Optional, Sequence
 
-from . import profile
-from .codec import Block, Encoded, Parameters, code_maximum, code_ratios
+from core import profile
+from core.parameters import Block, Parameters
+
+from .codec import Encoded, code_maximum, code_ratios
 
 
 class Dtx(enum.Enum):

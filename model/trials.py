@@ -10,9 +10,9 @@ import random
 from pathlib import Path
 from typing import Dict, List, NamedTuple, Optional, Sequence, Tuple, Union
 
-from . import profile
-from .frame import Bits, DownFrame, FrameClass, Kind, UpFrame, bits_of, data_bits, octets_of, write_down, write_up
-from .g711 import Law, compress_all, expand_all
+from core import profile
+from core.frame import Bits, DownFrame, Kind, Sort, UpFrame, bits_of, data_of, octets_of, write_down, write_up
+from core.g711 import Law
 
 TOP = Path(__file__).resolve().parents[1]
 
@@ -80,15 +80,15 @@ def draw_trial(seed: int) -> Trial:
 
 def random_bits(source: random.Random, count: int) -> Bits:
     """So many random bits."""
-    return tuple(source.getrandbits(1) for _ in range(count))
+    return "".join([str(source.getrandbits(1)) for _ in range(count)])
 
 
 def speech_data(source: random.Random) -> Bits:
     """The data bits of a frame of real speech, or random ones."""
     if source.random() < 0.2:
         return random_bits(source, 260)
-    start = source.randrange(len(SPEECH_UP) // profile.UP_OCTETS) * profile.UP_OCTETS
-    return data_bits(bits_of(SPEECH_UP[start : start + profile.UP_OCTETS]))
+    start = source.randrange(len(SPEECH_UP) // profile.FRAME_OCTETS) * profile.FRAME_OCTETS
+    return data_of(bits_of(SPEECH_UP[start : start + profile.FRAME_OCTETS]))
 
 
 def random_field(source: random.Random) -> int:
@@ -99,24 +99,27 @@ def random_field(source: random.Random) -> int:
 def uplink_frame(source: random.Random, shape: str) -> Bits:
     """The 320 bits of one period of an uplink of this shape."""
     if shape == "zeros":
-        return (0,) * 320
+        return "0" * 320
     if shape == "noise":
         return random_bits(source, 320)
-    kind = {"idle": Kind.IDLE, "other": Kind.OTHER}.get(shape, Kind.SPEECH)
-    frame_class = FrameClass(shape) if kind is Kind.SPEECH else FrameClass.UNUSABLE
     taf, dtxd = source.random() < 0.3, source.random() < 0.8
-    bits = list(write_up(UpFrame(kind, frame_class, taf, dtxd, random_field(source), speech_data(source))))
+    bits = list(write_up(UpFrame(Sort(shape), taf, dtxd, random_field(source), speech_data(source))))
     if source.random() < 0.1:
         for place in (*range(29, 31), *range(310, 320)):  # C13 to C14, C16 to C21 and the time bits, whatever they mean
-            bits[place] = source.getrandbits(1)
-    return tuple(bits)
+            bits[place] = str(source.getrandbits(1))
+    return "".join(bits)
+
+
+def with_bit_turned(frame: Bits, place: int) -> Bits:
+    """A frame with the other bit at this place."""
+    return frame[:place] + str(1 - int(frame[place])) + frame[place + 1 :]
 
 
 def uplink_line(source: random.Random, periods: int) -> bytes:
     """An Up line of so many periods: stretches of one manner each, with slips and broken sync bits between them, or a hostile line."""
     if source.random() < 0.06:
         return hostile_line(source, periods)
-    bits: List[int] = list(random_bits(source, source.choice((0, 0, 0, 5, source.randrange(1, 400)))))
+    bits = random_bits(source, source.choice((0, 0, 0, 5, source.randrange(1, 400))))
     manners: Sequence[Sequence[str]] = (
         ("good",),
         ("good", "good", "good", "bad"),
@@ -129,13 +132,12 @@ def uplink_line(source: random.Random, periods: int) -> bytes:
     while len(bits) < periods * 320:
         manner, rate = source.choice(manners), source.choice((0, 0, 0.1, 0.6))
         for _ in range(source.randrange(1, 25)):
-            frame = list(uplink_frame(source, source.choice(manner)))
+            frame = uplink_frame(source, source.choice(manner))
             if source.random() < rate:
-                place = source.choice((*range(16), *range(16, 320, 16)))
-                frame[place] ^= 1
+                frame = with_bit_turned(frame, source.choice((*range(16), *range(16, 320, 16))))
             bits += frame
         if source.random() < 0.3:
-            del bits[len(bits) - source.randrange(1, 200) :]
+            bits = bits[: len(bits) - source.randrange(1, 200)]
         elif source.random() < 0.2:
             bits += random_bits(source, source.randrange(1, 400))
     return octets_of(bits[: periods * 320]) + source.randbytes(source.choice((0, 0, 1, 13, 39)))
@@ -144,8 +146,8 @@ def uplink_line(source: random.Random, periods: int) -> bytes:
 def hostile_line(source: random.Random, periods: int) -> bytes:
     """An Up line that strains the search or the downlink: no frame at all, the same shift in each frame, frames that overlap."""
     field = source.choice((0, 39, 62, 63))
-    frame = write_up(UpFrame(Kind.SPEECH, FrameClass.GOOD, False, True, field, source.choice((speech_data(source), (1,) * 260))))
-    piece = source.choice(((0,) * 320, (1,) * 320, frame, frame, frame[:305], frame[:316]))
+    frame = write_up(UpFrame(Sort.GOOD, False, True, field, source.choice((speech_data(source), "1" * 260))))
+    piece = source.choice(("0" * 320, "1" * 320, frame, frame, frame[:305], frame[:316]))
     count = periods * 320 // len(piece) + 1
     return octets_of((piece * count)[: periods * 320])
 
@@ -157,9 +159,9 @@ def exchange_line(source: random.Random, law: Law, periods: int) -> bytes:
         size = source.randrange(1, 30) * profile.PCM_OCTETS
         start = source.randrange(len(SPEECH_PCM) - size)
         speech = SPEECH_PCM[start : start + size]
-        idle = bytes([profile.IDLE_A if law is Law.A else profile.IDLE_MU]) * size
+        idle = bytes([law.idle()]) * size
         manners = (
-            speech if law is Law.A else compress_all(law, expand_all(Law.A, speech)),
+            speech.translate(Law.A.table_to(law)),
             idle,
             source.randbytes(size),
             bytes(source.choices((0x2A, 0xAA, 0x00, 0x80), k=size)),
@@ -232,7 +234,7 @@ def text_of_orders(source: random.Random, orders: Sequence[Tuple[int, str]]) -> 
         bad = (b"", b"0  open 1", b"00 open 1", b"1 open 0", b"1 open 4097", b"0 dtx 1 maybe", b"4294967295 open 1", b"0 level 1 32768")
         lines.insert(source.randrange(len(lines) + 1), source.choice(bad + (b"0 open 1\r", b"\xff\xfe", b"0 open 1 alaw", b"+1 open 1")))
     if source.random() < 0.01:
-        lines *= profile.MOST_ORDER_LINES // len(lines) + 1
+        lines *= profile.MOST_ORDERS // len(lines) + 1
     if source.random() < 0.01:
         lines.append(b"x" * profile.MOST_MARKED_OCTETS)
     text = b"".join(line + b"\n" for line in lines)
@@ -315,7 +317,7 @@ def tool_trial(source: random.Random) -> Tuple[Dict[str, Entry], List[Step]]:
     """One of the commands on one call."""
     call, command = source.choice((7, 4096)), source.choice(("relay", "decode", "encode", "frames"))
     periods = source.randrange(40)
-    good = [octets_of(write_up(UpFrame(Kind.SPEECH, FrameClass.GOOD, False, True, 0, speech_data(source)))) for _ in range(periods)]
+    good = [octets_of(write_up(UpFrame(Sort.GOOD, False, True, 0, speech_data(source)))) for _ in range(periods)]
     whole = b"".join(good)
     up = uplink_line(source, periods) if command == "frames" or source.random() < 0.2 else whole[: len(whole) - source.choice((0, 0, 0, 1, 39))]
     words = [command, str(call)] if source.random() < 0.95 else source.choice(([command], [command, "07"], [command, "7", "--"], [command, "4097"]))
@@ -333,13 +335,13 @@ def slots_trial(source: random.Random) -> Tuple[Dict[str, Entry], List[Step]]:
 
 def follow_trial(source: random.Random) -> Tuple[Dict[str, Entry], List[Step]]:
     """A downlink of frames that stand in step, are moved or broken, followed."""
-    bits: List[int] = [1] * source.choice((320, 0, source.randrange(400)))
+    bits = "1" * source.choice((320, 0, source.randrange(400)))
     for _ in range(source.randrange(60)):
         kind = source.choice((Kind.SPEECH, Kind.SPEECH, Kind.SPEECH, Kind.IDLE))
-        frame = list(write_down(DownFrame(kind, speech_data(source), source.random() < 0.7)))
+        frame = write_down(DownFrame(kind, speech_data(source), source.random() < 0.7))
         if source.random() < 0.1:
-            frame[source.randrange(32)] ^= 1
-        bits += frame[: source.choice((320, 320, 320, 320, 316))] + [1] * source.choice((0, 0, 0, 4, 8 * source.randrange(40)))
+            frame = with_bit_turned(frame, source.randrange(32))
+        bits += frame[: source.choice((320, 320, 320, 320, 316))] + "1" * source.choice((0, 0, 0, 4, 8 * source.randrange(40)))
     octets = octets_of(bits[: len(bits) // 8 * 8])
     want = source.choice((0, 4, 100, 316, 6, 320))
     return {"9.up": octets}, [Step(["follow", "9", str(want)], b"")]
@@ -359,9 +361,7 @@ def drawn_trial(source: random.Random) -> Tuple[Dict[str, Entry], List[Step]]:
 # Faults
 
 
-def with_fault(
-    source: random.Random, files: Dict[str, Entry], steps: Sequence[Step]
-) -> Tuple[Dict[str, Entry], List[Step]]:
+def with_fault(source: random.Random, files: Dict[str, Entry], steps: Sequence[Step]) -> Tuple[Dict[str, Entry], List[Step]]:
     """The trial with one or two faults of lines, or with a fault of a stream, or a limit on the size of files."""
     fault = source.choice(("lines", "lines", "lines", "stdin", "stdout", "size", "size"))
     changed = dict(files)

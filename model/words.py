@@ -6,63 +6,25 @@ commands on lines of their own (`relay` to `follow`) read their words in command
 
 from __future__ import annotations
 
-import re
-from typing import Dict, Mapping, NamedTuple, Optional, Sequence, Tuple, Union
+from typing import Dict, Mapping, NamedTuple, Optional, Sequence, Tuple
 
-from . import profile
+from core import profile
+from core.words import number
 
 # The least and the greatest value of an option, and the value without it (None: the option has to be there).
 Range = Tuple[int, int, Optional[int]]
 
 
-class Run(NamedTuple):
-    """`run`: the most periods of a round, and the number of periods at which the run ends."""
-
-    batch: int
-    periods: int
-
-
-class Save(NamedTuple):
-    """`save`: as `run`; its number of periods is the mark's period."""
-
-    batch: int
-    periods: int
-
-
-class Resume(NamedTuple):
-    """`resume`: as `run`; the mark comes with the orders, and its period is the least at which the run ends."""
-
-    batch: int
-    periods: int
-
-
-class Drill(NamedTuple):
-    """`drill`: what its lines are drawn from. Its workers, and the most periods of a round, change nothing."""
-
-    seed: int
-    calls: int
-    periods: int
-
-
-class Live(NamedTuple):
-    """`live`: what its periods are drawn from. Who posts and works them, and how many may wait, changes nothing."""
-
-    seed: int
-    calls: int
-    periods: int
-
-
-Asked = Union[Run, Save, Resume, Drill, Live]
-
-
-def number(text: str, least: int, most: int) -> Optional[int]:
-    """The number that a word spells: decimal digits without sign and without leading zeros (this project's profile).
-
-    None where the word is none, or its number isn't `least` to `most`.
+class Asked(NamedTuple):
+    """A command, and its numbers: the most periods of a round, the periods at which a run ends or of a drill, and what a drill's lines
+    are drawn from; 0 is one that the command doesn't have. Workers, slices, callers and inboxes change nothing.
     """
-    if not re.fullmatch("0|[1-9][0-9]{0,9}", text):
-        return None
-    return int(text) if least <= int(text) <= most else None
+
+    command: str
+    batch: int
+    periods: int  # of `save` the mark's period; of `resume` the mark's period is the least
+    seed: int
+    calls: int
 
 
 def options(words: Sequence[str], ranges: Mapping[str, Range]) -> Optional[Dict[str, Optional[int]]]:
@@ -90,17 +52,6 @@ def asked(words: Sequence[str]) -> Optional[Asked]:
     """What the words ask for; None where they are no command (docs/commands: status 1, `usage`)."""
     ranges = profile.OPTIONS.get(words[0]) if words else None
     given = options(words[1:], ranges) if ranges is not None else None
-    if given is None:
+    if given is None or None in given.values():
         return None
-    return _command(words[0], {key: value for key, value in given.items() if value is not None})
-
-
-def _command(name: str, given: Mapping[str, int]) -> Optional[Asked]:
-    """The command of this name with these numbers. `save` has to have its number of periods (docs/commands/save.md)."""
-    if "periods" not in given:
-        return None
-    if name == "drill":
-        return Drill(given["seed"], given["calls"], given["periods"])
-    if name == "live":
-        return Live(given["seed"], given["calls"], given["periods"])
-    return {"run": Run, "save": Save, "resume": Resume}[name](given["batch"], given["periods"])
+    return Asked(words[0], *(given.get(name, 0) for name in Asked._fields[1:]))

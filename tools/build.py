@@ -12,7 +12,8 @@ again what is kept.
 
 from __future__ import annotations
 
-import argparse
+import tool_start  # first, for what comes after it
+
 import contextlib
 import fcntl
 import os
@@ -28,10 +29,10 @@ import time
 from pathlib import Path
 from typing import Callable, Collection, Dict, FrozenSet, Iterator, List, NoReturn, Optional, Sequence, Set, TextIO, Tuple
 
-import trau_frames
+from core.words import Refusal, Words
 from side_by_side import number_in, processors
 from tool_ends import tool
-from trau_frames import Refusal
+from tool_files import read_file
 
 TOP = Path(__file__).resolve().parents[1]
 PROGRAM = "trau_program"
@@ -59,7 +60,7 @@ COPIED = ("src", "specs", "proofs", "data", "args", "stdin", "stdout", "status")
 def crates_of(top: Path) -> Dict[str, List[str]]:
     """The crates of crates.txt, each with those of them that it names."""
     found: Dict[str, List[str]] = {}
-    for line in trau_frames.read_file(top / "crates.txt").decode().splitlines():
+    for line in read_file(top / "crates.txt").decode().splitlines():
         name, _, below = line.partition("#")[0].partition(":")
         if name.strip():
             found[name.split()[0]] = below.split()
@@ -379,7 +380,7 @@ def build_for(rt: Toolchain, progress: Progress, program: str) -> bool:
 
 def copy_crates(top: Path, crates: Sequence[str], to: Path) -> None:
     """Copies the sources of these crates as a repository of its own, without must-fail edits and other crates."""
-    lines = trau_frames.read_file(top / "crates.txt").decode().splitlines()
+    lines = read_file(top / "crates.txt").decode().splitlines()
     names = [(line, line.partition("#")[0].partition(":")[0].split()) for line in lines]
     (to / ".git").mkdir(parents=True)
     (to / "crates.txt").write_text("".join(f"{line}\n" for line, words in names if words and words[0] in crates))
@@ -527,7 +528,7 @@ def stop(number: int, _: object) -> NoReturn:
 @tool("trau", prints=False)
 def main(words: Sequence[str]) -> int:
     """Runs the words of the command line, and returns the exit status."""
-    parser = trau_frames.Words(description=__doc__, formatter_class=argparse.RawDescriptionHelpFormatter, allow_abbrev=False)
+    parser = Words(__doc__)
     parser.add_argument("--top", type=Path, default=TOP, metavar="FOLDER", help="the top of the repository")
     parser.add_argument("--program", default=PROGRAM, metavar="CRATE", help=f"the program's crate ({PROGRAM})")
     parser.add_argument("--both", action="store_true", help="build for both kinds of processor, and not for this machine's alone")

@@ -10,7 +10,8 @@ program may call to HANDLES. It loads the toolchain's own `rt` for that. It make
 
 from __future__ import annotations
 
-import argparse
+import tool_start  # first, for what comes after it
+
 import importlib.machinery
 import importlib.util
 import os
@@ -20,9 +21,8 @@ import sys
 from types import ModuleType
 from typing import Any, Sequence
 
-import trau_frames
+from core.words import Refusal, Words
 from tool_ends import tool
-from trau_frames import Refusal
 
 
 def toolchain() -> ModuleType:
@@ -73,7 +73,7 @@ def build(top: str, crate: str, kind: str) -> int:
 @tool("build_for.py", prints=False)
 def main(words: Sequence[str]) -> int:
     """Runs the words of the command line, and returns the exit status."""
-    parser = trau_frames.Words(description=__doc__, formatter_class=argparse.RawDescriptionHelpFormatter, allow_abbrev=False)
+    parser = Words(__doc__)
     parser.add_argument("top", metavar="TOP", help="the top of the repository")
     parser.add_argument("crate", metavar="CRATE", help="the program's crate")
     parser.add_argument("kind", metavar="KIND", help="the kind of processor")

@@ -7,9 +7,10 @@ from typing import Dict, NamedTuple
 
 import levels
 import looks
+from core.lines import name_of
+from core.profile import FRAME_OCTETS, PCM_OCTETS
 from run_lines import Call, Run
 from side_by_side import Workers
-from trau_frames import FRAME_OCTETS, PCM_OCTETS
 
 LEVEL_SIDES = ("pcm", "out")
 LOWEST_LEVEL = -60  # of a picture, in dBm0
@@ -50,7 +51,7 @@ def quarters(level: float) -> int:
 
 def levels_of(folder: Path, call: Call, side: str, periods: range) -> bytes:
     """The level of a line's loudest period in each column; the periods are those of the call at which columns begin."""
-    if not (folder / f"{call.number}.{side}").is_file():
+    if not (folder / name_of(call.number, side)).is_file():
         return b""
     together = max(1, PERIODS_TOGETHER // periods.step) * periods.step
     found = bytearray()

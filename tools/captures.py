@@ -12,13 +12,18 @@ from pathlib import Path
 from typing import Iterable, Iterator, List, Mapping, NamedTuple, Optional, Sequence, Tuple
 
 import run_lines
-import trau_frames
 import uplink_frames
 from code_word import Marker
+from core.frame import Kind, Sort, bits_of, data_of, read_down
+from core.g711 import Law
+from core.noise import RandomSource, comfort_noise
+from core.parameters import SILENCE, bits_of_parameters, data_of_gsm, gsm_of_data, parameters_of_bits
+from core.profile import PCM_OCTETS, SAMPLES_A_SECOND
+from core.search import FRAME_OF_DOWNLINK, sort_of_period, yields_by_period
+from core.words import Refusal
 from rtp_packets import GSM, NAMES, PCMA, PCMU, Packet, Streams, chosen, kind_of, library, periods_between, streams_of
 from rtp_streams import EMPTY, SEQUENCES, STAMPS, Counts, Gap, Lost, Stretch, stretches, without_wrong
 from run_lines import Heard
-from trau_frames import PCM_OCTETS, SAMPLES_A_SECOND, Law, Parameters, Refusal, Sort
 from uplink_frames import UplinkFrames
 
 LAWS = {PCMA: Law.A, PCMU: Law.MU}
@@ -39,7 +44,7 @@ def uplink_of(found: Iterable[Stretch], marker: Marker, gaps_are_idle: bool) -> 
     for stretch in found:
         if isinstance(stretch, list):
             missing[EMPTIED] += stretch.count(EMPTY)
-            line.take_all(None if frame == EMPTY else trau_frames.data_of_gsm(frame) for frame in stretch)
+            line.take_all(None if frame == EMPTY else data_of_gsm(frame) for frame in stretch)
             continue
         what = LOST if isinstance(stretch, Lost) else PAUSED if line.pauses() else GAP
         missing[what] += stretch.units
@@ -145,33 +150,31 @@ class Sound(NamedTuple):
 
 def sounds_of_uplink(octets: bytes) -> Iterator[Sound]:
     """What an uplink gives: good frames; lost ones; comfort noise in pauses; nothing elsewhere."""
-    yields = run_lines.yields_of(octets)
-    sorts = [run_lines.sort_of(each) for each in yields]
-    source = trau_frames.RandomSource(1)
-    descriptor = trau_frames.SILENCE
+    yields = yields_by_period(bits_of(octets))
+    sorts = [sort_of_period(each) for each in yields]
+    source = RandomSource(1)
+    descriptor = SILENCE
     for period, (each, sort, value) in enumerate(zip(yields, sorts, run_lines.heard(sorts))):
         stamp = period * PCM_OCTETS
         if sort is Sort.SID:
-            descriptor = Parameters.read(trau_frames.data_of(each.frame))
+            descriptor = parameters_of_bits(data_of(each.frame))
         if value is Heard.SPEECH:
-            yield Sound(stamp, trau_frames.gsm_of_data(trau_frames.data_of(each.frame)))
+            yield Sound(stamp, gsm_of_data(data_of(each.frame)))
         elif value is Heard.NOISE:
-            yield Sound(stamp, trau_frames.gsm_of_data(trau_frames.noise(descriptor, source).bits()))
+            yield Sound(stamp, gsm_of_data(bits_of_parameters(comfort_noise(descriptor, source))))
         elif value is Heard.LOST:
             yield Sound(stamp, None)
 
 
 def sounds_of_downlink(octets: bytes) -> Iterator[Sound]:
     """What a downlink gives, at the time of each frame: speech, comfort noise for silence descriptors, nothing for idle ones."""
-    source = trau_frames.RandomSource(1)
-    bits = trau_frames.bits_of(octets)
-    for found in trau_frames.FRAME_OF_DOWNLINK.finditer(bits):
-        control, data = trau_frames.control_of(found.group()), trau_frames.data_of(found.group())
-        if control.startswith(trau_frames.SPEECH_DOWN):
-            if control[15] == "0":
-                data = trau_frames.noise(Parameters.read(data), source).bits()
+    source = RandomSource(1)
+    for found in FRAME_OF_DOWNLINK.finditer(bits_of(octets)):
+        frame = read_down(found.group())
+        if frame.kind is Kind.SPEECH:
+            data = frame.data if frame.sp else bits_of_parameters(comfort_noise(parameters_of_bits(frame.data), source))
             # Two bits of the line are the time of a sample.
-            yield Sound(found.start() // 2, trau_frames.gsm_of_data(data))
+            yield Sound(found.start() // 2, gsm_of_data(data))
 
 
 def sounds_of_octets(octets: bytes) -> Iterator[Sound]:
@@ -199,9 +202,7 @@ def datagram_of(stream: int, kind: int, sequence: int, marked: bool, sound: Soun
     udp.ulen = len(udp)
     packet = library("ip").IP(src=bytes([10, high, 0, low]), dst=bytes([10, high, 1, low]), p=17, ttl=64, data=udp)
     packet.len = len(packet)
-    return bytes(
-        library("ethernet").Ethernet(src=bytes([2, 0, 0, 0, 0, 1]), dst=bytes([2, 0, 0, 0, 0, 2]), data=packet)
-    )
+    return bytes(library("ethernet").Ethernet(src=bytes([2, 0, 0, 0, 0, 1]), dst=bytes([2, 0, 0, 0, 0, 2]), data=packet))
 
 
 def packets_of(stream: int, kind: int, sounds: Iterable[Sound]) -> Iterator[Tuple[float, bytes]]:

@@ -8,10 +8,11 @@ from __future__ import annotations
 
 import enum
 from collections import Counter
-from dataclasses import replace
 from typing import Tuple
 
-from trau_frames import BLOCK_WIDTHS, RATIO_WIDTHS, SpeechControl
+from core.frame import speech_control
+from core.parameters import BLOCK_WIDTHS, LARC_WIDTHS
+
 
 BLOCKS = 4
 PULSES = 13
@@ -23,7 +24,7 @@ PULSES_OF_LAST_BLOCK = 4
 def first_bit(block: int, pulse: int) -> int:
     """The place of the least significant bit of a pulse, counted from D1 as 0; blocks and pulses count from 0."""
     before_pulses = sum(BLOCK_WIDTHS) - PULSES * PULSE_BITS
-    return sum(RATIO_WIDTHS) + block * sum(BLOCK_WIDTHS) + before_pulses + PULSE_BITS * pulse
+    return sum(LARC_WIDTHS) + block * sum(BLOCK_WIDTHS) + before_pulses + PULSE_BITS * pulse
 
 
 def code_word_bits() -> Tuple[int, ...]:
@@ -50,6 +51,9 @@ class FrameKind(enum.Enum):
     INVALID = "invalid"
 
 
+MARKS = {FrameKind.SPEECH: "000", FrameKind.VALID: "010", FrameKind.INVALID: "101"}  # C12 (BFI), C13 and C14 (SID)
+
+
 def errors_of(data: str) -> int:
     """How many bits of the code word are wrong in D1 to D260."""
     return sum(data[bit] == "1" for bit in CODE_WORD_BITS)
@@ -67,7 +71,7 @@ class Marker:
     """Marks frames as a base station does, and counts the descriptors; or keeps all of them as speech."""
 
     def __init__(self, keeps: bool = False, dtxd: bool = False) -> None:
-        self.speech = SpeechControl(dtxd=dtxd)
+        self.dtxd = dtxd
         self.keeps = keeps
         self.counts: Counter = Counter()
 
@@ -79,10 +83,7 @@ class Marker:
 
     def control(self, kind: FrameKind, taf: bool = False) -> str:
         """C1 to C21 of the uplink frame: a damaged descriptor is a bad frame too."""
-        if kind is FrameKind.SPEECH:
-            return self.speech.bits()
-        damaged = kind is FrameKind.INVALID
-        return replace(self.speech, bad=damaged, silence=1 if damaged else 2, taf=taf).bits()
+        return speech_control(MARKS[kind], taf and kind is not FrameKind.SPEECH, self.dtxd)
 
     def said(self) -> str:
         """The descriptors that were marked, in words."""

@@ -4,12 +4,15 @@ from __future__ import annotations
 
 import argparse
 import re
-from dataclasses import dataclass, replace
+from dataclasses import dataclass
 from pathlib import Path
 from typing import List, NamedTuple, Optional, Set, Tuple
 
-import trau_frames
-from trau_frames import FRAME_BITS, PERIODS_FROM_TAF_TO_TAF, Parameters, Refusal, Sort, SpeechControl
+from core.frame import SPEECH, Sort, bits_of, octets_of, read_up, write_up
+from core.parameters import Block, Parameters, bits_of_parameters, parameters_of_bits
+from core.profile import FRAME_BITS, TAF_PERIODS
+from core.search import search
+from core.words import Refusal
 
 
 class Part(NamedTuple):
@@ -87,21 +90,23 @@ def align_word(word: str) -> AtFrame:
 
 def lost(frame: str) -> str:
     """A speech frame, marked as unusable."""
-    control = replace(SpeechControl.read(trau_frames.control_of(frame)), bad=True, silence=0)
-    return trau_frames.frame_of(control.bits(), trau_frames.data_of(frame))
+    return write_up(read_up(frame)._replace(sort=Sort.BAD))
+
+
+def silence_descriptor(speech: Parameters) -> Parameters:
+    """A silence descriptor with the spectrum of a speech frame and the least of its block maxima."""
+    maximum = min(block.xmaxc for block in speech.blocks)
+    return speech._replace(blocks=4 * (Block(0, 0, 0, maximum, 13 * (0,)),))
 
 
 def paused(frame: str, number: int, begins: bool) -> str:
     """What a speech frame becomes in a pause: a silence descriptor where the pause begins and where TAF is 1, else unusable."""
-    taf = number % PERIODS_FROM_TAF_TO_TAF == PERIODS_FROM_TAF_TO_TAF - 1
-    describes = begins or taf
-    control = replace(
-        SpeechControl.read(trau_frames.control_of(frame)), bad=not describes, silence=2 if describes else 0, taf=taf
-    )
-    data = trau_frames.data_of(frame)
-    if describes:
-        data = trau_frames.silence_descriptor(Parameters.read(data)).bits()
-    return trau_frames.frame_of(control.bits(), data)
+    taf = number % TAF_PERIODS == TAF_PERIODS - 1
+    speech = read_up(frame)
+    if not begins and not taf:
+        return write_up(speech._replace(sort=Sort.BAD, taf=False))
+    data = bits_of_parameters(silence_descriptor(parameters_of_bits(speech.data)))
+    return write_up(speech._replace(sort=Sort.SID, taf=taf, data=data))
 
 
 def aligned(frame: str, field: int) -> str:
@@ -113,8 +118,8 @@ class Uplink:
     """The frames of an uplink, by the numbers of the search's yields, with the bits before each."""
 
     def __init__(self, name: Path, octets: bytes) -> None:
-        bits = trau_frames.bits_of(octets)
-        yields = list(trau_frames.search(bits))
+        bits = bits_of(octets)
+        yields = list(search(bits))
         if not yields:
             raise Refusal(f"{name}: no frame found")
         self.sorts = [each.sort() for each in yields]
@@ -129,7 +134,7 @@ class Uplink:
 
     def is_speech(self, number: int) -> bool:
         """Whether a yield is a speech frame, of whatever class."""
-        return self.sorts[number] in (Sort.GOOD, Sort.SID, Sort.INVALID, Sort.BAD)
+        return self.sorts[number] in SPEECH
 
     def has_field(self, number: int) -> bool:
         """Whether a yield is a frame that has an alignment field."""
@@ -196,4 +201,4 @@ def damaged(name: Path, octets: bytes, asked: Damages) -> Tuple[bytes, str]:
     if asked.slip:
         bits += -len(bits) % FRAME_BITS * "1"
     said = f"sid {len(pause)} drop {len(drop)} zero {len(zero)} align {len(asked.align)} slip {len(asked.slip)}"
-    return trau_frames.octets_of(bits), f"damage frames {count} {said}"
+    return octets_of(bits), f"damage frames {count} {said}"

@@ -16,12 +16,17 @@ from typing import Dict, Mapping, NamedTuple, NoReturn, Optional, Tuple
 import frame_kinds
 import readings
 import recordings
-import slots
-import trau_frames
 import wav_files
+from core.frame import bits_of
+from core.g711 import Law
+from core.orders import FORMS
+from core.parameters import GSM_MAGIC, GSM_OCTETS
+from core.profile import FRAME_BITS, SAMPLES_A_SECOND
+from core.search import FRAME_OF_DOWNLINK
+from core.slots import CHANNELS, SLOTS_OF_E1, channel_octets, octets_turned
+from core.words import Refusal, as_started
 from readings import Reading
-from run_texts import FORMS
-from trau_frames import GSM_MAGIC, GSM_OCTETS, Law, Refusal
+from tool_files import STREAM, read_file
 
 HEAD_OCTETS = 1 << 16
 
@@ -66,48 +71,36 @@ FFMPEG = "ffmpeg -i {} -ar 8000 -ac 1 NEW.wav"
 EDITCAP = "editcap -F pcap {} NEW.pcap"
 # Programs that don't unpack what they read.
 OTHERS = ("sox ", "ffmpeg ", "editcap ")
+PCAP = "lines.py pcap {} NEW"
+# Magics by kind and command, with what the files are.
 MAGICS = (
-    (b"RIFX", Kind.SOUND, "a WAV file of big-endian samples", SOX),
-    (b"RF64", Kind.SOUND, "a WAV file of 64 bits", SOX),
-    (b".snd", Kind.SOUND, "an .au file", SOX),
-    (b"fLaC", Kind.SOUND, "a FLAC file", SOX),
-    (b"OggS", Kind.SOUND, "an Ogg file", SOX),
-    (b"ID3", Kind.SOUND, "an MP3 file", SOX),
-    (b"FORM", Kind.SOUND, "an AIFF file", SOX),
-    (b"Creative Voice File", Kind.SOUND, "a VOC file", SOX),
-    (b"NIST_1A", Kind.SOUND, "a SPHERE file", SOX),
-    (b"#!AMR", Kind.SOUND, "an AMR file", FFMPEG),
-    (b"caff", Kind.SOUND, "a CAF file", FFMPEG),
-    (b"\x1a\x45\xdf\xa3", Kind.SOUND, "a Matroska or WebM file", FFMPEG),
-    (b"\x30\x26\xb2\x75\x8e\x66\xcf\x11", Kind.SOUND, "a Windows Media file", FFMPEG),
-    (b"riff\x2e\x91\xcf\x11", Kind.SOUND, "a Wave64 file", FFMPEG),
-    (b"\xa1\xb2\xc3\xd4", Kind.CAPTURE, "a pcap capture", "lines.py pcap {} NEW"),
-    (b"\xd4\xc3\xb2\xa1", Kind.CAPTURE, "a pcap capture", "lines.py pcap {} NEW"),
-    (b"\xa1\xb2\x3c\x4d", Kind.CAPTURE, "a pcap capture", "lines.py pcap {} NEW"),
-    (b"\x4d\x3c\xb2\xa1", Kind.CAPTURE, "a pcap capture", "lines.py pcap {} NEW"),
-    (b"\x0a\x0d\x0d\x0a", Kind.CAPTURE, "a pcapng capture", "lines.py pcap {} NEW"),
-    (b"\xa1\xb2\xcd\x34", Kind.OTHER_CAPTURE, "a pcap capture of a modified libpcap", EDITCAP),
-    (b"\x34\xcd\xb2\xa1", Kind.OTHER_CAPTURE, "a pcap capture of a modified libpcap", EDITCAP),
-    (b"snoop\0\0\0", Kind.OTHER_CAPTURE, "a snoop capture", EDITCAP),
-    (b"GMBU", Kind.OTHER_CAPTURE, "a Network Monitor capture", EDITCAP),
-    (b"RTSS", Kind.OTHER_CAPTURE, "a Network Monitor capture", EDITCAP),
-    (b"\x1f\x8b\x08", Kind.PACKED, "packed by gzip", "lines.py reads such files where their names end with .gz"),
-    (b"BZh", Kind.PACKED, "packed by bzip2", "bunzip2 -k {}"),
-    (b"\xfd7zXZ\0", Kind.PACKED, "packed by xz", "unxz -k {}"),
-    (b"PK\3\4", Kind.PACKED, "a zip archive", "unzip {}"),
-    (b"\x7fELF", Kind.PROGRAM, "a program or a library", ""),
+    (Kind.SOUND, SOX, {b"RIFX": "a WAV file of big-endian samples", b"RF64": "a WAV file of 64 bits", b".snd": "an .au file"}),
+    (Kind.SOUND, SOX, {b"fLaC": "a FLAC file", b"OggS": "an Ogg file", b"ID3": "an MP3 file", b"FORM": "an AIFF file"}),
+    (Kind.SOUND, SOX, {b"Creative Voice File": "a VOC file", b"NIST_1A": "a SPHERE file"}),
+    (Kind.SOUND, FFMPEG, {b"#!AMR": "an AMR file", b"caff": "a CAF file", b"\x1a\x45\xdf\xa3": "a Matroska or WebM file"}),
+    (Kind.SOUND, FFMPEG, {b"\x30\x26\xb2\x75\x8e\x66\xcf\x11": "a Windows Media file", b"riff\x2e\x91\xcf\x11": "a Wave64 file"}),
+    (Kind.CAPTURE, PCAP, dict.fromkeys((b"\xa1\xb2\xc3\xd4", b"\xd4\xc3\xb2\xa1", b"\xa1\xb2\x3c\x4d", b"\x4d\x3c\xb2\xa1"), "a pcap capture")),
+    (Kind.CAPTURE, PCAP, {b"\x0a\x0d\x0d\x0a": "a pcapng capture"}),
+    (Kind.OTHER_CAPTURE, EDITCAP, dict.fromkeys((b"\xa1\xb2\xcd\x34", b"\x34\xcd\xb2\xa1"), "a pcap capture of a modified libpcap")),
+    (Kind.OTHER_CAPTURE, EDITCAP, {b"snoop\0\0\0": "a snoop capture", **dict.fromkeys((b"GMBU", b"RTSS"), "a Network Monitor capture")}),
+    (Kind.PACKED, "lines.py reads such files where their names end with .gz", {b"\x1f\x8b\x08": "packed by gzip"}),
+    (Kind.PACKED, "bunzip2 -k {}", {b"BZh": "packed by bzip2"}),
+    (Kind.PACKED, "unxz -k {}", {b"\xfd7zXZ\0": "packed by xz"}),
+    (Kind.PACKED, "unzip {}", {b"PK\3\4": "a zip archive"}),
+    (Kind.PROGRAM, "", {b"\x7fELF": "a program or a library"}),
 )
 # Magics that don't begin their files: their places come first. The head of a tar archive has the sync bits of a frame by its digits.
 MAGICS_WITHIN = (
-    (4, b"ftyp", Kind.SOUND, "an MP4 or QuickTime file", FFMPEG),
-    (257, b"ustar", Kind.PACKED, "a tar archive", "tar xf {}"),
+    (4, Kind.SOUND, FFMPEG, {b"ftyp": "an MP4 or QuickTime file"}),
+    (257, Kind.PACKED, "tar xf {}", {b"ustar": "a tar archive"}),
 )
 
 
 def by_magic(head: bytes, size: int) -> Optional[Look]:
     """A file whose first octets show its kind."""
-    for place, magic, kind, said, command in (*((0, *magic) for magic in MAGICS), *MAGICS_WITHIN):
-        if head.startswith(magic, place):
+    for place, kind, command, magics in (*((0, *each) for each in MAGICS), *MAGICS_WITHIN):
+        said = next((said for magic, said in magics.items() if head.startswith(magic, place)), None)
+        if said:
             return Look(kind, said, command)
     return None
 
@@ -127,7 +120,7 @@ def by_wav(head: bytes, size: int) -> Optional[Look]:
     if wav.tag == wav_files.WAV_GSM:
         return Look(Kind.SOUND, f"a WAV file of GSM frames, {form}", "lines.py uplink {} NEW.up")
     said = f"a WAV file, {form}, bits {wav.sample_bits} {WAV_SAMPLES.get(wav.tag, f'of format {wav.tag}')}"
-    is_taken = (wav.channels, wav.samples_a_second) == (1, trau_frames.SAMPLES_A_SECOND)
+    is_taken = (wav.channels, wav.samples_a_second) == (1, SAMPLES_A_SECOND)
     is_taken = is_taken and (wav.tag, wav.sample_bits) in wav_files.SAMPLE_KINDS
     return Look(Kind.SOUND, said, "lines.py pcm {} NEW.pcm" if is_taken else SOX)
 
@@ -220,7 +213,7 @@ class Rows:
     def take(self, found: re.Match) -> None:
         """One frame more."""
         way = way_of(frame_kinds.code_of(found.group()))
-        goes_on = way == self.way and found.start() - self.end < trau_frames.FRAME_BITS
+        goes_on = way == self.way and found.start() - self.end < FRAME_BITS
         self.length = self.length + 1 if goes_on else 1
         self.way, self.end = way, found.end()
         self.ways[way] += 1
@@ -232,16 +225,16 @@ class Rows:
 def frames_of(octets: bytes) -> Optional[Frames]:
     """The frames of a line. Sync bits alone may come by chance, so most frames must have known code words. Some of full rate speech must follow
     one another, or the frames must be most of what is there."""
-    bits = trau_frames.bits_of(octets)
+    bits = bits_of(octets)
     rows = Rows()
-    for found in trau_frames.FRAME_OF_DOWNLINK.finditer(bits):
+    for found in FRAME_OF_DOWNLINK.finditer(bits):
         rows.take(found)
     ways, others = rows.ways, {code: count for code, count in rows.ways.items() if code in frame_kinds.OTHERS}
     known = ways["up"] + ways["down"] + sum(others.values())
     if rows.first is None or 2 * known < sum(ways.values()):
         return None
-    covered = known * trau_frames.FRAME_BITS / (len(bits) - rows.first)
-    are_few = max(rows.most.values()) < LEAST_ROW and known * trau_frames.FRAME_BITS < LEAST_COVERED * len(bits)
+    covered = known * FRAME_BITS / (len(bits) - rows.first)
+    are_few = max(rows.most.values()) < LEAST_ROW and known * FRAME_BITS < LEAST_COVERED * len(bits)
     if max(rows.most["up"], rows.most["down"]) < LEAST_ROW and (are_few or covered < LEAST_COVERED):
         return None
     return Frames(ways["up"], ways["down"], others, rows.first, covered)
@@ -276,7 +269,7 @@ TURNED = ", with the bits of each octet in the other order"
 
 def by_frames(head: bytes, size: int) -> Optional[Look]:
     """A line of frames, in the order of bits that gives more of them."""
-    found = [(frames_of(slots.turned(head) if turned else head), turned) for turned in (False, True)]
+    found = [(frames_of(octets_turned(head) if turned else head), turned) for turned in (False, True)]
     frames, turned = max(found, key=lambda each: each[0].count() if each[0] else 0)
     if not frames:
         return None
@@ -286,13 +279,13 @@ def by_frames(head: bytes, size: int) -> Optional[Look]:
 
 def frames_of_channels(slot: bytes) -> Dict[int, Frames]:
     """The frames in the channels of a slot, of those that have a line of frames."""
-    found = ((number, frames_of(slots.channel(slot, number))) for number in range(slots.CHANNELS))
+    found = ((number, frames_of(channel_octets(slot, number))) for number in range(CHANNELS))
     return {number: frames for number, frames in found if frames and frames.covered >= LEAST_COVERED}
 
 
 def by_channels(head: bytes, size: int) -> Optional[Look]:
     """A time slot that carries lines of frames in its channels of 16 kbit/s, in the order of bits that gives more of them."""
-    found = [(frames_of_channels(slots.turned(head) if turned else head), turned) for turned in (False, True)]
+    found = [(frames_of_channels(octets_turned(head) if turned else head), turned) for turned in (False, True)]
     channels, turned = max(found, key=lambda each: sum(frames.count() for frames in each[0].values()))
     if not channels:
         return None
@@ -309,7 +302,7 @@ LEAST_SIGNALS = 8
 
 def has_signal(octets: bytes) -> bool:
     """Whether the slot 0 of these octets, the first of which is of slot 0, has the signal in each other octet."""
-    slot = octets[:: slots.SLOTS_OF_E1]
+    slot = octets[::SLOTS_OF_E1]
     for first in (0, 1):
         signals, others = slot[first::2], slot[1 - first :: 2]
         if len(signals) >= LEAST_SIGNALS and all(octet & SIGNAL_BITS == SIGNAL for octet in signals):
@@ -320,14 +313,14 @@ def has_signal(octets: bytes) -> bool:
 def by_signal(head: bytes, size: int) -> Optional[Look]:
     """A whole E1 line, whose first octet is of slot 0 or of another one."""
     for turned in (False, True):
-        octets = slots.turned(head) if turned else head
-        for first in range(slots.SLOTS_OF_E1):
+        octets = octets_turned(head) if turned else head
+        for first in range(SLOTS_OF_E1):
             if has_signal(octets[first:]):
                 began = f" from octet {first} on" if first else ""
                 order = LSB_FIRST * turned
                 skip = f" --skip {first}" if first else ""
-                command = f"lines.py slot {{}} NEW.pcm --slot N --of {slots.SLOTS_OF_E1}{skip}{order}"
-                return Look(Kind.E1, f"an E1 line of {slots.SLOTS_OF_E1} slots{began}{TURNED * turned}", command, turned)
+                command = f"lines.py slot {{}} NEW.pcm --slot N --of {SLOTS_OF_E1}{skip}{order}"
+                return Look(Kind.E1, f"an E1 line of {SLOTS_OF_E1} slots{began}{TURNED * turned}", command, turned)
     return None
 
 
@@ -376,8 +369,8 @@ def look(head: bytes, size: int) -> Look:
 
 def head_of(path: Path, octets: int = HEAD_OCTETS) -> Tuple[bytes, int]:
     """The head of a file, which has so many octets, and the file's size."""
-    if path == trau_frames.STREAM:
-        content = trau_frames.read_file(path)
+    if path == STREAM:
+        content = read_file(path)
         return content[:octets], len(content)
     try:
         with open(path, "rb") as file:
@@ -399,7 +392,7 @@ def command_for(found: Look, name: Path) -> str:
     """The command that takes this file, in words that follow what the file is."""
     if found.command.startswith(OTHERS):
         return f"; {recordings.command_of_others(found.command, name)}"
-    return f"; {trau_frames.as_started(found.command)}".replace("{}", recordings.quoted(name)) if found.command else ""
+    return f"; {as_started(found.command)}".replace("{}", recordings.quoted(name)) if found.command else ""
 
 
 def said_beside(found: Look, name: Path, not_this: str) -> str:

@@ -6,8 +6,10 @@ from __future__ import annotations
 from collections import Counter
 from typing import Iterator, Mapping, NamedTuple
 
-import trau_frames
-from trau_frames import IDLE_DOWN, IDLE_UP, SPEECH_DOWN, SPEECH_UP, Sort
+from core.frame import Sort, bits_of, control_of
+from core.profile import DOWN_IDLE, DOWN_SPEECH, UP_IDLE, UP_SPEECH
+from core.search import search
+
 
 CODE_BITS = 5
 
@@ -32,11 +34,11 @@ OTHERS: Mapping[str, OtherKind] = {
     **{"11010": EFR, "00110": AMR, "00101": OPERATION, "11011": OPERATION, "01000": DATA, "10110": DATA},
     **{"10100": DATA_14_5, "11111": EXTENDED, "00011": HALF_RATE, "11101": HALF_RATE, "01001": HALF_DATA, "10111": HALF_DATA},
 }
-UP, DOWN = (SPEECH_UP, IDLE_UP), (SPEECH_DOWN, IDLE_DOWN)
+UP, DOWN = (UP_SPEECH, UP_IDLE), (DOWN_SPEECH, DOWN_IDLE)
 NAMES = {
     **{code: kind.name for code, kind in OTHERS.items()},
-    **{SPEECH_UP: "full rate speech", IDLE_UP: "idle frames"},
-    **{SPEECH_DOWN: "a downlink's full rate speech", IDLE_DOWN: "a downlink's idle frames"},
+    **{UP_SPEECH: "full rate speech", UP_IDLE: "idle frames"},
+    **{DOWN_SPEECH: "a downlink's full rate speech", DOWN_IDLE: "a downlink's idle frames"},
 }
 
 
@@ -59,12 +61,12 @@ def said_of(code: str) -> str:
 
 def code_of(frame: str) -> str:
     """C1 to C5 of a frame."""
-    return trau_frames.control_of(frame)[:CODE_BITS]
+    return control_of(frame)[:CODE_BITS]
 
 
 def codes_of_others(octets: bytes) -> Iterator[str]:
     """C1 to C5 of each frame of an uplink that counts as `other`."""
-    for each in trau_frames.search(trau_frames.bits_of(octets)):
+    for each in search(bits_of(octets)):
         if each.frame is not None and each.sort() is Sort.OTHER:
             yield code_of(each.frame)
 

@@ -7,12 +7,15 @@ from pathlib import Path
 from typing import List, Mapping, NamedTuple, Optional, Tuple
 
 import file_kinds
-import trau_frames
 import wav_files
 from code_word import Marker
-from file_kinds import Kind
+from core.frame import DownFrame, Kind, bits_of, read_down, read_up
+from core.noise import RandomSource, comfort_noise
+from core.parameters import GSM_MAGIC, GSM_OCTETS, SILENCE, WAV_BLOCK_OCTETS, bits_of_parameters, data_of_gsm, data_of_wav_block, parameters_of_bits
+from core.profile import SAMPLES_A_SECOND
+from core.search import FRAME_OF_DOWNLINK
+from core.words import Refusal, as_started
 from recordings import command_of_others, quoted
-from trau_frames import GSM_MAGIC, GSM_OCTETS, Parameters, Refusal
 from uplink_frames import UplinkFrames
 
 ZEROS = bytes(GSM_OCTETS)  # what some recorders write for a frame that was lost
@@ -29,14 +32,14 @@ class Found(NamedTuple):
 
 def data_of_file(name: Path, given: bytes, partial: bool, zeros_are_lost: bool) -> Found:
     """The frames of a file of libgsm; a truncated file is taken with `partial`, and one that has zeros for lost frames if these are lost."""
-    size = trau_frames.GSM_OCTETS
+    size = GSM_OCTETS
     left = len(given) % size
     whole = given[: len(given) - left]
     frames = [whole[place : place + size] for place in range(0, len(whole), size)]
     is_lost = [frame == ZEROS for frame in frames]
     wrong = next((size * at for at, frame in enumerate(frames) if frame[0] >> 4 != GSM_MAGIC and not (zeros_are_lost and is_lost[at])), None)
     if wrong is not None or not whole or left and not partial:
-        file_kinds.refuse_other(name, given, "no frames of libgsm", Kind.GSM)
+        file_kinds.refuse_other(name, given, "no frames of libgsm", file_kinds.Kind.GSM)
     if not whole or left and not partial:
         raise Refusal(
             f"{name}: {len(given)} octets are no frames of libgsm, which have {size} octets each"
@@ -49,7 +52,7 @@ def data_of_file(name: Path, given: bytes, partial: bool, zeros_are_lost: bool) 
         raise Refusal(f"{name}: has only zeros")
     if file_kinds.is_mostly_magic(whole):
         raise Refusal(f"{name}: nearly each of its octets begins with 1101, as in idle A-law and not in frames of libgsm")
-    return Found([None if lost else trau_frames.data_of_gsm(frame) for frame, lost in zip(frames, is_lost)], left)
+    return Found([None if lost else data_of_gsm(frame) for frame, lost in zip(frames, is_lost)], left)
 
 
 def data_of_wav(name: Path, given: bytes, partial: bool) -> Found:
@@ -60,18 +63,18 @@ def data_of_wav(name: Path, given: bytes, partial: bool) -> Found:
             f"{name}: is a WAV file of samples and not of GSM frames; sox makes frames of libgsm of it:"
             f" {command_of_others('sox {} -r 8000 -c 1 NEW.gsm', name)}"
         )
-    size = trau_frames.WAV_BLOCK_OCTETS
+    size = WAV_BLOCK_OCTETS
     # sox counts the octet that makes an odd number of octets even.
     octets = wav.data[:-1] if len(wav.data) % size == 1 and wav.data[-1] == 0 else wav.data
     left = len(octets) % size
-    fits = (wav.channels, wav.samples_a_second) == (1, trau_frames.SAMPLES_A_SECOND) and len(octets) >= size
+    fits = (wav.channels, wav.samples_a_second) == (1, SAMPLES_A_SECOND) and len(octets) >= size
     if not fits or left and not partial:
         raise Refusal(
             f"{name}: has {wav.samples_a_second} Hz, channels {wav.channels} and {len(wav.data)} octets of GSM frames; needed is"
-            f" {trau_frames.SAMPLES_A_SECOND} Hz mono in blocks of {size} octets"
+            f" {SAMPLES_A_SECOND} Hz mono in blocks of {size} octets"
         )
     blocks = (octets[place : place + size] for place in range(0, len(octets) - left, size))
-    return Found([data for block in blocks for data in trau_frames.data_of_wav_block(block)], left)
+    return Found([data for block in blocks for data in data_of_wav_block(block)], left)
 
 
 def uplink_of(name: Path, given: bytes, marker: Marker, partial: bool, zeros_are_lost: bool = False) -> Tuple[bytes, str]:
@@ -93,19 +96,17 @@ def uplink_of(name: Path, given: bytes, marker: Marker, partial: bool, zeros_are
 SORTS = ("speech", "silence", "idle", "other")
 
 
-def sort_of_downlink_frame(control: str) -> str:
-    """What a frame of a downlink is, by its control bits."""
-    if control.startswith(trau_frames.SPEECH_DOWN):
-        return "speech" if control[15] == "1" else "silence"
-    return "idle" if control.startswith(trau_frames.IDLE_DOWN) else "other"
+def sort_of_downlink_frame(frame: DownFrame) -> str:
+    """What a frame of a downlink is."""
+    return "silence" if frame.kind is Kind.SPEECH and not frame.sp else frame.kind.value
 
 
-def treated(data: str, treatment: str, source: trau_frames.RandomSource) -> Optional[str]:
+def treated(data: str, treatment: str, source: RandomSource) -> Optional[str]:
     """D1 to D260 as they are written, or None where nothing is."""
     if treatment == "noise":
-        return trau_frames.noise(Parameters.read(data), source).bits()
+        return bits_of_parameters(comfort_noise(parameters_of_bits(data), source))
     if treatment == "quiet":
-        return trau_frames.SILENCE.bits()
+        return bits_of_parameters(SILENCE)
     return data if treatment == "keep" else None
 
 
@@ -119,24 +120,24 @@ class Treated(NamedTuple):
 
 def treated_downlink(name: Path, octets: bytes, treatments: Mapping[str, str]) -> Treated:
     """The frames of a downlink, wherever they begin, by the treatment of each sort."""
-    bits = trau_frames.bits_of(octets)
-    source = trau_frames.RandomSource(1)
+    bits = bits_of(octets)
+    source = RandomSource(1)
     counts: Counter = Counter()
     frames: List[Tuple[int, str]] = []
     written, inside, of_uplink = 0, 0, 0
-    for found in trau_frames.FRAME_OF_DOWNLINK.finditer(bits):
-        control = trau_frames.control_of(found.group())
-        sort = sort_of_downlink_frame(control)
+    for found in FRAME_OF_DOWNLINK.finditer(bits):
+        frame = read_down(found.group())
+        sort = sort_of_downlink_frame(frame)
         counts[sort] += 1
         inside += found.end() - found.start()
-        of_uplink += control.startswith(trau_frames.SPEECH_UP)
-        data = treated(trau_frames.data_of(found.group()), treatments[sort], source)
+        of_uplink += frame.kind is Kind.OTHER and read_up(found.group()).is_speech()
+        data = treated(frame.data, treatments[sort], source)
         if data is not None:
             frames.append((found.start() - written, data))
             written = found.end()
     said = " ".join(f"{sort} {counts[sort]}" for sort in SORTS) + f" outside {len(bits) - inside}"
     if of_uplink and of_uplink == sum(counts.values()):
-        listens = trau_frames.as_started(f"lines.py listen {quoted(name)} NEW.wav")
+        listens = as_started(f"lines.py listen {quoted(name)} NEW.wav")
         raise Refusal(f"{name}: is an uplink; {listens} makes sound of it, and trau relay a downlink, if no frame is lost")
     if not frames:
         raise Refusal(f"{name}: no frame of a downlink that would be written: {said}")

@@ -8,7 +8,9 @@ import math
 import zlib
 from typing import List
 
-from trau_frames import PCM_OCTETS, Law
+from core.g711 import Law, samples_by_octet
+from core.profile import PCM_OCTETS
+
 
 try:
     import numpy
@@ -20,12 +22,11 @@ OVERLOADS = {Law.A: (32768, 3.14), Law.MU: (32636, 3.17)}
 
 # All samples are multiples of 8 (A-law) or 4 (mu-law). The squares of the multiples, an octet in each of four tables, the greatest first.
 UNITS = {Law.A: 8, Law.MU: 4}
-SQUARES = {law: [(law.expand(octet) // UNITS[law]) ** 2 for octet in range(256)] for law in Law}
+SQUARES = {law: [(sample // UNITS[law]) ** 2 for sample in samples_by_octet(law)] for law in Law}
 PLANES = {
     law: [bytes(square >> shift & 0xFF for square in squares) for shift in (24, 16, 8, 0) if max(squares) >> shift]
     for law, squares in SQUARES.items()
 }
-
 
 
 def sums_plain(octets: bytes, law: Law) -> List[int]:

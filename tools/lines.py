@@ -26,14 +26,17 @@ import gsm_files
 import listening
 import recordings
 import rtp_packets
-import slots
-import trau_frames
 import wav_files
 from code_word import Marker
+from core.g711 import Law, expand_all
+from core.parameters import gsm_of_data
+from core.profile import PCM_OCTETS
+from core.slots import CHANNELS, MOST_SLOTS, channel_octets, octets_turned
+from core.words import Option, Refusal, Words, as_started, number_within, one_of, option, switch
 from file_kinds import Kind
 from tool_ends import FAILED, complain, tool
-from trau_frames import PCM_OCTETS, Law, Refusal, number_within
-from wav_files import LAWS_BY_TAG, WAV_LINEAR
+from tool_files import STREAM, write_file
+from wav_files import LAWS_BY_TAG, WAV_ALAW, WAV_LINEAR, WAV_MULAW
 
 
 class Made(NamedTuple):
@@ -68,7 +71,7 @@ def gsm(words: argparse.Namespace, given: bytes) -> Made:
     """Frames of libgsm, from a downlink."""
     treatments = {"speech": "keep", "silence": words.silence, "idle": words.idle, "other": "skip"}
     found = gsm_files.treated_downlink(words.given, given, treatments)
-    frames = [trau_frames.gsm_of_data(data) for _, data in found.frames]
+    frames = [gsm_of_data(data) for _, data in found.frames]
     return Made(b"".join(frames), f"gsm frames {len(frames)} found {found.said}", FRAMES)
 
 
@@ -92,7 +95,7 @@ def check_law(words: argparse.Namespace, name: Path, octets: bytes) -> None:
         return
     not_this = f"no {words.law.title()}"
     if recordings.name_within(name).suffix in (".up", ".down"):
-        listens = trau_frames.as_started(f"; lines.py listen {recordings.quoted(name)} NEW.wav makes sound of it")
+        listens = as_started(f"; lines.py listen {recordings.quoted(name)} NEW.wav makes sound of it")
         raise Refusal(f"{name}: is a line of frames by its name, and {not_this}{listens if words.made is sound else ''}")
     file_kinds.refuse_other(name, octets, not_this, Kind.LAW)
     other = file_kinds.other_than_law(octets, words.law)
@@ -105,7 +108,7 @@ def check_law(words: argparse.Namespace, name: Path, octets: bytes) -> None:
 
 def raw_octets(words: argparse.Namespace, given: bytes) -> bytes:
     """Octets of a law and nothing else."""
-    octets = slots.turned(given) if words.lsb_first else given
+    octets = octets_turned(given) if words.lsb_first else given
     check_law(words, words.given, octets)
     return octets
 
@@ -127,8 +130,7 @@ def pcm(words: argparse.Namespace, given: bytes) -> Made:
 
 def linear_wav(octets: bytes, law: Law) -> bytes:
     """A WAV file of 16 bits linear, of octets of a law."""
-    expanded = [law.expand(octet) for octet in range(256)]
-    samples = array("h", map(expanded.__getitem__, octets))
+    samples = array("h", expand_all(law, octets))
     if sys.byteorder == "big":
         samples.byteswap()
     return wav_files.wav_of(WAV_LINEAR, 16, samples.tobytes())
@@ -178,13 +180,13 @@ def slot(words: argparse.Namespace, given: bytes) -> Made:
     """A time slot, whose octets were taken from a recording of a whole line as it was read, or a channel of it."""
     if not given:
         raise Refusal(f"{words.given}: has no octet of slot {words.slot}")
-    octets = slots.turned(given) if words.lsb_first else given
+    octets = octets_turned(given) if words.lsb_first else given
     if words.channel is None:
         return Made(octets, f"slot octets {len(octets)}")
-    channel = slots.channel(octets, words.channel)
+    channel = channel_octets(octets, words.channel)
     if not channel:
         raise Refusal(f"{words.given}: slot {words.slot} has {len(octets)} octets, and four make one of a channel")
-    left = len(octets) % slots.CHANNELS
+    left = len(octets) % CHANNELS
     return Made(channel, f"slot octets {len(channel)} channel {words.channel} left {left}", CHANNEL)
 
 
@@ -230,8 +232,8 @@ def make_file(words: argparse.Namespace) -> int:
     made = words.made(words, read_given(words))
     check_new_name(words.new, made.kind)
     inputs = [*([words.given] if words.given else []), *getattr(words, "also", [])]
-    trau_frames.write_file(words.new, made.content, inputs)
-    print(made.said, file=sys.stderr if words.new == trau_frames.STREAM else sys.stdout)
+    write_file(words.new, made.content, inputs)
+    print(made.said, file=sys.stderr if words.new == STREAM else sys.stdout)
     return 0
 
 
@@ -240,7 +242,7 @@ LOOKED_INTO = 1 << 24  # octets of a capture
 
 def streams_said(name: Path) -> List[str]:
     """The streams at a capture's start, each in words; none of standard input, which has been read, and none without dpkt."""
-    if name == trau_frames.STREAM or not rtp_packets.has_library():
+    if name == STREAM or not rtp_packets.has_library():
         return []
     try:
         streams = rtp_packets.streams_of(name, file_kinds.head_of(name, LOOKED_INTO)[0], partial=True)
@@ -270,30 +272,6 @@ def look(words: argparse.Namespace) -> int:
 # The words of the command line
 
 
-def command(
-    commands: argparse._SubParsersAction, made: Command, given: str, new: str, more: str, example: str
-) -> argparse.ArgumentParser:
-    """Adds a command that `made` runs: from a file of the kind `given`, or from a number of PERIODS, to a file of the kind `new`."""
-    added = commands.add_parser(
-        made.__name__,
-        help=f"{given} to {new}",
-        description=more,
-        epilog=f"example: lines.py {made.__name__} {example}",
-        formatter_class=argparse.RawDescriptionHelpFormatter,
-        allow_abbrev=False,
-    )
-    added.set_defaults(made=made, runs=make_file)
-    if given == "PERIODS":
-        added.set_defaults(given=None)
-        added.add_argument("periods", type=number_within(1, MOST_IDLE_PERIODS), metavar=given, help="the number of periods of 20 ms")
-    else:
-        added.add_argument("given", type=Path, metavar=given, help="the file to read, or - for standard input")
-    added.add_argument(
-        "new", type=Path, metavar=new, help="the file to write, or - for standard output; never the one that is read"
-    )
-    return added
-
-
 def law_word(word: str) -> Law:
     """A law."""
     if word not in map(str, Law):
@@ -314,187 +292,152 @@ def type_word(word: str) -> Tuple[int, int]:
     return number_within(0, rtp_packets.MOST_TYPE)(number), rtp_packets.KINDS[name]
 
 
-def add_law(added: argparse.ArgumentParser) -> None:
-    """Adds the option `--law` to a command."""
-    added.add_argument(
-        "--law",
-        type=law_word,
-        metavar="LAW",
-        default=Law.A,
-        help="the law of the call's lines from and to the exchange: alaw (default), or mulaw if its order is `open C mulaw`",
-    )
+def partial(what: str) -> Option:
+    """The option `--partial`."""
+    return switch("--partial", f"take a truncated file as far as it goes: {what}")
 
 
-def add_partial(added: argparse.ArgumentParser, what: str) -> None:
-    """Adds the option `--partial` to a command."""
-    added.add_argument("--partial", action="store_true", help=f"take a truncated file as far as it goes: {what}")
+def lsb_first(more: str = "") -> Option:
+    """The option `--lsb-first`."""
+    return switch("--lsb-first", f"the recording has the least significant bit of each octet first{more}")
 
 
-def add_sid(added: argparse.ArgumentParser) -> None:
-    """Adds the option `--sid` to a command."""
-    added.add_argument(
-        "--sid",
-        choices=("mark", "keep"),
-        default="mark",
-        help="what to do with silence descriptors, which are found by their code word: mark them by C13 and C14, as a base station does"
-        " (default), or keep them as if they were speech, which then buzzes",
-    )
+def trust(more: str = "") -> Option:
+    """The option `--trust`."""
+    return switch("--trust", f"take octets of the line's law as they are, even if they look like something else{more}")
 
 
-def add_lsb_first(added: argparse.ArgumentParser, more: str = "") -> None:
-    """Adds the option `--lsb-first` to a command."""
-    added.add_argument(
-        "--lsb-first", action="store_true", help=f"the recording has the least significant bit of each octet first{more}"
-    )
+LAW = option(
+    "--law", type=law_word, metavar="LAW", default=Law.A,
+    help="the law of the call's lines from and to the exchange: alaw (default), or mulaw if its order is `open C mulaw`",
+)
+SID = option(
+    "--sid", choices=("mark", "keep"), default="mark",
+    help="what to do with silence descriptors, which are found by their code word: mark them by C13 and C14, as a base station does"
+    " (default), or keep them as if they were speech, which then buzzes",
+)
+# Which streams of a capture are taken, and what they carry.
+STREAMS = (
+    option(
+        "--stream", type=streams_word, default=(), metavar="N[,N..]",
+        help=     "the stream, counted from 1, of a capture with several; without it they are listed. Several with commas between follow one"
+        " another by the times of the capture, as those of a call whose sender changes",
+    ),
+    option(
+        "--type", type=type_word, action="append", default=[], metavar="T=KIND",
+        help="the payload type T, 0 to 127, is gsm, pcma or pcmu, as the sender's SDP says of a dynamic type; may be repeated",
+    ),
+    option(
+        "--since", type=int, metavar="N",
+        help="begin the line when this stream began, by the times of the capture, so that the lines of a call keep step",
+    ),
+)
 
+PERIODS = option("periods", type=number_within(1, MOST_IDLE_PERIODS), metavar="PERIODS", help="the number of periods of 20 ms")
 
-def add_trust(added: argparse.ArgumentParser, more: str = "") -> None:
-    """Adds the option `--trust` to a command."""
-    added.add_argument(
-        "--trust", action="store_true", help=f"take octets of the line's law as they are, even if they look like something else{more}"
-    )
-
-
-def add_uplink(commands: argparse._SubParsersAction) -> None:
-    """Adds the command `uplink`: frames of libgsm to an uplink."""
-    added = command(
-        commands,
-        uplink,
-        "IN.gsm",
-        "OUT.up",
+LOOK = (
+    "Says what each file is, and which command takes it. Sound files, frames of libgsm and captures are known by their\n"
+    "heads; uplinks, downlinks, lines of frames that trau doesn't decode, time slots and E1 lines by the frames in them, at any bit\n"
+    "and in either order of the bits of an octet; A-law, mu-law and samples of 16 bits by statistics, which are a guess. Of a\n"
+    "capture it lists the streams, a line each, if the library dpkt is there. It looks at the first\n"
+    f"{file_kinds.HEAD_OCTETS} octets. A file that can't be read is named on standard error, and the status is 2 at the end."
+)
+# What makes a file: of which kind of file, and of which kind; the command's text, an example, and its options.
+COMMANDS = (
+    (
+        uplink, "IN.gsm", "OUT.up",
         "Makes an uplink from frames of libgsm (33 octets each, as toast, sox and ffmpeg write them to .gsm files), or from a WAV\n"
         "file of GSM frames (two in a block of 65 octets). Nothing is transcoded: the 260 bits of a frame stay as they are. Silence\n"
         "descriptors are marked as such, and damaged ones as invalid; in a pause each 24th frame after a descriptor has TAF 1. Prints\n"
         "`uplink frames N sid A invalid B`, with --zeros lost also `lost C`, and with --partial `left R`: the octets after the last\n"
         "whole frame.",
         "call.gsm 7.up --dtxd 1",
-    )
-    added.add_argument(
-        "--dtxd",
-        type=int,
-        choices=(0, 1),
-        default=0,
-        help="DTXd of all frames: whether the downlink may send silence descriptors (default 0, it may not)",
-    )
-    added.add_argument(
-        "--zeros", choices=("lost",), help="take frames of 33 zeros, which some recorders write for lost ones, as lost: unusable frames (BFI 1)"
-    )
-    add_sid(added)
-    add_partial(added, "the whole frames")
-
-
-def add_gsm(commands: argparse._SubParsersAction) -> None:
-    """Adds the command `gsm`: a downlink to frames of libgsm."""
-    added = command(
-        commands,
-        gsm,
-        "IN.down",
-        "OUT.gsm",
+        option(
+            "--dtxd", type=int, choices=(0, 1), default=0,
+            help="DTXd of all frames: whether the downlink may send silence descriptors (default 0, it may not)",
+        ),
+        option(
+            "--zeros", choices=("lost",), help="take frames of 33 zeros, which some recorders write for lost ones, as lost: unusable frames (BFI 1)"
+        ),
+        SID,
+        partial("the whole frames"),
+    ),
+    (
+        gsm, "IN.down", "OUT.gsm",
         "Finds the frames of a downlink at any bit, and writes their speech as frames of libgsm, which untoast, sox and\n"
         "ffmpeg decode. Prints `gsm frames N found speech A silence B idle C other D outside E`: the frames written, the\n"
         "frames found of each kind, and the bits that belong to no frame.",
         "7.down call.gsm --idle quiet",
-    )
-    added.add_argument(
-        "--silence",
-        choices=("noise", "quiet", "keep", "skip"),
-        default="noise",
-        help="what to write for a silence descriptor (SP 0), which a decoder of speech would turn into a buzz: a"
-        " frame of comfort noise made from it (default), a frame of silence, its bits as they are, or nothing",
-    )
-    added.add_argument(
-        "--idle",
-        choices=("skip", "quiet"),
-        default="skip",
-        help="what to write for an idle frame: nothing (default), or a frame of silence, which keeps the time",
-    )
-
-
-def add_pcm(commands: argparse._SubParsersAction) -> None:
-    """Adds the command `pcm`: a WAV file or raw octets of a law to a Pcm line."""
-    added = command(
-        commands,
-        pcm,
-        "IN",
-        "OUT.pcm",
+        option(
+            "--silence", choices=("noise", "quiet", "keep", "skip"), default="noise",
+            help="what to write for a silence descriptor (SP 0), which a decoder of speech would turn into a buzz: a"
+            " frame of comfort noise made from it (default), a frame of silence, its bits as they are, or nothing",
+        ),
+        option(
+            "--idle", choices=("skip", "quiet"), default="skip",
+            help="what to write for an idle frame: nothing (default), or a frame of silence, which keeps the time",
+        ),
+    ),
+    (
+        listen, "LINE", "OUT.wav",
+        "Makes a WAV file (8000 Hz, mono, 16 bits linear) of the sound of a downlink or an uplink.\n\n"
+        "Downlink: finds its frames at any bit, and decodes them by the C library, if clib/build made it or it is installed, else by\n"
+        "the program `trau`; both give the same. Silence descriptors give comfort noise; idle frames, and periods without a frame,\n"
+        "give silence. Prints `listen samples N found speech A silence B idle C other D outside E`.\n\n"
+        "Uplink: runs it by the program `trau` as a call with an idle Pcm line, so that lost speech, pauses and the search for frames\n"
+        "sound as they do on the Out line. Prints `listen samples N uplink good G sid V invalid I bad U idle Z other O miss M none N`:\n"
+        "the counts of the run's report.",
+        "7.down call.wav",
+        option("--trau", type=listening.program_named, metavar="PROGRAM", help="decode or run by this program and not by the library"),
+    ),
+    (
+        pcm, "IN", "OUT.pcm",
         "Makes a Pcm line from a WAV file (8000 Hz, mono, 16 bits linear, A-law or mu-law) or from raw octets of its law. Fills the\n"
         "last period with the idle octet, 0xD5 or 0xFF. Prints `pcm periods N padded R`: R is the number of these octets.",
         "call.wav 7.pcm",
-    )
-    added.add_argument("--raw", action="store_true", help="the file has only octets of the line's law")
-    add_lsb_first(added, " (with --raw)")
-    add_trust(added, " (with --raw)")
-    add_partial(added, "the samples of a WAV file that are there")
-    add_law(added)
-
-
-def add_sound(commands: argparse._SubParsersAction) -> None:
-    """Adds the command `sound`: an Out line to a WAV file."""
-    added = command(
-        commands,
-        sound,
-        "IN.out",
-        "OUT",
+        switch("--raw", "the file has only octets of the line's law"),
+        lsb_first(" (with --raw)"),
+        trust(" (with --raw)"),
+        partial("the samples of a WAV file that are there"),
+        LAW,
+    ),
+    (
+        sound, "IN.out", "OUT",
         "Makes a WAV file (8000 Hz, mono, 16 bits linear) from an Out line or a Pcm line. Prints `sound samples N`.",
         "7.out call.wav",
-    )
-    kind = added.add_mutually_exclusive_group()
-    for tag, law in LAWS_BY_TAG.items():
-        kind.add_argument(
-            f"--{law}", action="store_const", const=tag, dest="tag", help=f"the samples of the WAV file are {law.title()}"
-        )
-    kind.add_argument("--raw", action="store_true", help="only the line's octets, without a WAV head")
-    added.set_defaults(tag=WAV_LINEAR)
-    add_trust(added)
-    add_law(added)
-
-
-def add_idle(commands: argparse._SubParsersAction) -> None:
-    """Adds the command `idle`: an idle Pcm line."""
-    added = command(
-        commands,
-        idle,
-        "PERIODS",
-        "OUT.pcm",
+        one_of(
+            switch("--alaw", "the samples of the WAV file are A-law", action="store_const", const=WAV_ALAW, dest="tag"),
+            switch("--mulaw", "the samples of the WAV file are mu-law", action="store_const", const=WAV_MULAW, dest="tag"),
+            switch("--raw", "only the line's octets, without a WAV head"),
+        ),
+        trust(),
+        LAW,
+    ),
+    (
+        idle, "PERIODS", "OUT.pcm",
         "Makes an idle Pcm line of this many periods, for a run of an uplink alone. Prints `idle periods N`.",
         "312 7.pcm",
-    )
-    add_law(added)
-
-
-def add_streams(added: argparse.ArgumentParser) -> None:
-    """Adds the options that say which streams of a capture are taken, and what they carry."""
-    added.add_argument(
-        "--stream",
-        type=streams_word,
-        default=(),
-        metavar="N[,N..]",
-        help="the stream, counted from 1, of a capture with several; without it they are listed. Several with commas between follow one"
-        " another by the times of the capture, as those of a call whose sender changes",
-    )
-    added.add_argument(
-        "--type",
-        type=type_word,
-        action="append",
-        default=[],
-        metavar="T=KIND",
-        help="the payload type T, 0 to 127, is gsm, pcma or pcmu, as the sender's SDP says of a dynamic type; may be repeated",
-    )
-    added.add_argument(
-        "--since",
-        type=int,
-        metavar="N",
-        help="begin the line when this stream began, by the times of the capture, so that the lines of a call keep step",
-    )
-
-
-def add_pcap(commands: argparse._SubParsersAction) -> None:
-    """Adds the command `pcap`: a capture to a line."""
-    added = command(
-        commands,
-        pcap,
-        "IN.pcap",
-        "OUT",
+        LAW,
+    ),
+    (
+        slot, "IN", "OUT",
+        "Takes one time slot from a recording of a whole line: every Nth octet, such as each 32nd one of an E1 line. With --channel it\n"
+        "takes one of the slot's four channels of 16 kbit/s, an uplink or a downlink. Without --of the recording is of one slot, and\n"
+        "--lsb-first turns the bits of its octets. Prints `slot octets N`, with --channel also `channel J left R`: the octets of the\n"
+        "slot after the last four.",
+        "line.e1 1.up --slot 16 --of 32 --channel 2",
+        option("--channel", type=number_within(0, CHANNELS - 1), metavar="J", help="the channel of the slot, 0 to 3, as `trau split` counts them"),
+        option("--slot", type=number_within(0, MOST_SLOTS - 1), default=0, metavar="N", help="the slot, counted from 0 (default 0)"),
+        option("--of", type=number_within(1, MOST_SLOTS), default=1, metavar="N", help="the number of slots of the line (default 1)"),
+        option(
+            "--skip", type=number_within(0, MOST_SKIPPED), default=0, metavar="N",
+            help="the number of octets that precede the first one of slot 0 (default 0)",
+        ),
+        lsb_first(),
+        partial("what can be unpacked of a file that gzip packed"),
+    ),
+    (
+        pcap, "IN.pcap", "OUT",
         "Makes a line from an RTP stream of a capture (pcap or pcapng), by its time stamps: an uplink from GSM (payload type 3), a\n"
         "Pcm line from PCMA (8) or PCMU (0). Frames that didn't come become unusable frames; in a pause each 24th frame after a\n"
         "silence descriptor has TAF 1. Samples that didn't come become idle octets. Needs the library dpkt. Prints `pcap gsm packets N\n"
@@ -505,172 +448,68 @@ def add_pcap(commands: argparse._SubParsersAction) -> None:
         "With --restart `restarts M` follows, with --partial `cut P wrong Q`: packets that weren't captured whole, and that have no\n"
         "whole frames.",
         "call.pcapng 7.up",
-    )
-    add_streams(added)
-    added.add_argument(
-        "--gap",
-        choices=("lost", "idle"),
-        default="lost",
-        help="what frames are that the time stamps leave out after speech while no number is missing: lost, as of a base station (default),"
-        " or idle frames, for a sender that pauses without a silence descriptor",
-    )
-    added.add_argument(
-        "--restart",
-        action="store_true",
-        help="where time stamps jump, as of a sender that began anew, go on by the times of the capture; without it the capture is refused",
-    )
-    add_sid(added)
-    add_partial(added, "packets that weren't captured whole, or have no whole frames, count as lost")
-    add_law(added)
-
-
-def add_capture(commands: argparse._SubParsersAction) -> None:
-    """Adds the command `capture`: lines to a capture."""
-    added = command(
-        commands,
-        capture,
-        "LINE",
-        "OUT.pcap",
+        *STREAMS,
+        option(
+            "--gap", choices=("lost", "idle"), default="lost",
+            help="what frames are that the time stamps leave out after speech while no number is missing: lost, as of a base station (default),"
+            " or idle frames, for a sender that pauses without a silence descriptor",
+        ),
+        switch(
+            "--restart",
+            "where time stamps jump, as of a sender that began anew, go on by the times of the capture; without it the capture is refused",
+        ),
+        SID,
+        partial("packets that weren't captured whole, or have no whole frames, count as lost"),
+        LAW,
+    ),
+    (
+        capture, "LINE", "OUT.pcap",
         "Makes a capture with an RTP stream from a line: GSM from an Up or Down line, PCMA or PCMU, which Wireshark plays, from a Pcm\n"
         "or Out line, by the line's name and its law. Lost speech has no packet, a pause has comfort noise, and an idle frame has\n"
         "no packet. Prints `capture streams N packets M`. Needs the library dpkt.",
         "7.down call.pcap --also 7.out",
-    )
-    added.add_argument(
-        "--also", type=Path, action="append", default=[], metavar="LINE", help="add a line as a stream of its own"
-    )
-    add_trust(added)
-    add_law(added)
-
-
-def add_listen(commands: argparse._SubParsersAction) -> None:
-    """Adds the command `listen`: a downlink or an uplink to a WAV file."""
-    added = command(
-        commands,
-        listen,
-        "LINE",
-        "OUT.wav",
-        "Makes a WAV file (8000 Hz, mono, 16 bits linear) of the sound of a downlink or an uplink.\n\n"
-        "Downlink: finds its frames at any bit, and decodes them by the C library, if clib/build made it or it is installed, else by\n"
-        "the program `trau`; both give the same. Silence descriptors give comfort noise; idle frames, and periods without a frame,\n"
-        "give silence. Prints `listen samples N found speech A silence B idle C other D outside E`.\n\n"
-        "Uplink: runs it by the program `trau` as a call with an idle Pcm line, so that lost speech, pauses and the search for frames\n"
-        "sound as they do on the Out line. Prints `listen samples N uplink good G sid V invalid I bad U idle Z other O miss M none N`:\n"
-        "the counts of the run's report.",
-        "7.down call.wav",
-    )
-    added.add_argument(
-        "--trau", type=listening.program_named, metavar="PROGRAM", help="decode or run by this program and not by the library"
-    )
-
-
-def add_slot(commands: argparse._SubParsersAction) -> None:
-    """Adds the command `slot`: a time slot of a recording of a whole line."""
-    added = command(
-        commands,
-        slot,
-        "IN",
-        "OUT",
-        "Takes one time slot from a recording of a whole line: every Nth octet, such as each 32nd one of an E1 line. With --channel it\n"
-        "takes one of the slot's four channels of 16 kbit/s, an uplink or a downlink. Without --of the recording is of one slot, and\n"
-        "--lsb-first turns the bits of its octets. Prints `slot octets N`, with --channel also `channel J left R`: the octets of the\n"
-        "slot after the last four.",
-        "line.e1 1.up --slot 16 --of 32 --channel 2",
-    )
-    added.add_argument(
-        "--channel", type=number_within(0, slots.CHANNELS - 1), metavar="J", help="the channel of the slot, 0 to 3, as `trau split` counts them"
-    )
-    added.add_argument(
-        "--slot", type=number_within(0, slots.MOST_SLOTS - 1), default=0, metavar="N", help="the slot, counted from 0 (default 0)"
-    )
-    added.add_argument(
-        "--of", type=number_within(1, slots.MOST_SLOTS), default=1, metavar="N", help="the number of slots of the line (default 1)"
-    )
-    added.add_argument(
-        "--skip",
-        type=number_within(0, MOST_SKIPPED),
-        default=0,
-        metavar="N",
-        help="the number of octets that precede the first one of slot 0 (default 0)",
-    )
-    add_lsb_first(added)
-    add_partial(added, "what can be unpacked of a file that gzip packed")
-
-
-def add_look(commands: argparse._SubParsersAction) -> None:
-    """Adds the command `look`: what files are."""
-    added = commands.add_parser(
-        "look",
-        help="what files are",
-        description="Says what each file is, and which command takes it. Sound files, frames of libgsm and captures are known by their\n"
-        "heads; uplinks, downlinks, lines of frames that trau doesn't decode, time slots and E1 lines by the frames in them, at any bit\n"
-        "and in either order of the bits of an octet; A-law, mu-law and samples of 16 bits by statistics, which are a guess. Of a\n"
-        "capture it lists the streams, a line each, if the library dpkt is there. It looks at the first\n"
-        f"{file_kinds.HEAD_OCTETS} octets. A file that can't be read is named on standard error, and the status is 2 at the end.",
-        epilog="example: lines.py look *",
-        formatter_class=argparse.RawDescriptionHelpFormatter,
-        allow_abbrev=False,
-    )
-    added.add_argument("files", type=Path, nargs="+", metavar="FILE", help="a file, or - for standard input")
-    added.set_defaults(runs=look)
-
-
-def add_damage(commands: argparse._SubParsersAction) -> None:
-    """Adds the command `damage`: a damaged uplink."""
-    added = command(
-        commands,
-        damage,
-        "IN.up",
-        "OUT.up",
+        option("--also", type=Path, action="append", default=[], metavar="LINE", help="add a line as a stream of its own"),
+        trust(),
+        LAW,
+    ),
+    (
+        damage, "IN.up", "OUT.up",
         "Damages an uplink. Its frames and misses are numbered from 0, in the order in which the search for frames yields them.\n"
         "FRAMES are parts with commas between: a frame A, frames A-B, every:N (the Nth, the 2Nth and so on: N-1, 2N-1, ..).\n"
         "The damages are done in the order of the options below. If --sid, --drop or --zero names a frame that isn't a speech\n"
         "frame, it stays as it is. Prints `damage frames N sid A drop B zero C align D slip E`: the number of frames, and the\n"
         "number of changes of each kind.",
         "7.up 8.up --sid 100-160 --drop 20-22,every:50 --slip 200:-3",
-    )
-    added.add_argument(
-        "--sid",
-        type=damages.Frames.parse,
-        metavar="FRAMES",
-        help="replace speech frames by a pause: a silence descriptor at its start and at each 24th frame (23, 47"
-        " and so on), which has TAF 1, and unusable frames between. A descriptor has the frame's spectrum and its least block maximum",
-    )
-    added.add_argument("--drop", type=damages.Frames.parse, metavar="FRAMES", help="mark speech frames as unusable: BFI 1")
-    added.add_argument("--zero", type=damages.Frames.parse, metavar="FRAMES", help="replace speech frames by 320 zeros")
-    added.add_argument(
-        "--align",
-        type=damages.align_word,
-        action="append",
-        default=[],
-        metavar="FRAME:FIELD",
-        help="set the alignment field, 0 to 63, of a speech frame or an idle frame; may be repeated",
-    )
-    added.add_argument(
-        "--slip",
-        type=damages.slip_word,
-        action="append",
-        default=[],
-        metavar="FRAME:BITS",
-        help="put up to 320 ones before a frame or, with a minus, leave out up to 320 bits before it; may be repeated."
-        " Ones then fill the line up to a whole period",
-    )
-
-
-ADDED = (
-    *(add_look, add_uplink, add_gsm, add_listen, add_pcm, add_sound, add_idle, add_slot, add_pcap, add_capture),
-    add_damage,
+        option(
+            "--sid", type=damages.Frames.parse, metavar="FRAMES",
+            help=     "replace speech frames by a pause: a silence descriptor at its start and at each 24th frame (23, 47"
+            " and so on), which has TAF 1, and unusable frames between. A descriptor has the frame's spectrum and its least block maximum",
+        ),
+        option("--drop", type=damages.Frames.parse, metavar="FRAMES", help="mark speech frames as unusable: BFI 1"),
+        option("--zero", type=damages.Frames.parse, metavar="FRAMES", help="replace speech frames by 320 zeros"),
+        option(
+            "--align", type=damages.align_word, action="append", default=[], metavar="FRAME:FIELD",
+            help="set the alignment field, 0 to 63, of a speech frame or an idle frame; may be repeated",
+        ),
+        option(
+            "--slip", type=damages.slip_word, action="append", default=[], metavar="FRAME:BITS",
+            help=     "put up to 320 ones before a frame or, with a minus, leave out up to 320 bits before it; may be repeated."
+            " Ones then fill the line up to a whole period",
+        ),
+    ),
 )
 
 
-def parser() -> argparse.ArgumentParser:
+def parser() -> Words:
     """The parser of the words."""
-    program = trau_frames.Words(
-        description=__doc__, formatter_class=argparse.RawDescriptionHelpFormatter, allow_abbrev=False
-    )
-    commands = program.add_subparsers(metavar="COMMAND", required=True, parser_class=trau_frames.Words)
-    for add in ADDED:
-        add(commands)
+    program = Words(__doc__)
+    add = program.commands()
+    add(look, "what files are", LOOK, option("files", type=Path, nargs="+", metavar="FILE", help="a file, or - for standard input"), example="*")
+    for made, given, new, text, example, *options in COMMANDS:
+        name = option("given", type=Path, metavar=given, help="the file to read, or - for standard input")
+        of = PERIODS if given == "PERIODS" else name
+        to = option("new", type=Path, metavar=new, help="the file to write, or - for standard output; never the one that is read")
+        add(made, f"{given} to {new}", text, of, to, *options, example=example, given=None, tag=WAV_LINEAR, made=made, runs=make_file)
     return program
 
 

@@ -15,9 +15,14 @@ import file_kinds
 import gsm_files
 import recordings
 import run_texts
-import trau_frames
+from core.frame import Sort, UpFrame, octets_of, write_up
+from core.g711 import Law
+from core.parameters import SILENCE, bits_of_parameters, gsm_of_data
+from core.profile import FRAME_BITS, FRAME_OCTETS, PCM_OCTETS
+from core.report import COUNTS
+from core.words import Refusal
 from tool_ends import naming
-from trau_frames import FRAME_BITS, FRAME_OCTETS, PCM_OCTETS, Law, Refusal, SpeechControl
+from tool_files import read_file
 
 TREATMENTS = {"speech": "keep", "silence": "noise", "idle": "quiet", "other": "skip"}
 
@@ -57,7 +62,7 @@ def library_beside() -> Optional[ModuleType]:
 
 def decoded_by_library(frames: List[str], library: ModuleType) -> bytes:
     """The A-law of frames, D1 to D260 each, by the C library and without a file."""
-    octets = b"".join(trau_frames.gsm_of_data(data) for data in frames)
+    octets = b"".join(gsm_of_data(data) for data in frames)
     return library.compress(library.Decoder().decode(octets), "alaw")
 
 
@@ -87,11 +92,10 @@ def write_line(path: Path, octets: bytes) -> None:
 
 def decoded_by_program(frames: List[str], trau: str) -> bytes:
     """The A-law that `trau decode` makes of frames, D1 to D260 each."""
-    control = SpeechControl().bits()
     with tempfile.TemporaryDirectory() as folder:
-        write_line(Path(folder, "1.up"), b"".join(trau_frames.octets_of(trau_frames.frame_of(control, data)) for data in frames))
+        write_line(Path(folder, "1.up"), b"".join(octets_of(write_up(UpFrame(Sort.GOOD, data=data))) for data in frames))
         said_by_program(trau, ["decode", "1"], folder)
-        return trau_frames.read_file(Path(folder, "1.out"))
+        return read_file(Path(folder, "1.out"))
 
 
 def decoded(frames: List[str], trau: Optional[str]) -> bytes:
@@ -106,7 +110,7 @@ def alaw_of_downlink(name: Path, octets: bytes, trau: Optional[str]) -> Tuple[by
     found = gsm_files.treated_downlink(name, octets, TREATMENTS)
     frames: List[str] = []
     for before, data in found.frames:
-        frames += before // FRAME_BITS * [trau_frames.SILENCE.bits()]
+        frames += before // FRAME_BITS * [bits_of_parameters(SILENCE)]
         frames.append(data)
     return decoded(frames, trau), f"found {found.said}"
 
@@ -127,8 +131,8 @@ def alaw_of_uplink(name: Path, octets: bytes, trau: Optional[str]) -> Tuple[byte
         write_line(Path(folder, "1.pcm"), bytes([Law.A.idle()]) * PCM_OCTETS * periods)
         text = said_by_program(trau or program_beside(), ["run"], folder, b"0 open 1\n")
         counts = run_texts.report_of(Path("report"), text).calls[1].counts
-        said = " ".join(f"{word} {counts[word]}" for word in run_texts.YIELDS)
-        return trau_frames.read_file(Path(folder, "1.out")), f"uplink {said}"
+        said = " ".join(f"{word} {counts[word]}" for word in COUNTS[:-1])
+        return read_file(Path(folder, "1.out")), f"uplink {said}"
 
 
 def alaw_of_line(name: Path, octets: bytes, trau: Optional[str]) -> Tuple[bytes, str]:

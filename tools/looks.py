@@ -7,9 +7,9 @@ import enum
 import re
 from typing import Any, Dict, Iterator, List, NamedTuple, Optional, Sequence, Tuple, Type
 
+from core.profile import FRAME_BITS, PCM_OCTETS
 from octet_columns import table
 from run_lines import NOTHING_SENT, Call, sent
-from trau_frames import FRAME_BITS, PCM_OCTETS
 from uplink_periods import BAD, by_what_came_before
 
 
@@ -93,9 +93,7 @@ class Stretch(NamedTuple):
 
     def said(self) -> str:
         """What the periods are, in words."""
-        return ", ".join(
-            f"{look.words}, {count} period{'' if count == 1 else 's'}" for look, count in self.counts.items() if count
-        )
+        return ", ".join(f"{look.words}, {count} period{'' if count == 1 else 's'}" for look, count in self.counts.items() if count)
 
 
 def parts_of(counts: Dict[Any, int], losses: Sequence[Any], steps: int) -> Tuple[Part, ...]:

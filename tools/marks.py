@@ -5,11 +5,8 @@ from __future__ import annotations
 from dataclasses import dataclass, field
 from typing import Dict, List, Optional, Tuple
 
-from run_texts import MOST_CALLS, MOST_PERIODS
+from core.profile import MOST_CALLS, MOST_PERIODS
 from word_faults import fault_of_number, faults_of_spaces, shown
-
-# Of a mark with the orders after it.
-MOST_OCTETS = 1310720
 
 MOST_SUM = 4294967295
 

@@ -5,7 +5,7 @@ from __future__ import annotations
 
 from typing import Callable
 
-from trau_frames import FRAME_OCTETS
+from core.profile import FRAME_OCTETS
 
 
 def table(function: Callable[[int], int]) -> bytes:

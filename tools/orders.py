@@ -20,24 +20,17 @@ from typing import Callable, Dict, List, NamedTuple, Optional, Sequence, Tuple
 import file_kinds
 import marks
 import tone_peaks
-import trau_frames
+from core.board import Board, Refused
+from core.g711 import Law
+from core.lines import INCOMING, name_of, whole_periods
+from core.orders import FORMS, NAMES, Order, read_order
+from core.profile import MOST_CALLS, MOST_LEVEL, MOST_MARKED_OCTETS, MOST_ORDERS, MOST_ORDER_OCTETS, MOST_PERIODS
+from core.report import Reply
+from core.words import Option, Refusal, Words, as_started, option, switch
 from file_kinds import Kind, Look
 from outgoing import said_of_outgoing
-from run_texts import (
-    FORMS,
-    INCOMING,
-    MOST_CALLS,
-    MOST_LEVEL,
-    MOST_ORDER_OCTETS,
-    MOST_ORDERS,
-    MOST_PERIODS,
-    NAMES,
-    Order,
-    read_order,
-    whole_periods,
-)
 from tool_ends import tool
-from trau_frames import Law, Refusal
+from tool_files import STREAM, read_file, write_file
 from word_faults import fault_of_number, faults_of_spaces, grouped, shown
 
 # The words after an order's name, as the documents show them; the other orders have only C.
@@ -51,8 +44,8 @@ FEW_NAMES = {"law": "mulaw, or nothing for A-law", "mode": "on, off or uplink"}
 
 
 COMMENT = "#"
-STRIPS = trau_frames.as_started("orders.py strip leaves out comments and empty lines")
-OF_A_MARK = f"{trau_frames.as_started('orders.py')} check --mark takes a mark with the orders after it"
+STRIPS = as_started("orders.py strip leaves out comments and empty lines")
+OF_A_MARK = f"{as_started('orders.py')} check --mark takes a mark with the orders after it"
 
 
 def faults_of_words(words: Sequence[str]) -> List[str]:
@@ -132,7 +125,7 @@ def periods_of_lines(folder: Path, call: int) -> Dict[str, int]:
 
 def has_unending(folder: Path, call: int) -> bool:
     """Whether an incoming line of a call is a pipe or a device."""
-    return any(is_unending(folder / f"{call}.{side}") for side in INCOMING)
+    return any(is_unending(folder / name_of(call, side)) for side in INCOMING)
 
 
 def end_by_lines(folder: Path, call: int, stamp: int) -> Optional[int]:
@@ -140,82 +133,29 @@ def end_by_lines(folder: Path, call: int, stamp: int) -> Optional[int]:
     return None if has_unending(folder, call) else stamp + min(periods_of_lines(folder, call).values())
 
 
-class Board:
-    """Which calls are open and bridged, as the orders are executed one after another. Where a folder of lines is given, calls
-    also end with their lines."""
+def board_of(folder: Optional[Path]) -> Board:
+    """The board before any order. Where a folder of lines is given, calls also end with their lines."""
+    return Board(lambda order: None if folder is None else end_by_lines(folder, order.calls[0], order.stamp))
 
-    def __init__(self, folder: Optional[Path]) -> None:
-        self.folder = folder
-        self.ends: Dict[int, Optional[int]] = {}  # of the open calls; None if it isn't known
-        self.used: Dict[int, int] = {}  # the line that opened a call
-        self.partners: Dict[int, int] = {}
-        self.parted: Dict[int, Tuple[int, int]] = {}  # the partner that an order took, and when
 
-    def end_of_lines(self, stamp: int) -> None:
-        """Ends the calls whose lines ended before this period."""
-        for call, end in list(self.ends.items()):
-            if end is not None and end < stamp:
-                self.partners.pop(self.partners.pop(call, 0), None)
-                del self.ends[call]
-
-    def part(self, call: int, stamp: int) -> None:
-        """An order ends the bridge of a call, if it has one."""
-        other = self.partners.pop(call, None)
-        if other is not None:
-            del self.partners[other]
-            self.parted[call], self.parted[other] = (other, stamp), (call, stamp)
-
-    def refusal(self, order: Order) -> Optional[Tuple[int, str]]:
-        """The refusal of an order, by its number and in words, or None."""
-        first = order.calls[0]
-        if order.verb == "open":
-            if first in self.ends:
-                return 1, f"call {first} is open since line {self.used[first]}"
-            return (7, f"call {first} was opened by line {self.used[first]}") if first in self.used else None
-        if order.verb == "bridge" and first == order.calls[1]:
-            return 5, f"a bridge of call {first} with itself"
-        for call in order.calls:
-            if call not in self.ends:
-                return 2, f"call {call} " + ("has ended" if call in self.used else "isn't open")
-        if order.verb == "unbridge":
-            return None if first in self.partners else (4, f"call {first} isn't bridged")
-        if order.verb == "bridge":
-            for call in order.calls:
-                if call in self.partners:
-                    return 3, f"call {call} is bridged with call {self.partners[call]}"
-            for call in order.calls:
-                if self.parted.get(call, (0, -1))[1] == order.stamp:
-                    return 6, f"the bridge of call {call} with call {self.parted[call][0]} was ended in this very period"
-        return None
-
-    def execute(self, order: Order) -> Optional[Tuple[int, str]]:
-        """Executes an order; gives its refusal, or None."""
-        self.end_of_lines(order.stamp)
-        refusal = self.refusal(order)
-        if refusal:
-            return refusal
-        first = order.calls[0]
-        if order.verb == "open":
-            self.used[first] = order.number
-            self.ends[first] = None if self.folder is None else end_by_lines(self.folder, first, order.stamp)
-        elif order.verb == "bridge":
-            first, second = order.calls
-            self.partners.update({first: second, second: first})
-        elif order.verb in ("unbridge", "close"):
-            self.part(first, order.stamp)
-            if order.verb == "close":
-                del self.ends[first]
-        return None
+def said_of_refusal(board: Board, reply: Reply) -> str:
+    """Why an order is refused, by its lines and calls."""
+    call, partner = reply.call, reply.partner
+    line = board.opened[call].number if call in board.opened else None
+    return {
+        Refused.ALREADY_OPEN: f"call {call} is open since line {line}",
+        Refused.NOT_OPEN: f"call {call} " + ("has ended" if line else "isn't open"),
+        Refused.BRIDGED: f"call {call} is bridged with call {partner}",
+        Refused.NOT_BRIDGED: f"call {call} isn't bridged",
+        Refused.SAME_CALL: f"a bridge of call {call} with itself",
+        Refused.DRAINING: f"the bridge of call {call} with call {partner} was ended in this very period",
+        Refused.NUMBER_USED: f"call {call} was opened by line {line}",
+    }[Refused(reply.refusal)]
 
 
 # What is said of the lines of a call that is opened
 
 LOOKED_AT = 4000  # octets of a line, so that a farm of thousands of calls is looked at in seconds
-
-
-def line_name(order: Order, side: str) -> str:
-    """The name of an incoming line of a call that is opened."""
-    return f"{order.calls[0]}.{side}"
 
 
 def other_kind(name: Path, side: str, order: Order) -> Optional[Look]:
@@ -231,7 +171,7 @@ def other_kind(name: Path, side: str, order: Order) -> Optional[Look]:
 
 def warning_of_line(folder: Path, order: Order, side: str) -> Optional[str]:
     """What is wrong with an incoming line of a call that is opened, if anything."""
-    name = line_name(order, side)
+    name = name_of(order.calls[0], side)
     if (folder / name).is_dir():
         return f"{name} is a folder: the line will fail"
     if is_unending(folder / name):
@@ -255,12 +195,12 @@ def note_on_periods(folder: Path, order: Order) -> Optional[str]:
     shorter, longer = sorted(periods, key=periods.__getitem__)
     unused = periods[longer] - periods[shorter]
     if not periods[shorter]:
-        is_there = (folder / line_name(order, shorter)).is_file()
-        return f"{line_name(order, shorter)} has no whole period, so the call has none" if is_there else None
+        is_there = (folder / name_of(order.calls[0], shorter)).is_file()
+        return f"{name_of(order.calls[0], shorter)} has no whole period, so the call has none" if is_there else None
     if not unused:
         return None
     what = f"the last {unused} periods" if unused > 1 else "the last period"
-    return f"{what} of {line_name(order, longer)} won't be used: {line_name(order, shorter)} has {periods[shorter]}"
+    return f"{what} of {name_of(order.calls[0], longer)} won't be used: {name_of(order.calls[0], shorter)} has {periods[shorter]}"
 
 
 class Remarks(NamedTuple):
@@ -272,11 +212,11 @@ class Remarks(NamedTuple):
 
 def remarks_on(orders: Sequence[Order], folder: Optional[Path]) -> Remarks:
     """What is said of orders, and of the lines in the folder, if it is given."""
-    board, found = Board(folder), Remarks([], [])
+    board, found = board_of(folder), Remarks([], [])
     for order in orders:
-        refusal = board.execute(order)
-        if refusal:
-            found.warnings.append((order.number, f"the run will refuse it ({refusal[0]}): {refusal[1]}"))
+        reply = board.execute(order)
+        if reply.refusal is not None:
+            found.warnings.append((order.number, f"the run will refuse it ({reply.refusal:d}): {said_of_refusal(board, reply)}"))
         elif order.verb == "open" and folder is not None:
             said = (warning_of_line(folder, order, side) for side in INCOMING)
             found.warnings.extend((order.number, each) for each in said if each)
@@ -289,13 +229,12 @@ def remarks_on(orders: Sequence[Order], folder: Optional[Path]) -> Remarks:
 
 def open_at(orders: Sequence[Order], folder: Optional[Path], period: int) -> Dict[int, int]:
     """The calls that are open at a period, before its orders, and the periods at which they were opened."""
-    board, stamps = Board(folder), {}
+    board = board_of(folder)
     for order in orders:
         if order.stamp < period:
             board.execute(order)
-            stamps[order.number] = order.stamp
-    board.end_of_lines(period)
-    return {call: stamps[board.used[call]] for call in board.ends}
+    board.end_calls(period)
+    return {call: board.opened[call].stamp for call in board.ends}
 
 
 def warnings_of_mark(mark: marks.Mark, orders: Sequence[Order], folder: Optional[Path]) -> List[Tuple[int, str]]:
@@ -313,7 +252,7 @@ def warnings_of_mark(mark: marks.Mark, orders: Sequence[Order], folder: Optional
     return [(line, f"warning: trau resume will refuse the mark: {what}") for line, what in found]
 
 
-# The words of the command line
+# What is said
 
 
 def print_faults(what: str, said: Sequence[Tuple[int, str]]) -> None:
@@ -329,9 +268,9 @@ def check_marked(words: argparse.Namespace, octets: bytes) -> int:
     faults = [(line, "; ".join(each)) for line, each in mark.faults.items()]
     compared = not mark.faults and not text.faults
     print_faults("mark line", faults or (warnings_of_mark(mark, text.orders, words.lines) if compared else []))
-    too_long = len(octets) > marks.MOST_OCTETS
+    too_long = len(octets) > MOST_MARKED_OCTETS
     if too_long:
-        print(f"too long: {grouped(len(octets))} octets; the program takes {grouped(marks.MOST_OCTETS)} with the mark")
+        print(f"too long: {grouped(len(octets))} octets; the program takes {grouped(MOST_MARKED_OCTETS)} with the mark")
     print(f"mark lines {mark.lines} bad {len(mark.faults)}")
     status = say_of_orders(words, text, len(rest))
     return 1 if mark.faults or too_long else status
@@ -341,7 +280,7 @@ def check(words: argparse.Namespace) -> int:
     """Says what is wrong with the orders of a file."""
     if words.lines is not None and not words.lines.is_dir():
         raise Refusal(f"{words.lines}: isn't a folder")
-    octets = trau_frames.read_file(words.orders)
+    octets = read_file(words.orders)
     file_kinds.refuse_other(words.orders, octets, "no orders", Kind.TEXT)
     return check_marked(words, octets) if words.mark else say_of_orders(words, Text.read(octets), len(octets))
 
@@ -365,11 +304,11 @@ def say_of_orders(words: argparse.Namespace, text: Text, octets: int) -> int:
 
 def strip(words: argparse.Namespace) -> int:
     """Prints orders without their comments and without empty lines."""
-    lines = trau_frames.read_file(words.orders).split(b"\n")
+    lines = read_file(words.orders).split(b"\n")
     kept = [line for line in map(without_comment, lines) if line]
     content = b"".join(line + b"\n" for line in kept)
-    trau_frames.write_file(words.new, content, [words.orders])
-    if words.new != trau_frames.STREAM:
+    write_file(words.new, content, [words.orders])
+    if words.new != STREAM:
         print(f"strip orders {len(kept)}")
     return 0
 
@@ -379,69 +318,6 @@ def without_comment(line: bytes) -> bytes:
     text, mark, _ = line.partition(COMMENT.encode())
     blank = b" \t\r"
     return text.rstrip(blank) if mark or not text.strip(blank) else line
-
-
-def add_check(commands: argparse._SubParsersAction) -> None:
-    """Adds the command `check`."""
-    added = commands.add_parser(
-        "check",
-        help="says what is wrong with orders",
-        description="Prints what is wrong with each bad line, by the number that `trau run` prints as `orders line N`, and the number and\n"
-        "cause of each refusal that the run will give. The last line counts: `orders N bad B warnings W`. Status 0: the run takes\n"
-        "the orders. Status 1: a line is bad, or they are too long. Status 2: they can't be read.\n\n"
-        "With --mark it also prints what is wrong with the mark before the orders, by the number that `trau resume` prints as\n"
-        "`save line N`, and which of its calls these orders don't have open, for which `trau resume` prints `save differs C`.\n"
-        "`mark lines N bad B` counts, and what is said of the orders follows.",
-        epilog="example: orders.py check orders.txt --lines .",
-        formatter_class=argparse.RawDescriptionHelpFormatter,
-        allow_abbrev=False,
-    )
-    added.add_argument("orders", type=Path, metavar="ORDERS", help="the file of the orders, or - for standard input")
-    added.add_argument(
-        "--lines",
-        type=Path,
-        metavar="FOLDER",
-        help="the folder of the calls' incoming lines: calls then end with their lines, as in a run. It warns of missing lines and of"
-        " lines that aren't what their names say, and notes the periods of the longer line that won't be used, and links by which a run"
-        " writes other files. Without it"
-        " calls end only by orders",
-    )
-    added.add_argument(
-        "--mark",
-        action="store_true",
-        help="the file is what `trau resume` reads: a mark, as `trau save` prints it, and after it the orders of the whole run",
-    )
-    added.set_defaults(runs=check)
-
-
-def add_strip(commands: argparse._SubParsersAction) -> None:
-    """Adds the command `strip`."""
-    added = commands.add_parser(
-        "strip",
-        help="leaves out comments and empty lines",
-        description="Writes the orders without comments, which begin with # anywhere in a line and the spaces before them, and without\n"
-        "empty lines. `trau run` numbers the remaining lines.",
-        epilog="example: orders.py strip <notes.txt | trau run",
-        formatter_class=argparse.RawDescriptionHelpFormatter,
-        allow_abbrev=False,
-    )
-    added.add_argument(
-        "orders",
-        type=Path,
-        nargs="?",
-        default=trau_frames.STREAM,
-        metavar="ORDERS",
-        help="the file of the orders (default standard input, which - names too)",
-    )
-    added.add_argument(
-        "new",
-        type=Path,
-        nargs="?",
-        default=trau_frames.STREAM,
-        metavar="OUT",
-        help="the file to write (default standard output); never the one that is read",
-    )
-    added.set_defaults(runs=strip)
 
 
 # The level of a tone
@@ -470,36 +346,66 @@ def figure_within(least: float, most: float) -> Callable[[str], float]:
     return read
 
 
-def add_level(commands: argparse._SubParsersAction) -> None:
-    """Adds the command `level`."""
-    added = commands.add_parser(
-        "level",
-        help="says which number `level` is for a tone",
-        description="Prints up to which number V of the order `S level C V` each frame of a tone on the Pcm line counts as speech, and\n"
-        "from which on none does; between them its phase decides. The peaks of its frames are computed as the encoder does it (GSM\n"
-        "06.10, sections 4.2.1 to 4.2.3), for 200 frames at all phases.",
-        epilog="example: orders.py level -30 1000",
-        formatter_class=argparse.RawDescriptionHelpFormatter,
-        allow_abbrev=False,
-    )
-    ends = tone_peaks.LEAST_DBM0, tone_peaks.MOST_DBM0
-    added.add_argument("dbm0", type=figure_within(*ends), metavar="DBM0", help="the tone's level in dBm0, {:g} to {:g}".format(*ends))
-    ends = tone_peaks.LEAST_HERTZ, tone_peaks.MOST_HERTZ
-    added.add_argument("hertz", type=figure_within(*ends), metavar="HERTZ", help="its frequency in Hz, {:g} to {:g}".format(*ends))
-    added.add_argument("--law", type=Law, choices=list(Law), default=Law.A, help="the law of the line (default alaw)")
-    added.set_defaults(runs=level)
+# The words of the command line
+
+CHECK_TEXT = (
+    "Prints what is wrong with each bad line, by the number that `trau run` prints as `orders line N`, and the number and\n"
+    "cause of each refusal that the run will give. The last line counts: `orders N bad B warnings W`. Status 0: the run takes\n"
+    "the orders. Status 1: a line is bad, or they are too long. Status 2: they can't be read.\n\n"
+    "With --mark it also prints what is wrong with the mark before the orders, by the number that `trau resume` prints as\n"
+    "`save line N`, and which of its calls these orders don't have open, for which `trau resume` prints `save differs C`.\n"
+    "`mark lines N bad B` counts, and what is said of the orders follows."
+)
+CHECK_OPTIONS = (
+    option("orders", type=Path, metavar="ORDERS", help="the file of the orders, or - for standard input"),
+    option(
+        "--lines", type=Path, metavar="FOLDER",
+        help="the folder of the calls' incoming lines: calls then end with their lines, as in a run. It warns of missing lines and of"
+        " lines that aren't what their names say, and notes the periods of the longer line that won't be used, and links by which a run"
+        " writes other files. Without it"
+        " calls end only by orders",
+    ),
+    switch("--mark", "the file is what `trau resume` reads: a mark, as `trau save` prints it, and after it the orders of the whole run"),
+)
+STRIP_TEXT = (
+    "Writes the orders without comments, which begin with # anywhere in a line and the spaces before them, and without\n"
+    "empty lines. `trau run` numbers the remaining lines."
+)
+STRIP_OPTIONS = (
+    option(
+        "orders", type=Path, nargs="?", default=STREAM, metavar="ORDERS", help="the file of the orders (default standard input, which - names too)"
+    ),
+    option(
+        "new", type=Path, nargs="?", default=STREAM, metavar="OUT", help="the file to write (default standard output); never the one that is read"
+    ),
+)
+LEVEL_TEXT = (
+    "Prints up to which number V of the order `S level C V` each frame of a tone on the Pcm line counts as speech, and\n"
+    "from which on none does; between them its phase decides. The peaks of its frames are computed as the encoder does it (GSM\n"
+    "06.10, sections 4.2.1 to 4.2.3), for 200 frames at all phases."
+)
+
+
+def figure(name: str, least: float, most: float, what: str) -> Option:
+    """An argument that is a figure between these ends."""
+    return option(name, type=figure_within(least, most), metavar=name.upper(), help=f"{what}, {least:g} to {most:g}")
+
+
+LEVEL_OPTIONS = (
+    figure("dbm0", tone_peaks.LEAST_DBM0, tone_peaks.MOST_DBM0, "the tone's level in dBm0"),
+    figure("hertz", tone_peaks.LEAST_HERTZ, tone_peaks.MOST_HERTZ, "its frequency in Hz"),
+    option("--law", type=Law, choices=list(Law), default=Law.A, help="the law of the line (default alaw)"),
+)
 
 
 @tool("orders.py")
 def main(words: Sequence[str]) -> int:
     """Runs the words of the command line, and returns the exit status."""
-    program = trau_frames.Words(
-        description=__doc__, formatter_class=argparse.RawDescriptionHelpFormatter, allow_abbrev=False
-    )
-    commands = program.add_subparsers(metavar="COMMAND", required=True, parser_class=trau_frames.Words)
-    add_check(commands)
-    add_strip(commands)
-    add_level(commands)
+    program = Words(__doc__)
+    add = program.commands()
+    add(check, "says what is wrong with orders", CHECK_TEXT, *CHECK_OPTIONS, example="orders.txt --lines .")
+    add(strip, "leaves out comments and empty lines", STRIP_TEXT, *STRIP_OPTIONS, example="<notes.txt | trau run")
+    add(level, "says which number `level` is for a tone", LEVEL_TEXT, *LEVEL_OPTIONS, example="-30 1000")
     asked = program.parse_args(words)
     return asked.runs(asked)
 

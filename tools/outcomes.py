@@ -2,16 +2,12 @@
 
 from __future__ import annotations
 
-import re
 from typing import Dict, List, NamedTuple, Optional, Sequence
 
 import looks
-from run_lines import LOST_HEARD, SPEECH_HEARD, Call
-from run_texts import Bridge
-from trau_frames import PERIODS_A_SECOND
-
-LOST = re.compile(re.escape(bytes([LOST_HEARD])) + b"+")
-
+from core.profile import PERIODS_A_SECOND
+from core.report import Bridge
+from run_lines import LOST_HEARD, SPEECH_HEARD, Call, Heard, longest
 
 class Outcome(NamedTuple):
     """How many periods of a call's uplink were speech, how many were speech that was lost, and how many the longest gap has."""
@@ -42,8 +38,8 @@ class Outcome(NamedTuple):
 def outcome_of(call: Call) -> Outcome:
     """The outcome of a call."""
     heard = call.heard()
-    longest, start = max(((len(found.group()), -found.start()) for found in LOST.finditer(heard)), default=(0, None))
-    return Outcome(heard.count(SPEECH_HEARD), heard.count(LOST_HEARD), longest, None if start is None else -start)
+    gap = longest(heard, Heard.LOST)
+    return Outcome(heard.count(SPEECH_HEARD), heard.count(LOST_HEARD), gap.length if gap else 0, gap.start if gap else None)
 
 
 def badness(call: Call) -> tuple:

@@ -7,7 +7,7 @@ import re
 from pathlib import Path
 from typing import Iterator, Tuple
 
-from run_texts import OUTGOING
+from core.lines import OUTGOING, name_of
 
 
 def incoming_files(folder: Path) -> Iterator[Path]:
@@ -30,7 +30,7 @@ def can_be_written(path: Path) -> bool:
 def said_of_outgoing(folder: Path, call: int) -> Iterator[Tuple[bool, str]]:
     """What is said of a call's outgoing lines, each with whether it is a warning or else a note."""
     for side in OUTGOING:
-        path = folder / f"{call}.{side}"
+        path = folder / name_of(call, side)
         shared = shared_with(path)
         if path.is_dir():
             yield True, f"{path.name} is a folder: the line will fail"

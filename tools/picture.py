@@ -15,11 +15,11 @@ import looks
 import outcomes
 import run_lines
 from call_lines import LOWEST_LEVEL, QUARTERS
+from core.profile import PERIODS_A_SECOND
+from core.report import Bridge
 from looks import DOWN_LOSSES, LOSSES, DownLook, Look
 from run_lines import Answered, Call, Run
-from run_texts import Bridge
 from side_by_side import ALONE, Workers
-from trau_frames import PERIODS_A_SECOND
 
 # Lengths are in pixels.
 LEFT, TOP, RIGHT = 130, 24, 24
@@ -96,14 +96,7 @@ def signed(octets: int) -> str:
 class Picture:
     """A picture of a run from a period on to another, which is drawn from the back to the front."""
 
-    def __init__(
-        self,
-        run: Run,
-        width: int,
-        shape: Shape,
-        first: Optional[int] = None,
-        last: Optional[int] = None,
-    ) -> None:
+    def __init__(self, run: Run, width: int, shape: Shape, first: Optional[int] = None, last: Optional[int] = None) -> None:
         self.run = run
         self.shape = shape
         self.first = run.start() if first is None else first
@@ -138,9 +131,7 @@ class Picture:
         self.orders_top = self.legend_top + self.legend_rows * LEGEND_ROW + 16
         self.rows_top = self.orders_top + ORDERS
         rows = [call.number for call in self.run.calls]
-        self.rows: Dict[int, float] = {
-            number: self.rows_top + self.shape.height() * place for place, number in enumerate(rows)
-        }
+        self.rows: Dict[int, float] = {number: self.rows_top + self.shape.height() * place for place, number in enumerate(rows)}
         self.axis = self.rows_top + self.shape.height() * len(rows)
         self.list_top = self.axis + 62
         listed = self.listed_orders()
@@ -332,9 +323,7 @@ class Picture:
             return
         upper, lower = sorted(self.bridge_top(number) for number in bridge.calls)
         left, right = self.x(bridge.start), self.x(bridge.end)
-        self.box(
-            left, upper + self.shape.bridge, right - left, lower - upper - self.shape.bridge, BRIDGE_COLOUR, fill_opacity=0.045
-        )
+        self.box(left, upper + self.shape.bridge, right - left, lower - upper - self.shape.bridge, BRIDGE_COLOUR, fill_opacity=0.045)
         for x in (left, right):
             self.line(x, upper, x, lower, BRIDGE_COLOUR, 1.5)
 
@@ -385,9 +374,7 @@ class Picture:
         frame = {"fill": "none", "stroke": INK, "stroke_width": 0.75, "pointer_events": "none"}
         self.box(left, top, right - left, self.shape.band, **frame)
         opening = f"call {call.number} opened at period {call.span.start} ({seconds(call.span.start)})"
-        ending = (
-            f"call {call.number} ended at period {call.span.end} ({seconds(call.span.end)}): {self.end_words(call)}"
-        )
+        ending = (f"call {call.number} ended at period {call.span.end} ({seconds(call.span.end)}): {self.end_words(call)}")
         for period, title in ((call.span.start, opening), (call.span.end, ending)):
             if self.first <= period <= self.last:
                 self.line(self.x(period), top - 2, self.x(period), top + self.shape.band + 2, INK, 2, title)
@@ -396,9 +383,7 @@ class Picture:
         self.add("text", told, self.row_words(call), x=self.plot_right + 12, y=top + self.shape.band / 2 + 4, **{"class": size})
         self.draw_shifts(call, top)
 
-    def draw_band(
-        self, call: Call, values: bytes, kind: Type[Enum], losses: Sequence[Enum], top: float, height: float, what: str
-    ) -> None:
+    def draw_band(self, call: Call, values: bytes, kind: Type[Enum], losses: Sequence[Enum], top: float, height: float, what: str) -> None:
         """The periods of a call by the codes of their looks, from the first that is shown on."""
         start = max(call.span.start, self.first)
         for stretch in looks.columns(values, kind, losses, self.column, round(height)):
@@ -453,9 +438,7 @@ class Picture:
             )
             self.triangle(self.mark_of(asked.period), top - 3, title, filled=False)
         shifts = list(call.shifts())
-        marks = sorted(
-            {self.mark_of(period) for period, _ in shifts} | {self.mark_of(asked.period) for asked in waiting}
-        )
+        marks = sorted({self.mark_of(period) for period, _ in shifts} | {self.mark_of(asked.period) for asked in waiting})
         free = 0.0
         for period, octets in shifts:
             if self.shows(period):
@@ -465,9 +448,7 @@ class Picture:
         """Where the mark of a period's shift points."""
         return self.x(period) + self.scale / 2
 
-    def draw_shift(
-        self, call: Call, top: float, period: int, octets: int, marks: Sequence[float], free: float
-    ) -> float:
+    def draw_shift(self, call: Call, top: float, period: int, octets: int, marks: Sequence[float], free: float) -> float:
         """The mark of a shift, its octets if no other mark or text is in the way, and where the room after them begins."""
         x = self.mark_of(period)
         title = (

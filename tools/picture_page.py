@@ -15,10 +15,11 @@ import call_lines
 import looks
 import outcomes
 import run_lines
+from core.lines import name_of
+from core.profile import PERIODS_A_SECOND
 from looks import DOWN_LOSSES, LOSSES, DownLook, Look
 from picture import ALARM, BRIDGE_COLOUR, OUT_COLOUR, PCM_COLOUR, Picture
 from run_lines import Call
-from trau_frames import PERIODS_A_SECOND
 
 MOST_WORST = 10
 SCRIPT = Path(__file__).with_name("picture_page.js")
@@ -82,9 +83,7 @@ def data_of_call(picture: Picture, call: Call, lines: call_lines.Lines) -> Dict[
         **{side: packed(lines.levels.get(side, b"")) for side in call_lines.LEVEL_SIDES},
         "shifts": [list(shift) for shift in call.shifts() if picture.shows(shift.period)],
         "waiting": [list(asked) for asked in run_lines.asked_while_frozen(call, bridges) if picture.shows(asked.period)],
-        "bridges": [
-            {"start": bridge.start, "end": bridge.end, "partner": sum(bridge.calls) - call.number} for bridge in bridges
-        ],
+        "bridges": [{"start": bridge.start, "end": bridge.end, "partner": sum(bridge.calls) - call.number} for bridge in bridges],
     }
 
 
@@ -98,10 +97,7 @@ def data_of(picture: Picture, lines: Dict[int, call_lines.Lines]) -> Dict[str, A
         "looks": looks_of(Look, LOSSES),
         "downLooks": looks_of(DownLook, DOWN_LOSSES),
         "calls": [data_of_call(picture, call, lines[call.number]) for call in picture.run.calls],
-        "orders": [
-            {"period": each.order.stamp, "words": each.told(), "refused": each.reply.refusal is not None}
-            for each in picture.shown_orders()
-        ],
+        "orders": [{"period": each.order.stamp, "words": each.told(), "refused": each.reply.refusal is not None} for each in picture.shown_orders()],
     }
 
 
@@ -115,7 +111,7 @@ def totals(picture: Picture) -> Iterator[str]:
     yield f"<p>call periods {sum(call.periods() for call in run.calls)}, of them speech {speech}, speech lost {lost} ({rate})</p>"
     yield f"<p>calls with losses {sum(each.lost > 0 for each in found)}, bridges {len(run.bridges)}</p>"
     yield f"<p>orders {len(run.orders)}, refused {refused}</p>"
-    failed = [f"{call.number}.{side}" for call in run.calls for side in call.failed]
+    failed = [name_of(call.number, side) for call in run.calls for side in call.failed]
     yield f"<p class='alarm'>lines that failed: {escape(' '.join(failed))}</p>" if failed else "<p>no line failed</p>"
 
 

@@ -3,15 +3,15 @@ pauses; the calls' uplinks tell them apart."""
 
 from __future__ import annotations
 
-import re
 from pathlib import Path
 from typing import Iterator, List, NamedTuple, Optional, Sequence
 
 import run_lines
-from run_lines import HEARDS, Call, Heard
-from run_texts import Bridge, Reply, Report
+from core.profile import FRAME_OCTETS, PERIODS_A_SECOND
+from core.report import Bridge, Reply, Report
+from core.words import Refusal
+from run_lines import HEARDS, Call, Heard, longest
 from side_by_side import Workers
-from trau_frames import FRAME_OCTETS, PERIODS_A_SECOND, Refusal
 
 # Why an order was refused: {call} is the call that its line names, {partner} the other one.
 REASONS = {
@@ -56,19 +56,13 @@ def said_of_cause(cause: str) -> str:
     return f"{words[1].capitalize()} {'ended' if words[0] == 'end' else 'failed'}{left}"
 
 
-def longest(codes: bytes, wanted: Heard) -> int:
-    """The length of the longest stretch of a code."""
-    code = re.escape(bytes([HEARDS.index(wanted)]))
-    return max((len(found.group()) for found in re.finditer(code + b"+", codes)), default=0)
-
-
 def said_of_heard(call: Call) -> str:
     """What the periods of a call gave, by its uplink, which has been searched."""
     codes = call.heard()
     counts = {heard: codes.count(code) for code, heard in enumerate(HEARDS)}
     said = [f"{word} {counts[heard]}" for heard, word in HEARD_WORDS.items()]
     if counts[Heard.LOST]:
-        said[1] += f" (at most {longest(codes, Heard.LOST)} in a row)"
+        said[1] += f" (at most {longest(codes, Heard.LOST).length} in a row)"
     other = call.span.counts["other"]
     more = f"; not full rate speech, and not decoded: {other}" if other else ""
     return ", ".join(said) + more
@@ -123,9 +117,7 @@ def said_of_bridge(bridge: Bridge) -> str:
 def sentences(report: Report, name: Path, folder: Optional[Path], workers: Workers) -> List[str]:
     """The report in sentences. The uplinks are in the folder, or if none is named, perhaps in that of the report."""
     where = folder or name.parent
-    pieces = [
-        (where, call, run_lines.bridges_of(call, report.bridges), folder is not None) for call in run_lines.calls_of(report)
-    ]
+    pieces = [(where, call, run_lines.bridges_of(call, report.bridges), folder is not None) for call in run_lines.calls_of(report)]
     octets = FRAME_OCTETS * sum(call.periods() for _, call, _, _ in pieces)
     rows = list(workers.each("searching uplinks", row_of_call, pieces, octets))
     said = [*said_of_orders(report.replies, report.left), *map(said_of_bridge, report.bridges), *(row.said for row in rows)]

@@ -14,8 +14,9 @@ import sys
 from array import array
 from typing import Dict, NamedTuple, Optional, Sequence
 
-import slots
-from trau_frames import Law
+from core.g711 import Law, expand_all
+from core.slots import octets_turned
+
 
 MOST_OCTETS = 16000  # two seconds
 LEAST_OCTETS = 800  # a tenth of a second
@@ -38,9 +39,6 @@ class Reading(NamedTuple):
 
     law: Optional[Law]
     turned: bool
-
-
-EXPANDED = {law: [law.expand(octet) for octet in range(256)] for law in Law}
 
 
 class Figure(NamedTuple):
@@ -67,9 +65,9 @@ def readings_of(octets: bytes) -> Dict[Reading, Figure]:
     """Each reading of octets with its figure."""
     found = {}
     for turned in (False, True):
-        read = slots.turned(octets) if turned else octets
+        read = octets_turned(octets) if turned else octets
         for law in Law:
-            found[Reading(law, turned)] = figure(list(map(EXPANDED[law].__getitem__, read)))
+            found[Reading(law, turned)] = figure(expand_all(law, read))
     samples = array("h", octets[: len(octets) // 2 * 2])
     if sys.byteorder == "big":
         samples.byteswap()

@@ -9,7 +9,9 @@ import zlib
 from pathlib import Path
 from typing import BinaryIO, Iterator
 
-from trau_frames import STREAM, Refusal
+from core.words import Refusal
+from tool_files import STREAM
+
 
 BLOCK_OCTETS = 1 << 20
 PACKED = ".gz"

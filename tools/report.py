@@ -14,23 +14,26 @@ import argparse
 import csv
 import io
 import json
-import re
 import sys
 from collections import Counter
 from pathlib import Path
-from typing import Any, Callable, Dict, Iterator, List, NamedTuple, Optional, Sequence, Tuple
+from typing import Any, Callable, Dict, Iterator, List, NamedTuple, Optional, Sequence
 
 import frame_kinds
 import read_aloud
 import run_lines
 import run_texts
 import sync_losses
-import trau_frames
-from run_lines import HEARDS, Call, Heard, Sent
-from run_texts import OCTETS_OF_SIDE, SIDES, Report
-from side_by_side import Workers, add_processes
+from core.frame import bits_of
+from core.lines import OCTETS_OF_SIDE, SIDES, name_of, whole_periods
+from core.profile import FRAME_OCTETS, PERIODS_A_SECOND
+from core.report import COUNTS, Bridge, Report
+from core.search import period_of, search
+from core.words import Option, Refusal, Words, one_of, option, switch
+from run_lines import HEARDS, Call, Heard, Sent, longest, stretches
+from side_by_side import PROCESSES, Workers
 from tool_ends import tool
-from trau_frames import FRAME_OCTETS, PERIODS_A_SECOND, Refusal, period_of
+from tool_files import read_file
 
 Row = Dict[str, Any]
 
@@ -57,10 +60,7 @@ def whole_report(report: Report) -> Row:
             {"order": order, **{name: value for name, value in reply._asdict().items() if value is not None}}
             for order, reply in enumerate(report.replies, 1)
         ],
-        "bridges": [
-            {"calls": each.calls, "start": each.start, "end": each.end, "sent": each.sent, "lost": each.lost}
-            for each in report.bridges
-        ],
+        "bridges": [{"calls": each.calls, "start": each.start, "end": each.end, "sent": each.sent, "lost": each.lost} for each in report.bridges],
         "calls": rows_of_calls(report),
         "failed": [{"call": failed.call, "side": SIDES[failed.side]} for failed in report.failed],
         "end": report.end(),
@@ -83,7 +83,7 @@ def rows_of_calls(report: Report) -> List[Row]:
     ]
 
 
-REPORT_COLUMNS = ("call", "start", "end", "cause", *run_texts.YIELDS, "made", "failed")
+REPORT_COLUMNS = ("call", "start", "end", "cause", *COUNTS[:-1], "made", "failed")
 
 
 def text(words: argparse.Namespace) -> Answer:
@@ -105,24 +105,10 @@ CALL_COLUMNS = (
 )
 
 
-def stretches(values: bytes, wanted: Heard) -> List[Tuple[int, int]]:
-    """How long each stretch of a value's code is, and where it begins."""
-    code = re.escape(bytes([HEARDS.index(wanted)]))
-    return [(len(found.group()), found.start()) for found in re.finditer(code + b"+", values)]
-
-
-def longest_of(found: Sequence[Tuple[int, int]], start: int) -> Tuple[int, Optional[int]]:
-    """The length of the first of the longest stretches, and the period of the run at which it begins."""
-    if not found:
-        return 0, None
-    length, place = max(found, key=lambda stretch: (stretch[0], -stretch[1]))
-    return length, start + place
-
-
 def unused_periods(folder: Path, call: Call, side: str) -> Optional[int]:
     """How many whole periods an incoming line has after those of its call, or None if there is no line."""
-    is_there = (folder / f"{call.number}.{side}").is_file()
-    return run_texts.whole_periods(folder, call.number, side) - call.periods() if is_there else None
+    is_there = (folder / name_of(call.number, side)).is_file()
+    return whole_periods(folder, call.number, side) - call.periods() if is_there else None
 
 
 def frames_of_downlink(folder: Path, call: Call) -> Dict[Sent, int]:
@@ -148,15 +134,13 @@ def note_on_others(row: Row) -> Optional[str]:
     return f"call {row['call']}: no full rate speech, but frames that trau doesn't decode: {kinds}"
 
 
-def row_of_call(folder: Path, call: Call, bridges: Sequence[run_texts.Bridge]) -> Row:
+def row_of_call(folder: Path, call: Call, bridges: Sequence[Bridge]) -> Row:
     """What a call's uplink and downlink say of losses and pauses."""
     call.search(folder, bridges)
     values = call.heard()
     counts = {heard: values.count(code) for code, heard in enumerate(HEARDS)}
     speech, lost = counts[Heard.SPEECH], counts[Heard.LOST]
-    pauses = stretches(values, Heard.NOISE)
-    longest, start = longest_of(stretches(values, Heard.LOST), call.span.start)
-    longest_pause, pause_start = longest_of(pauses, call.span.start)
+    loss, pause = longest(values, Heard.LOST), longest(values, Heard.NOISE)
     down = frames_of_downlink(folder, call)
     codes = codes_of_others(folder, call)
     return {
@@ -165,12 +149,12 @@ def row_of_call(folder: Path, call: Call, bridges: Sequence[run_texts.Bridge]) -
         "speech": speech,
         "lost": lost,
         "rate": round(lost / (speech + lost), 4) if speech + lost else None,
-        "longest": longest,
-        "from": start,
-        "pauses": len(pauses),
+        "longest": loss.length if loss else 0,
+        "from": call.span.start + loss.start if loss else None,
+        "pauses": len(stretches(values, Heard.NOISE)),
         "noise": counts[Heard.NOISE],
-        "longest_pause": longest_pause,
-        "pause_from": pause_start,
+        "longest_pause": pause.length if pause else 0,
+        "pause_from": call.span.start + pause.start if pause else None,
         "descriptors": call.span.counts["sid"],
         "quiet": counts[Heard.QUIET],
         "down_frames": sum(down.values()),
@@ -190,9 +174,7 @@ def calls(words: argparse.Namespace) -> Answer:
     name = words.report or words.folder / "report.txt"
     report = run_texts.read_report(name)
     run_texts.hold_numbers(name, report, words.calls)
-    pieces = [
-        (words.folder, call, run_lines.bridges_of(call, report.bridges)) for call in run_lines.calls_of(report, words.calls)
-    ]
+    pieces = [(words.folder, call, run_lines.bridges_of(call, report.bridges)) for call in run_lines.calls_of(report, words.calls)]
     octets = 2 * FRAME_OCTETS * sum(call.periods() for _, call, _ in pieces)
     rows = list(Workers(words.processes).each("reading lines", row_of_call, pieces, octets))
     notes = list(filter(None, map(note_on_others, rows)))
@@ -207,18 +189,14 @@ COMPARE_COLUMNS = ("call", "what", "period", "seconds", "octet", "periods", "one
 
 def line_of(folder: Path, number: int, side: str) -> Optional[bytes]:
     """The octets of a line, or None where there is none, as where a folder or a device has its name."""
-    name = folder / f"{number}.{side}"
-    return trau_frames.read_file(name) if name.is_file() else None
+    name = folder / name_of(number, side)
+    return read_file(name) if name.is_file() else None
 
 
 def periods_that_differ(one: bytes, other: bytes, octets: int) -> List[int]:
     """The periods, from the first of the lines, in which they differ."""
     last = -(-max(len(one), len(other)) // octets)
-    return [
-        period
-        for period in range(last)
-        if one[period * octets : (period + 1) * octets] != other[period * octets : (period + 1) * octets]
-    ]
+    return [period for period in range(last) if one[period * octets : (period + 1) * octets] != other[period * octets : (period + 1) * octets]]
 
 
 def first_octet_that_differs(one: bytes, other: bytes, start: int) -> int:
@@ -279,9 +257,7 @@ def compare(words: argparse.Namespace) -> Answer:
     for number in numbers:
         start = min(report.calls[number].start for report in reports if number in report.calls)
         for side in SIDES:
-            row = row_of_line(
-                number, side, start, *(line_of(folder, number, side) for folder in (words.one, words.other))
-            )
+            row = row_of_line(number, side, start, *(line_of(folder, number, side) for folder in (words.one, words.other)))
             rows += [row] if row else []
     return Answer(COMPARE_COLUMNS, rows, {"calls": len(numbers), "differences": rows}, 1 if rows else 0)
 
@@ -308,8 +284,8 @@ def row_of_loss(loss: sync_losses.Loss) -> Row:
 
 def sync(words: argparse.Namespace) -> Answer:
     """Where an uplink lost sync."""
-    frames = trau_frames.read_file(words.frames) if words.frames else None
-    trace = sync_losses.trace_of(words.uplink, trau_frames.read_file(words.uplink), frames)
+    frames = read_file(words.frames) if words.frames else None
+    trace = sync_losses.trace_of(words.uplink, read_file(words.uplink), frames)
     if not trace.frames:
         raise Refusal(f"{words.uplink}: has no frame at any bit; is it an uplink?")
     rows = [row_of_loss(loss) for loss in trace.losses]
@@ -334,7 +310,7 @@ KIND_COLUMNS = ("code", "kind", "frames", "first", "first_period", "last", "last
 def kinds(words: argparse.Namespace) -> Answer:
     """The kinds of an uplink's frames by C1 to C5, the most frequent one first."""
     places: Dict[str, List[int]] = {}
-    for each in trau_frames.search(trau_frames.bits_of(trau_frames.read_file(words.uplink))):
+    for each in search(bits_of(read_file(words.uplink))):
         if each.frame is not None:
             places.setdefault(frame_kinds.code_of(each.frame), []).append(each.place)
     if not places:
@@ -385,126 +361,73 @@ def as_json(answer: Answer) -> str:
 # The words of the command line
 
 
-def command(
-    commands: argparse._SubParsersAction,
-    made: Callable[[argparse.Namespace], Answer],
-    line: str,
-    more: str,
-    usual: Optional[Callable[[Answer], str]] = None,
-) -> argparse.ArgumentParser:
-    """Adds a command whose answer `made` gives, as a table unless it has another usual form."""
-    added = commands.add_parser(
-        made.__name__,
-        help=line,
-        description=more,
-        formatter_class=argparse.RawDescriptionHelpFormatter,
-        allow_abbrev=False,
-    )
-    form = added.add_mutually_exclusive_group()
-    form.add_argument("--json", dest="form", action="store_const", const=as_json, help="JSON")
-    form.add_argument("--csv", dest="form", action="store_const", const=as_csv, help="CSV")
-    if usual:
-        form.add_argument("--table", dest="form", action="store_const", const=as_text, help="a table")
-    added.set_defaults(made=made, form=usual or as_text)
-    return added
+def form(name: str, printed: Callable[[Answer], str], text: str) -> Option:
+    """An option for a form in which answers are printed."""
+    return switch(name, text, action="store_const", const=printed, dest="form")
 
 
-def add_text(commands: argparse._SubParsersAction) -> None:
-    """Adds the command `text`: a report."""
-    added = command(
-        commands,
-        text,
-        "a report, checked, in sentences",
+JSON, CSV, TABLE = form("--json", as_json, "JSON"), form("--csv", as_csv, "CSV"), form("--table", as_text, "a table")
+UPLINK = option("uplink", type=Path, metavar="UPLINK", help="the Up line")
+COMMANDS = (
+    (
+        text, "a report, checked, in sentences",
         "Reads a report aloud: why orders were refused, what bridges passed on, and of each call why it ended, how long it was, and how\n"
         "many of its periods were speech, lost speech, pauses and quiet. Lost frames are told from the empty ones of pauses by the\n"
         "uplinks. Refuses any text that isn't a report, octet for octet as the program writes it. The table and CSV have a row for each\n"
         "call; JSON also has the replies to the orders and the bridges.",
-        as_sentences,
-    )
-    added.add_argument("report", type=Path, metavar="REPORT", help="the text that `trau run` wrote")
-    added.add_argument(
-        "--lines",
-        type=Path,
-        metavar="FOLDER",
-        help="the folder of the uplinks (default: that of REPORT, as far as it has them)",
-    )
-    add_processes(added)
-
-
-def add_calls(commands: argparse._SubParsersAction) -> None:
-    """Adds the command `calls`: losses, pauses and comfort noise."""
-    added = command(
-        commands,
-        calls,
-        "losses, pauses and comfort noise of each call",
+        one_of(JSON, CSV, TABLE),
+        option("report", type=Path, metavar="REPORT", help="the text that `trau run` wrote"),
+        option("--lines", type=Path, metavar="FOLDER", help="the folder of the uplinks (default: that of REPORT, as far as it has them)"),
+        PROCESSES,
+    ),
+    (
+        calls, "losses, pauses and comfort noise of each call",
         "A row for each call of a run. Uplink: periods of speech and of lost speech, the part of the lost ones in both (the frame\n"
         "erasure rate), the longest loss and the period at which it begins; pauses, their periods of comfort noise, the longest\n"
         "one; silence descriptors; quiet periods. Downlink: its frames by kind. Incoming lines: the periods that weren't used,\n"
         "since the call had ended. Others: the uplink's frames that the report counts as `other`, by C1 to C5 (as `efr 731`). Below the\n"
         "table a line names the kinds of each call that has no full rate speech, but such frames.",
-    )
-    added.add_argument("folder", type=Path, metavar="FOLDER", help="the folder of the run")
-    added.add_argument("--report", type=Path, metavar="FILE", help="the report of the run (default FOLDER/report.txt)")
-    added.add_argument(
-        "--calls", type=run_texts.calls_named, metavar="CALLS", help="only these calls: parts A and A-B with commas"
-    )
-    add_processes(added)
-
-
-def add_compare(commands: argparse._SubParsersAction) -> None:
-    """Adds the command `compare`: what differs between two runs."""
-    added = command(
-        commands,
-        compare,
-        "what differs between two runs",
+        one_of(JSON, CSV),
+        option("folder", type=Path, metavar="FOLDER", help="the folder of the run"),
+        option("--report", type=Path, metavar="FILE", help="the report of the run (default FOLDER/report.txt)"),
+        run_texts.CALLS,
+        PROCESSES,
+    ),
+    (
+        compare, "what differs between two runs",
         "A row for each line of the reports, and for each recorded line, that differs between two runs. Of a recorded line: the first\n"
         "period and octet that differ, and how many periods differ. The status is 0 if nothing differs, else 1.",
-    )
-    added.add_argument("one", type=Path, metavar="ONE", help="the folder of a run, with its report.txt")
-    added.add_argument("other", type=Path, metavar="OTHER", help="the folder of another run")
-
-
-def add_sync(commands: argparse._SubParsersAction) -> None:
-    """Adds the command `sync`: where an uplink lost sync."""
-    added = command(
-        commands,
-        sync,
-        "where and why an uplink lost sync",
+        one_of(JSON, CSV),
+        option("one", type=Path, metavar="ONE", help="the folder of a run, with its report.txt"),
+        option("other", type=Path, metavar="OTHER", help="the folder of another run"),
+    ),
+    (
+        sync, "where and why an uplink lost sync",
         "A row for each loss of an uplink (misses in a row): the bit at which the first frame was due, its period, the number of\n"
         "misses, the places of the broken sync bits within that frame, the bit from which the search hunted (- if it stayed\n"
         "locked), the next match at any bit, its distance in bits from the places due, and the next frame that the search found.\n"
         "JSON has the broken bits of all misses. Bits and periods are counted from the line's start.",
-    )
-    added.add_argument("uplink", type=Path, metavar="UPLINK", help="the Up line")
-    added.add_argument(
-        "--frames", type=Path, metavar="FILE", help="what `trau frames` printed for the line; refuse the line if it differs"
-    )
-
-
-def add_kinds(commands: argparse._SubParsersAction) -> None:
-    """Adds the command `kinds`: of which kinds the frames of an uplink are."""
-    added = command(
-        commands,
-        kinds,
-        "of which kinds the frames of an uplink are",
+        one_of(JSON, CSV),
+        UPLINK,
+        option("--frames", type=Path, metavar="FILE", help="what `trau frames` printed for the line; refuse the line if it differs"),
+    ),
+    (
+        kinds, "of which kinds the frames of an uplink are",
         "A row for each kind of frames that the search finds on an uplink: C1 to C5, what they mean by GSM 08.60, the number of frames,\n"
         "and the bits at which the first and the last of them begin, with their periods. `trau frames` prints `other` for all that\n"
         "aren't full rate speech or idle frames of an uplink.",
-    )
-    added.add_argument("uplink", type=Path, metavar="UPLINK", help="the Up line")
+        one_of(JSON, CSV),
+        UPLINK,
+    ),
+)
 
 
-def parser() -> argparse.ArgumentParser:
+def parser() -> Words:
     """The words of the command line."""
-    words = trau_frames.Words(
-        description=__doc__,
-        epilog="example: report.py text report.txt --json",
-        formatter_class=argparse.RawDescriptionHelpFormatter,
-        allow_abbrev=False,
-    )
-    commands = words.add_subparsers(dest="command", required=True, metavar="COMMAND")
-    for add in (add_text, add_calls, add_compare, add_sync, add_kinds):
-        add(commands)
+    words = Words(__doc__, epilog="example: report.py text report.txt --json")
+    add = words.commands()
+    for runs, *about in COMMANDS:
+        add(runs, *about, form=as_sentences if runs is text else as_text)
     return words
 
 
@@ -512,7 +435,7 @@ def parser() -> argparse.ArgumentParser:
 def main(words: Sequence[str]) -> int:
     """Runs the words of the command line, and returns the exit status."""
     asked = parser().parse_args(words)
-    answer = asked.made(asked)
+    answer = asked.runs(asked)
     sys.stdout.write(asked.form(answer))
     return answer.status
 

@@ -15,7 +15,10 @@ from collections import Counter
 from pathlib import Path
 from typing import Any, Callable, Dict, Iterator, List, Mapping, NamedTuple, Optional, Sequence, Tuple
 
-from trau_frames import GSM_MAGIC, GSM_OCTETS, PERIODS_A_SECOND, Refusal
+from core.parameters import GSM_MAGIC, GSM_OCTETS
+from core.profile import PERIODS_A_SECOND
+from core.words import Refusal
+
 
 # The payload types of RFC 3551 are the kinds of speech here. A dynamic type is one of them if the words say so.
 PCMU, GSM, PCMA = 0, 3, 8

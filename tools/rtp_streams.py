@@ -8,9 +8,10 @@ from pathlib import Path
 from typing import Any, Dict, Iterator, List, NamedTuple, Optional, Sequence, Tuple, Union
 
 import rtp_packets
-import trau_frames
+from core.parameters import GSM_MAGIC, GSM_OCTETS
+from core.profile import PCM_OCTETS, SAMPLES_A_SECOND
+from core.words import Refusal
 from rtp_packets import GSM, Packet
-from trau_frames import GSM_OCTETS, PCM_OCTETS, SAMPLES_A_SECOND, Refusal
 
 # Time stamps count samples, each of them an octet of a Pcm line.
 SEQUENCES, STAMPS = 1 << 16, 1 << 32
@@ -111,7 +112,7 @@ def frames_of(payload: bytes) -> Optional[List[bytes]]:
     if not payload:
         return [EMPTY]
     frames = [payload[place : place + GSM_OCTETS] for place in range(0, len(payload), GSM_OCTETS)]
-    are_whole = all(len(frame) == GSM_OCTETS and frame[0] >> 4 == trau_frames.GSM_MAGIC for frame in frames)
+    are_whole = all(len(frame) == GSM_OCTETS and frame[0] >> 4 == GSM_MAGIC for frame in frames)
     return frames if are_whole else None
 
 

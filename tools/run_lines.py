@@ -5,32 +5,25 @@ from __future__ import annotations
 
 import enum
 import math
+import re
 from dataclasses import dataclass, field
 from pathlib import Path
 from typing import Dict, Iterator, List, NamedTuple, Optional, Sequence
 
 import run_texts
-import trau_frames
+from core.frame import Sort
+from core.g711 import Law
+from core.lines import OCTETS_OF_SIDE, OUTGOING, SIDES, name_of
+from core.orders import Order
+from core.profile import DOWN_IDLE, DOWN_SPEECH, FRAME_BITS, FRAME_OCTETS, PCM_OCTETS
+from core.report import Bridge, Reply, Report, Span
+from core.words import Refusal
 from octet_columns import Frames, joined, table
-from run_texts import OCTETS_OF_SIDE, OUTGOING, Bridge, Span
 from side_by_side import ALONE, Workers
-from trau_frames import FRAME_BITS, FRAME_OCTETS, PCM_OCTETS, Law, Refusal, Sort, Yield
+from tool_files import read_part
 from uplink_periods import GOOD, IDLE, SID, SORTS, Asking, by_what_came_before, searched
 
 # The uplink
-
-
-def yields_of(octets: bytes) -> List[Optional[Yield]]:
-    """What each whole period of an uplink yields, a period of 40 octets after another."""
-    periods: List[Optional[Yield]] = [None] * (len(octets) // FRAME_OCTETS)
-    for each in trau_frames.search(trau_frames.bits_of(octets[: len(periods) * FRAME_OCTETS])):
-        periods[each.period()] = each
-    return periods
-
-
-def sort_of(each: Optional[Yield]) -> Sort:
-    """The sort of what a period yields."""
-    return Sort.NONE if each is None else each.sort()
 
 
 class Heard(enum.Enum):
@@ -68,6 +61,24 @@ HEARD_BEHIND = [table(lambda _, code=code: CHANGED | code) for code in (LOST_HEA
 def heard_codes(sorts: bytes) -> bytes:
     """The codes of what each period gives, by the codes of the sorts."""
     return by_what_came_before(sorts, *HEARD_BEHIND).translate(HEARD_OF_CODE)
+
+
+class Stretch(NamedTuple):
+    """Periods in a row that give the same: how many, and the first."""
+
+    length: int
+    start: int
+
+
+def stretches(heard: bytes, wanted: Heard) -> List[Stretch]:
+    """The stretches of a value's code, in their order."""
+    code = re.escape(bytes([HEARDS.index(wanted)]))
+    return [Stretch(len(found.group()), found.start()) for found in re.finditer(code + b"+", heard)]
+
+
+def longest(heard: bytes, wanted: Heard) -> Optional[Stretch]:
+    """The first of the longest stretches of a value's code, if there is one."""
+    return max(stretches(heard, wanted), key=lambda stretch: stretch.length, default=None)
 
 
 # The downlink
@@ -112,9 +123,7 @@ class Handing:
         return min((start for start in self.starts if start > period), default=math.inf)
 
 
-def frames_made(
-    call: int, start: int, periods: int, asking: Sequence[Asking], bridges: Sequence[Bridge]
-) -> Iterator[Made]:
+def frames_made(call: int, start: int, periods: int, asking: Sequence[Asking], bridges: Sequence[Bridge]) -> Iterator[Made]:
     """The frames that are made for a call's downlink. Frames handed over in a bridge adopt no shift."""
     handing = Handing(call, start, bridges)
     waiting = iter([*asking, Asking(periods, 0)])
@@ -153,15 +162,11 @@ NOTHING_SENT = len(SENTS)  # the code of a period in which no frame begins; the 
 FRAME_WITHOUT_TIME = FRAME_BITS - 4
 
 # A downlink's frame has C1 to C5 in its octet 2, and C16 (SP) in its octet 38.
-DOWN_KINDS = {int(trau_frames.IDLE_DOWN, 2): Sent.IDLE, int(trau_frames.SPEECH_DOWN, 2): Sent.SPEECH}
+DOWN_KINDS = {int(DOWN_IDLE, 2): Sent.IDLE, int(DOWN_SPEECH, 2): Sent.SPEECH}
 DOWN_KIND = table(lambda octet: SENTS.index(DOWN_KINDS.get(octet >> 2 & 31, Sent.OTHER)))
 DOWN_SPEECH = table(lambda octet: 0 if octet & 2 else 0x10)
-DOWN_CODE = table(
-    lambda marks: SENTS.index(Sent.SILENCE) if marks == 0x10 | SENTS.index(Sent.SPEECH) else min(marks & 7, NOTHING_SENT)
-)
-HANDED_CODE = table(
-    lambda code: SENTS.index(Sent.HANDED) if code in (SENTS.index(Sent.SPEECH), SENTS.index(Sent.SILENCE)) else code
-)
+DOWN_CODE = table(lambda marks: SENTS.index(Sent.SILENCE) if marks == 0x10 | SENTS.index(Sent.SPEECH) else min(marks & 7, NOTHING_SENT))
+HANDED_CODE = table(lambda code: SENTS.index(Sent.HANDED) if code in (SENTS.index(Sent.SPEECH), SENTS.index(Sent.SILENCE)) else code)
 
 
 def sent(made: Made, octets: bytes) -> bytes:
@@ -199,7 +204,7 @@ class Call:
         octets = OCTETS_OF_SIDE[side]
         if last <= first:
             return b""
-        return trau_frames.read_part(folder / f"{self.number}.{side}", first * octets, (last - first) * octets)
+        return read_part(folder / name_of(self.number, side), first * octets, (last - first) * octets)
 
     def counts(self) -> Dict[str, int]:
         """How many periods yielded what, and how many frames were made, by the report's words."""
@@ -220,16 +225,14 @@ class Call:
         self.take(octets, bridges)
         for what, count in self.counts().items():
             if self.span.counts[what] != count:
-                raise Refusal(
-                    f"{name}: gives {what} {count}, and the report has {self.span.counts[what]}: it is of another run"
-                )
+                raise Refusal(f"{name}: gives {what} {count}, and the report has {self.span.counts[what]}: it is of another run")
         self.check_outgoing(folder)
 
     def check_outgoing(self, folder: Path) -> None:
         """Refuses an outgoing line that hasn't the octets of the call's periods. One that failed may have fewer; one of a call without
         periods is an older one."""
         for side in OUTGOING:
-            name, wanted = folder / f"{self.number}.{side}", self.periods() * OCTETS_OF_SIDE[side]
+            name, wanted = folder / name_of(self.number, side), self.periods() * OCTETS_OF_SIDE[side]
             if wanted and side not in self.failed and name.is_file() and name.stat().st_size != wanted:
                 raise Refusal(
                     f"{name}: has {name.stat().st_size} octets, and {self.periods()} periods give {wanted}: it is of another run, or of a"
@@ -245,11 +248,11 @@ class Call:
         return heard_codes(self.sorts)
 
 
-def calls_of(report: run_texts.Report, numbers: Optional[Sequence[int]] = None) -> Iterator[Call]:
+def calls_of(report: Report, numbers: Optional[Sequence[int]] = None) -> Iterator[Call]:
     """The calls of a report, or those of them with these numbers, whose uplinks aren't searched yet."""
     for number, span in report.calls.items():
         if numbers is None or number in numbers:
-            sides = [run_texts.SIDES[failed.side] for failed in report.failed if failed.call == number]
+            sides = [SIDES[failed.side] for failed in report.failed if failed.call == number]
             yield Call(number, span, failed=sides)
 
 
@@ -264,12 +267,7 @@ def bridges_of(call: Call, bridges: Sequence[Bridge]) -> List[Bridge]:
     return [bridge for bridge in bridges if call.number in bridge.calls]
 
 
-def read_calls(
-    folder: Path,
-    report: run_texts.Report,
-    numbers: Optional[Sequence[int]] = None,
-    workers: Workers = ALONE,
-) -> Dict[int, Call]:
+def read_calls(folder: Path, report: Report, numbers: Optional[Sequence[int]] = None, workers: Workers = ALONE) -> Dict[int, Call]:
     """The calls of a report, or those of them with these numbers, and what their uplinks in a folder give."""
     calls = list(calls_of(report, numbers))
     works = [(folder, call, bridges_of(call, report.bridges)) for call in calls]
@@ -308,8 +306,8 @@ def asked_while_frozen(call: Call, bridges: Sequence[Bridge]) -> List[Asked]:
 class Answered:
     """An order that was executed, with its reply."""
 
-    order: run_texts.Order
-    reply: run_texts.Reply
+    order: Order
+    reply: Reply
 
     def told(self) -> str:
         """The order and its answer, in words."""
@@ -327,13 +325,7 @@ class Run:
     folder: Path
 
     @staticmethod
-    def read(
-        folder: Path,
-        orders: Path,
-        report_name: Path,
-        numbers: Optional[Sequence[int]] = None,
-        workers: Workers = ALONE,
-    ) -> Run:
+    def read(folder: Path, orders: Path, report_name: Path, numbers: Optional[Sequence[int]] = None, workers: Workers = ALONE) -> Run:
         """Reads a run, and holds its report to its orders, and its uplinks to its report."""
         report = run_texts.read_report(report_name)
         if not report.calls:

@@ -27,10 +27,13 @@ from typing import Dict, FrozenSet, Iterator, List, Optional, Sequence, Tuple
 
 import listening
 import run_texts
-import trau_frames
-from run_texts import INCOMING, MOST_CALLS, MOST_PERIODS, OUTGOING, SIDES, Bridge, FailedLine, Order, Reply, Report, Span
+from core.lines import INCOMING, OUTGOING, SIDES, name_of, whole_periods
+from core.orders import Order
+from core.profile import MOST_CALLS, MOST_PERIODS
+from core.report import Bridge, FailedLine, Reply, Report, Span
+from core.words import Refusal, Words, as_started, number_within, option, switch
 from tool_ends import naming, tool
-from trau_frames import Refusal, number_within
+from tool_files import read_file, write_file
 
 CUT = "cut.json"
 ORDERS = "orders.txt"
@@ -96,7 +99,7 @@ def components(orders: Sequence[Order]) -> List[FrozenSet[int]]:
 
 def periods_of(folder: Path, call: int) -> int:
     """How many periods both incoming lines of a call have."""
-    return min(run_texts.whole_periods(folder, call, side) for side in INCOMING)
+    return min(whole_periods(folder, call, side) for side in INCOMING)
 
 
 @dataclass
@@ -169,7 +172,7 @@ def lay_part(folder: Path, words: argparse.Namespace, orders: Sequence[Order]) -
     script.chmod(script.stat().st_mode | stat.S_IXUSR | stat.S_IXGRP | stat.S_IXOTH)
     for call in {order.calls[0] for order in orders if order.verb == "open"}:
         for side in SIDES:
-            source, target = (place / f"{call}.{side}" for place in (words.folder, folder))
+            source, target = (place / name_of(call, side) for place in (words.folder, folder))
             if words.copy:
                 copy_line(source, target, side)
             else:
@@ -284,14 +287,14 @@ class Cut:
         """Reads the folder that `cut` made."""
         name = folder / CUT
         try:
-            noted = json.loads(trau_frames.read_file(name))
+            noted = json.loads(read_file(name))
             orders = run_texts.read_orders(folder / ORDERS)
             parts = noted["orders_of_parts"]
             if sorted(number for part in parts for number in part) != [order.number for order in orders]:
                 raise ValueError
             return Cut(folder, Path(noted["farm"]), noted["copied"], noted["periods"], orders, parts)
         except (ValueError, KeyError, TypeError):
-            raise Refusal(f"{name}: isn't what {trau_frames.as_started('shard.py cut')} writes") from None
+            raise Refusal(f"{name}: isn't what {as_started('shard.py cut')} writes") from None
 
     def part(self, number: int) -> Path:
         """The folder of a part."""
@@ -308,11 +311,7 @@ def status_of(folder: Path) -> Optional[int]:
 
 def check_all_were_run(cut: Cut) -> None:
     """Refuses a cut with parts that weren't run, and says how to run these."""
-    lacking = [
-        number
-        for number in range(len(cut.orders_of_parts))
-        if status_of(cut.part(number)) not in STATUSES_WITH_A_REPORT
-    ]
+    lacking = [number for number in range(len(cut.orders_of_parts)) if status_of(cut.part(number)) not in STATUSES_WITH_A_REPORT]
     if lacking:
         said = ("part " if len(lacking) == 1 else "parts ") + ",".join(str(number) for number in lacking)
         again = "; ".join(f"sh {shlex.quote(str(cut.part(number) / SCRIPT))}" for number in lacking[:4])
@@ -382,7 +381,7 @@ def join(words: argparse.Namespace) -> int:
     if cut.copied:
         with alone_in(cut.farm):
             for line in outgoing_lines(cut):
-                trau_frames.write_file(cut.farm / line.name, trau_frames.read_file(line), [])
+                write_file(cut.farm / line.name, read_file(line), [])
     sys.stdout.write(report.text())
     return report.status()
 
@@ -393,68 +392,37 @@ def join(words: argparse.Namespace) -> int:
 OLD_NAMES = {"split": "cut", "merge": "join"}
 
 
-def add_cut(commands: argparse._SubParsersAction) -> None:
-    """Adds the command `cut`."""
-    cutting = commands.add_parser(
-        "cut",
-        help="makes a folder with the parts of a farm",
-        formatter_class=argparse.RawDescriptionHelpFormatter,
-        allow_abbrev=False,
-        description="Makes the folder CUT with the parts 0, 1 and so on. Each has its orders, links to its lines in FOLDER, and\n"
-        "`run.sh`, which runs it. `slurm.sh` runs all as an array of Slurm's jobs. Prints `shard parts K components M calls C orders N\n"
-        "largest L heaviest H of P array 0-J`: C calls are opened; L, H and P are the periods of the largest component, of the heaviest\n"
-        "part and of all calls; J is K - 1. While a part runs on links, no run and no other cut may have FOLDER.",
-    )
-    cutting.add_argument("folder", type=Path, metavar="FOLDER", help="the farm: its lines and orders")
-    cutting.add_argument("cut", type=Path, metavar="CUT", help="the folder to make")
-    cutting.add_argument(
-        "--parts", type=number_within(1, MOST_CALLS), required=True, metavar="K", help="the greatest number of parts"
-    )
-    cutting.add_argument(
-        "--orders", type=Path, metavar="FILE", help="the orders of the run (default FOLDER/orders.txt)"
-    )
-    cutting.add_argument("--copy", action="store_true", help="copy the incoming lines instead of linking them")
-    cutting.add_argument(
-        "--trau",
-        type=listening.program_named,
-        default=listening.program_beside(),
-        metavar="PROGRAM",
-        help="the program (default %(default)s)",
-    )
-    cutting.add_argument(
-        "--workers", type=number_within(1, 64), default=1, metavar="N", help="as of trau run (default 1)"
-    )
-    cutting.add_argument("--batch", type=number_within(1, 250), metavar="N", help="as of trau run")
-    cutting.add_argument("--periods", type=number_within(1, MOST_PERIODS), metavar="N", help="as of trau run")
-    cutting.set_defaults(runs=cut)
+CUT_TEXT = (
+    "Makes the folder CUT with the parts 0, 1 and so on. Each has its orders, links to its lines in FOLDER, and\n"
+    "`run.sh`, which runs it. `slurm.sh` runs all as an array of Slurm's jobs. Prints `shard parts K components M calls C orders N\n"
+    "largest L heaviest H of P array 0-J`: C calls are opened; L, H and P are the periods of the largest component, of the heaviest\n"
+    "part and of all calls; J is K - 1. While a part runs on links, no run and no other cut may have FOLDER."
+)
+CUT_OPTIONS = (
+    option("folder", type=Path, metavar="FOLDER", help="the farm: its lines and orders"),
+    option("cut", type=Path, metavar="CUT", help="the folder to make"),
+    option("--parts", type=number_within(1, MOST_CALLS), required=True, metavar="K", help="the greatest number of parts"),
+    option("--orders", type=Path, metavar="FILE", help="the orders of the run (default FOLDER/orders.txt)"),
+    switch("--copy", "copy the incoming lines instead of linking them"),
+    option("--trau", type=listening.program_named, default=listening.program_beside(), metavar="PROGRAM", help="the program (default %(default)s)"),
+    option("--workers", type=number_within(1, 64), default=1, metavar="N", help="as of trau run (default 1)"),
+    option("--batch", type=number_within(1, 250), metavar="N", help="as of trau run"),
+    option("--periods", type=number_within(1, MOST_PERIODS), metavar="N", help="as of trau run"),
+)
+JOIN_TEXT = (
+    "Prints the report of the one run; the status is 0, or 6 if lines failed, as in the one run. If the lines were\n"
+    "copied, it brings the outgoing ones to the farm's folder. If a part has no whole report, or its report isn't one of its\n"
+    "orders and its number of periods, it says which part, writes nothing and exits with status 2."
+)
 
 
-def add_join(commands: argparse._SubParsersAction) -> None:
-    """Adds the command `join`."""
-    joining = commands.add_parser(
-        "join",
-        help="joins the reports of the parts",
-        formatter_class=argparse.RawDescriptionHelpFormatter,
-        allow_abbrev=False,
-        description="Prints the report of the one run; the status is 0, or 6 if lines failed, as in the one run. If the lines were\n"
-        "copied, it brings the outgoing ones to the farm's folder. If a part has no whole report, or its report isn't one of its\n"
-        "orders and its number of periods, it says which part, writes nothing and exits with status 2.",
-    )
-    joining.add_argument("cut", type=Path, metavar="CUT", help="the folder that `cut` made")
-    joining.set_defaults(runs=join)
-
-
-def parser() -> argparse.ArgumentParser:
+def parser() -> Words:
     """The words of the command line."""
-    words = trau_frames.Words(
-        description=__doc__,
-        epilog="example: shard.py cut farm cut --parts 4; parallel sh {}/run.sh ::: cut/[0-9]*; shard.py join cut >report.txt",
-        formatter_class=argparse.RawDescriptionHelpFormatter,
-        allow_abbrev=False,
-    )
-    commands = words.add_subparsers(dest="command", required=True, metavar="COMMAND")
-    add_cut(commands)
-    add_join(commands)
+    example = "example: shard.py cut farm cut --parts 4; parallel sh {}/run.sh ::: cut/[0-9]*; shard.py join cut >report.txt"
+    words = Words(__doc__, epilog=example)
+    add = words.commands()
+    add(cut, "makes a folder with the parts of a farm", CUT_TEXT, *CUT_OPTIONS)
+    add(join, "joins the reports of the parts", JOIN_TEXT, option("cut", type=Path, metavar="CUT", help="the folder that `cut` made"))
     return words
 
 

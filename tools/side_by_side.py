@@ -2,7 +2,6 @@
 
 from __future__ import annotations
 
-import argparse
 import math
 import os
 import signal
@@ -13,7 +12,8 @@ from concurrent.futures.process import BrokenProcessPool
 from pathlib import Path
 from typing import Any, Callable, Iterator, List, Optional, Sequence, Tuple, TypeVar
 
-from trau_frames import Refusal, number_within
+from core.words import Refusal, number_within, option
+
 
 MOST_PROCESSES = 64
 LEAST_OCTETS = 8_000_000  # less isn't worth the start of processes, and shows no progress
@@ -75,9 +75,7 @@ class Workers:
     def __init__(self, processes: int) -> None:
         self.processes = processes
 
-    def each(
-        self, what: str, function: Callable[..., Result], pieces: Sequence[Tuple[Any, ...]], octets: int
-    ) -> Iterator[Result]:
+    def each(self, what: str, function: Callable[..., Result], pieces: Sequence[Tuple[Any, ...]], octets: int) -> Iterator[Result]:
         """The function's results for the pieces, in order. `octets` is what they read together. An exception of one of them is raised."""
         small = octets < LEAST_OCTETS
         progress = Progress(what, len(pieces), math.inf if small else QUIET_SECONDS)
@@ -112,12 +110,7 @@ class Workers:
 ALONE = Workers(1)
 
 
-def add_processes(words: argparse.ArgumentParser) -> None:
-    """Adds the option --processes."""
-    words.add_argument(
-        "--processes",
-        type=number_within(1, MOST_PROCESSES),
-        default=min(MOST_PROCESSES, processors()),
-        metavar="N",
-        help="the number of processes that work side by side (default: one for each processor)",
-    )
+PROCESSES = option(
+    "--processes", type=number_within(1, MOST_PROCESSES), default=min(MOST_PROCESSES, processors()), metavar="N",
+    help="the number of processes that work side by side (default: one for each processor)",
+)

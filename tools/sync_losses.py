@@ -8,8 +8,11 @@ from dataclasses import dataclass, field
 from pathlib import Path
 from typing import Iterator, List, Optional, Sequence
 
-import trau_frames
-from trau_frames import FRAME, FRAME_BITS, MISSES_THAT_UNLOCK, Refusal, Yield
+from core.frame import bits_of
+from core.profile import FRAME_BITS, FRAME_OCTETS, MISSES_TO_HUNT
+from core.search import FRAME, Yield, end_of_text, search
+from core.words import Refusal
+
 
 SYNC_ZEROS = tuple(range(16))
 SYNC_ONES = tuple(range(16, FRAME_BITS, 16))
@@ -43,7 +46,7 @@ class Loss:
 
     def unlocked(self) -> Optional[int]:
         """The bit from which the search hunted, or None if it stayed locked."""
-        if len(self.misses) < MISSES_THAT_UNLOCK:
+        if len(self.misses) < MISSES_TO_HUNT:
             return None
         return self.misses[-1].place + FRAME_BITS
 
@@ -83,8 +86,7 @@ def first_frame(yields: Sequence[Yield]) -> Optional[int]:
 
 def text_of_frames(yields: Sequence[Yield], octets: int) -> str:
     """What `trau frames` prints for an uplink of this many octets with these yields."""
-    lines = [f"{each.place} {each.sort().value}\n" for each in yields]
-    return "".join(lines) + f"frames {len(yields)} left {octets % trau_frames.FRAME_OCTETS}\n"
+    return "".join(each.line() for each in yields) + end_of_text(len(yields), octets)
 
 
 @dataclass
@@ -100,9 +102,9 @@ class Trace:
 
 def trace_of(name: Path, octets: bytes, frames_text: Optional[bytes]) -> Trace:
     """Searches an uplink. If the output of `trau frames` is given, refuses one that differs."""
-    periods = len(octets) // trau_frames.FRAME_OCTETS
-    bits = trau_frames.bits_of(octets[: periods * trau_frames.FRAME_OCTETS])
-    yields = list(trau_frames.search(bits))
+    periods = len(octets) // FRAME_OCTETS
+    bits = bits_of(octets[: periods * FRAME_OCTETS])
+    yields = list(search(bits))
     if frames_text is not None and frames_text != text_of_frames(yields, len(octets)).encode():
         raise Refusal(f"{name}: the command `frames` printed other frames: it is of another line")
     losses = list(losses_of(bits, yields))

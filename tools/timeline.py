@@ -18,13 +18,14 @@ from typing import List, Sequence
 import outcomes
 import picture_page
 import run_texts
-import trau_frames
+from core.lines import SIDES, name_of
+from core.profile import MOST_PERIODS
+from core.words import Refusal, Words, number_within, option
 from picture import COMPACT, FULL, WITHOUT_LEVELS, Picture, Shape
 from run_lines import Run
-from run_texts import MOST_PERIODS
-from side_by_side import Workers, add_processes
+from side_by_side import PROCESSES, Workers
 from tool_ends import tool
-from trau_frames import Refusal, number_within
+from tool_files import write_file
 
 MOST_FULL_ROWS = 40
 WIDTHS = 200, 100_000  # the least and the greatest, in pixels
@@ -38,53 +39,36 @@ def shape_of(word: str, calls: int) -> Shape:
     return COMPACT if word in ("compact", "auto") else WITHOUT_LEVELS
 
 
-def parser() -> argparse.ArgumentParser:
+def parser() -> Words:
     """The words of the command line."""
-    words = trau_frames.Words(
-        description=__doc__,
+    return Words(
+        __doc__,
+        option("folder", type=Path, metavar="FOLDER", help="the folder of the run, with the calls' lines"),
+        option("picture", type=Path, metavar="OUT", help="the picture to write: OUT.svg, or OUT.html, which zooms"),
+        option("--orders", type=Path, metavar="FILE", help="the orders of the run (default FOLDER/orders.txt)"),
+        option("--report", type=Path, metavar="FILE", help="the report of the run (default FOLDER/report.txt)"),
+        option("--width", type=number_within(*WIDTHS), default=1300, metavar="PIXELS", help="the width of all periods (default 1300)"),
+        run_texts.CALLS,
+        option("--from", type=number_within(0, MOST_PERIODS), dest="first", metavar="PERIOD", help="the first period to draw"),
+        option("--to", type=number_within(0, MOST_PERIODS), dest="last", metavar="PERIOD", help="the period after the last one to draw"),
+        option(
+            "--rows", choices=("auto", "full", "plain", "compact"), default="auto",
+            help="full: with the levels of Out and Pcm; plain: without them; compact: narrow; auto: full up to"
+            f" {MOST_FULL_ROWS} calls, compact for more",
+        ),
+        option(
+            "--sort", choices=("number", "worst"), default="number",
+            help="number: in call-number order, bridge partners next to each other; worst: failed lines first, then by the part of"
+            " the speech that was lost and by the longest gap",
+        ),
+        PROCESSES,
         epilog="example: timeline.py . run.svg, in a folder where `trau run <orders.txt >report.txt` was run",
-        formatter_class=argparse.RawDescriptionHelpFormatter,
-        allow_abbrev=False,
     )
-    words.add_argument("folder", type=Path, metavar="FOLDER", help="the folder of the run, with the calls' lines")
-    words.add_argument(
-        "picture", type=Path, metavar="OUT", help="the picture to write: OUT.svg, or OUT.html, which zooms"
-    )
-    words.add_argument("--orders", type=Path, metavar="FILE", help="the orders of the run (default FOLDER/orders.txt)")
-    words.add_argument("--report", type=Path, metavar="FILE", help="the report of the run (default FOLDER/report.txt)")
-    words.add_argument(
-        "--width", type=number_within(*WIDTHS), default=1300, metavar="PIXELS", help="the width of all periods (default 1300)"
-    )
-    words.add_argument(
-        "--calls", type=run_texts.calls_named, metavar="CALLS", help="only these calls: parts A and A-B with commas"
-    )
-    words.add_argument(
-        "--from", type=number_within(0, MOST_PERIODS), dest="first", metavar="PERIOD", help="the first period to draw"
-    )
-    words.add_argument(
-        "--to", type=number_within(0, MOST_PERIODS), dest="last", metavar="PERIOD", help="the period after the last one to draw"
-    )
-    words.add_argument(
-        "--rows",
-        choices=("auto", "full", "plain", "compact"),
-        default="auto",
-        help="full: with the levels of Out and Pcm; plain: without them; compact: narrow; auto: full up to"
-        f" {MOST_FULL_ROWS} calls, compact for more",
-    )
-    words.add_argument(
-        "--sort",
-        choices=("number", "worst"),
-        default="number",
-        help="number: in call-number order, bridge partners next to each other; worst: failed lines first, then by the part of"
-        " the speech that was lost and by the longest gap",
-    )
-    add_processes(words)
-    return words
 
 
 def inputs_of(asked: argparse.Namespace, run: Run) -> List[Path]:
     """The files that were read."""
-    lines = [asked.folder / f"{call.number}.{side}" for call in run.calls for side in run_texts.SIDES]
+    lines = [asked.folder / name_of(call.number, side) for call in run.calls for side in SIDES]
     return [path for path in (asked.orders, asked.report, *lines) if path.exists()]
 
 
@@ -107,7 +91,7 @@ def draw(asked: argparse.Namespace) -> Run:
         content = picture_page.page_of(drawn, drawn.read_lines(1, workers))
     else:
         content = drawn.draw(workers)
-    trau_frames.write_file(asked.picture, content, inputs_of(asked, run))
+    write_file(asked.picture, content, inputs_of(asked, run))
     return run
 
 

@@ -13,7 +13,8 @@ import sys
 from pathlib import Path
 from typing import Callable, Iterator, Sequence
 
-from trau_frames import Refusal, as_started
+from core.words import Refusal, as_started
+
 
 FAILED = 2
 INTERRUPTED = 130

@@ -1,9 +1,11 @@
-"""Imported first by each tool: an interrupt while the tool still loads ends it as any interrupt does, but without a traceback.
+"""Imported first by each tool: the package `core` is at the top of the repository or of what is installed; and an interrupt while the tool still
+loads ends it as any interrupt does, but without a traceback.
 
 Once a tool has started, tool_ends.py says how it ends.
 """
 
 import sys
+from pathlib import Path
 from types import TracebackType
 from typing import Optional, Type
 
@@ -15,3 +17,4 @@ def say_unless_interrupted(kind: Type[BaseException], failure: BaseException, tr
 
 
 sys.excepthook = say_unless_interrupted
+sys.path.insert(1, str(Path(__file__).resolve().parents[1]))

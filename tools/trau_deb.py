@@ -16,9 +16,9 @@ import time
 from pathlib import Path
 from typing import Dict, List, NamedTuple, Tuple
 
-import trau_frames
 import trau_words
-from trau_frames import Refusal
+from core.words import Refusal
+from tool_files import read_file
 
 TOP = Path(__file__).resolve().parents[1]
 CHANGELOG = "docs/CHANGELOG.md"
@@ -113,7 +113,7 @@ class Package(NamedTuple):
 
 def versions() -> List[Tuple[str, str, List[str]]]:
     """The versions of the changelog, the newest first: number, date, and what changed."""
-    text = trau_frames.read_file(TOP / CHANGELOG).decode()
+    text = read_file(TOP / CHANGELOG).decode()
     found = []
     for part in re.split(r"^## ", text, flags=re.M)[1:]:
         head = re.match(r"(\d+(?:\.\d+)+), (\d{4}-\d\d-\d\d)\n", part)

@@ -9,7 +9,6 @@ library give the same octets. The version is that of docs/CHANGELOG.md.
 
 from __future__ import annotations
 
-import argparse
 import gzip
 import hashlib
 import io
@@ -24,10 +23,10 @@ from typing import Dict, NamedTuple, Sequence
 
 import tool_pages
 import trau_deb
-import trau_frames
 import trau_words
+from core.words import Refusal, Words, option, switch
 from tool_ends import tool
-from trau_frames import Refusal
+from tool_files import read_file, write_file
 
 TOP = Path(__file__).resolve().parents[1]
 PROGRAM = TOP / "crates" / "trau_program" / "out" / "trau_program"
@@ -44,18 +43,15 @@ LIBRARY_FILES = (
 
 SCRIPTS = ("trau", "demo")
 TOOLS = ("lines.py", "orders.py", "report.py", "shard.py", "timeline.py", "watch.py")
-# What the tools stand on, and what the script trau reads.
-BESIDE_TOOLS = (
-    *("call_lines.py", "captures.py", "code_word.py", "damages.py", "file_kinds.py", "frame_kinds.py", "gsm_files.py", "levels.py"),
-    *("listening.py", "looks.py", "marks.py", "octet_columns.py", "outcomes.py", "outgoing.py", "picture.py", "picture_page.js"),
-    *("picture_page.py", "read_aloud.py", "readings.py", "recordings.py", "rtp_packets.py", "rtp_streams.py", "run_lines.py", "run_texts.py"),
-    *("side_by_side.py", "slots.py", "sync_losses.py", "tone_peaks.py", "tool_ends.py", "tool_start.py", "trau_frames.py", "uplink_frames.py"),
-    *("uplink_periods.py", "wav_files.py", "word_faults.py"),
-    *("help.txt", "pages.txt", "grammar.txt", "bad_order.awk"),
+# What is packed of folders: the files that git knows there and that have such names, and those of them that run. Of tools/ it isn't what proves,
+# builds and packs; tests/data has recordings that the commands in the documents take.
+FOLDERS = (
+    ("tools", r"(?!build|trau_|tool_pages|weights)\w+\.(py|js|txt|awk)", TOOLS),
+    ("core", r"\w+\.py", ()),
+    ("gateway", r"(?!tests/).*", ("gateway.py",)),
+    ("examples", r"README\.md|7\.up|farm/(\d+\.(up|pcm)|orders\.txt|wanted/[\w.]+)", ()),
+    ("tools/tests/data", r".*", ()),
 )
-EXAMPLES = re.compile(r"README\.md|7\.up|farm/(\d+\.(up|pcm)|orders\.txt|wanted/[\w.]+)")
-# Recordings that the commands in the documents take.
-DATA = "tools/tests/data"
 
 
 class Member(NamedTuple):
@@ -106,7 +102,7 @@ def proved_program() -> bytes:
         subprocess.run([sys.executable, TOP / "tools" / "build.py", "--both"], stdin=subprocess.DEVNULL)
     if not named and not is_built(FIRST):
         raise Refusal("there is no program that is proved and built")
-    return trau_frames.read_file(Path(named or PROGRAM))
+    return read_file(Path(named or PROGRAM))
 
 
 def programs() -> Dict[str, bytes]:
@@ -116,7 +112,7 @@ def programs() -> Dict[str, bytes]:
         return found
     if is_built(KIND):
         second = f"{PROGRAM.name}.{KIND}"
-        found[second] = trau_frames.read_file(PROGRAM.with_name(second))
+        found[second] = read_file(PROGRAM.with_name(second))
     else:
         print(f"package: no program for {KIND} is built, so none is packed; tools/build.py --both builds it", file=sys.stderr)
     return found
@@ -141,7 +137,7 @@ def proved_library() -> Dict[str, bytes]:
             return {}
         if subprocess.run([TOP / "clib" / "build"], stdin=subprocess.DEVNULL).returncode:
             raise Refusal("there is no C library that is proved and built")
-    return {f"{trau_deb.BUILT}{name}": trau_frames.read_file(folder / name) for name in LIBRARY_FILES}
+    return {f"{trau_deb.BUILT}{name}": read_file(folder / name) for name in LIBRARY_FILES}
 
 
 def origin() -> str:
@@ -178,29 +174,23 @@ def documents() -> Dict[str, Path]:
 
 def members(state: State, library: Dict[str, bytes]) -> Dict[str, Member]:
     """The files of the package, by their names in it, with these of the C library."""
-    found = {name: Member(trau_frames.read_file(TOP / name), True) for name in SCRIPTS}
-    found["install"] = Member(trau_frames.read_file(TOP / "tools" / "install"), True)
+    found = {name: Member(read_file(TOP / name), True) for name in SCRIPTS}
+    found["install"] = Member(read_file(TOP / "tools" / "install"), True)
     found.update((name, Member(content, True)) for name, content in programs().items())
     found["VERSION"] = Member(f"trau {state.commit} of {state.date}, {origin()}\n".encode())
     found["man/trau.1"] = Member(trau_words.man_page(f"trau {state.commit}", state.date).encode())
-    for tool in TOOLS:
-        name = f"trau-{Path(tool).stem}"
+    for script in TOOLS:
+        name = f"trau-{Path(script).stem}"
         found[f"man/{name}.1"] = Member(tool_pages.man_page(name, f"trau {state.commit}", state.date).encode())
     found["trau.bash"] = Member(trau_words.completion().encode())
-    for name in (*TOOLS, *BESIDE_TOOLS):
-        found[f"tools/{name}"] = Member(trau_frames.read_file(TOP / "tools" / name), name in TOOLS)
+    for folder, packed, running in FOLDERS:
+        for name, path in files_below(TOP / folder).items():
+            if re.fullmatch(packed, name):
+                found[f"{folder}/{name}"] = Member(read_file(path), name in running)
     found.update((name, Member(content)) for name, content in library.items())
-    found["clib/with"] = Member(trau_frames.read_file(TOP / "clib" / "with"), True)
-    for name, path in files_below(TOP / "gateway").items():
-        if not name.startswith("tests/"):
-            found[f"gateway/{name}"] = Member(trau_frames.read_file(path), name == "gateway.py")
-    for name, path in files_below(TOP / "examples").items():
-        if EXAMPLES.fullmatch(name):
-            found[f"examples/{name}"] = Member(trau_frames.read_file(path))
-    for name, path in files_below(TOP / DATA).items():
-        found[f"{DATA}/{name}"] = Member(trau_frames.read_file(path))
+    found["clib/with"] = Member(read_file(TOP / "clib" / "with"), True)
     for name, path in documents().items():
-        found.setdefault(name, Member(trau_frames.read_file(path)))
+        found.setdefault(name, Member(read_file(path)))
     sums = [f"{hashlib.sha256(member.content).hexdigest()}  {name}\n" for name, member in sorted(found.items())]
     found["SHA256SUMS"] = Member("".join(sums).encode())
     return found
@@ -222,12 +212,13 @@ def tarball(state: State, found: Dict[str, Member]) -> bytes:
 @tool("package")
 def main(words: Sequence[str]) -> int:
     """Runs the words of the command line, and returns the exit status."""
-    parser = trau_frames.Words(
-        prog="package", description=__doc__, formatter_class=argparse.RawDescriptionHelpFormatter, allow_abbrev=False
+    parser = Words(
+        __doc__,
+        option("folder", type=Path, metavar="FOLDER", help="the folder to write the package to"),
+        switch("--deb", "make Debian packages too, with dpkg-deb"),
+        switch("--without-library", "leave the C library out"),
+        prog="package",
     )
-    parser.add_argument("folder", type=Path, metavar="FOLDER", help="the folder to write the package to")
-    parser.add_argument("--deb", action="store_true", help="make Debian packages too, with dpkg-deb")
-    parser.add_argument("--without-library", action="store_true", help="leave the C library out")
     asked = parser.parse_args(words)
     if not asked.folder.is_dir():
         raise Refusal(f"{asked.folder}: isn't a folder")
@@ -240,6 +231,6 @@ def main(words: Sequence[str]) -> int:
     if not any(name.startswith(trau_deb.BUILT) for name in found):
         print("package without the C library" + ("" if asked.without_library else ", which isn't built"))
     for name, content in made.items():
-        trau_frames.write_file(asked.folder / name, content, [])
+        write_file(asked.folder / name, content, [])
         print(f"package {asked.folder / name} octets {len(content)} sha256 {hashlib.sha256(content).hexdigest()}")
     return 0

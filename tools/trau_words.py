@@ -8,12 +8,15 @@ The documents say the same at greater length; the tests of the tools hold both t
 
 from __future__ import annotations
 
-import argparse
+import tool_start  # first, for what comes after it
+
 import sys
+import textwrap
 from dataclasses import dataclass
 from typing import Iterable, List, Sequence, Tuple
 
-import trau_frames
+from core import profile
+from core.words import Words
 from tool_ends import tool
 from word_faults import grouped
 
@@ -23,14 +26,14 @@ PURPOSE = "the GSM transcoder and rate adaptor unit, on recorded lines"
 
 @dataclass(frozen=True)
 class Command:
-    """A command, with its words behind the name, and what it does, with the lines that it takes and writes; the statuses that it
-    ends with, and the greatest number of a call that it takes."""
+    """A command, with its words behind the name, the statuses that it ends with, what it does, with the lines that it takes and writes,
+    and the greatest number of a call that it takes."""
 
     name: str
     words: str
-    does: str
     statuses: Tuple[int, ...]
-    last_call: int = 4096
+    does: str
+    last_call: int = profile.MOST_CALLS
 
 
 @dataclass(frozen=True)
@@ -64,110 +67,76 @@ class Order:
 CALL = "C"
 COMMANDS = (
     Command(
-        "run",
-        "[OPTIONS] <ORDERS",
+        "run", "[OPTIONS] <ORDERS", (0, 1, 2, 3, 4, 5, 6, 7),
         "reads orders from standard input, processes the calls that they open, writes their outgoing"
         " lines, and prints the report",
-        (0, 1, 2, 3, 4, 5, 6, 7),
     ),
     Command(
-        "save",
-        "[OPTIONS] <ORDERS",
+        "save", "[OPTIONS] <ORDERS", (0, 1, 2, 3, 4, 5, 6, 7),
         "runs as run does up to the period of --periods, which is required, and prints a mark instead of the"
         " report: the open calls with sums of what went out",
-        (0, 1, 2, 3, 4, 5, 6, 7),
     ),
     Command(
-        "resume",
-        "[OPTIONS] <MARKED",
+        "resume", "[OPTIONS] <MARKED", (0, 1, 2, 3, 4, 5, 6, 7, 9),
         "reads a mark and the orders after it, processes the same lines from the start, writes what follows the"
         " mark's period, and prints the whole run's report",
-        (0, 1, 2, 3, 4, 5, 6, 7, 9),
     ),
     Command(
-        "drill",
-        "[OPTIONS]",
+        "drill", "[OPTIONS]", (0, 1, 4, 5),
         "draws lines from a number, runs orders over them in memory as run does, and prints the report, with sums"
         " of what goes out; it uses no file",
-        (0, 1, 4, 5),
     ),
     Command(
-        "live",
-        "[OPTIONS]",
+        "live", "[OPTIONS]", (0, 1, 4, 5),
         "starts callers on threads, which post periods, drawn from a number, to calls and process them; prints"
         " sums of what goes out; it uses no file",
-        (0, 1, 4, 5),
     ),
+    Command("relay", CALL, (0, 1, 4, 5, 6, 8), "reads C.up, and writes its good speech frames to C.down with the same 260 data bits"),
+    Command("decode", CALL, (0, 1, 4, 5, 6, 8), "reads C.up, and writes the A-law of its good speech frames to C.out"),
+    Command("encode", CALL, (0, 1, 4, 5, 6), "reads C.pcm, and writes its speech frames to C.down"),
+    Command("frames", CALL, (0, 1, 4, 5, 6), "searches C.up for frames at any bit, and prints a line of text for each; it writes no file"),
     Command(
-        "relay",
-        CALL,
-        "reads C.up, and writes its good speech frames to C.down with the same 260 data bits",
-        (0, 1, 4, 5, 6, 8),
-    ),
-    Command(
-        "decode",
-        CALL,
-        "reads C.up, and writes the A-law of its good speech frames to C.out",
-        (0, 1, 4, 5, 6, 8),
-    ),
-    Command(
-        "encode",
-        CALL,
-        "reads C.pcm, and writes its speech frames to C.down",
-        (0, 1, 4, 5, 6),
-    ),
-    Command(
-        "frames",
-        CALL,
-        "searches C.up for frames at any bit, and prints a line of text for each; it writes no file",
-        (0, 1, 4, 5, 6),
-    ),
-    Command(
-        "split",
-        CALL,
+        "split", CALL, (0, 1, 4, 5, 6),
         "reads the time slot C.pcm, and writes its four channels to the Down lines of calls C to C + 3",
-        (0, 1, 4, 5, 6),
-        4093,
+        profile.MOST_SLOT_CALL,
     ),
     Command(
-        "merge",
-        CALL,
+        "merge", CALL, (0, 1, 4, 5, 6),
         "reads C.up and the Up lines of the next three calls as four channels, and writes the time slot C.out",
-        (0, 1, 4, 5, 6),
-        4093,
+        profile.MOST_SLOT_CALL,
     ),
     Command(
-        "follow",
-        "C W",
+        "follow", "C W", (0, 1, 4, 5, 6),
         "reads C.up as a downlink, prints a line of text for each frame that a base station finds on it, and"
         " writes to C.down what it sends up, asking for frames at W modulo 320, 0 to 316 and a multiple of 4",
-        (0, 1, 4, 5, 6),
     ),
 )
 
-OPTIONS = (
-    Option("--workers", 1, 64, 4, "the threads that process the calls"),
-    Option("--batch", 1, 250, 50, "the most periods that are read, processed and written at a time"),
-    Option("--slice", 1, 250, 5, "the periods of a call that are processed in one go"),
-    Option("--periods", 1, 4294967295, 4294967295, "the period at which the run ends; resume goes on to its mark's if that is greater"),
-)
-
-DRILL_OPTIONS = (
-    *OPTIONS[:3],
-    Option("--periods", 1, 1000, 200, "the periods of the drill"),
-    Option("--seed", 0, 4294967295, 1, "the number that lines are drawn from"),
-    Option("--calls", 1, 256, 64, "the calls of the drill"),
-)
-
-LIVE_OPTIONS = (
-    Option("--seed", 0, 4294967295, 1, "the number that periods are drawn from"),
-    Option("--calls", 1, 256, 64, "the calls"),
-    Option("--periods", 1, 1000, 200, "the periods of each call"),
-    Option("--callers", 1, 64, 4, "the callers, each on a thread of its own"),
-    Option("--inbox", 1, 1024, 8, "the posts that may wait at a call"),
-)
-
-OPTIONS_OF = {"run": OPTIONS, "drill": DRILL_OPTIONS, "live": LIVE_OPTIONS}
+PACE = {
+    "workers": "the threads that process the calls",
+    "batch": "the most periods that are read, processed and written at a time",
+    "slice": "the periods of a call that are processed in one go",
+}
+MEANINGS = {
+    "run": {**PACE, "periods": "the period at which the run ends; resume goes on to its mark's if that is greater"},
+    "drill": {
+        **PACE,
+        "periods": "the periods of the drill",
+        "seed": "the number that lines are drawn from",
+        "calls": "the calls of the drill",
+    },
+    "live": {
+        "seed": "the number that periods are drawn from",
+        "calls": "the calls",
+        "periods": "the periods of each call",
+        "callers": "the callers, each on a thread of its own",
+        "inbox": "the posts that may wait at a call",
+    },
+}
+OPTIONS_OF = {
+    command: tuple(Option(f"--{name}", *profile.OPTIONS[command][name], means) for name, means in meanings.items())
+    for command, meanings in MEANINGS.items()
+}
 
 # The commands that have these options too.
 ALSO = {"run": ("save", "resume")}
@@ -191,9 +160,7 @@ STATUSES = (
     Status(5, "out of memory", "no memory"),
     Status(6, "a line failed", "line C up failed, with the line's side; the report, which names the lines"),
     Status(
-        7,
-        "the orders have more than 1,048,576 octets or more than 65,536 lines, or with their mark more than 1,310,720 octets",
-        "orders too long",
+        7, "the orders have more than 1,048,576 octets or more than 65,536 lines, or with their mark more than 1,310,720 octets", "orders too long"
     ),
     Status(8, "a block isn't a good speech frame", "relay refused N, decode refused N"),
     Status(9, "the mark isn't that of this run: call C is the least that differs", "save differs C"),
@@ -236,13 +203,8 @@ NOTE_ON_PROGRAMS = (
 
 def folded(words: str, indent: str, width: int = 79) -> List[str]:
     """The words in lines that aren't longer than the width, each behind the indent."""
-    lines, line = [], indent
-    for word in words.split():
-        if line.strip() and len(line) + 1 + len(word) > width:
-            lines.append(line)
-            line = indent
-        line += word if line == indent else f" {word}"
-    return lines + [line]
+    spared = {"break_long_words": False, "break_on_hyphens": False}
+    return textwrap.wrap(" ".join(words.split()), width, initial_indent=indent, subsequent_indent=indent, **spared) or [indent]
 
 
 def table(rows: Iterable[Tuple[str, str]]) -> List[str]:
@@ -419,9 +381,7 @@ def completion() -> str:
 @tool("trau_words.py")
 def main(words: Sequence[str]) -> int:
     """Prints what is asked for, and gives the status."""
-    parser = trau_frames.Words(
-        description=__doc__, formatter_class=argparse.RawDescriptionHelpFormatter, allow_abbrev=False
-    )
+    parser = Words(__doc__)
     parser.add_argument("what", choices=("help", "pages", "grammar", "man", "completion"), help="what is printed")
     asked = parser.parse_args(words)
     made = {

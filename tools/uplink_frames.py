@@ -5,18 +5,18 @@ from __future__ import annotations
 
 from typing import Iterable, List, Optional
 
-import trau_frames
 from code_word import FrameKind, Marker
-from trau_frames import PERIODS_FROM_TAF_TO_TAF, SpeechControl
+from core.frame import Sort, UpFrame, frame_of, octets_of, write_up
+from core.parameters import SILENCE, bits_of_parameters
+from core.profile import TAF_PERIODS, UP_IDLE
 
 
 def unusable(taf: bool) -> bytes:
     """An unusable frame."""
-    control = SpeechControl(bad=True, taf=taf).bits()
-    return trau_frames.octets_of(trau_frames.frame_of(control, trau_frames.SILENCE.bits()))
+    return octets_of(write_up(UpFrame(Sort.BAD, taf, data=bits_of_parameters(SILENCE))))
 
 
-IDLE = trau_frames.octets_of(trau_frames.frame_of(trau_frames.IDLE_UP + "000000" + 10 * "1", 260 * "1"))
+IDLE = octets_of(frame_of(UP_IDLE + "000000" + 10 * "1", 260 * "1"))
 LOST, LOST_WITH_TAF = unusable(False), unusable(True)
 
 
@@ -38,7 +38,7 @@ class UplinkFrames:
         if self.since is None:
             return False
         self.since += 1
-        return self.since % PERIODS_FROM_TAF_TO_TAF == 0
+        return self.since % TAF_PERIODS == 0
 
     def take(self, data: str) -> None:
         """A frame that came, D1 to D260."""
@@ -46,7 +46,7 @@ class UplinkFrames:
         is_speech = kind is FrameKind.SPEECH
         taf = not is_speech and self.next_is_due()
         self.since = None if is_speech else 0
-        self.frames.append(trau_frames.octets_of(trau_frames.frame_of(self.marker.control(kind, taf), data)))
+        self.frames.append(octets_of(frame_of(self.marker.control(kind, taf), data)))
 
     def lose(self, count: int = 1) -> None:
         """Frames that didn't come."""

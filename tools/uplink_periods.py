@@ -1,4 +1,4 @@
-"""What each period of an uplink yields, by columns of octets. It is the search of `trau_frames.search`, which goes bit by bit; a period
+"""What each period of an uplink yields, by columns of octets. It is the search of `core.search`, which goes bit by bit; a period
 takes an octet here, and an hour of a line some hundredths of a second."""
 
 from __future__ import annotations
@@ -6,15 +6,17 @@ from __future__ import annotations
 import re
 from typing import Iterator, List, NamedTuple, Optional, Tuple
 
+from core.frame import Sort, shift_of
+from core.profile import FRAME_BITS, FRAME_OCTETS, MISSES_TO_HUNT, UP_IDLE, UP_SPEECH
+from core.search import period_of
 from octet_columns import FIRST_BITS, LAST_BITS, Frames, joined, number, table
-from trau_frames import FRAME_BITS, FRAME_OCTETS, IDLE_UP, MISSES_THAT_UNLOCK, SPEECH_UP, Sort, period_of
 
 SORTS = tuple(Sort)
 GOOD, SID, INVALID, BAD, IDLE, OTHER, MISS, NONE = range(len(SORTS))  # codes: the places of the sorts in their order
 
 # The frame's octets 2 and 3 are a sync bit, C1 to C5 (what it is), C6 to C11 (the alignment field), C12 (BFI), C13 and C14 (SID), C15 (TAF).
 IS_IDLE, IS_OTHER, IS_MISSED = 0x10, 0x20, 0x40
-KINDS = {int(SPEECH_UP, 2): 0, int(IDLE_UP, 2): IS_IDLE}
+KINDS = {int(UP_SPEECH, 2): 0, int(UP_IDLE, 2): IS_IDLE}
 KIND = table(lambda octet: KINDS.get(octet >> 2 & 31, IS_OTHER))
 FIELD_FRONT = table(lambda octet: (octet & 3) << 4)
 FIELD_BACK = table(lambda octet: octet >> 4)
@@ -41,11 +43,6 @@ SPEECH = table(speech_code)
 CODE = table(code_of_marks)
 ZERO_IS_MISSED = table(lambda octet: 0 if octet else IS_MISSED)
 OTHERWISE_MISSED = table(lambda octet: IS_MISSED if octet else 0)
-
-
-def shift_of(field_asked: int) -> int:
-    """The shift, in octets of the Pcm line, that an alignment field asks for; 0 for none."""
-    return {62: 2, 63: -2}.get(field_asked, 4 * field_asked if field_asked < 40 else 0)
 
 
 NO_FIELD = 0x40
@@ -89,9 +86,7 @@ def frame_at_bit(bit: int) -> bytes:
 
 
 FRAMES_AT_BITS = [re.compile(frame_at_bit(bit), re.DOTALL) for bit in range(8)]
-FRAME_ANYWHERE = re.compile(
-    rb"(?=.\x00[^\x00])(?:" + b"|".join(b"(" + frame_at_bit(bit) + b")" for bit in range(8)) + b")", re.DOTALL
-)
+FRAME_ANYWHERE = re.compile(rb"(?=.\x00[^\x00])(?:" + b"|".join(b"(" + frame_at_bit(bit) + b")" for bit in range(8)) + b")", re.DOTALL)
 
 
 def hunt(octets: bytes, place: int) -> Optional[int]:
@@ -129,9 +124,9 @@ def tracks(octets: bytes) -> Iterator[Track]:
         if left == 0:
             return
         codes, fields = read(Frames(octets, place, min(left, ahead)))
-        lost = codes.find(bytes([MISS]) * MISSES_THAT_UNLOCK)
+        lost = codes.find(bytes([MISS]) * MISSES_TO_HUNT)
         if lost >= 0:
-            codes = codes[: lost + MISSES_THAT_UNLOCK]
+            codes = codes[: lost + MISSES_TO_HUNT]
         elif len(codes) < left:
             codes = codes.rstrip(bytes([MISS]))  # these may be the first of three
         yield Track(place, codes, fields[: len(codes)])

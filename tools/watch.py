@@ -19,10 +19,12 @@ from pathlib import Path
 from typing import Any, Dict, List, NamedTuple, Optional, Sequence, Union
 
 import run_texts
-import trau_frames
-from run_texts import INCOMING, MOST_PERIODS, OUTGOING, Order, whole_periods
+from core.lines import INCOMING, OUTGOING, name_of, whole_periods
+from core.orders import Order
+from core.profile import MOST_PERIODS
+from core.words import Refusal, Words, number_within, option, switch
 from tool_ends import complain, tool
-from trau_frames import Refusal, number_within
+from tool_files import read_file
 
 
 def expected_periods(folder: Path, orders: Sequence[Order], periods: int) -> Dict[int, int]:
@@ -93,7 +95,7 @@ class Watched:
 
     def octets(self) -> int:
         """How many octets are on the outgoing lines of the calls."""
-        lines = (self.folder / f"{call}.{side}" for call in self.expected for side in OUTGOING)
+        lines = (self.folder / name_of(call, side) for call in self.expected for side in OUTGOING)
         return sum(line.stat().st_size for line in lines if line.is_file())
 
     def done(self, call: int, began: float) -> int:
@@ -123,9 +125,7 @@ def progress_of(runs: Sequence[Watched]) -> Progress:
     """How far all runs are together."""
     each = [run.progress() for run in runs]
     began = min((one.began for one in each if not one.ended), default=time.time())
-    return Progress(
-        sum(one.periods for one in each), sum(one.calls for one in each), began, all(one.ended for one in each)
-    )
+    return Progress(sum(one.periods for one in each), sum(one.calls for one in each), began, all(one.ended for one in each))
 
 
 class Pace(NamedTuple):
@@ -207,7 +207,7 @@ def text_of_ends(runs: Sequence[Watched]) -> List[str]:
     """What runs printed that ended without a report."""
     ends = []
     for run in (run for run in runs if run.ended):
-        text = trau_frames.read_file(run.report)
+        text = read_file(run.report)
         try:
             run_texts.report_of(run.report, text)
         except Refusal:
@@ -244,31 +244,23 @@ def watch(words: argparse.Namespace) -> int:
     return 1 if ends else 0
 
 
-def parser() -> argparse.ArgumentParser:
+def parser() -> Words:
     """The words of the command line."""
-    words = trau_frames.Words(
-        description=__doc__,
+    return Words(
+        __doc__,
+        option("folders", type=Path, nargs="+", metavar="FOLDER", help="the folder of a run; several for several runs"),
+        option("--orders", type=Path, metavar="FILE", help="the orders of the run (default FOLDER/orders.txt)"),
+        option("--report", type=Path, metavar="FILE", help="the report of the run (default FOLDER/report.txt)"),
+        option("--periods", type=number_within(1, MOST_PERIODS), default=MOST_PERIODS, metavar="N", help="as of trau run"),
+        option("--interval", type=float, default=1.0, metavar="SECONDS", help="between two looks (default 1)"),
+        option(
+            "--patience", type=float, default=60.0, metavar="SECONDS",
+            help="after how long without growth the run counts as stalled or ended (default 60)",
+        ),
+        switch("--once", "look once"),
+        switch("--plain", "print lines of text even at a terminal with the library tqdm"),
         epilog="example: watch.py farm; or of a farm that was cut: watch.py cut/[0-9]*",
-        formatter_class=argparse.RawDescriptionHelpFormatter,
-        allow_abbrev=False,
     )
-    words.add_argument("folders", type=Path, nargs="+", metavar="FOLDER", help="the folder of a run; several for several runs")
-    words.add_argument("--orders", type=Path, metavar="FILE", help="the orders of the run (default FOLDER/orders.txt)")
-    words.add_argument("--report", type=Path, metavar="FILE", help="the report of the run (default FOLDER/report.txt)")
-    words.add_argument("--periods", type=number_within(1, MOST_PERIODS), default=MOST_PERIODS, metavar="N", help="as of trau run")
-    words.add_argument("--interval", type=float, default=1.0, metavar="SECONDS", help="between two looks (default 1)")
-    words.add_argument(
-        "--patience",
-        type=float,
-        default=60.0,
-        metavar="SECONDS",
-        help="after how long without growth the run counts as stalled or ended (default 60)",
-    )
-    words.add_argument("--once", action="store_true", help="look once")
-    words.add_argument(
-        "--plain", action="store_true", help="print lines of text even at a terminal with the library tqdm"
-    )
-    return words
 
 
 @tool("watch.py")

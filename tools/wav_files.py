@@ -8,8 +8,10 @@ from array import array
 from dataclasses import dataclass
 from pathlib import Path
 
+from core.g711 import Law, octets_by_sample
+from core.profile import SAMPLES_A_SECOND
+from core.words import Refusal, as_started
 from recordings import command_of_others
-from trau_frames import SAMPLES_A_SECOND, Law, Refusal, as_started
 
 WAV_LINEAR, WAV_ALAW, WAV_MULAW, WAV_GSM, WAV_EXTENSIBLE = 1, 6, 7, 0x31, 0xFFFE
 LAWS_BY_TAG = {WAV_ALAW: Law.A, WAV_MULAW: Law.MU}
@@ -80,20 +82,16 @@ def octets_of_wav(name: Path, content: bytes, law: Law, partial: bool = False) -
     samples = array("H", wav.data[: len(wav.data) - left])
     if sys.byteorder == "big":
         samples.byteswap()
-    return bytes(map(law.octets_by_sample().__getitem__, samples))
+    return bytes(map(octets_by_sample(law).__getitem__, samples))
 
 
 def wav_of(tag: int, sample_bits: int, data: bytes) -> bytes:
     """A WAV file of one channel."""
     sample_octets = sample_bits // 8
-    form = struct.pack(
-        "<HHIIHH", tag, 1, SAMPLES_A_SECOND, SAMPLES_A_SECOND * sample_octets, sample_octets, sample_bits
-    )
+    form = struct.pack("<HHIIHH", tag, 1, SAMPLES_A_SECOND, SAMPLES_A_SECOND * sample_octets, sample_octets, sample_bits)
     chunks = [(b"fmt ", form)]
     if tag != WAV_LINEAR:
         chunks = [(b"fmt ", form + b"\0\0"), (b"fact", struct.pack("<I", len(data) // sample_octets))]
     chunks.append((b"data", data))
-    body = b"WAVE" + b"".join(
-        struct.pack("<4sI", name, len(chunk)) + chunk + bytes(len(chunk) % 2) for name, chunk in chunks
-    )
+    body = b"WAVE" + b"".join(struct.pack("<4sI", name, len(chunk)) + chunk + bytes(len(chunk) % 2) for name, chunk in chunks)
     return struct.pack("<4sI", b"RIFF", len(body)) + body

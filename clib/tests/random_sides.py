@@ -22,17 +22,18 @@ sys.path.insert(0, str(TOP))
 sys.path.insert(0, str(TOP / "clib"))
 
 import trau_fr  # noqa: E402
+from core.frame import DownFrame, Kind, Sort, UpFrame, bits_of, octets_of, read_down, read_up, write_down, write_up  # noqa: E402
+from core.g711 import Law, compress_all, expand_all  # noqa: E402
+from core.parameters import WIDTHS, Parameters, bits_of_parameters, parameters_of_bits, parameters_of_values, values_of  # noqa: E402
+from core.search import FRAME  # noqa: E402
 from model import call as calls  # noqa: E402
-from model.codec import Encoder, Parameters  # noqa: E402
-from model.frame import WIDTHS, DownFrame, FrameClass, Kind, UpFrame, bits_of, bits_of_parameters, octets_of  # noqa: E402
-from model.frame import parameters_of_bits, parameters_of_values, read_down, read_up, sync_matches, values_of  # noqa: E402
-from model.frame import write_down, write_up  # noqa: E402
-from model.g711 import Law, compress_all, expand_all  # noqa: E402
+from model.codec import Encoder  # noqa: E402
 from model.libgsm import SIGNALS  # noqa: E402
 from model.receive import effective_frames  # noqa: E402
 from model.transmit import Coded, sent_frames  # noqa: E402
 
 LAWS = {Law.A: "alaw", Law.MU: "mulaw"}
+KINDS = {Sort.GOOD: trau_fr.Kind.SPEECH, Sort.SID: trau_fr.Kind.DESCRIPTOR, Sort.BAD: trau_fr.Kind.LOST, Sort.IDLE: trau_fr.Kind.IDLE}
 MAGIC = 13
 UNKNOWN = (4, 7, 255, 256, 65536, 1 << 31, (1 << 32) - 1)
 # Kinds with the numbers of periods that follow each other; -1 stands for an unknown one.
@@ -93,11 +94,11 @@ def random_octets(draw: random.Random) -> bytes:
 def uplink_frame(period: Period) -> UpFrame:
     """The uplink frame that a period stands for (docs/FILES.md, "Control bits")."""
     frame = unpacked(period.octets)
-    data = (0,) * 260 if frame is None else bits_of_parameters(frame)
+    data = "0" * 260 if frame is None else bits_of_parameters(frame)
     if period.kind == 3:
-        return UpFrame(Kind.IDLE, FrameClass.UNUSABLE, period.taf, False, 0, (1,) * 260)
-    classes = {} if frame is None else {0: FrameClass.GOOD, 1: FrameClass.SID}
-    return UpFrame(Kind.SPEECH, classes.get(period.kind, FrameClass.UNUSABLE), period.taf, False, 0, data)
+        return UpFrame(Sort.IDLE, period.taf)
+    sorts = {} if frame is None else {0: Sort.GOOD, 1: Sort.SID}
+    return UpFrame(sorts.get(period.kind, Sort.BAD), period.taf, data=data)
 
 
 def periods_of(draw: random.Random, law: Law, count: int) -> List[Period]:
@@ -131,7 +132,7 @@ class Heard(NamedTuple):
 
 def heard_by_model(number: int, law: Law, frames: Sequence[UpFrame], bridges: Sequence[calls.Span]) -> List[Heard]:
     """What the model makes of the frames of an uplink."""
-    count, uplink = len(frames), calls.Uplink([], effective_frames(number, frames))
+    count, uplink = len(frames), calls.Uplink([], frames, effective_frames(number, frames))
     call = calls.Call(number, law, count, uplink, b"", [], bridges)
     line, bridged = calls.out_line(call), calls.in_bridge(call)
     handed = [packed(parameters_of_bits(bits)) for bits in calls.handed(uplink, 0, count)]
@@ -154,9 +155,7 @@ def heard_by_library(number: int, law: Law, periods: Sequence[Period], bridges: 
 
 def line_by_model(frame: UpFrame) -> Tuple[bytes, trau_fr.Line]:
     """The 40 octets of an uplink frame, and what is read of them."""
-    kinds = {FrameClass.GOOD: trau_fr.Kind.SPEECH, FrameClass.SID: trau_fr.Kind.DESCRIPTOR, FrameClass.UNUSABLE: trau_fr.Kind.LOST}
-    kind = trau_fr.Kind.IDLE if frame.kind is Kind.IDLE else kinds[frame.frame_class]
-    return octets_of(write_up(frame)), trau_fr.Line(packed(parameters_of_bits(frame.data)), kind, frame.taf)
+    return octets_of(write_up(frame)), trau_fr.Line(packed(parameters_of_bits(frame.data)), KINDS[frame.sort], frame.taf)
 
 
 def line_by_library(period: Period) -> Tuple[bytes, trau_fr.Line]:
@@ -176,11 +175,10 @@ def spoiled(draw: random.Random, octets: bytes) -> bytes:
 def uplink_by_model(octets: bytes) -> Optional[trau_fr.Line]:
     """What 40 octets of an uplink bring; None if the sync bits are wrong."""
     bits = bits_of(octets)
-    frame, kinds = read_up(bits), {FrameClass.GOOD: trau_fr.Kind.SPEECH, FrameClass.SID: trau_fr.Kind.DESCRIPTOR}
+    frame = read_up(bits)
     # An invalid descriptor and a frame of another pattern count as a miss does: no descriptor was due.
-    is_heard = frame.kind is Kind.IDLE or (frame.kind is Kind.SPEECH and frame.frame_class is not FrameClass.INVALID_SID)
-    kind = trau_fr.Kind.IDLE if frame.kind is Kind.IDLE else kinds.get(frame.frame_class, trau_fr.Kind.LOST)
-    return trau_fr.Line(packed(parameters_of_bits(frame.data)), kind, is_heard and frame.taf) if sync_matches(bits) else None
+    is_heard, kind = frame.sort in KINDS, KINDS.get(frame.sort, trau_fr.Kind.LOST)
+    return trau_fr.Line(packed(parameters_of_bits(frame.data)), kind, is_heard and frame.taf) if FRAME.fullmatch(bits) else None
 
 
 def downlink_by_model(octets: bytes) -> Optional[trau_fr.Line]:
@@ -189,7 +187,7 @@ def downlink_by_model(octets: bytes) -> Optional[trau_fr.Line]:
     frame = read_down(bits)
     speech = trau_fr.Kind.SPEECH if frame.sp else trau_fr.Kind.DESCRIPTOR
     kind = {Kind.SPEECH: speech, Kind.IDLE: trau_fr.Kind.IDLE}.get(frame.kind, trau_fr.Kind.LOST)
-    return trau_fr.Line(packed(parameters_of_bits(frame.data)), kind, False) if sync_matches(bits) else None
+    return trau_fr.Line(packed(parameters_of_bits(frame.data)), kind, False) if FRAME.fullmatch(bits) else None
 
 
 def by_library(read: Callable[[bytes], trau_fr.Line], octets: bytes) -> Optional[trau_fr.Line]:

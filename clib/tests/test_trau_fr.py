@@ -11,11 +11,12 @@ from pathlib import Path
 HERE = Path(__file__).resolve().parent
 VECTORS = HERE.parents[1] / "checks" / "vectors"
 sys.path.insert(0, str(HERE.parent))
-sys.path.insert(0, str(HERE.parents[1] / "tools"))
+sys.path[:0] = [str(HERE.parents[1] / "tools"), str(HERE.parents[1])]
 
+from core.frame import bits_of, data_of  # noqa: E402
+from core.parameters import data_of_gsm, gsm_of_data  # noqa: E402
 import code_word  # noqa: E402
 import trau_fr  # noqa: E402
-from trau_frames import bits_of, data_of, data_of_gsm, gsm_of_data  # noqa: E402
 
 try:
     import numpy

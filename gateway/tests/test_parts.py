@@ -19,16 +19,16 @@ import recorder
 import rtp
 from calls import SILENCE, idle_line, is_no_frame, soft_octets
 from clock import PERIOD, Clock
+from core.profile import MOST_ORDERS
+from core.words import Refusal
 from incoming import Incoming
 from jitter_buffer import LIMIT, MOST_MARGIN, PATIENCE, WINDOW, JitterBuffer
 from live import Commands, Gateway
 from network import FEWEST_SOCKETS, KEEPS_PORT, MOST_OCTETS, MOST_PACKETS, Endpoint, Network
 from recorder import CLOSE_OCTETS, Recorder
-from run_texts import MOST_ORDERS
 from settings import Side, read_open
 from spoiler import header
 from trau_fr import Kind, kind_of
-from trau_frames import Refusal
 
 ONE = bytes(33)
 

@@ -9,7 +9,7 @@ from support import LINE, SPEECH, InFolder, Turned, cut, open_line, ports_of, re
 import trau_fr
 from calls import SILENCE
 from rtp import ALAW, GSM, MULAW
-from run_texts import MOST_ORDERS
+from core.profile import MOST_ORDERS
 from spoiler import Faults, schedule
 
 SPOILED = {

@@ -2,13 +2,13 @@
 
 import sys
 from pathlib import Path
-from typing import Iterable, List, Optional, Sequence
+from typing import Iterable, List, Optional
 
 TOP = Path(__file__).resolve().parents[2]
 sys.path.insert(0, str(TOP))
 
-from model.codec import Block, Parameters  # noqa: E402
-from model.frame import Bits, FrameClass, Kind, UpFrame, bits_of_parameters, octets_of, write_up  # noqa: E402
+from core.frame import Sort, UpFrame, octets_of, write_up  # noqa: E402
+from core.parameters import Block, Parameters, bits_of_parameters  # noqa: E402
 
 CODEC = TOP / "checks" / "vectors"
 CHECKS = TOP / "checks"
@@ -34,45 +34,24 @@ def maxima(parameters: Optional[Parameters]) -> Optional[List[int]]:
     return None if parameters is None else [block.xmaxc for block in parameters.blocks]
 
 
-def speech(
-    parameters: Parameters = QUIET,
-    frame_class: FrameClass = FrameClass.GOOD,
-    field: int = 0,
-    taf: bool = False,
-    dtxd: bool = False,
-) -> UpFrame:
+def speech(parameters: Parameters = QUIET, sort: Sort = Sort.GOOD, field: int = 0, taf: bool = False, dtxd: bool = False) -> UpFrame:
     """An uplink speech frame of this class."""
-    return UpFrame(Kind.SPEECH, frame_class, taf, dtxd, field, bits_of_parameters(parameters))
+    return UpFrame(sort, taf, dtxd, field, bits_of_parameters(parameters))
 
 
 def sid(xmaxc: int) -> UpFrame:
     """A silence descriptor with this coded maximum in all four blocks."""
-    return speech(with_maxima(xmaxc), FrameClass.SID)
+    return speech(with_maxima(xmaxc), Sort.SID)
 
 
 def unusable(taf: bool = False) -> UpFrame:
     """An unusable speech frame."""
-    return speech(frame_class=FrameClass.UNUSABLE, taf=taf)
+    return speech(sort=Sort.BAD, taf=taf)
 
 
-IDLE_UP = UpFrame(Kind.IDLE, FrameClass.UNUSABLE, False, False, 0, (1,) * 260)
+IDLE_UP = UpFrame(Sort.IDLE)
 
 
 def line(frames: Iterable[UpFrame]) -> bytes:
     """The Up line of frames without a gap."""
     return b"".join(octets_of(write_up(frame)) for frame in frames)
-
-
-def bits(octets: bytes) -> str:
-    """The bits of octets as a text."""
-    return "".join(format(octet, "08b") for octet in octets)
-
-
-def text(values: Sequence[int]) -> str:
-    """Bits as a text."""
-    return "".join(map(str, values))
-
-
-def item(parameters: Parameters) -> Bits:
-    """A handed frame with these parameters."""
-    return bits_of_parameters(parameters)

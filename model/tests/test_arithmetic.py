@@ -3,7 +3,7 @@
 import unittest
 
 import material  # noqa: F401
-from model import arithmetic
+from core import arithmetic
 
 
 class Operations(unittest.TestCase):

@@ -3,9 +3,9 @@
 import unittest
 from typing import List, Optional
 
-from material import CODEC, DOWN, bits
+from material import CODEC, DOWN
+from core.frame import Kind, bits_of, octets_of
 from model.basestation import asked_fields, field_for, heard_by_period, heard_frames
-from model.frame import Kind, octets_of
 
 
 def found(periods: List[Optional[int]], wanted: int) -> List[int]:
@@ -13,8 +13,8 @@ def found(periods: List[Optional[int]], wanted: int) -> List[int]:
     line = "".join("1" * 320 for _ in periods)
     for period, place in enumerate(periods):
         if place is not None:
-            line = line[:320 * period + place] + bits(DOWN) + line[320 * period + place + 320:]
-    return asked_fields(heard_by_period(octets_of([int(bit) for bit in line])), wanted)
+            line = line[:320 * period + place] + bits_of(DOWN) + line[320 * period + place + 320:]
+    return asked_fields(heard_by_period(octets_of(line)), wanted)
 
 
 class Fields(unittest.TestCase):
@@ -42,10 +42,10 @@ class Frames(unittest.TestCase):
 
     def test_shifts(self) -> None:
         """A delay, and a frame without time bits."""
-        line = "1" * 320 + bits(DOWN) + "1" * 312 + bits(DOWN)[:316] + bits(DOWN) + "1" * 12
-        heard = heard_frames(octets_of([int(bit) for bit in line]))
+        line = "1" * 320 + bits_of(DOWN) + "1" * 312 + bits_of(DOWN)[:316] + bits_of(DOWN) + "1" * 12
+        heard = heard_frames(octets_of(line))
         self.assertEqual([(one.place, one.frame.kind) for one in heard], [(place, Kind.SPEECH) for place in (320, 952, 1268)])
-        by_period = heard_by_period(octets_of([int(bit) for bit in line]))
+        by_period = heard_by_period(octets_of(line))
         self.assertEqual([len(one) for one in by_period], [0, 1, 0, 1, 1])
         self.assertEqual(asked_fields(by_period, 0), [0, 0, 0, 1, 1])
 

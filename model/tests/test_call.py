@@ -3,25 +3,19 @@
 import unittest
 from typing import Sequence, Tuple
 
-from material import DOWN, IDLE_DOWN, IDLE_UP, QUIET, UP, bits, item, line, sid, speech, with_maxima
-from model.call import Call, Counts, Outgoing, Setting, Span, Uplink, handed, outgoing, uplink
+from material import DOWN, IDLE_DOWN, IDLE_UP, QUIET, UP, line, sid, speech, with_maxima
+from core.frame import bits_of
+from core.g711 import Law, compress_all, expand_all
+from core.parameters import SILENCE, bits_of_parameters
+from model.call import Call, Outgoing, Setting, Span, Uplink, handed, outgoing, uplink
 from model.codec import Decoder, Encoder
-from model.frame import bits_of_parameters, silence
-from model.g711 import Law, compress_all, expand_all
 from model.transmit import Dtx
 
 IDLE_PCM = b"\xd5" * 160  # of A-law; its samples aren't 0
 ZEROS = b"\xff" * 160  # of mu-law; its samples are 0
 
 
-def call(
-    up: bytes,
-    pcm: bytes,
-    number: int = 7,
-    law: Law = Law.A,
-    settings: Sequence[Setting] = (),
-    spans: Sequence[Span] = (),
-) -> Outgoing:
+def call(up: bytes, pcm: bytes, number: int = 7, law: Law = Law.A, settings: Sequence[Setting] = (), spans: Sequence[Span] = ()) -> Outgoing:
     """What a call of these lines gives, of as many periods as both have."""
     periods = min(len(up) // 40, len(pcm) // 160)
     return outgoing(Call(number, law, periods, uplink(number, up), pcm, settings, spans))
@@ -40,25 +34,25 @@ class Calls(unittest.TestCase):
         made = call(b"\0" * 120, IDLE_PCM * 3, number=1)
         self.assertEqual(made.out, IDLE_PCM * 3)
         self.assertEqual(made.down, b"\xff" * 40 + IDLE_DOWN * 2)
-        self.assertEqual(made.counts, Counts(0, 0, 0, 0, 0, 0, 0, 3, 3))
+        self.assertEqual(made.counts, [0, 0, 0, 0, 0, 0, 0, 3, 3])
 
     def test_mu_law(self) -> None:
         made = call(b"\0" * 120, IDLE_PCM * 3, number=4096, law=Law.MU)
         self.assertEqual(made.out, b"\xff" * 480)
 
     def test_frames_five_bits_late(self) -> None:
-        late = "00000" + bits(UP * 3)
+        late = "00000" + bits_of(UP * 3)
         up = bytes(int(late[start:start + 8], 2) for start in range(0, 960, 8))
         made = call(up, IDLE_PCM * 3)
         self.assertEqual(made.out, IDLE_PCM + decoded(2))
-        self.assertEqual(made.counts, Counts(2, 0, 0, 0, 0, 0, 0, 1, 3))
+        self.assertEqual(made.counts, [2, 0, 0, 0, 0, 0, 0, 1, 3])
 
     def test_shifts(self) -> None:
         up = line([speech(field=field) for field in (39, 0, 63, 40, 0)])
         made = call(up, ZEROS * 5, law=Law.MU)
-        whole = "1" * 320 + bits(DOWN) + "1" * 312 + bits(DOWN)[:316] + bits(DOWN)
-        self.assertEqual(bits(made.down), (whole + bits(DOWN))[:1600])
-        self.assertEqual(made.counts.made, 4)
+        whole = "1" * 320 + bits_of(DOWN) + "1" * 312 + bits_of(DOWN)[:316] + bits_of(DOWN)
+        self.assertEqual(bits_of(made.down), (whole + bits_of(DOWN))[:1600])
+        self.assertEqual(made.counts[-1], 4)
 
     def test_the_encoder_takes_the_octets_of_its_frame(self) -> None:
         """After a shift of 156 the second frame begins at octet 316."""
@@ -66,7 +60,7 @@ class Calls(unittest.TestCase):
         made = call(line([speech(field=39)] + [speech()] * 3), pcm)
         encoder = Encoder()
         wanted = [encoder.encode(expand_all(Law.A, pcm[start:start + 160])).parameters for start in (0, 316)]
-        down = bits(made.down)
+        down = bits_of(made.down)
         data = ["".join(map(str, bits_of_parameters(one))) for one in wanted]
         self.assertEqual([down[320 + 33:320 + 48], down[952 + 33:952 + 48]], [one[:15] for one in data])
 
@@ -104,10 +98,10 @@ class Bridges(unittest.TestCase):
     def test_a_frame_waits(self) -> None:
         of_seven, of_nine, _ = self.pair(4, 10)
         self.assertEqual((of_seven.sent, of_nine.sent), ([6], [6]))
-        self.assertEqual((of_seven.counts.made, of_nine.counts.made), (12, 11))
-        down = bits(of_nine.down)[320 + 4 * 320 + 312:]
+        self.assertEqual((of_seven.counts[-1], of_nine.counts[-1]), (12, 11))
+        down = bits_of(of_nine.down)[320 + 4 * 320 + 312:]
         for number in range(6):
-            self.assertEqual(down[320 * number + 33:][:15], "".join(map(str, item(with_maxima(4 + number))))[:15])
+            self.assertEqual(down[320 * number + 33:][:15], bits_of_parameters(with_maxima(4 + number))[:15])
             self.assertEqual(down[320 * number + 310], "1")
 
     def test_out_is_idle_within(self) -> None:
@@ -117,7 +111,7 @@ class Bridges(unittest.TestCase):
 
     def test_a_frame_is_lost_where_the_call_ends(self) -> None:
         up = UP * 3 + line([speech(field=39)]) + UP * 6
-        items = [item(QUIET)] * 6
+        items = [bits_of_parameters(QUIET)] * 6
         made = outgoing(Call(9, Law.A, 10, uplink(9, up), IDLE_PCM * 10, (), [Span(4, 10, items)]))
         self.assertEqual(made.sent, [5])
 
@@ -134,11 +128,11 @@ class Bridges(unittest.TestCase):
 
     def test_what_is_handed_over(self) -> None:
         up = uplink(7, line([IDLE_UP, speech(with_maxima(9)), IDLE_UP]))
-        self.assertEqual(handed(up, 0, 3), [item(silence()), item(with_maxima(9)), item(silence())])
+        self.assertEqual(handed(up, 0, 3), [bits_of_parameters(SILENCE), bits_of_parameters(with_maxima(9)), bits_of_parameters(SILENCE)])
 
     def test_noise_is_handed_over(self) -> None:
         up = uplink(7, line([sid(20)]))
-        self.assertEqual(handed(up, 0, 1), [item(up.effective[0] or silence())])
+        self.assertEqual(handed(up, 0, 1), [bits_of_parameters(up.effective[0] or SILENCE)])
 
 
 class Causality(unittest.TestCase):

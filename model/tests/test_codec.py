@@ -4,9 +4,10 @@ import unittest
 from typing import List
 
 from material import CODEC, QUIET, QUIET_BLOCK
-from model.codec import Block, Decoder, Encoder, Parameters, code_maximum, exponent_and_mantissa, reflection_coefficients
-from model.frame import WIDTHS, bits_of, parameters_of_values, read_up, parameters_of_bits, values_of
-from model.g711 import Law, expand_all
+from core.frame import bits_of, read_up
+from core.g711 import Law, expand_all
+from core.parameters import WIDTHS, Block, Parameters, parameters_of_bits, parameters_of_values, values_of
+from model.codec import Decoder, Encoder, code_maximum, exponent_and_mantissa, reflection_coefficients
 
 GREATEST = parameters_of_values([2 ** width - 1 for width in WIDTHS])
 

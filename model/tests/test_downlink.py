@@ -3,9 +3,8 @@
 import unittest
 
 from material import IDLE_UP, speech
+from core.frame import Sort
 from model.downlink import Item, Made, asked_shifts, down_bits, made_frames, shift_of
-from model.frame import Kind
-from model.search import Found, Miss
 
 
 class Shifts(unittest.TestCase):
@@ -13,12 +12,11 @@ class Shifts(unittest.TestCase):
 
     def test_fields(self) -> None:
         shifts = [shift_of(field) for field in range(64)]
-        self.assertEqual(shifts[:3] + shifts[38:42], [None, 4, 8, 152, 156, None, None])
-        self.assertEqual((shifts[61:], shifts.count(None)), ([None, 2, -2], 23))
+        self.assertEqual(shifts[:3] + shifts[38:42], [0, 4, 8, 152, 156, 0, 0])
+        self.assertEqual((shifts[61:], shifts.count(0)), ([0, 2, -2], 23))
 
     def test_frames_that_ask(self) -> None:
-        found = [Found(0, speech(field=39)), None, Found(640, IDLE_UP._replace(field=63)), Miss(960),
-                 Found(1280, IDLE_UP._replace(kind=Kind.OTHER, field=5)), Found(1600, speech(field=40))]
+        found = [speech(field=39), None, IDLE_UP._replace(field=63), None, IDLE_UP._replace(sort=Sort.OTHER, field=5), speech(field=40)]
         self.assertEqual(asked_shifts(found), {0: 156, 2: -2})
 
 
@@ -63,14 +61,14 @@ class Bits(unittest.TestCase):
 
     def test_delays_and_advances(self) -> None:
         made = [Made(0, 2, None), Made(162, -2, None), Made(320, 0, None)]
-        bits = down_bits(made, [(0,) * 320] * 3, 5)
+        bits = down_bits(made, ["0" * 320] * 3, 5)
         zeros = [320, 4, 316 + 320]
-        self.assertEqual(bits[320:], [0] * zeros[0] + [1] * zeros[1] + [0] * zeros[2])
-        self.assertEqual(bits[:320], [1] * 320)
+        self.assertEqual(bits[320:], "0" * zeros[0] + "1" * zeros[1] + "0" * zeros[2])
+        self.assertEqual(bits[:320], "1" * 320)
 
     def test_it_ends_with_its_periods(self) -> None:
-        self.assertEqual(down_bits([Made(0, 0, None)], [(0,) * 320], 1), [1] * 320)
-        self.assertEqual(down_bits([], [], 0), [])
+        self.assertEqual(down_bits([Made(0, 0, None)], ["0" * 320], 1), "1" * 320)
+        self.assertEqual(down_bits([], [], 0), "")
 
 
 if __name__ == "__main__":

@@ -4,17 +4,17 @@ import unittest
 from typing import Dict, Iterable, List, Optional, Sequence, Tuple
 
 from material import IDLE_DOWN, UP, line, speech, with_maxima
-from model.outside import MemoryDesk, MemoryLines, Side
+from model.outside import MemoryDesk, MemoryLines
 from model.top import top
 
-Place = Tuple[int, Side]
+Place = Tuple[int, str]
 PCM = b"\xd5" * 160
 
 
 def lines_of(periods: Dict[int, int]) -> Dict[Place, bytes]:
     """Good uplinks and idle Pcm lines of these calls, of so many periods."""
-    ups = {(call, Side.UP): UP * count for call, count in periods.items()}
-    return {**ups, **{(call, Side.PCM): PCM * count for call, count in periods.items()}}
+    ups = {(call, "up"): UP * count for call, count in periods.items()}
+    return {**ups, **{(call, "pcm"): PCM * count for call, count in periods.items()}}
 
 
 def run(
@@ -77,9 +77,9 @@ class Runs(unittest.TestCase):
     """Octets and reports of runs."""
 
     def test_zeros(self) -> None:
-        contents = {(1, Side.UP): bytes(120), (1, Side.PCM): PCM * 3}
+        contents = {(1, "up"): bytes(120), (1, "pcm"): PCM * 3}
         status, report, written = run("0 open 1", contents)
-        self.assertEqual(written, {(1, Side.OUT): PCM * 3, (1, Side.DOWN): b"\xff" * 40 + IDLE_DOWN * 2})
+        self.assertEqual(written, {(1, "out"): PCM * 3, (1, "down"): b"\xff" * 40 + IDLE_DOWN * 2})
         wanted = [
             "order 1 ok",
             "call 1 from 0 to 3 end up 0",
@@ -89,25 +89,25 @@ class Runs(unittest.TestCase):
         self.assertEqual((status, report), (0, wanted))
 
     def test_mulaw(self) -> None:
-        contents = {(4096, Side.UP): bytes(120), (4096, Side.PCM): PCM * 3}
+        contents = {(4096, "up"): bytes(120), (4096, "pcm"): PCM * 3}
         status, report, written = run("0 open 4096 mulaw", contents)
-        self.assertEqual((status, written[4096, Side.OUT]), (0, b"\xff" * 480))
+        self.assertEqual((status, written[4096, "out"]), (0, b"\xff" * 480))
         self.assertIn("call 4096 from 0 to 3 end up 0", report)
 
     def test_nothing_to_do(self) -> None:
         self.assertEqual(run("", {}), (0, ["end period 0 calls 0 left 0"], {}))
-        late = run("4000000000 open 1", {(1, Side.UP): b"", (1, Side.PCM): b""})
+        late = run("4000000000 open 1", {(1, "up"): b"", (1, "pcm"): b""})
         self.assertEqual(late[1][-1], "end period 4000000000 calls 1 left 0")
 
     def test_a_bridge_hands_frames_over(self) -> None:
         """Call 9 asks for a shift of 156 octets in period 3, so the first frame in the bridge is made in its period 5."""
         frames = [speech(with_maxima(k)) for k in range(12)]
         asked = [speech(field=39 if k == 3 else 0) for k in range(12)]
-        contents = {(7, Side.UP): line(frames), (9, Side.UP): line(asked), (7, Side.PCM): PCM * 12, (9, Side.PCM): PCM * 12}
+        contents = {(7, "up"): line(frames), (9, "up"): line(asked), (7, "pcm"): PCM * 12, (9, "pcm"): PCM * 12}
         orders = "0 open 7; 0 open 9; 4 bridge 7 9; 10 unbridge 7"
         status, report, written = run(orders, contents)
         self.assertIn("bridge 7 9 from 4 to 10 sent 6 6 lost 0 0", report)
-        down = written[9, Side.DOWN]
+        down = written[9, "down"]
         for place in range(4, 10):
             start = 40 + 40 * place + 39  # behind the ones at the line's start and those of the shift
             self.assertEqual(down[start + 4 : start + 38], line([frames[place]])[4:38], place)
@@ -115,7 +115,7 @@ class Runs(unittest.TestCase):
 
     def test_the_longer_call_goes_on(self) -> None:
         contents = lines_of({7: 40, 9: 40})
-        contents[7, Side.UP] = (UP * 40)[:1213]
+        contents[7, "up"] = (UP * 40)[:1213]
         report = run("0 open 7; 0 open 9; 0 bridge 7 9", contents)[1]
         self.assertIn("call 7 from 0 to 30 end up 13", report)
         self.assertEqual(only(report, "bridge"), ["bridge 7 9 from 0 to 30 sent 30 30 lost 0 0"])
@@ -127,27 +127,27 @@ class Faults(unittest.TestCase):
 
     def test_each_line(self) -> None:
         contents = lines_of({7: 5, 8: 5, 9: 5})
-        contents[7, Side.PCM] = (PCM * 5)[:400]
+        contents[7, "pcm"] = (PCM * 5)[:400]
         orders = "0 open 7; 0 open 8; 0 open 9"
         whole = run(orders, lines_of({7: 5, 8: 5, 9: 5}))
-        status, report, written = run(orders, contents, failing=[(7, Side.PCM)], room={(9, Side.DOWN): 0})
+        status, report, written = run(orders, contents, failing=[(7, "pcm")], room={(9, "down"): 0})
         self.assertEqual(status, 6)
         self.assertIn("call 7 from 0 to 2 fault pcm", report)
         self.assertEqual(only(report, "line"), ["line 7 pcm failed", "line 9 down failed"])
-        for kept in ((8, Side.DOWN), (8, Side.OUT), (9, Side.OUT)):
+        for kept in ((8, "down"), (8, "out"), (9, "out")):
             self.assertEqual(written[kept], whole[2][kept])
 
     def test_short_lines(self) -> None:
-        contents = {(1, Side.UP): bytes(119), (1, Side.PCM): PCM * 3}
+        contents = {(1, "up"): bytes(119), (1, "pcm"): PCM * 3}
         self.assertIn("call 1 from 0 to 2 end up 39", run("0 open 1", contents)[1])
-        contents = {(1, Side.UP): bytes(120), (1, Side.PCM): (PCM * 3)[:479]}
+        contents = {(1, "up"): bytes(120), (1, "pcm"): (PCM * 3)[:479]}
         self.assertIn("call 1 from 0 to 2 end pcm 159", run("0 open 1", contents)[1])
 
     def test_missing_lines(self) -> None:
         status, report, _ = run("0 open 1", {})
         self.assertEqual((status, report[1]), (6, "call 1 from 0 to 0 fault up"))
         self.assertEqual(only(report, "line"), ["line 1 up failed", "line 1 pcm failed"])
-        status, report, _ = run("0 open 1", {(1, Side.UP): b""})
+        status, report, _ = run("0 open 1", {(1, "up"): b""})
         self.assertEqual((status, report[1]), (6, "call 1 from 0 to 0 end up 0"))
         self.assertEqual(only(report, "line"), ["line 1 pcm failed"])
 
@@ -157,17 +157,17 @@ class Faults(unittest.TestCase):
 
     def test_a_failure_is_met_where_a_round_reads_so_far(self) -> None:
         contents = lines_of({1: 3})
-        contents[1, Side.PCM] = PCM * 30
+        contents[1, "pcm"] = PCM * 30
         for batch, wanted in (("50", ["line 1 pcm failed"]), ("4", []), ("3", [])):
-            status, report, _ = run("0 open 1", contents, f"run --batch {batch}", failing=[(1, Side.PCM)])
+            status, report, _ = run("0 open 1", contents, f"run --batch {batch}", failing=[(1, "pcm")])
             self.assertEqual((status, only(report, "line")), (6 if wanted else 0, wanted), batch)
             self.assertIn("call 1 from 0 to 3 end up 0", report)
 
     def test_a_line_that_fails_at_its_end_is_read_on_by_the_next_round(self) -> None:
         contents = lines_of({1: 3})
         for batch in ("3", "50"):
-            self.assertEqual(run("0 open 1", contents, f"run --batch {batch}", failing=[(1, Side.UP)])[0], 6)
-        self.assertEqual(run("0 open 1; 3 close 1", contents, "run --batch 3", failing=[(1, Side.UP)])[0], 0)
+            self.assertEqual(run("0 open 1", contents, f"run --batch {batch}", failing=[(1, "up")])[0], 6)
+        self.assertEqual(run("0 open 1; 3 close 1", contents, "run --batch 3", failing=[(1, "up")])[0], 0)
 
 
 if __name__ == "__main__":

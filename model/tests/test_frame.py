@@ -4,24 +4,32 @@ import itertools
 import unittest
 
 from material import DOWN, IDLE_DOWN, QUIET, UP, speech
-from model.frame import C, D, SYNC, T, WIDTHS, DownFrame, FrameClass, Kind, UpFrame, bits_of, bits_of_parameters, octets_of
-from model.frame import parameters_of_bits, parameters_of_values, read_down, read_up, silence, sync_matches, write_down, write_up
+from core.frame import SPEECH, DownFrame, Kind, Sort, UpFrame, bits_of, control_of, data_of, frame_of, octets_of
+from core.frame import read_down, read_up, write_down, write_up
+from core.parameters import SILENCE, WIDTHS, bits_of_parameters, parameters_of_bits, parameters_of_values
+from core.search import FRAME
 
 
 class Places(unittest.TestCase):
     """The places of the bits."""
 
-    def test_each_place_has_one_bit(self) -> None:
-        places = list(SYNC) + list(C.values()) + list(D.values()) + list(T.values())
-        self.assertEqual(sorted(places), list(range(320)))
+    def test_the_places_of_the_standard(self) -> None:
+        ones = [*range(16, 320, 16), *range(316, 320)]
+        for n in range(1, 22):
+            frame = frame_of("0" * (n - 1) + "1" + "0" * (21 - n), "0" * 260)
+            self.assertEqual([k for k in range(320) if frame[k] == "1"], sorted([*ones, n + 16 if n <= 15 else n + 294]))
+            self.assertEqual(control_of(frame).find("1"), n - 1)
+        for n in range(1, 261):
+            frame = frame_of("0" * 21, "0" * (n - 1) + "1" + "0" * (260 - n))
+            self.assertEqual([k for k in range(320) if frame[k] == "1"], sorted([*ones, n + 32 + (n - 1) // 15 if n <= 255 else n + 49]))
+            self.assertEqual(data_of(frame).find("1"), n - 1)
 
     def test_sync_bits(self) -> None:
-        self.assertEqual(len(SYNC), 35)
-        self.assertTrue(sync_matches(bits_of(UP)))
-        for place in SYNC:
-            bits = bits_of(UP)
-            bits[place] ^= 1
-            self.assertFalse(sync_matches(bits))
+        sync, bits = [*range(16), *range(16, 320, 16)], bits_of(UP)
+        self.assertEqual(len(sync), 35)
+        for place in range(320):
+            turned = bits[:place] + str(1 - int(bits[place])) + bits[place + 1 :]
+            self.assertEqual(FRAME.fullmatch(turned) is None, place in sync)
 
 
 class Frames(unittest.TestCase):
@@ -47,19 +55,18 @@ class Frames(unittest.TestCase):
         words = {}
         for bfi, first, second in itertools.product((0, 1), repeat=3):
             bits = bits_of(UP)
-            bits[C[12]], bits[C[13]], bits[C[14]] = bfi, first, second
-            words[bfi, first, second] = read_up(bits).frame_class.value
+            words[bfi, first, second] = read_up(f"{bits[:28]}{bfi}{first}{second}{bits[31:]}").sort.value
         by_descriptor = [[words[bfi, first, second] for bfi in (0, 1)] for first, second in itertools.product((0, 1), repeat=2)]
         self.assertEqual(by_descriptor, [["good", "bad"], ["invalid", "invalid"], ["sid", "invalid"], ["invalid", "invalid"]])
 
     def test_other_frames_are_unusable(self) -> None:
-        for kind in (Kind.IDLE, Kind.OTHER):
-            frame = UpFrame(kind, FrameClass.UNUSABLE, True, True, 26, (0, 1) * 130)
-            self.assertEqual(read_up(write_up(frame)), frame)
+        for sort in (Sort.IDLE, Sort.OTHER):
+            frame = UpFrame(sort, True, True, 26, "01" * 130)
+            self.assertEqual((read_up(write_up(frame)), control_of(write_up(frame))[11:14]), (frame, "100"))
 
     def test_control_bits_come_back(self) -> None:
-        for frame_class, field, taf in itertools.product(FrameClass, (0, 1, 32, 63), (False, True)):
-            frame = speech(QUIET, frame_class, field, taf, not taf)
+        for sort, field, taf in itertools.product(SPEECH, (0, 1, 32, 63), (False, True)):
+            frame = speech(QUIET, sort, field, taf, not taf)
             self.assertEqual(read_up(write_up(frame)), frame)
 
 
@@ -69,15 +76,15 @@ class Parameters(unittest.TestCase):
     def test_least_and_greatest(self) -> None:
         for bit in (0, 1):
             parameters = parameters_of_values([bit * (2 ** width - 1) for width in WIDTHS])
-            self.assertEqual(bits_of_parameters(parameters), (bit,) * 260)
-            self.assertEqual(parameters_of_bits((bit,) * 260), parameters)
+            self.assertEqual(bits_of_parameters(parameters), str(bit) * 260)
+            self.assertEqual(parameters_of_bits(str(bit) * 260), parameters)
 
     def test_least_significant_bit_first(self) -> None:
-        self.assertEqual(bits_of_parameters(QUIET)[:12], (0, 0, 0, 0, 0, 1) * 2)
-        self.assertEqual(bits_of_parameters(QUIET)[36:43], (0, 0, 0, 1, 0, 1, 0))
+        self.assertEqual(bits_of_parameters(QUIET)[:12], "000001" * 2)
+        self.assertEqual(bits_of_parameters(QUIET)[36:43], "0001010")
 
     def test_silence_comes_back(self) -> None:
-        self.assertEqual(parameters_of_bits(bits_of_parameters(silence())), silence())
+        self.assertEqual(parameters_of_bits(bits_of_parameters(SILENCE)), SILENCE)
 
 
 if __name__ == "__main__":

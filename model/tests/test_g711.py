@@ -3,23 +3,23 @@
 import unittest
 
 from material import CODEC
-from model.g711 import Law, compress, compress_all, expand, expand_all, idle_octet
+from core.g711 import Law, compress_all, expand_all
 
 
 class Laws(unittest.TestCase):
     """Single octets and samples, and the recorded tables of other implementations."""
 
     def test_octets_of_a_law(self) -> None:
-        self.assertEqual([expand(Law.A, octet) for octet in (0xD5, 0x55, 0xAA, 0x2A)], [8, -8, 32256, -32256])
+        self.assertEqual(expand_all(Law.A, (0xD5, 0x55, 0xAA, 0x2A)), [8, -8, 32256, -32256])
 
     def test_samples_of_a_law(self) -> None:
-        self.assertEqual([compress(Law.A, x) for x in (0, -1, 16, 32767, -32768)], [0xD5, 0x55, 0xD4, 0xAA, 0x2A])
+        self.assertEqual(list(compress_all(Law.A, (0, -1, 16, 32767, -32768))), [0xD5, 0x55, 0xD4, 0xAA, 0x2A])
 
     def test_octets_of_mu_law(self) -> None:
-        self.assertEqual([expand(Law.MU, octet) for octet in (0xFF, 0x7F, 0xFE, 0x80, 0x00)], [0, 0, 8, 32124, -32124])
+        self.assertEqual(expand_all(Law.MU, (0xFF, 0x7F, 0xFE, 0x80, 0x00)), [0, 0, 8, 32124, -32124])
 
     def test_samples_of_mu_law(self) -> None:
-        codes = [compress(Law.MU, x) for x in (0, 3, 4, -1, -5, 32767, -32768)]
+        codes = list(compress_all(Law.MU, (0, 3, 4, -1, -5, 32767, -32768)))
         self.assertEqual(codes, [0xFF, 0xFF, 0xFE, 0x7F, 0x7E, 0x80, 0x00])
 
     def test_octets_come_back(self) -> None:
@@ -28,8 +28,8 @@ class Laws(unittest.TestCase):
         self.assertEqual(compress_all(Law.MU, expand_all(Law.MU, octets)), octets.replace(b"\x7f", b"\xff"))
 
     def test_idle_octets(self) -> None:
-        self.assertEqual([idle_octet(law) for law in Law], [0xD5, 0xFF])
-        self.assertEqual([compress(law, 0) for law in Law], [0xD5, 0xFF])
+        self.assertEqual([law.idle() for law in Law], [0xD5, 0xFF])
+        self.assertEqual([compress_all(law, [0])[0] for law in Law], [0xD5, 0xFF])
 
     def test_recorded_samples(self) -> None:
         for law, name in ((Law.A, "alaw_expand.txt"), (Law.MU, "mulaw_expand.txt")):

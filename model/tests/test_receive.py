@@ -4,12 +4,13 @@ import unittest
 from typing import List, Optional, Sequence
 
 from material import IDLE_UP, QUIET, maxima, sid, speech, unusable, with_maxima
-from model.codec import Parameters
-from model.frame import FrameClass, Kind, UpFrame, silence
-from model.receive import effective_frames, random_values
+from core.frame import Sort, UpFrame
+from core.noise import RandomSource
+from core.parameters import SILENCE, Parameters
+from model.receive import effective_frames
 
 GOOD = speech(with_maxima(20))
-INVALID = speech(frame_class=FrameClass.INVALID_SID, taf=True)
+INVALID = speech(sort=Sort.INVALID, taf=True)
 
 
 def maxima_of(frames: Sequence[Optional[UpFrame]]) -> List[Optional[int]]:
@@ -33,7 +34,7 @@ class LostSpeech(unittest.TestCase):
         self.assertEqual(found[:2], [with_maxima(20)] * 2)
         self.assertEqual((maxima(found[2]), grids(found[2])), ([16] * 4, [3, 0, 1, 0]))
         self.assertEqual([maxima(one) for one in found[6:17]], [[0] * 4] * 11)
-        self.assertEqual(found[17:], [silence()] * 2)
+        self.assertEqual(found[17:], [SILENCE] * 2)
 
     def test_all_but_grids_and_maxima_stay(self) -> None:
         found = effective_frames(7, [speech(QUIET), None, None, None])
@@ -41,7 +42,7 @@ class LostSpeech(unittest.TestCase):
         self.assertEqual([block.xmc for block in found[3].blocks], [block.xmc for block in QUIET.blocks])
 
     def test_what_counts_as_lost(self) -> None:
-        other = UpFrame(Kind.OTHER, FrameClass.UNUSABLE, True, False, 0, (0,) * 260)
+        other = UpFrame(Sort.OTHER, True)
         for lost in (None, other, unusable(), unusable(taf=True), INVALID):
             self.assertEqual(effective_frames(7, [GOOD, lost]), [with_maxima(20)] * 2)
 
@@ -71,7 +72,7 @@ class ComfortNoise(unittest.TestCase):
     def test_noise_falls_to_silence(self) -> None:
         found = effective_frames(7, [sid(63)] + [unusable(True)] * 20)
         self.assertEqual([maxima(one)[0] for one in found[:18]], [63, 63] + [max(0, 63 - 4 * fall) for fall in range(1, 17)])
-        self.assertEqual(found[18:], [silence()] * 3)
+        self.assertEqual(found[18:], [SILENCE] * 3)
 
     def test_a_descriptor_is_approached(self) -> None:
         self.assertEqual(maxima_of([sid(20), sid(4)] + [None] * 8), [20, 18, 16, 14, 12, 10, 8, 6, 4, 4])
@@ -91,7 +92,8 @@ class Draws(unittest.TestCase):
     """The random source of a call."""
 
     def test_first_values(self) -> None:
-        self.assertEqual(random_values(7, 2), [58988, 4085])
+        source = RandomSource(7)
+        self.assertEqual([source.draw(65536) for _ in range(2)], [58988, 4085])
 
     def test_draws_go_on_over_the_whole_call(self) -> None:
         """A pause doesn't begin with the draws of the one before."""

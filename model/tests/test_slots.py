@@ -3,7 +3,7 @@
 import unittest
 
 from material import CHECKS
-from model.slots import merge, split
+from core.slots import merge, split
 
 
 class Slots(unittest.TestCase):

@@ -1,4 +1,4 @@
-"""Tests of the model's own text: each function says what it is, by which document, with types."""
+"""Tests of the text of the model and of the package that it shares with the tools: each function says what it is, by which document, with types."""
 
 import ast
 import re
@@ -8,7 +8,7 @@ from typing import Iterator, List, Tuple, Union
 from material import TOP
 
 Function = Union[ast.FunctionDef, ast.AsyncFunctionDef]
-MODULES = sorted((TOP / "model").glob("*.py"))
+MODULES = sorted([*(TOP / "model").glob("*.py"), *(TOP / "core").glob("*.py")])
 CITED = re.compile(r'(docs/[A-Za-z/]+\.md)((?:,? (?:and )?"[^"]+")*)')
 
 
@@ -36,7 +36,7 @@ def cited(text: str) -> List[Tuple[str, List[str]]]:
 
 
 class Text(unittest.TestCase):
-    """All modules of the model."""
+    """All modules of both."""
 
     def test_each_function_has_types_and_a_docstring(self) -> None:
         for path in MODULES:
@@ -64,7 +64,7 @@ class Text(unittest.TestCase):
 
     def test_the_standard_library_alone(self) -> None:
         names = {"argparse", "bisect", "contextlib", "ctypes", "enum", "itertools", "operator", "os", "pathlib", "random", "re", "resource", "stat",
-                 "shutil", "signal", "subprocess", "sys", "tempfile", "time", "typing", "__future__", "concurrent", "threading", "model"}
+                 "shutil", "signal", "subprocess", "sys", "tempfile", "time", "typing", "__future__", "concurrent", "threading", "model", "core", "dataclasses", "functools"}
         for path in MODULES:
             for node in ast.walk(ast.parse(path.read_text())):
                 found = [one.name for one in node.names] if isinstance(node, ast.Import) else []

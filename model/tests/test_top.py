@@ -12,17 +12,17 @@ from model.checkpoint import Mark, MarkCall, differs, read_mark, text_of_mark
 from model.compare import MODEL, differences
 from model.drill import drawn_orders, drawn_period, draws
 from model.lines import Folder, Streams
-from model.orders import BadLine
-from model.outside import MemoryDesk, MemoryLines, Side
+from core.orders import BadLine
+from model.outside import MemoryDesk, MemoryLines
 from model.recorded import checksum
 from model.top import top
 from model.trials import Step, Trial, draw_trial
 
 PCM = b"\xd5" * 160
-ZEROS = {(1, Side.UP): bytes(160), (1, Side.PCM): PCM * 4}
+ZEROS = {(1, "up"): bytes(160), (1, "pcm"): PCM * 4}
 
 
-def run(words: str, stdin: bytes = b"", fails: bool = False, room: Optional[int] = None) -> Tuple[int, str, Dict[Tuple[int, Side], bytes]]:
+def run(words: str, stdin: bytes = b"", fails: bool = False, room: Optional[int] = None) -> Tuple[int, str, Dict[Tuple[int, str], bytes]]:
     """The status, the text and the lines written of a command over four periods of zeros on call 1."""
     lines, desk = MemoryLines(ZEROS), MemoryDesk(stdin, fails, room)
     return top(words.split(), lines, desk), desk.text, lines.written
@@ -53,13 +53,13 @@ class Parts(unittest.TestCase):
     def test_save(self) -> None:
         status, text, written = run("save --periods 3", b"0 open 1\n")
         self.assertEqual((status, text.encode()), (0, self.MARK))
-        self.assertEqual(written[1, Side.OUT], PCM * 3)
+        self.assertEqual(written[1, "out"], PCM * 3)
         self.assertEqual(run("save --periods 9", b"0 open 1\n")[1], "save 9\norders\n")
 
     def test_resume(self) -> None:
         status, text, written = run("resume", self.MARK + b"0 open 1\n")
-        self.assertEqual((status, written[1, Side.OUT]), (0, PCM))
-        self.assertEqual(written[1, Side.DOWN], bytes.fromhex("0000b80f") + b"\xff" * 36)
+        self.assertEqual((status, written[1, "out"]), (0, PCM))
+        self.assertEqual(written[1, "down"], bytes.fromhex("0000b80f") + b"\xff" * 36)
         self.assertEqual(text, run("run", b"0 open 1\n")[1])
 
     def test_the_run_ends_at_the_greater_period(self) -> None:
@@ -85,7 +85,9 @@ class Parts(unittest.TestCase):
             (b"save 3\ncall 1 from 3 out 0 down 0\norders\n", 2), (b"save 3\ncall 1 from 0 out 4294967296 down 0\n", 2),
             (b"save 3\ncall 2 from 0 out 0 down 0\ncall 2 from 0 out 0 down 0\norders\n", 3), (b"save 3\ncall 4097 from 0 out 0 down 0\n", 2),
         ):
-            self.assertEqual(read_mark(text), BadLine(number), text)
+            with self.assertRaises(BadLine) as caught:
+                read_mark(text)
+            self.assertEqual(caught.exception.line, number, text)
 
     def test_differs(self) -> None:
         one, other, later = MarkCall(1, 0, 5, 5), MarkCall(1, 0, 5, 6), MarkCall(2, 0, 0, 0)
@@ -106,8 +108,8 @@ class Drills(unittest.TestCase):
         self.assertEqual(text.splitlines()[-1].split()[-1], "10200")
 
     def test_orders(self) -> None:
-        words = [(order.stamp, type(order.what).__name__) for order in drawn_orders(6, 9)]
-        self.assertEqual(words[6:], [(2, "Bridge"), (2, "Bridge"), (4, "Unbridge"), (4, "Unbridge")])
+        words = [(order.stamp, order.verb) for order in drawn_orders(6, 9)]
+        self.assertEqual(words[6:], [(2, "bridge"), (2, "bridge"), (4, "unbridge"), (4, "unbridge")])
 
     def test_pcm(self) -> None:
         source = draws(1, 1)
@@ -132,20 +134,20 @@ class Files(unittest.TestCase):
     def test_reading(self) -> None:
         Path("7.up").write_bytes(bytes(range(100)))
         lines = Folder()
-        self.assertEqual(lines.read(7, Side.UP, 60), (bytes(range(60)), False))
-        self.assertEqual(lines.read(7, Side.UP), (bytes(range(60, 100)), False))
-        self.assertEqual(lines.read(7, Side.PCM), (b"", True))
+        self.assertEqual(lines.read(7, "up", 60), (bytes(range(60)), False))
+        self.assertEqual(lines.read(7, "up"), (bytes(range(60, 100)), False))
+        self.assertEqual(lines.read(7, "pcm"), (b"", True))
         Path("7.pcm").mkdir()
-        self.assertEqual(lines.read(7, Side.PCM), (b"", True))
+        self.assertEqual(lines.read(7, "pcm"), (b"", True))
 
     def test_writing(self) -> None:
         Path("7.out").write_bytes(b"older octets")
         lines = Folder()
-        self.assertTrue(lines.write(7, Side.OUT, b"new"))
-        self.assertTrue(lines.write(7, Side.OUT, b"er"))
+        self.assertTrue(lines.write(7, "out", b"new"))
+        self.assertTrue(lines.write(7, "out", b"er"))
         self.assertEqual(Path("7.out").read_bytes(), b"newer")
         Path("7.down").symlink_to("/dev/full")
-        self.assertFalse(lines.write(7, Side.DOWN, b"x"))
+        self.assertFalse(lines.write(7, "down", b"x"))
 
     def test_a_stream_that_is_a_folder(self) -> None:
         descriptor = os.open(".", os.O_RDONLY)

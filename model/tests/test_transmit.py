@@ -4,7 +4,8 @@ import unittest
 from typing import List
 
 from material import QUIET, with_maxima
-from model.codec import Block, Encoded, Encoder, Trace, code_ratios
+from core.parameters import Block
+from model.codec import Encoded, Encoder, Trace, code_ratios
 from model.transmit import Coded, sent_frames, silence_descriptor
 
 SILENT = Encoder().encode([0] * 160)

@@ -3,11 +3,10 @@
 import unittest
 
 from material import TOP  # noqa: F401  (puts the top of the repository on the path)
-from model import profile
-from model.g711 import Law
-from model.orders import BadLine, Bridge, Close, Level, Open, Order, SetDtx, TooLong, Unbridge, calls_of, lines_of, orders_of
-from model.transmit import Dtx
-from model.words import Drill, Live, Resume, Run, Save, asked, number
+from core import profile
+from core.orders import BadLine, TooLong, lines_of, orders_of, read_order
+from core.words import number
+from model.words import Asked, asked
 
 
 class Numbers(unittest.TestCase):
@@ -27,20 +26,20 @@ class Words(unittest.TestCase):
 
     def test_defaults(self) -> None:
         for words, command in (
-            ("run", Run(50, profile.MOST_PERIODS)),
-            ("resume", Resume(50, profile.MOST_PERIODS)),
-            ("save --periods 3", Save(50, 3)),
-            ("drill", Drill(1, 64, 200)),
-            ("live", Live(1, 64, 200)),
+            ("run", Asked("run", 50, profile.MOST_PERIODS, 0, 0)),
+            ("resume", Asked("resume", 50, profile.MOST_PERIODS, 0, 0)),
+            ("save --periods 3", Asked("save", 50, 3, 0, 0)),
+            ("drill", Asked("drill", 50, 200, 1, 64)),
+            ("live", Asked("live", 0, 200, 1, 64)),
         ):
             self.assertEqual(asked(words.split()), command, words)
 
     def test_options(self) -> None:
         words = "run --batch=7 --workers 1 --slice=250 --periods 4294967295"
-        self.assertEqual(asked(words.split()), Run(7, profile.MOST_PERIODS))
-        self.assertEqual(asked("drill --seed 0 --calls=256 --periods 1000 --".split()), Drill(0, 256, 1000))
-        self.assertEqual(asked("live --inbox 1024 --callers 64 --calls 1".split()), Live(1, 1, 200))
-        self.assertEqual(asked(["run", "--"]), Run(50, profile.MOST_PERIODS))
+        self.assertEqual(asked(words.split()), Asked("run", 7, profile.MOST_PERIODS, 0, 0))
+        self.assertEqual(asked("drill --seed 0 --calls=256 --periods 1000 --".split()), Asked("drill", 50, 1000, 0, 256))
+        self.assertEqual(asked("live --inbox 1024 --callers 64 --calls 1".split()), Asked("live", 0, 200, 1, 1))
+        self.assertEqual(asked(["run", "--"]), Asked("run", 50, profile.MOST_PERIODS, 0, 0))
 
     def test_words_that_are_wrong(self) -> None:
         for words in (
@@ -58,24 +57,31 @@ class Words(unittest.TestCase):
 class Orders(unittest.TestCase):
     """Orders and their first bad line."""
 
+    def assert_bad(self, text: bytes, line: int) -> None:
+        """That this line of the text is the first bad one."""
+        with self.assertRaises(BadLine) as caught:
+            orders_of(text)
+        self.assertEqual(caught.exception.line, line, text)
+
     def test_each_order(self) -> None:
         text = b"0 open 1\n0 open 4096 mulaw\n5 bridge 1 4096\n5 level 1 32767\n6 dtx 1 on\n6 dtx 1 off\n6 dtx 1 uplink\n7 unbridge 1\n4294967294 close 1"
         self.assertEqual(
-            orders_of(text),
+            [(order.number, order.stamp, order.verb, order.calls, str(order.law()), order.value()) for order in orders_of(text)],
             [
-                Order(0, Open(1, Law.A)),
-                Order(0, Open(4096, Law.MU)),
-                Order(5, Bridge(1, 4096)),
-                Order(5, Level(1, 32767)),
-                Order(6, SetDtx(1, Dtx.ON)),
-                Order(6, SetDtx(1, Dtx.OFF)),
-                Order(6, SetDtx(1, Dtx.UPLINK)),
-                Order(7, Unbridge(1)),
-                Order(profile.MOST_STAMP, Close(1)),
+                (1, 0, "open", (1,), "alaw", "1"),
+                (2, 0, "open", (4096,), "mulaw", "mulaw"),
+                (3, 5, "bridge", (1, 4096), "alaw", "4096"),
+                (4, 5, "level", (1,), "alaw", "32767"),
+                (5, 6, "dtx", (1,), "alaw", "on"),
+                (6, 6, "dtx", (1,), "alaw", "off"),
+                (7, 6, "dtx", (1,), "alaw", "uplink"),
+                (8, 7, "unbridge", (1,), "alaw", "1"),
+                (9, profile.MOST_STAMP, "close", (1,), "alaw", "1"),
             ],
         )
+        self.assertEqual("".join(f"{order.line()}\n" for order in orders_of(text)).encode(), text + b"\n")
         self.assertEqual(orders_of(b""), [])
-        self.assertEqual(calls_of(Bridge(3, 2)), (3, 2))
+        self.assertEqual(read_order(1, "0 bridge 3 2").calls, (3, 2))
 
     def test_lines(self) -> None:
         self.assertEqual(lines_of(b""), [])
@@ -87,18 +93,18 @@ class Orders(unittest.TestCase):
             b"|0  open 1|0 open 1 |0 open 01|00 open 1|0 open 0|0 open 4097|4294967295 open 1|0 open 1 alaw|0 open 1 Mulaw|0 open|open 1|"
             b"0 level 1 32768|0 level 1 -1|0 dtx 1|0 dtx 1 ON|0 bridge 1|0 bridge 1 2 3|0 open 1\r|\xff|0\topen 1|0 opens 1|0 close 1 mulaw"
         ).split(b"|"):
-            self.assertEqual(orders_of(b"0 open 9\n" + line + b"\n0 open 7\n"), BadLine(2), line)
+            self.assert_bad(b"0 open 9\n" + line + b"\n0 open 7\n", 2)
 
     def test_stamps_that_fall(self) -> None:
-        self.assertEqual(orders_of(b"5 open 1\n4 open 2\n"), BadLine(2))
-        self.assertEqual(orders_of(b"5 open 1\nx\n4 open 2\n"), BadLine(2))
+        self.assert_bad(b"5 open 1\n4 open 2\n", 2)
+        self.assert_bad(b"5 open 1\nx\n4 open 2\n", 2)
 
     def test_limits(self) -> None:
         line = b"0 open 1\n"
-        self.assertEqual(len(orders_of(line * profile.MOST_ORDER_LINES)), profile.MOST_ORDER_LINES)
-        self.assertEqual(orders_of(line * profile.MOST_ORDER_LINES + b"0"), TooLong())
-        self.assertEqual(orders_of(b"x" * profile.MOST_ORDER_OCTETS), BadLine(1))
-        self.assertEqual(orders_of(b"x" * (profile.MOST_ORDER_OCTETS + 1)), TooLong())
+        self.assertEqual(len(orders_of(line * profile.MOST_ORDERS)), profile.MOST_ORDERS)
+        self.assert_bad(b"x" * profile.MOST_ORDER_OCTETS, 1)
+        for text in (line * profile.MOST_ORDERS + b"0", b"x" * (profile.MOST_ORDER_OCTETS + 1)):
+            self.assertRaises(TooLong, orders_of, text)
 
 
 if __name__ == "__main__":

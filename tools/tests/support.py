@@ -17,9 +17,9 @@ EXAMPLES = TOP / "examples"
 CODEC = TOP / "checks" / "vectors"
 DATA = TOOLS / "tests" / "data"
 
-sys.path.insert(0, str(TOOLS))
+sys.path[:0] = [str(TOOLS), str(TOP)]
 
-import trau_frames
+from core.search import FRAME_OF_DOWNLINK  # noqa: E402
 
 # Under a limit on the size of files, as some tests set it, Python would keep a part of what it compiles, and every later start would read it.
 os.environ["PYTHONDONTWRITEBYTECODE"] = "1"
@@ -41,7 +41,7 @@ HAS_LOCKS = has_locks()
 
 def frames_of_downlink(bits):
     """The frames of a downlink, wherever they begin, each with its time bits where it has them."""
-    return (found.group() for found in trau_frames.FRAME_OF_DOWNLINK.finditer(bits))
+    return (found.group() for found in FRAME_OF_DOWNLINK.finditer(bits))
 
 
 def put_python(folder):

@@ -1,7 +1,6 @@
 """Tests of captures.py: captures of a tone of 0.6 s that GStreamer 1.22 (GSM) and ffmpeg 5.1 (PCMA, PCMU) sent and tshark recorded, beside
 the fields that tshark 4.0 reads of them; damaged ones; and lines out to captures. They need the library dpkt, and are skipped without it."""
 
-import importlib.util
 import io
 import sys
 import unittest
@@ -12,30 +11,21 @@ from support import DATA, EXAMPLES, InFolder
 import captures
 import code_word
 import lines
-import trau_frames
 import uplink_frames
-from trau_frames import Law, Sort
+from capture_files import HAS_DPKT, InCaptures, fields, rewritten, sorts_of
+from core.frame import Sort, bits_of
+from core.g711 import Law, samples_by_octet
+from core.parameters import SILENCE, bits_of_parameters, gsm_of_data
+from core.search import search
+from damages import silence_descriptor
 
-HAS_DPKT = importlib.util.find_spec("dpkt") is not None
 CAPTURES = {"gsm": "gsm.pcap", "pcma": "pcma.pcapng", "pcmu": "pcmu.pcap"}
 
 
-def fields(kind):
-    """What tshark tells of each RTP packet: its number, payload type, sequence number, time stamp and payload."""
-    rows = [line.split("\t") for line in (DATA / f"{kind}.txt").read_text().splitlines()]
-    return [(*map(int, row[:4]), bytes.fromhex(row[4])) for row in rows]
-
-
 class WithoutTheLibrary(InFolder):
-    def test_mu_law(self):
-        # The ends and the middle of the table of G.711, in 16 bits.
-        wanted = {0xFF: 0, 0x7F: 0, 0x80: 32124, 0x00: -32124, 0xFE: 8, 0xF0: 120, 0xEF: 132, 0x10: -15996}
-        self.assertEqual({octet: Law.MU.expand(octet) for octet in wanted}, wanted)
-        self.assertEqual(len(set(map(Law.MU.expand, range(256)))), 255)
-
     def test_idle_and_lost_frames(self):
         for octets, sort in ((uplink_frames.IDLE, Sort.IDLE), (uplink_frames.LOST, Sort.BAD), (uplink_frames.LOST_WITH_TAF, Sort.BAD)):
-            self.assertEqual([each.sort() for each in trau_frames.search(trau_frames.bits_of(octets))], [sort])
+            self.assertEqual([each.sort() for each in search(bits_of(octets))], [sort])
 
     @unittest.skipIf(HAS_DPKT, "dpkt is there")
     def test_asked_for_with_a_word(self):
@@ -44,38 +34,31 @@ class WithoutTheLibrary(InFolder):
 
 
 @unittest.skipUnless(HAS_DPKT, "no library dpkt")
-class Captures(InFolder):
-    def pcap(self, given, *words):
-        status, out, err = self.run_tool(lines.main, "pcap", given, self.folder / "line", *words)
-        self.assertEqual((status, err), (0, ""))
-        return out, (self.folder / "line").read_bytes()
-
+class Captures(InCaptures):
     def test_packets_are_those_that_tshark_reads(self):
         for kind, name in CAPTURES.items():
             (packets,) = captures.streams_of(name, (DATA / name).read_bytes()).by_flow.values()
-            self.assertEqual([packet[:5] for packet in packets], fields(kind))
+            self.assertEqual([packet[:5] for packet in packets], fields(f"{kind}.txt"))
 
     def test_gsm(self):
-        frames = b"".join(row[4] for row in fields("gsm"))
+        frames = b"".join(row[4] for row in fields("gsm.txt"))
         said, line = self.pcap(DATA / "gsm.pcap")
         self.assertEqual(said, "pcap gsm packets 30 late 0 doubled 0 others 0 frames 30 sid 0 invalid 0 lost 0 gap 0 empty 0 paused 0 lead 0\n")
         self.run_tool(lines.main, "uplink", self.path("7.gsm", frames), self.folder / "7.up")
         self.assertEqual(line, self.path("7.up").read_bytes())
 
     def test_pcma_and_pcmu(self):
-        octets = b"".join(row[4] for row in fields("pcma"))
+        octets = b"".join(row[4] for row in fields("pcma.txt"))
         said, line = self.pcap(DATA / "pcma.pcapng")
-        self.assertEqual(
-            said, "pcap pcma packets 17 late 0 doubled 0 others 0 octets 4800 lost 0 gap 0 lead 0 padded 0\n"
-        )
+        self.assertEqual(said, "pcap pcma packets 17 late 0 doubled 0 others 0 octets 4800 lost 0 gap 0 lead 0 padded 0\n")
         self.assertEqual(line, octets)
         # Both are of one sound, so their samples are near to one another: a step of the loudest segment is 2048.
         _, other = self.pcap(DATA / "pcmu.pcap")
-        far = max(abs(Law.A.expand(a) - Law.A.expand(b)) for a, b in zip(line, other))
+        far = max(abs(samples_by_octet(Law.A)[a] - samples_by_octet(Law.A)[b]) for a, b in zip(line, other))
         self.assertLessEqual(far, 2048)
 
     def test_pcmu_of_a_mulaw_line(self):
-        octets = b"".join(row[4] for row in fields("pcmu"))
+        octets = b"".join(row[4] for row in fields("pcmu.txt"))
         _, line = self.pcap(DATA / "pcmu.pcap", "--law", "mulaw")
         self.assertEqual(line[: len(octets)], octets)
         self.assertEqual(set(line[len(octets) :]), {0xFF} if len(octets) % 160 else set())
@@ -102,33 +85,19 @@ class Captures(InFolder):
             writer.writepkt(octets, ts=place / 50)
         return self.pcap(self.path("changed.pcap", file.getvalue()), *words)
 
-    def sorts(self, line):
-        return [each.sort().value for each in trau_frames.search(trau_frames.bits_of(line))]
-
-    def rewritten(self, octets, change):
-        """An Ethernet frame whose RTP packet was changed."""
-        ethernet = captures.library("ethernet").Ethernet(octets)
-        rtp = captures.library("rtp").RTP(bytes(ethernet.data.data.data))
-        change(rtp)
-        ethernet.data.data.data = bytes(rtp)
-        ethernet.data.data.ulen = 8 + len(rtp)
-        ethernet.data.len = 28 + len(rtp)
-        ethernet.data.sum = ethernet.data.data.sum = 0
-        return bytes(ethernet)
-
     def test_lost(self):
         said, line = self.changed(lambda packets: packets[:7] + packets[9:20] + packets[21:])
         self.assertEqual(said, "pcap gsm packets 27 late 0 doubled 0 others 0 frames 27 sid 0 invalid 0 lost 3 gap 0 empty 0 paused 0 lead 0\n")
-        self.assertEqual([place for place, sort in enumerate(self.sorts(line)) if sort == "bad"], [7, 8, 20])
+        self.assertEqual([place for place, sort in enumerate(sorts_of(line)) if sort == "bad"], [7, 8, 20])
         said, line = self.changed(lambda packets: packets[:4] + packets[6:], "pcma")
-        whole = b"".join(row[4] for row in fields("pcma"))
+        whole = b"".join(row[4] for row in fields("pcma.txt"))
         place, length = self.places("pcma", 3), self.places("pcma", 5) - self.places("pcma", 3)
         self.assertIn(f"lost {length} gap 0", said)
         self.assertEqual(line, whole[:place] + bytes([Law.A.idle()]) * length + whole[place + length :])
 
     def places(self, kind, number):
         """The octet at which a packet begins."""
-        return sum(len(row[4]) for row in fields(kind)[:number])
+        return sum(len(row[4]) for row in fields(f"{kind}.txt")[:number])
 
     def test_late_and_doubled(self):
         whole = self.pcap(DATA / "gsm.pcap")[1]
@@ -145,13 +114,13 @@ class Captures(InFolder):
 
     def test_numbers_that_begin_anew(self):
         whole = self.pcap(DATA / "gsm.pcap")[1]
-        first = fields("gsm")[0]
+        first = fields("gsm.txt")[0]
 
         def moved(rtp):
             rtp.seq = (rtp.seq - first[2] + 65520) % 65536
             rtp.ts = (rtp.ts - first[3] + 4294966000) % 4294967296
 
-        said, line = self.changed(lambda packets: [self.rewritten(octets, moved) for octets in packets])
+        said, line = self.changed(lambda packets: [rewritten(octets, moved) for octets in packets])
         self.assertEqual(said, "pcap gsm packets 30 late 0 doubled 0 others 0 frames 30 sid 0 invalid 0 lost 0 gap 0 empty 0 paused 0 lead 0\n")
         self.assertEqual(line, whole)
 
@@ -159,29 +128,23 @@ class Captures(InFolder):
         def later(rtp):
             rtp.ts = (rtp.ts + 5 * 160) % 4294967296
 
-        said, line = self.changed(
-            lambda packets: packets[:10] + [self.rewritten(octets, later) for octets in packets[10:]]
-        )
+        said, line = self.changed(lambda packets: packets[:10] + [rewritten(octets, later) for octets in packets[10:]])
         self.assertEqual(said, "pcap gsm packets 30 late 0 doubled 0 others 0 frames 30 sid 0 invalid 0 lost 0 gap 5 empty 0 paused 0 lead 0\n")
-        self.assertEqual(self.sorts(line)[9:16], ["good", *5 * ["bad"], "good"])
+        self.assertEqual(sorts_of(line)[9:16], ["good", *5 * ["bad"], "good"])
 
         def digit(rtp):
             rtp.pt, rtp.data = 101, bytes(4)
 
-        said, line = self.changed(
-            lambda packets: packets[:10] + [self.rewritten(octets, digit) for octets in packets[10:12]] + packets[12:]
-        )
+        said, line = self.changed(lambda packets: packets[:10] + [rewritten(octets, digit) for octets in packets[10:12]] + packets[12:])
         self.assertEqual(said, "pcap gsm packets 30 late 0 doubled 0 others 2 frames 28 sid 0 invalid 0 lost 0 gap 2 empty 0 paused 0 lead 0\n")
-        self.assertEqual(self.sorts(line)[9:13], ["good", "bad", "bad", "good"])
+        self.assertEqual(sorts_of(line)[9:13], ["good", "bad", "bad", "good"])
 
     def test_time_stamps_that_go_back(self):
         def earlier(rtp):
             rtp.ts = (rtp.ts - 15 * 160) % 4294967296
 
         # Packet 10 and those after it begin 15 frames earlier: the first 15 of these 20 frames overlap with what came before.
-        said, line = self.changed(
-            lambda packets: packets[:10] + [self.rewritten(octets, earlier) for octets in packets[10:]]
-        )
+        said, line = self.changed(lambda packets: packets[:10] + [rewritten(octets, earlier) for octets in packets[10:]])
         self.assertEqual(
             said, "pcap gsm packets 30 late 0 doubled 0 others 0 frames 15 sid 0 invalid 0 lost 0 gap 0 empty 0 paused 0 lead 0 over 15\n"
         )
@@ -193,41 +156,39 @@ class Captures(InFolder):
         link, packets = self.packets()
         file = io.BytesIO()
         writer = captures.library("pcap").Writer(file, linktype=link)
-        for time, octets in zip((0, 0.02, 0.04, 0.06, 0.08, 3601.1), [*packets[:5], self.rewritten(packets[5], later)]):
+        for time, octets in zip((0, 0.02, 0.04, 0.06, 0.08, 3601.1), [*packets[:5], rewritten(packets[5], later)]):
             writer.writepkt(octets, ts=time)
         words = ["pcap", self.path("jump.pcap", file.getvalue()), self.folder / "7.up"]
         self.assert_refused(lines.main, words, "of packet 6 is 3601 s after the packet before; at most 3600 s are taken")
 
     def test_silence_descriptors(self):
         # The 11th frame is a descriptor, the 12th a damaged one, and then nothing is sent for five periods.
-        descriptor = trau_frames.silence_descriptor(trau_frames.SILENCE)
-        whole = descriptor.bits()
+        descriptor = silence_descriptor(SILENCE)
+        whole = bits_of_parameters(descriptor)
         damaged = whole[: code_word.CODE_WORD_BITS[0]] + "1111" + whole[code_word.CODE_WORD_BITS[0] + 4 :]
 
         def put(data, steps):
             def change(rtp):
                 rtp.ts = (rtp.ts + steps * 160) % 4294967296
-                rtp.data = trau_frames.gsm_of_data(data) if data else rtp.data
+                rtp.data = gsm_of_data(data) if data else rtp.data
 
             return change
 
         def change(packets):
-            later = [self.rewritten(octets, put(None, 5)) for octets in packets[12:]]
+            later = [rewritten(octets, put(None, 5)) for octets in packets[12:]]
             return [
                 *packets[:10],
-                self.rewritten(packets[10], put(whole, 0)),
-                self.rewritten(packets[11], put(damaged, 0)),
+                rewritten(packets[10], put(whole, 0)),
+                rewritten(packets[11], put(damaged, 0)),
                 *later,
             ]
 
         said, line = self.changed(change)
-        self.assertEqual(
-            said, "pcap gsm packets 30 late 0 doubled 0 others 0 frames 30 sid 1 invalid 1 lost 0 gap 0 empty 0 paused 5 lead 0\n"
-        )
-        self.assertEqual(self.sorts(line)[9:19], ["good", "sid", "invalid", *5 * ["bad"], "good", "good"])
+        self.assertEqual(said, "pcap gsm packets 30 late 0 doubled 0 others 0 frames 30 sid 1 invalid 1 lost 0 gap 0 empty 0 paused 5 lead 0\n")
+        self.assertEqual(sorts_of(line)[9:19], ["good", "sid", "invalid", *5 * ["bad"], "good", "good"])
         said, line = self.changed(change, words=("--sid", "keep"))
         self.assertIn("frames 30 sid 0 invalid 0 lost 0 gap 5 empty 0 paused 0 ", said)
-        self.assertEqual(self.sorts(line)[9:19], [*3 * ["good"], *5 * ["bad"], "good", "good"])
+        self.assertEqual(sorts_of(line)[9:19], [*3 * ["good"], *5 * ["bad"], "good", "good"])
 
     def test_captures_that_were_cut(self):
         whole = self.pcap(DATA / "gsm.pcap")[1]
@@ -236,8 +197,7 @@ class Captures(InFolder):
         self.assert_refused(lines.main, ["pcap", cut, self.path("new")], "ends within a packet; --partial takes those before it")
         said, line = self.pcap(cut, "--partial")
         self.assertEqual(
-            said,
-            "pcap gsm packets 29 late 0 doubled 0 others 0 frames 29 sid 0 invalid 0 lost 0 gap 0 empty 0 paused 0 lead 0 cut 1 wrong 0\n",
+            said, "pcap gsm packets 29 late 0 doubled 0 others 0 frames 29 sid 0 invalid 0 lost 0 gap 0 empty 0 paused 0 lead 0 cut 1 wrong 0\n"
         )
         self.assertEqual(line, whole[:-40])
         for name, octets in ((name, (DATA / name).read_bytes()) for name in CAPTURES.values()):
@@ -250,11 +210,9 @@ class Captures(InFolder):
                 self.assertEqual(line, whole[:-40] if name == "gsm.pcap" else whole[: len(line)])
                 self.assertGreater(len(line), len(whole) - 500)
         # Each third packet is cut in its payload, as by a capture with a limit on their octets: these are lost.
-        said, line = self.changed(
-            lambda packets: [each[: -9 if at % 3 == 1 else None] for at, each in enumerate(packets)], words=("--partial",)
-        )
+        said, line = self.changed(lambda packets: [each[: -9 if at % 3 == 1 else None] for at, each in enumerate(packets)], words=("--partial",))
         self.assertIn("packets 20 late 0 doubled 0 others 0 frames 20 sid 0 invalid 0 lost 10 gap 0 empty 0 paused 0 lead 0 cut 10 wrong 0", said)
-        self.assertEqual(self.sorts(line)[:5], ["good", "bad", "good", "good", "bad"])
+        self.assertEqual(sorts_of(line)[:5], ["good", "bad", "good", "good", "bad"])
 
     def test_lines_that_keep_step(self):
         # Two streams of one capture, the second of which begins 0.12 s after the first: ffmpeg sends a packet of RTCP before.
@@ -279,7 +237,7 @@ class Captures(InFolder):
             rtp.x = rtp.p = 1
             rtp.data = bytes([0xBE, 0xDE, 0, 1, 1, 2, 3, 4]) + bytes(rtp.data) + bytes([0, 0, 3])
 
-        self.assertEqual(self.changed(lambda packets: [self.rewritten(octets, wider) for octets in packets])[1], whole)
+        self.assertEqual(self.changed(lambda packets: [rewritten(octets, wider) for octets in packets])[1], whole)
 
     # Lines out
 
@@ -293,9 +251,7 @@ class Captures(InFolder):
         self.assertEqual(said, "capture streams 2 packets 469\n")
         status, _, err = self.run_tool(lines.main, "pcap", self.path("7.pcap"), self.folder / "line")
         self.assertEqual(status, 2)
-        self.assertIn(
-            "has 2 streams, one of which --stream names: 1 is 10.0.0.1:5006 to 10.0.1.1:5004 ssrc 0x00000001", err
-        )
+        self.assertIn("has 2 streams, one of which --stream names: 1 is 10.0.0.1:5006 to 10.0.1.1:5004 ssrc 0x00000001", err)
         self.assertEqual(self.pcap(self.path("7.pcap"), "--stream", "1")[1], (EXAMPLES / "7.up").read_bytes())
         self.assertEqual(self.pcap(self.path("7.pcap"), "--stream", "2")[1], (EXAMPLES / "farm" / "1.pcm").read_bytes())
 
@@ -307,7 +263,7 @@ class Captures(InFolder):
             self.capture(folder / f"{call}.up", self.folder / "c.pcap")
             said, line = self.pcap(self.path("c.pcap"))
             self.assertIn(f"packets {counts[False]} late 0 doubled 0 others 0 frames {counts[False]} ", said)
-            self.assertLessEqual(self.sorts(line).count("bad"), counts[True])
+            self.assertLessEqual(sorts_of(line).count("bad"), counts[True])
             self.capture(folder / "wanted" / f"{call}.down", self.folder / "d.pcap")
             self.run_tool(lines.main, "gsm", folder / "wanted" / f"{call}.down", self.folder / "d.gsm")
             frames = self.path("d.gsm").read_bytes()
@@ -360,7 +316,7 @@ class Captures(InFolder):
             "has no RTP stream with GSM, PCMA or PCMU (payload types 3, 8 and 0); its streams have the payload types 97 (33 octets that begin"
             " with 1101: GSM, which --type 97=gsm takes)\n"
         )
-        given = self.of_link(101, lambda octets: self.rewritten(bytes(12) + b"\x08\0" + octets, other)[14:])
+        given = self.of_link(101, lambda octets: rewritten(bytes(12) + b"\x08\0" + octets, other)[14:])
         self.assert_refused(lines.main, ["pcap", given, self.folder / "line"], said)
 
     def test_many_lines(self):

@@ -11,9 +11,12 @@ from support import CODEC, DATA, EXAMPLES, InFolder, frames_of_downlink
 
 import code_word
 import lines
-import trau_frames
 from code_word import CODE_WORD_BITS, FrameKind
-from trau_frames import Parameters, Sort
+from core.frame import Sort, bits_of, control_of, data_of, read_up
+from core.noise import RandomSource, comfort_noise
+from core.parameters import LARC_WIDTHS, Block, Parameters, bits_of_parameters, gsm_of_data, parameters_of_bits
+from core.search import search
+from damages import silence_descriptor
 
 LIBRARY = ctypes.util.find_library("osmocodec")
 
@@ -28,14 +31,14 @@ def with_errors(data, errors, source):
 
 def data_of_line(octets):
     """D1 to D260 of each frame of an uplink or a downlink."""
-    return [trau_frames.data_of(frame) for frame in frames_of_downlink(trau_frames.bits_of(octets))]
+    return [data_of(frame) for frame in frames_of_downlink(bits_of(octets))]
 
 
 def descriptor(source):
     """A silence descriptor with any spectrum and loudness."""
-    ratios = tuple(source.randrange(1 << width) for width in trau_frames.RATIO_WIDTHS)
-    speech = Parameters(ratios, 4 * (trau_frames.Block(0, 0, 0, source.randrange(64), 13 * (0,)),))
-    return trau_frames.silence_descriptor(speech).bits()
+    ratios = tuple(source.randrange(1 << width) for width in LARC_WIDTHS)
+    speech = Parameters(ratios, 4 * (Block(0, 0, 0, source.randrange(64), 13 * (0,)),))
+    return bits_of_parameters(silence_descriptor(speech))
 
 
 class CodeWord(InFolder):
@@ -43,10 +46,10 @@ class CodeWord(InFolder):
         # In 33 octets the most significant bit of each parameter is first: 95 places there, by GSM 05.03 the pulses' bits in class I.
         self.assertEqual((len(CODE_WORD_BITS), len(set(CODE_WORD_BITS))), (95, 95))
         ones = "".join("1" if place in CODE_WORD_BITS else "0" for place in range(260))
-        pulses = [pulse for block in Parameters.read(ones).blocks for pulse in block.pulses]
+        pulses = [pulse for block in parameters_of_bits(ones).blocks for pulse in block.xmc]
         self.assertEqual(pulses, 43 * [0b110] + 9 * [0b100])
-        read = Parameters.read(ones)
-        self.assertEqual([*read.ratios, *(value for b in read.blocks for value in (b.lag, b.gain, b.grid, b.maximum))], 24 * [0])
+        read = parameters_of_bits(ones)
+        self.assertEqual([*read.larc, *(value for b in read.blocks for value in b[:4])], 24 * [0])
 
     def test_limits(self):
         source = random.Random(1)
@@ -67,10 +70,10 @@ class CodeWord(InFolder):
 
     def test_descriptors_of_a_downlink(self):
         # The silence descriptors that a run sent, SP 0, have the whole code word, and its comfort noise has none.
-        bits = trau_frames.bits_of((EXAMPLES / "farm" / "wanted" / "2.down").read_bytes())
+        bits = bits_of((EXAMPLES / "farm" / "wanted" / "2.down").read_bytes())
         for frame in frames_of_downlink(bits):
-            speech = trau_frames.control_of(frame)[15] == "1"
-            errors = code_word.errors_of(trau_frames.data_of(frame))
+            speech = control_of(frame)[15] == "1"
+            errors = code_word.errors_of(data_of(frame))
             self.assertTrue(errors >= 16 if speech else errors == 0, errors)
 
 
@@ -84,20 +87,20 @@ class BesideTheLibrary(unittest.TestCase):
         self.check.argtypes = (ctypes.c_char_p, ctypes.c_size_t)
 
     def assert_alike(self, data):
-        octets = trau_frames.gsm_of_data(data)
+        octets = gsm_of_data(data)
         self.assertEqual(self.check(octets, len(octets)), code_word.errors_of(data) == 0, data)
         return self.check(octets, len(octets))
 
     def test_speech_and_noise(self):
-        source = trau_frames.RandomSource(1)
+        source = RandomSource(1)
         names = [*CODEC.glob("*.down"), *(EXAMPLES / "farm").glob("*.up"), *(EXAMPLES / "farm" / "wanted").glob("*.down")]
         found = Counter()
         for name in names:
             for data in data_of_line(name.read_bytes()):
                 found[self.assert_alike(data)] += 1
-                noise = trau_frames.noise(Parameters.read(data), source).bits()
+                noise = bits_of_parameters(comfort_noise(parameters_of_bits(data), source))
                 self.assertFalse(self.assert_alike(noise))
-                self.assertTrue(self.assert_alike(trau_frames.silence_descriptor(Parameters.read(data)).bits()))
+                self.assertTrue(self.assert_alike(bits_of_parameters(silence_descriptor(parameters_of_bits(data)))))
         self.assertGreater(min(found[True], found[False]), 20)
 
     def test_random_frames(self):
@@ -119,12 +122,12 @@ class BesideTheLibrary(unittest.TestCase):
 class Uplinks(InFolder):
     def uplink(self, frames, *words):
         """What is said of an uplink of frames with these bits, and the sorts of its frames."""
-        given = self.path("given.gsm", b"".join(map(trau_frames.gsm_of_data, frames)))
+        given = self.path("given.gsm", b"".join(map(gsm_of_data, frames)))
         status, out, err = self.run_tool(lines.main, "uplink", given, self.path("7.up"), *words)
         self.assertEqual((status, err), (0, ""))
         octets = self.path("7.up").read_bytes()
         self.assertEqual(data_of_line(octets), frames)
-        return out, list(trau_frames.search(trau_frames.bits_of(octets)))
+        return out, list(search(bits_of(octets)))
 
     def test_marked(self):
         source = random.Random(3)
@@ -134,9 +137,8 @@ class Uplinks(InFolder):
         self.assertEqual(said, "uplink frames 7 sid 2 invalid 2\n")
         sorts = [each.sort() for each in found]
         self.assertEqual(sorts, [*2 * [Sort.GOOD], *2 * [Sort.SID], *2 * [Sort.INVALID], Sort.GOOD])
-        controls = [trau_frames.SpeechControl.read(trau_frames.control_of(each.frame)) for each in found]
-        self.assertEqual([(control.bad, control.silence) for control in controls[2:6]], 2 * [(False, 2)] + 2 * [(True, 1)])
-        self.assertEqual({(control.taf, control.align, control.dtxd) for control in controls}, {(False, 0, False)})
+        self.assertEqual([control_of(each.frame)[11:14] for each in found[2:6]], ["010", "010", "101", "101"])
+        self.assertEqual({read_up(each.frame)[1:4] for each in found}, {(False, False, 0)})
 
     def test_kept(self):
         said, found = self.uplink(10 * [descriptor(random.Random(4))], "--sid", "keep", "--dtxd", "1")

@@ -8,22 +8,26 @@ import sys
 import unittest
 from unittest import mock
 
-from support import EXAMPLES, TOOLS, InFolder
+from support import EXAMPLES, TOOLS, TOP, InFolder
 
 import levels
 import report
 import run_lines
 import side_by_side
 import timeline
-import trau_frames
 import uplink_periods
+from core.frame import Sort, bits_of, control_of, octets_of, read_up
+from core.g711 import Law, samples_by_octet
+from core.profile import DOWN_IDLE, DOWN_SPEECH, PCM_OCTETS, UP_IDLE, UP_SPEECH
+from core.report import Bridge
+from core.search import FRAME, sort_of_period, yields_by_period
+from core.words import Refusal
+from model.downlink import asked_shifts, made_frames
 from run_lines import Sent
-from run_texts import Bridge
 from test_timeline import lay
-from trau_frames import PCM_OCTETS, Law, Refusal, Sort
 from uplink_periods import SORTS
 
-SPEECH = trau_frames.bits_of((EXAMPLES / "7.up").read_bytes())
+SPEECH = bits_of((EXAMPLES / "7.up").read_bytes())
 
 
 def damaged(source, frames):
@@ -35,7 +39,7 @@ def damaged(source, frames):
         if chance < 0.3:
             frame[17:33] = source.choices("01", k=16)
         elif chance < 0.5:
-            frame[17:22] = source.choice((trau_frames.IDLE_UP, trau_frames.SPEECH_UP))
+            frame[17:22] = source.choice((UP_IDLE, UP_SPEECH))
             frame[22:32] = source.choices("01", k=10)
         elif chance < 0.6:
             place = source.choice((*range(16), *range(16, 320, 16)))
@@ -48,31 +52,18 @@ def damaged(source, frames):
             frame = source.choices("0001", k=source.randrange(2000))
         bits.append("".join(frame))
     whole = "".join(bits)
-    return trau_frames.octets_of(whole[: len(whole) // 8 * 8])
+    return octets_of(whole[: len(whole) // 8 * 8])
 
 
-def made_one_by_one(call, start, octets, bridges):
-    """The frames made for a downlink: their octets, whether they are handed over, and their shifts, period by period."""
-    spans = [[bridge.start - start, bridge.end - bridge.start] for bridge in bridges if call in bridge.calls]
-    octet, asked = 0, 0
-    for period, each in enumerate(run_lines.yields_of(octets)):
-        asked = asked_by(each) or asked
-        while octet + PCM_OCTETS <= PCM_OCTETS * (period + 1):
-            waiting = next((span for span in spans if period >= span[0] and span[1] > 0), None)
-            shift = 0
-            if waiting:
-                waiting[1] -= 1
-            else:
-                shift, asked = asked, 0
-            yield octet, waiting is not None, shift
-            octet += PCM_OCTETS + shift
+def frames_by_period(octets):
+    """The frame of each period of an uplink, if it has one."""
+    return [read_up(each.frame) if each and each.frame else None for each in yields_by_period(bits_of(octets))]
 
 
-def asked_by(each):
-    """The shift that a period's frame asks for."""
-    if each is None or each.frame is None or each.sort() is Sort.OTHER:
-        return 0
-    return uplink_periods.shift_of(trau_frames.SpeechControl.read(trau_frames.control_of(each.frame)).align)
+def made_by_the_model(octets, spans):
+    """The frames made for a downlink as the model makes them: their octets, whether they are handed over, and their shifts."""
+    frames = frames_by_period(octets)
+    return [(made.start, made.item is not None, made.shift) for made in made_frames(len(frames), asked_shifts(frames), spans)]
 
 
 def sent_one_by_one(octet, handed, bits):
@@ -80,10 +71,10 @@ def sent_one_by_one(octet, handed, bits):
     frame = bits[320 + 2 * octet : 640 + 2 * octet]
     if len(frame) < 316:
         return None
-    control = trau_frames.control_of(frame)
-    if control.startswith(trau_frames.IDLE_DOWN):
+    control = control_of(frame)
+    if control.startswith(DOWN_IDLE):
         return Sent.IDLE
-    if not control.startswith(trau_frames.SPEECH_DOWN):
+    if not control.startswith(DOWN_SPEECH):
         return Sent.OTHER
     if handed:
         return Sent.HANDED
@@ -100,10 +91,9 @@ class Uplinks(unittest.TestCase):
     def test_the_search(self):
         seen = set()
         for octets in self.lines():
-            sorts = [run_lines.sort_of(each) for each in run_lines.yields_of(octets)]
+            sorts = [sort_of_period(each) for each in yields_by_period(bits_of(octets))]
             self.assertEqual([SORTS[code] for code in uplink_periods.searched(octets).sorts], sorts)
-            wanted = [(period, asked_by(each)) for period, each in enumerate(run_lines.yields_of(octets)) if asked_by(each)]
-            self.assertEqual(uplink_periods.searched(octets).asking, wanted)
+            self.assertEqual(uplink_periods.searched(octets).asking, list(asked_shifts(frames_by_period(octets)).items()))
             heard = [run_lines.HEARDS[code] for code in run_lines.heard_codes(bytes(SORTS.index(sort) for sort in sorts))]
             self.assertEqual(heard, list(run_lines.heard(sorts)))
             seen.update(sorts)
@@ -112,10 +102,10 @@ class Uplinks(unittest.TestCase):
     def test_the_hunt(self):
         frame = SPEECH[:320]
         for bits in (f"{before}{frame}{behind}" for before in ("", "1" * 3, "0" * 9, "1" * 77) for behind in ("", "1" * 50)):
-            octets = trau_frames.octets_of(bits[: len(bits) // 8 * 8])
-            text = trau_frames.bits_of(octets)
+            octets = octets_of(bits[: len(bits) // 8 * 8])
+            text = bits_of(octets)
             for place in range(0, len(text), 5):
-                found = trau_frames.FRAME.search(text, place)
+                found = FRAME.search(text, place)
                 self.assertEqual(uplink_periods.hunt(octets, place), found and found.start(), (len(bits), place))
 
     def test_frames_made(self):
@@ -125,8 +115,8 @@ class Uplinks(unittest.TestCase):
             cuts = sorted(source.sample(range(10, 170), 6))
             bridges = [Bridge((7, 8), a, b, (b - a, b - a), (0, 0)) for a, b in zip(cuts[::2], cuts[1::2])]
             if number % 3 == 0:
-                bridges = [Bridge((7, 8), 20, 40, (20, 20), (0, 0)), Bridge((9, 7), 40, 41, (1, 1), (0, 0))]
-            wanted = list(made_one_by_one(7, 10, octets, bridges))
+                bridges = [Bridge((7, 8), 20, 40, (20, 20), (0, 0)), Bridge((9, 7), 41, 42, (1, 1), (0, 0))]
+            wanted = made_by_the_model(octets, [(bridge.start - 10, bridge.end - 10) for bridge in bridges])
             asking = uplink_periods.searched(octets).asking
             made = list(run_lines.frames_made(7, 10, len(octets) // 40, asking, bridges))
             got = [
@@ -135,9 +125,9 @@ class Uplinks(unittest.TestCase):
                 for at in range(each.count)
             ]
             self.assertEqual(got, wanted)
-            down = trau_frames.octets_of("1" * 320 + damaged_downlink(source, len(octets) - 40))
+            down = octets_of("1" * 320 + damaged_downlink(source, len(octets) - 40))
             codes = [code for each in made for code in run_lines.sent(each, down)]
-            kinds = [sent_one_by_one(octet, handed, trau_frames.bits_of(down)) for octet, handed, _ in wanted]
+            kinds = [sent_one_by_one(octet, handed, bits_of(down)) for octet, handed, _ in wanted]
             self.assertEqual([run_lines.SENTS[code] for code in codes], [kind for kind in kinds if kind])
 
 
@@ -146,7 +136,7 @@ def damaged_downlink(source, octets):
     rows = []
     for _ in range(octets // 40):
         frame = source.choices("01", k=320)
-        frame[17:22] = source.choice((trau_frames.SPEECH_DOWN, trau_frames.IDLE_DOWN, "00000"))
+        frame[17:22] = source.choice((DOWN_SPEECH, DOWN_IDLE, "00000"))
         rows.append("".join(frame))
     return "".join(rows)
 
@@ -156,9 +146,9 @@ class Levels(unittest.TestCase):
         octets = random.Random(3).randbytes(160 * 20 + 7) + bytes([0x2A, 0x80]) * 160
         for law in Law:
             whole = [octets[place : place + 160] for place in range(0, len(octets) - 159, 160)]
-            wanted = [sum((law.expand(octet) // levels.UNITS[law]) ** 2 for octet in period) for period in whole]
+            wanted = [sum((samples_by_octet(law)[octet] // levels.UNITS[law]) ** 2 for octet in period) for period in whole]
             self.assertEqual(levels.sums_plain(octets, law), wanted)
-            self.assertTrue(all(law.expand(octet) % levels.UNITS[law] == 0 for octet in range(256)))
+            self.assertTrue(all(samples_by_octet(law)[octet] % levels.UNITS[law] == 0 for octet in range(256)))
             self.assertEqual(levels.sums_plain(b"", law), [])
 
     @unittest.skipUnless(levels.numpy, "no library numpy")
@@ -193,7 +183,7 @@ class SideBySide(InFolder):
             list(side_by_side.Workers(2).each("ending", os._exit, [(1,), (2,), (3,)], 10**9))
 
     def test_progress(self):
-        words = "import side_by_side as s; s.QUIET_SECONDS = -1; s.SECONDS_BETWEEN_LINES = 0;"
+        words = f"import sys; sys.path.append({str(TOP)!r}); import side_by_side as s; s.QUIET_SECONDS = -1; s.SECONDS_BETWEEN_LINES = 0;"
         words += "print(sum(s.ALONE.each('adding', int, [(n,) for n in range(4)], 10**9)))"
         ran = subprocess.run([sys.executable, "-c", words], cwd=TOOLS, capture_output=True, text=True)
         told = "".join(f"adding: {number} of 4 calls\n" for number in (1, 2, 3))

@@ -128,9 +128,7 @@ class Ends(InFolder):
         name = os.fsencode(self.folder) + b"/\xff.gsm"
         Path(os.fsdecode(name)).write_bytes(bytes(7))
         for streams in ({}, {"PYTHONIOENCODING": "ascii"}):
-            ended = subprocess.run(
-                [sys.executable, TOOLS / "lines.py", "look", name], capture_output=True, env={**os.environ, **streams}
-            )
+            ended = subprocess.run([sys.executable, TOOLS / "lines.py", "look", name], capture_output=True, env={**os.environ, **streams})
             self.assertEqual((ended.returncode, ended.stderr), (0, b""))
 
     def installed(self, tool, *words):

@@ -10,16 +10,17 @@ import unittest
 from pathlib import Path
 
 from support import CODEC, DATA, EXAMPLES, InFolder
+
+from core.frame import bits_of, octets_of
+from core.g711 import Law, expand_all, octets_by_sample
+from core.slots import octets_turned
 from test_lines import wav
 
 import file_kinds
 import lines
 import orders
 import readings
-import slots
-import trau_frames
 from file_kinds import Kind
-from trau_frames import Law
 
 FARM = EXAMPLES / "farm"
 UP = (EXAMPLES / "7.up").read_bytes()
@@ -47,13 +48,13 @@ def merged(channels):
 
 def shifted(octets, ones):
     """A line behind so many ones."""
-    bits = ones * "1" + trau_frames.bits_of(octets)
-    return trau_frames.octets_of(bits + -len(bits) % 8 * "1")
+    bits = ones * "1" + bits_of(octets)
+    return octets_of(bits + -len(bits) % 8 * "1")
 
 
 def linear(octets):
     """The samples of 16 bits of A-law."""
-    return struct.pack(f"<{len(octets)}h", *map(Law.A.expand, octets))
+    return struct.pack(f"<{len(octets)}h", *expand_all(Law.A, octets))
 
 
 def archive():
@@ -126,7 +127,7 @@ class Look(InFolder):
             self.assertTrue(self.look(shifted(UP, ones)).startswith(f"an uplink, its first frame at bit {ones}; "))
             self.assertTrue(self.look(shifted(DOWN, ones)).startswith(f"a downlink, its first frame at bit {320 + ones}; "))
         said = f"an uplink, its first frame at bit 13, {TURNED}; lines.py slot FILE NEW --lsb-first"
-        self.assertEqual(self.look(slots.turned(shifted(UP, 13))), said)
+        self.assertEqual(self.look(octets_turned(shifted(UP, 13))), said)
 
     def test_kinds_that_are_not_full_rate(self):
         # Three uplink frames of each kind, as libosmotrau numbers and encodes them; its idle frames are those of a downlink.
@@ -179,12 +180,12 @@ class Look(InFolder):
         )
         command = "lines.py slot FILE NEW.up --channel J"
         self.assertEqual(self.look(slot), f"{wanted}; {command}")
-        self.assertEqual(self.look(slots.turned(slot)), f"{wanted}, {TURNED}; {command} --lsb-first")
+        self.assertEqual(self.look(octets_turned(slot)), f"{wanted}, {TURNED}; {command} --lsb-first")
         line = e1(slot[:3000])
         command = "lines.py slot FILE NEW.pcm --slot N --of 32"
         self.assertEqual(self.look(line), f"an E1 line of 32 slots; {command}")
         self.assertEqual(self.look(line[7:]), f"an E1 line of 32 slots from octet 25 on; {command} --skip 25")
-        self.assertEqual(self.look(slots.turned(line)), f"an E1 line of 32 slots, {TURNED}; {command} --lsb-first")
+        self.assertEqual(self.look(octets_turned(line)), f"an E1 line of 32 slots, {TURNED}; {command} --lsb-first")
 
     def test_sound_by_statistics(self):
         for path in SPOKEN:
@@ -195,23 +196,20 @@ class Look(InFolder):
             for content, wanted in (
                 (octets, f"A-law, as it seems; {raw}"),
                 (octets.translate(TO_MULAW), f"mu-law, as it seems; {raw} --law mulaw"),
-                (slots.turned(octets), f"A-law, as it seems, {TURNED}; {raw} --lsb-first"),
-                (slots.turned(octets.translate(TO_MULAW)), f"mu-law, as it seems, {TURNED}; {raw} --lsb-first --law mulaw"),
+                (octets_turned(octets), f"A-law, as it seems, {TURNED}; {raw} --lsb-first"),
+                (octets_turned(octets.translate(TO_MULAW)), f"mu-law, as it seems, {TURNED}; {raw} --lsb-first --law mulaw"),
             ):
                 self.assertEqual(self.look(content), wanted, path)
         for path in SPOKEN[:2]:
             said = self.look(linear(path.read_bytes()))
-            self.assertEqual(
-                said,
-                "sound of 16 bits a sample, as it seems; sox -t raw -r 8000 -c 1 -b 16 -e signed-integer FILE NEW.wav",
-            )
+            self.assertEqual(said, "sound of 16 bits a sample, as it seems; sox -t raw -r 8000 -c 1 -b 16 -e signed-integer FILE NEW.wav")
 
     def test_sound_of_lines(self):
         spoken = SPOKEN[0].read_bytes()
         for name in ("1.out", "1.pcm"):
             self.assertEqual(self.look(spoken, name), "A-law, as it seems; lines.py sound FILE NEW.wav")
             self.assertEqual(self.look(spoken.translate(TO_MULAW), name), "mu-law, as it seems; lines.py sound FILE NEW.wav --law mulaw")
-        self.assertTrue(self.look(slots.turned(spoken), "1.out").endswith("; lines.py pcm FILE NEW.pcm --raw --lsb-first"))
+        self.assertTrue(self.look(octets_turned(spoken), "1.out").endswith("; lines.py pcm FILE NEW.pcm --raw --lsb-first"))
 
     def test_idle_sound(self):
         for law in Law:
@@ -264,13 +262,13 @@ class Refused(InFolder):
         for words, content, part in (
             ([], spoken.translate(TO_MULAW), "is mu-law, as it seems, and no A-law; lines.py pcm FILE NEW.pcm --raw --law mulaw"),
             (["--law", "mulaw"], spoken, "is A-law, as it seems, and no mu-law; lines.py pcm FILE NEW.pcm --raw; --trust"),
-            ([], slots.turned(spoken), f"is A-law, as it seems, {TURNED}, and no A-law; lines.py pcm FILE NEW.pcm --raw --lsb-first"),
+            ([], octets_turned(spoken), f"is A-law, as it seems, {TURNED}, and no A-law; lines.py pcm FILE NEW.pcm --raw --lsb-first"),
             ([], linear(spoken), "is sound of 16 bits a sample, as it seems, and no A-law; sox -t raw "),
             ([], b"fLaC" + bytes(4000), "is a FLAC file, and no A-law; sox FILE -r 8000"),
             ([], (DATA / "speech.gsm").read_bytes(), "is 40 frames of libgsm, and no A-law; lines.py uplink FILE NEW.up"),
             ([], (DATA / "gsm.pcap").read_bytes(), "is a pcap capture, and no A-law; lines.py pcap FILE NEW"),
             ([], e1(UP[:1000]), "is an E1 line of 32 slots, and no A-law; lines.py slot FILE NEW.pcm --slot N --of 32"),
-            ([], slots.turned(UP), f"is an uplink, its first frame at bit 0, {TURNED}, and no A-law; lines.py slot FILE NEW"),
+            ([], octets_turned(UP), f"is an uplink, its first frame at bit 0, {TURNED}, and no A-law; lines.py slot FILE NEW"),
         ):
             path = self.path("raw", content)
             self.assert_refused(lines.main, ["pcm", path, new, "--raw", *words], part.replace("FILE", str(path)))
@@ -292,13 +290,13 @@ class Refused(InFolder):
             for peak in (30, 3000, 32000):
                 sounds.append([round(peak * math.sin(2 * math.pi * hertz * place / 8000)) for place in range(4000)])
         for law in Law:
-            table = law.octets_by_sample()
+            table = octets_by_sample(law)
             for samples in sounds:
                 self.assertIsNone(readings.plainly_other(bytes(table[sample] for sample in samples), law))
 
     def test_turned_octets(self):
         spoken, new = SPOKEN[0].read_bytes(), self.path("new")
-        path = self.path("raw", slots.turned(spoken))
+        path = self.path("raw", octets_turned(spoken))
         said = self.run_tool(lines.main, "pcm", path, new, "--raw", "--lsb-first")
         self.assertEqual((said[0], new.read_bytes()[: len(spoken)]), (0, spoken))
 
@@ -321,7 +319,7 @@ class Refused(InFolder):
             (shifted(UP, 13), bytes(16000), "", None),
             (DOWN, spoken, "", "1.up is a downlink, its first frame at bit 320, and no uplink; lines.py listen"),
             (wav(data=bytes(99)), spoken, "", "1.up is a WAV file, 8000 Hz, channels 1, bits 16 linear, and no uplink; lines.py pcm"),
-            (slots.turned(UP), spoken, "", f"1.up is an uplink, its first frame at bit 0, {TURNED}, and no uplink; lines.py slot"),
+            (octets_turned(UP), spoken, "", f"1.up is an uplink, its first frame at bit 0, {TURNED}, and no uplink; lines.py slot"),
             (UP, spoken.translate(TO_MULAW), "", "1.pcm is mu-law, as it seems, and no A-law; lines.py pcm"),
             (UP, spoken.translate(TO_MULAW), " mulaw", None),
             (UP, spoken, " mulaw", "1.pcm is A-law, as it seems, and no mu-law; lines.py pcm"),

@@ -11,56 +11,36 @@ import support
 from support import CODEC, DATA, EXAMPLES, InFolder, frames_of_downlink
 
 import lines
-import slots
-import trau_frames
-from trau_frames import Law, SpeechControl
+from core.frame import Sort, UpFrame, bits_of, data_of, frame_of, octets_of, read_up
+from core.g711 import Law, samples_by_octet
+from core.noise import RandomSource, comfort_noise
+from core.parameters import SILENCE, bits_of_parameters, data_of_gsm, data_of_wav_block, parameters_of_bits
+from core.search import search
+from core.slots import octets_turned
+from damages import silence_descriptor
 
 
 def yields(octets):
     """The yields of an uplink, as places with words."""
-    return [(each.place, each.sort().value) for each in trau_frames.search(trau_frames.bits_of(octets))]
+    return [(each.place, each.sort().value) for each in search(bits_of(octets))]
 
 
-def control_bits(octets):
-    """The control bits of each frame of an aligned uplink."""
-    bits = trau_frames.bits_of(octets)
-    frames = (bits[place : place + 320] for place in range(0, len(bits), 320))
-    return [SpeechControl.read(trau_frames.control_of(frame)) for frame in frames]
+def frames_of(octets):
+    """The frames of an aligned uplink."""
+    bits = bits_of(octets)
+    return [read_up(bits[place : place + 320]) for place in range(0, len(bits), 320)]
 
 
 def downlink(frames, sp="1"):
     """The bits of a downlink of speech frames with these data bits."""
-    return "".join(trau_frames.frame_of("11100" + "000000" + "1111" + sp + "11111", data) for data in frames)
+    return "".join(frame_of("11100" + "000000" + "1111" + sp + "11111", data) for data in frames)
 
 
 def data_of_uplink(octets):
-    return [trau_frames.data_of(each.frame) for each in trau_frames.search(trau_frames.bits_of(octets))]
+    return [data_of(each.frame) for each in search(bits_of(octets))]
 
 
 class Laws(unittest.TestCase):
-    def test_compress(self):
-        octets = Law.A.octets_by_sample()
-        wanted = (CODEC / "alaw_compress.bin").read_bytes()
-        self.assertEqual(bytes(octets[sample % 65536] for sample in range(-32768, 32768)), wanted)
-
-    def test_compress_mulaw(self):
-        octets = Law.MU.octets_by_sample()
-        wanted = (CODEC / "mulaw_compress.bin").read_bytes()
-        self.assertEqual(octets[:32768], wanted)
-        self.assertEqual(octets[:32767:-1], bytes(octet ^ 0x80 for octet in wanted))
-
-    def test_expand(self):
-        for law in Law:
-            wanted = [int(line) for line in (CODEC / f"{law}_expand.txt").read_text().split()]
-            self.assertEqual([law.expand(octet) for octet in range(256)], wanted)
-
-    def test_each_octet_comes_back(self):
-        for law in Law:
-            octets = law.octets_by_sample()
-            back = [octet for octet in range(256) if octets[law.expand(octet) % 65536] == octet]
-            # Mu-law has two octets of the sample 0.
-            self.assertEqual(set(range(256)) - set(back), set() if law is Law.A else {0x7F})
-
     def test_other_law(self):
         there, back = Law.A.table_to(Law.MU), Law.MU.table_to(Law.A)
         self.assertEqual(bytes(range(256)), Law.MU.table_to(Law.MU))
@@ -98,23 +78,23 @@ class Frames(InFolder):
             block = bytearray(65)
             block[place // 8] = 1 << place % 8
             bits = "0" * place + "1" + "0" * (519 - place)
-            self.assertEqual(trau_frames.data_of_wav_block(bytes(block)), (bits[:260], bits[260:]))
+            self.assertEqual(data_of_wav_block(bytes(block)), (bits[:260], bits[260:]))
 
     def test_an_uplink_with_other_frames_is_an_uplink(self):
-        line = trau_frames.bits_of((EXAMPLES / "7.up").read_bytes()[:800])
-        self.path("7.up", trau_frames.octets_of("11111" + line + "111"))
+        line = bits_of((EXAMPLES / "7.up").read_bytes()[:800])
+        self.path("7.up", octets_of("11111" + line + "111"))
         self.assert_refused(lines.main, ["gsm", self.path("7.up"), self.path("new")], "is an uplink; lines.py listen ")
 
     def test_dtxd(self):
         self.lines("uplink", DATA / "speech.gsm", self.path("7.up"), "--dtxd", "1")
-        self.assertEqual(set(control_bits(self.path("7.up").read_bytes())), {SpeechControl(dtxd=True)})
+        self.assertEqual({frame._replace(data="") for frame in frames_of(self.path("7.up").read_bytes())}, {UpFrame(Sort.GOOD, dtxd=True, data="")})
 
     def test_frames_of_a_downlink_at_any_bit(self):
         frames = data_of_uplink((EXAMPLES / "7.up").read_bytes()[:1600])
         for shift in (0, 1, 5, 63, 319, 320):
             bits = "1" * shift + downlink(frames)
             bits += "1" * (-len(bits) % 8)
-            self.path("7.down", trau_frames.octets_of(bits))
+            self.path("7.down", octets_of(bits))
             said = self.lines("gsm", self.path("7.down"), self.path("7.gsm"))
             outside = shift + -(shift + 40 * 320) % 8
             self.assertEqual(said, f"gsm frames 40 found speech 40 silence 0 idle 0 other 0 outside {outside}\n")
@@ -127,7 +107,7 @@ class Frames(InFolder):
         each[7] = each[7][:316]
         each[20] += 78 * "1"
         bits = "".join(each)
-        self.path("7.down", trau_frames.octets_of(bits + "1" * (-len(bits) % 8)))
+        self.path("7.down", octets_of(bits + "1" * (-len(bits) % 8)))
         self.lines("gsm", self.path("7.down"), self.path("7.gsm"))
         self.assertEqual(self.path("7.gsm").read_bytes(), (DATA / "speech.gsm").read_bytes())
 
@@ -149,45 +129,45 @@ class Frames(InFolder):
                 self.assertIn(int(words[-1]) - frames, (0, 1, 2))
 
     def test_silence_descriptors(self):
-        descriptor = trau_frames.silence_descriptor(trau_frames.SILENCE).bits()
-        speech = trau_frames.data_of_gsm((DATA / "speech.gsm").read_bytes()[:33])
-        self.path("7.down", trau_frames.octets_of(downlink([speech]) + downlink([descriptor, descriptor], "0")))
+        descriptor = bits_of_parameters(silence_descriptor(SILENCE))
+        speech = data_of_gsm((DATA / "speech.gsm").read_bytes()[:33])
+        self.path("7.down", octets_of(downlink([speech]) + downlink([descriptor, descriptor], "0")))
         given, new = self.path("7.down"), self.path("7.gsm")
         made = {}
         for treatment in ("noise", "quiet", "keep", "skip"):
             said = self.lines("gsm", given, new, "--silence", treatment)
             frames = 1 if treatment == "skip" else 3
             self.assertEqual(said, f"gsm frames {frames} found speech 1 silence 2 idle 0 other 0 outside 0\n")
-            made[treatment] = [trau_frames.data_of_gsm(new.read_bytes()[at : at + 33]) for at in range(0, 33 * frames, 33)]
+            made[treatment] = [data_of_gsm(new.read_bytes()[at : at + 33]) for at in range(0, 33 * frames, 33)]
             self.assertEqual(made[treatment][0], speech)
         self.assertEqual(made["keep"][1:], [descriptor, descriptor])
-        self.assertEqual(made["quiet"][1:], 2 * [trau_frames.SILENCE.bits()])
-        first, second = map(trau_frames.Parameters.read, made["noise"][1:])
+        self.assertEqual(made["quiet"][1:], 2 * [bits_of_parameters(SILENCE)])
+        first, second = map(parameters_of_bits, made["noise"][1:])
         self.assertNotEqual(first, second)
-        self.assertEqual(first.ratios, trau_frames.SILENCE.ratios)
-        self.assertEqual([block.lag for block in first.blocks], [40, 120, 40, 120])
-        self.assertEqual({block.maximum for block in first.blocks}, {0})
-        self.assertLessEqual({pulse for block in first.blocks for pulse in block.pulses}, set(range(1, 7)))
+        self.assertEqual(first.larc, SILENCE.larc)
+        self.assertEqual([block.nc for block in first.blocks], [40, 120, 40, 120])
+        self.assertEqual({block.xmaxc for block in first.blocks}, {0})
+        self.assertLessEqual({pulse for block in first.blocks for pulse in block.xmc}, set(range(1, 7)))
         self.lines("gsm", given, new)
-        self.assertEqual(trau_frames.data_of_gsm(new.read_bytes()[33:66]), made["noise"][1])
+        self.assertEqual(data_of_gsm(new.read_bytes()[33:66]), made["noise"][1])
 
     def test_noise_is_that_of_a_run(self):
         # In the worked run call 4 has a silence descriptor in its first period and a pause after it, and from its period 2 on
         # its frames go out on the downlink of call 2, with which it is bridged.
         uplink = (EXAMPLES / "farm" / "4.up").read_bytes()
         self.assertEqual([word for _, word in yields(uplink)][:23], ["sid"] + 22 * ["bad"])
-        descriptor = trau_frames.Parameters.read(data_of_uplink(uplink)[0])
-        source = trau_frames.RandomSource(4)
-        made = [trau_frames.noise(descriptor, source).bits() for _ in range(22)]
-        bits = trau_frames.bits_of((EXAMPLES / "farm" / "wanted" / "2.down").read_bytes())
-        sent = [trau_frames.data_of(frame) for frame in frames_of_downlink(bits)]
+        descriptor = parameters_of_bits(data_of_uplink(uplink)[0])
+        source = RandomSource(4)
+        made = [bits_of_parameters(comfort_noise(descriptor, source)) for _ in range(22)]
+        bits = bits_of((EXAMPLES / "farm" / "wanted" / "2.down").read_bytes())
+        sent = [data_of(frame) for frame in frames_of_downlink(bits)]
         first = sent.index(made[2])
         self.assertEqual(sent[first : first + 20], made[2:])
 
     def test_idle_frames(self):
-        idle = trau_frames.frame_of("01110" + "000000" + "1111" + "1" + "11111", 260 * "1")
+        idle = frame_of("01110" + "000000" + "1111" + "1" + "11111", 260 * "1")
         speech = downlink(data_of_uplink((EXAMPLES / "7.up").read_bytes()[:40]))
-        self.path("7.down", trau_frames.octets_of(idle + speech + idle))
+        self.path("7.down", octets_of(idle + speech + idle))
         said = self.lines("gsm", self.path("7.down"), self.path("7.gsm"))
         self.assertEqual(said, "gsm frames 1 found speech 1 silence 0 idle 2 other 0 outside 0\n")
         said = self.lines("gsm", self.path("7.down"), self.path("7.gsm"), "--idle", "quiet")
@@ -249,7 +229,7 @@ class Sound(InFolder):
         out, sound, pcm = self.path("7.out", line), self.path("7.wav"), self.path("8.pcm")
         self.lines("sound", out, sound, "--law", "mulaw")
         samples = struct.unpack_from("<320h", sound.read_bytes(), 44)
-        self.assertEqual(list(samples), [Law.MU.expand(octet) for octet in line])
+        self.assertEqual(list(samples), [samples_by_octet(Law.MU)[octet] for octet in line])
         self.lines("pcm", sound, pcm, "--law", "mulaw")
         self.assertEqual(pcm.read_bytes(), line.replace(b"\x7f", b"\xff"))
         for option in ("--mulaw", "--raw"):
@@ -276,7 +256,7 @@ class Sound(InFolder):
         said = self.lines("pcm", DATA / "mulaw.wav", self.path("7.pcm"), "--law", "mulaw")
         self.assertEqual(said, "pcm periods 2 padded 70\n")
         self.assertEqual(self.path("7.pcm").read_bytes(), content[-250:] + 70 * b"\xff")
-        loudest = max(abs(Law.MU.expand(octet)) for octet in content[-250:])
+        loudest = max(abs(samples_by_octet(Law.MU)[octet]) for octet in content[-250:])
         self.assertAlmostEqual(loudest / 32768, 0.5, delta=0.02)
 
     def test_the_last_period_of_mulaw(self):
@@ -368,7 +348,7 @@ class Sound(InFolder):
             self.assert_refused(lines.main, words, said)
         said = f"6.out: is A-law, as it seems, and no mu-law; lines.py sound {alaw} NEW.wav; --trust takes it as it is\n"
         self.assert_refused(lines.main, ["sound", alaw, new, "--law", "mulaw"], said)
-        self.assert_refused(lines.main, ["sound", self.path("7.out", slots.turned(line)), new], "in the other order, and no A-law; ")
+        self.assert_refused(lines.main, ["sound", self.path("7.out", octets_turned(line)), new], "in the other order, and no A-law; ")
         for more in (["--trust"], ["--law", "mulaw"]):
             self.assertEqual(self.lines("sound", out, new, *more), "sound samples 24000\n")
 
@@ -425,14 +405,14 @@ class Damage(InFolder):
         descriptors = [10, 23, 47, 71, 90]
         self.assertEqual([place // 320 for place, word in found if word == "sid"], descriptors)
         self.assertEqual(Counter(word for _, word in found), {"good": 28, "sid": 5, "bad": 67})
-        controls = control_bits(line)
-        self.assertEqual([number for number, control in enumerate(controls) if control.taf], [23, 47, 71])
+        frames = frames_of(line)
+        self.assertEqual([number for number, frame in enumerate(frames) if frame.taf], [23, 47, 71])
         for number in descriptors:
-            speech = trau_frames.Parameters.read(data_of_uplink(self.line)[number])
-            noise = trau_frames.Parameters.read(data_of_uplink(line)[number])
-            self.assertEqual(noise.ratios, speech.ratios)
-            self.assertEqual({block.maximum for block in noise.blocks}, {min(block.maximum for block in speech.blocks)})
-            self.assertEqual({block.pulses for block in noise.blocks}, {13 * (0,)})
+            speech = parameters_of_bits(data_of_uplink(self.line)[number])
+            noise = parameters_of_bits(data_of_uplink(line)[number])
+            self.assertEqual(noise.larc, speech.larc)
+            self.assertEqual({block.xmaxc for block in noise.blocks}, {min(block.xmaxc for block in speech.blocks)})
+            self.assertEqual({block.xmc for block in noise.blocks}, {13 * (0,)})
 
     def test_one_upon_another(self):
         # A descriptor that is lost, and a lost frame in whose place there are zeros.
@@ -443,7 +423,7 @@ class Damage(InFolder):
     def test_align(self):
         said, line = self.damaged("--align", "7:39", "--align", "9:63", "--drop", "9")
         self.assertEqual(said, "damage frames 100 sid 0 drop 1 zero 0 align 2 slip 0\n")
-        fields = {number: control.align for number, control in enumerate(control_bits(line)) if control.align}
+        fields = {number: frame.field for number, frame in enumerate(frames_of(line)) if frame.field}
         self.assertEqual(fields, {7: 39, 9: 63})
 
     def test_slips(self):
@@ -464,19 +444,19 @@ class Damage(InFolder):
             self.assertEqual(later, list(range(place + (3 if bits > 0 else 4) * 320, place + 50 * 320, 320)))
 
     def test_two_slips_of_a_line_that_begins_at_any_bit(self):
-        bits = "1" * 13 + trau_frames.bits_of(self.line)
-        self.up.write_bytes(trau_frames.octets_of(bits + "1" * (-len(bits) % 8)))
+        bits = "1" * 13 + bits_of(self.line)
+        self.up.write_bytes(octets_of(bits + "1" * (-len(bits) % 8)))
         _, line = self.damaged("--slip", "0:5", "--slip", "60:-2")
         good = [place for place, word in yields(line) if word == "good"]
         self.assertEqual((good[0], good[59], good[60]), (18, 18 + 59 * 320, 18 - 2 + 64 * 320))
 
     def test_frames_that_are_no_speech_stay(self):
-        idle = trau_frames.frame_of("10000" + "000000" + "100011" + "1111", 260 * "1")
-        self.up.write_bytes(trau_frames.octets_of(idle) + self.line[:80] + bytes(40) + self.line[80:160])
+        idle = frame_of("10000" + "000000" + "100011" + "1111", 260 * "1")
+        self.up.write_bytes(octets_of(idle) + self.line[:80] + bytes(40) + self.line[80:160])
         said, line = self.damaged("--drop", "0-5", "--align", "0:62")
         self.assertEqual(said, "damage frames 6 sid 0 drop 4 zero 0 align 1 slip 0\n")
         self.assertEqual([word for _, word in yields(line)], ["idle", "bad", "bad", "miss", "bad", "bad"])
-        self.assertEqual(control_bits(line)[0].align, 62)
+        self.assertEqual(frames_of(line)[0].field, 62)
 
     def test_refused(self):
         new = self.path("new")

@@ -6,21 +6,16 @@ import random
 import re
 import shutil
 import subprocess
-import sys
 import unittest
 from unittest import mock
 
 import support
-from support import EXAMPLES, TOP, InFolder
+from support import EXAMPLES, InFolder
 
 import orders
 import tone_peaks
-import trau_frames
-from trau_frames import Law
-
-sys.path.append(str(TOP))
-
-from model.codec import Preprocessing
+from core.frame import bits_of, control_of
+from core.g711 import Law
 
 PROGRAM = os.environ.get("TRAU_PROGRAM", "")
 
@@ -344,11 +339,6 @@ class LevelOfATone(InFolder):
         self.assertEqual((status, err), (0, ""))
         return out
 
-    def test_as_the_model_preprocesses(self):
-        chance = random.Random(1)
-        samples = [chance.randrange(-32768, 32768) for _ in range(2000)] + 500 * [-32768, 32767] + 900 * [32767]
-        self.assertEqual(list(tone_peaks.preprocessed(samples)), Preprocessing().run(samples))
-
     def test_numbers(self):
         self.assertEqual(self.said("-30", "1000"), "level tone -30 dBm0 1000 Hz speech to 245 silence from 269\n")
         self.assertEqual(self.said("-30", "1000", "--law", "mulaw"), "level tone -30 dBm0 1000 Hz speech to 247 silence from 270\n")
@@ -372,8 +362,8 @@ class LevelOfATone(InFolder):
             for number in numbers:
                 text = f"0 open 1{' mulaw' if law is Law.MU else ''}\n0 level 1 {number}\n0 dtx 1 on\n"
                 subprocess.run([PROGRAM, "run"], input=text.encode(), cwd=self.folder, check=True, capture_output=True)
-                frames = list(support.frames_of_downlink(trau_frames.bits_of(self.path("1.down").read_bytes())))[25:]
-                kinds.append({trau_frames.control_of(frame)[15] for frame in frames})
+                frames = list(support.frames_of_downlink(bits_of(self.path("1.down").read_bytes())))[25:]
+                kinds.append({control_of(frame)[15] for frame in frames})
             self.assertEqual(kinds, [{"1"}, {"0"}], words)
 
 

@@ -89,7 +89,8 @@ class Versions(unittest.TestCase):
 
 class Modules(unittest.TestCase):
     def test_all_that_the_tools_import_is_packed(self):
-        packed = {*trau_package.TOOLS, *trau_package.BESIDE_TOOLS}
+        packed = {path.name for path in TOOLS.iterdir() if re.fullmatch(trau_package.FOLDERS[0][1], path.name)}
+        self.assertLessEqual({*trau_package.TOOLS, "help.txt", "pages.txt", "grammar.txt", "bad_order.awk"}, packed)
         for name in sorted(packed):
             if name.endswith(".py"):
                 for found in re.findall(r"^(?:from|import) (\w+)", (TOOLS / name).read_text(), re.M):
@@ -437,7 +438,7 @@ class Debian(InFolder):
 
     def test_versions(self):
         for text, why in (("# Changelog\n", "there is no version"), ("## soon\n- x\n", "isn't a version and a date")):
-            with mock.patch.object(trau_deb.trau_frames, "read_file", lambda path: text.encode()):
+            with mock.patch.object(trau_deb, "read_file", lambda path: text.encode()):
                 with self.assertRaisesRegex(trau_deb.Refusal, why):
                     trau_deb.versions()
         said = trau_deb.changelog("A <a@b.example>")

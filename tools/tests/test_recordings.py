@@ -10,15 +10,17 @@ import unittest
 from unittest import mock
 
 from support import CODEC, DATA, EXAMPLES, TOP, InFolder
+
+from core.frame import bits_of
+from core.g711 import Law, octets_by_sample
+from core.parameters import SILENCE, bits_of_parameters, gsm_of_data
+from core.slots import octets_turned
 from test_file_kinds import e1, merged, shifted
 from test_lines import wav
 
 import lines
 import listening
 import recordings
-import slots
-import trau_frames
-from trau_frames import Law
 
 PROGRAM = os.environ.get("TRAU_PROGRAM", "")
 FARM = EXAMPLES / "farm"
@@ -127,7 +129,7 @@ class Partial(Recorded):
                 self.assert_refused(lines.main, ["pcm", path, self.path("none"), "--partial"], "holds no samples")
                 continue
             self.lines("pcm", path, new, "--partial")
-            table = Law.A.octets_by_sample()
+            table = octets_by_sample(Law.A)
             left = (800 - missing) // 2
             self.assertEqual(new.read_bytes()[:left], bytes(table[sample] for sample in range(left)))
         self.assert_refused(lines.main, ["pcm", self.path("cut.wav", content[:30]), self.path("none"), "--partial"], "in its part 'fmt'")
@@ -143,7 +145,7 @@ class Slots(Recorded):
 
     def test_a_line_that_begins_anywhere_in_the_other_order(self):
         slot = merged([(EXAMPLES / "7.up").read_bytes()[:4000], *3 * [bytes(4000)]])
-        path = self.path("line", slots.turned(e1(slot)[9:]))
+        path = self.path("line", octets_turned(e1(slot)[9:]))
         self.lines("slot", path, self.path("1.pcm"), "--slot", "16", "--of", "32", "--skip", "23", "--lsb-first")
         self.assertEqual(self.path("1.pcm").read_bytes(), slot[1:])
 
@@ -153,9 +155,9 @@ class Slots(Recorded):
         slot = merged(channels)
         for content, words in (
             (slot, []),
-            (slots.turned(slot), ["--lsb-first"]),
+            (octets_turned(slot), ["--lsb-first"]),
             (e1(slot), ["--slot", "16", "--of", "32"]),
-            (slots.turned(e1(slot)[9:]), ["--slot", "16", "--of", "32", "--skip", "23", "--lsb-first"]),
+            (octets_turned(e1(slot)[9:]), ["--slot", "16", "--of", "32", "--skip", "23", "--lsb-first"]),
         ):
             # Where the first octet of the slot is cut off, each channel lacks its first two bits.
             cut = words[-1:] == ["--lsb-first"] and len(words) > 1
@@ -165,8 +167,8 @@ class Slots(Recorded):
                     new = self.path(f"{number}.up" if number % 2 == 0 else f"{number}.down")
                     said = self.lines("slot", path, new, "--channel", number, *words)
                     self.assertEqual(said, f"slot octets {4000 - cut} channel {number} left {3 * cut}\n")
-                    bits = trau_frames.bits_of(channel)[2 * cut :]
-                    self.assertEqual(trau_frames.bits_of(new.read_bytes()), bits[: 32000 - 8 * cut])
+                    bits = bits_of(channel)[2 * cut :]
+                    self.assertEqual(bits_of(new.read_bytes()), bits[: 32000 - 8 * cut])
 
     def test_a_channel_that_is_refused(self):
         line, new = self.path("line", bytes(64)), self.path("1.up")
@@ -180,7 +182,7 @@ class Slots(Recorded):
 
     def test_the_bits_alone(self):
         up = shifted((EXAMPLES / "7.up").read_bytes(), 5)
-        self.lines("slot", self.path("turned", slots.turned(up)), self.path("1.up"), "--lsb-first")
+        self.lines("slot", self.path("turned", octets_turned(up)), self.path("1.up"), "--lsb-first")
         self.assertEqual(self.path("1.up").read_bytes(), up)
 
     def test_refused(self):
@@ -204,7 +206,7 @@ class Listening(Recorded):
         # 99 frames, and the period of ones before the first.
         self.assertEqual(said, "listen samples 16000 found speech 91 silence 8 idle 0 other 0 outside 324\n")
         self.lines("gsm", down, self.path("2.gsm"))
-        quiet = trau_frames.gsm_of_data(trau_frames.SILENCE.bits())
+        quiet = gsm_of_data(bits_of_parameters(SILENCE))
         self.lines("uplink", self.path("2.gsm", quiet + self.path("2.gsm").read_bytes()), self.path("1.up"))
         ended = subprocess.run([PROGRAM, "decode", "1"], cwd=self.folder, capture_output=True)
         self.assertEqual(ended.stdout, b"decode frames 100\n")

@@ -8,14 +8,16 @@ import unittest
 from collections import Counter
 
 from support import DATA, EXAMPLES, InFolder, frames_of_downlink
+
+from core.frame import Sort, bits_of, frame_of, octets_of
+from core.g711 import Law
+from core.profile import DOWN_SPEECH, PCM_OCTETS
 from test_timeline import lay
 
 import report
 import run_lines
 import run_texts
-import trau_frames
 from run_lines import Heard, Sent
-from trau_frames import PCM_OCTETS, Law, Sort
 
 
 def lay_run(name, folder):
@@ -52,9 +54,7 @@ class Text(Told):
             self.assertEqual([int(row["call"]) for row in rows], list(read.calls))
             for row, told in zip(rows, whole["calls"]):
                 self.assertEqual(row, {key: str(value) for key, value in told.items()})
-                self.assertIn(
-                    f"call {row['call']} from {row['start']} to {row['end']} {row['cause']}\n", file.read_text()
-                )
+                self.assertIn(f"call {row['call']} from {row['start']} to {row['end']} {row['cause']}\n", file.read_text())
 
     def test_lines_that_failed(self):
         counts = "good 0 sid 0 invalid 0 bad 0 idle 0 other 0 miss 0 none 0 made 0"
@@ -106,7 +106,7 @@ order 6: call 1 can't be bridged with itself
 order 7: the bridge of call 1 with call 2 was ended in this very period
 order 8: call 3 has ended, and a number serves one call
 """
-OTHER = trau_frames.octets_of(trau_frames.frame_of("11010" + 10 * "0" + "111111", 260 * "0"))
+OTHER = octets_of(frame_of("11010" + 10 * "0" + "111111", 260 * "0"))
 
 
 class Aloud(Told):
@@ -149,10 +149,7 @@ class Aloud(Told):
 
 class Calls(Told):
     def test_heard(self):
-        sorts = [
-            Sort(word)
-            for word in "bad sid bad good miss none good idle invalid bad good other sid invalid good".split()
-        ]
+        sorts = [Sort(word) for word in "bad sid bad good miss none good idle invalid bad good other sid invalid good".split()]
         wanted = "quiet noise noise speech lost lost speech quiet quiet quiet speech lost noise noise speech"
         self.assertEqual([value.value for value in run_lines.heard(sorts)], wanted.split())
 
@@ -179,13 +176,13 @@ class Calls(Told):
             folder = lay_run(name, self.folder / name)
             read = run_texts.read_report(folder / "report.txt")
             for call in run_lines.read_calls(folder, read).values():
-                bits = trau_frames.bits_of(call.octets(folder, "down"))
+                bits = bits_of(call.octets(folder, "down"))
                 octets = call.octets(folder, "down")
                 kinds = Counter(run_lines.SENTS[code] for made in call.made for code in run_lines.sent(made, octets))
                 self.assertEqual(kinds[Sent.OTHER], 0)
                 found = list(frames_of_downlink(bits))
                 self.assertLessEqual(sum(kinds.values()) - len(found), 0)
-                speech = sum(frame[17:22] == trau_frames.SPEECH_DOWN for frame in found)
+                speech = sum(frame[17:22] == DOWN_SPEECH for frame in found)
                 whole = kinds[Sent.SPEECH] + kinds[Sent.SILENCE] + kinds[Sent.HANDED]
                 self.assertIn(speech - whole, (0, 1))
             for bridge in read.bridges:
@@ -312,9 +309,7 @@ class Compared(Told):
 
     def test_reports(self):
         text = (self.other / "report.txt").read_text()
-        text = text.replace("order 14 refused 5 call 3", "order 14 ok").replace(
-            "from 22 to 95 sent 73 73", "from 22 to 95 sent 73 72"
-        )
+        text = text.replace("order 14 refused 5 call 3", "order 14 ok").replace("from 22 to 95 sent 73 73", "from 22 to 95 sent 73 72")
         text = text.replace("sent 73 72 lost 0 0", "sent 73 72 lost 0 1").replace("made 75", "made 74")
         (self.other / "report.txt").write_text(text)
         self.assertEqual([row["what"] for row in self.compare(1)], ["order 14", "bridge 1", "counts"])
@@ -345,12 +340,12 @@ class Sync(Told):
         self.assertEqual((loss["match"], loss["slip"], loss["found"], loss["found_period"]), (1920, 0, 1920, 6))
 
     def test_slips(self):
-        bits = trau_frames.bits_of(self.frames)
+        bits = bits_of(self.frames)
         for slip, found in ((3, 9 * 320 + 3), (-5, 10 * 320 - 5), (160, 9 * 320 + 160)):
             place = 6 * 320
             slipped = bits[:place] + "1" * slip + bits[place:] if slip > 0 else bits[: place + slip] + bits[place:]
             slipped += "1" * (-len(slipped) % 320)
-            (loss,) = self.sync(trau_frames.octets_of(slipped))["losses"]
+            (loss,) = self.sync(octets_of(slipped))["losses"]
             self.assertEqual((loss["misses"], loss["hunted_from"], loss["slip"]), (3, 9 * 320, slip))
             self.assertEqual((loss["match"], loss["found"]), (place + slip, found))
 

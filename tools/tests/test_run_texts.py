@@ -6,7 +6,8 @@ from pathlib import Path
 from support import CODEC, EXAMPLES, TOP, InFolder
 
 import run_texts
-from trau_frames import Refusal
+from core.profile import MOST_PERIODS
+from core.words import Refusal
 
 FARMS = (
     (EXAMPLES / "farm" / "orders.txt", EXAMPLES / "farm" / "wanted" / "report.txt"),
@@ -24,48 +25,15 @@ class Orders(InFolder):
             self.assertEqual("".join(f"{order.line()}\n" for order in orders), name.read_text())
             self.assertEqual([order.number for order in orders], list(range(1, len(orders) + 1)))
 
-    def test_ends_of_ranges(self):
-        text = b"0 open 4096 mulaw\n0 level 4096 32767\n0 level 1 0\n0 dtx 1 off\n4294967294 close 4096"
-        self.assertEqual(len(run_texts.orders_of(NAME, text)), 5)
-        self.assertEqual(run_texts.orders_of(NAME, b""), [])
-
     def test_refused(self):
-        for text in (
-            "0 open 01",
-            "00 open 1",
-            "-1 open 1",
-            "4294967295 open 1",
-            "0 open 0",
-            "0 open 4097",
-            "0 open 1 alaw",
-            "0 open 1 mulaw ",
-            "0 close 1 mulaw",
-            "0 open",
-            "0 open 1 2",
-            "0 bridge 1",
-            "0 level 1 32768",
-            "0 dtx 1 maybe",
-            "0 close 1 ",
-            " 0 close 1",
-            "0  close 1",
-            "0 close 1\r",
-            "0 shut 1",
-            "0",
-            "",
-            "\xb2 open 1",
+        for content, why in (
+            (b"0 open 1\n0 shut 1\n0 open 2", "text: line 2 isn't an order: '0 shut 1'"),
+            (b"5 open 1\n4 open 2\n", "text: line 2 has a stamp below that of the line before"),
+            (b"5 open 4097\n", "text: line 1 names call 4097; the calls of one farm are 1 to 4,096"),
+            (65537 * b"0 open 1\n", "text: orders too long: 589,833 octets, 65,537 lines"),
         ):
-            with self.subTest(text), self.assertRaisesRegex(Refusal, "text: line 2 "):
-                run_texts.orders_of(NAME, f"0 open 1\n{text}\n0 open 2".encode("latin-1"))
-        with self.assertRaisesRegex(Refusal, "line 2 has a stamp below"):
-            run_texts.orders_of(NAME, b"5 open 1\n4 open 2\n")
-        with self.assertRaisesRegex(Refusal, "names call 4097; the calls of one farm are 1 to 4,096"):
-            run_texts.orders_of(NAME, b"5 open 4097\n")
-
-    def test_limits(self):
-        self.assertEqual(len(run_texts.orders_of(NAME, 65536 * b"0 open 1\n")), 65536)
-        for text in (65537 * b"0 open 1\n", b"0 open 1" * 131073):
-            with self.assertRaisesRegex(Refusal, "orders too long"):
-                run_texts.orders_of(NAME, text)
+            with self.assertRaisesRegex(Refusal, why):
+                run_texts.read_orders(NAME, content)
 
 
 class Reports(unittest.TestCase):
@@ -73,7 +41,7 @@ class Reports(unittest.TestCase):
         for orders, name in FARMS:
             report = run_texts.read_report(name)
             self.assertEqual(report.text(), name.read_text())
-            run_texts.hold_to_orders(name, report, run_texts.read_orders(orders), run_texts.MOST_PERIODS)
+            run_texts.hold_to_orders(name, report, run_texts.read_orders(orders), MOST_PERIODS)
 
     def test_no_front_and_no_rest_is_a_report(self):
         text = FARMS[0][1].read_bytes()
@@ -124,7 +92,7 @@ class Reports(unittest.TestCase):
         report = run_texts.read_report(name)
         for others in (orders[:-1], orders[1:], orders + orders[-1:]):
             with self.assertRaises(Refusal):
-                run_texts.hold_to_orders(name, report, others, run_texts.MOST_PERIODS)
+                run_texts.hold_to_orders(name, report, others, MOST_PERIODS)
         for periods in (131, 144, 145, 152, 153):
             with self.assertRaises(Refusal):
                 run_texts.hold_to_orders(name, report, orders, periods)

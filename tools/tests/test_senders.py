@@ -10,7 +10,6 @@ library dpkt, and are skipped without it. tshark 4.0 recorded on the loopback wh
 
 gstreamer.txt and ffmpeg.txt have what tshark reads of each packet."""
 
-import importlib.util
 import io
 import random
 import unittest
@@ -21,23 +20,20 @@ import captures
 import code_word
 import lines
 import rtp_streams
-import trau_frames
 import uplink_frames
-from trau_frames import Law, SpeechControl
-
-HAS_DPKT = importlib.util.find_spec("dpkt") is not None
-
-
-def sorts_of(line):
-    """The sort of each frame of an uplink."""
-    return [each.sort().value for each in trau_frames.search(trau_frames.bits_of(line))]
+from capture_files import HAS_DPKT, InCaptures, fields, rewritten, sorts_of
+from core.frame import bits_of, data_of, read_up
+from core.g711 import Law
+from core.parameters import SILENCE, bits_of_parameters, data_of_gsm, gsm_of_data
+from core.search import search
+from damages import silence_descriptor
 
 
 def tafs_of(line):
     """The frames of an uplink with TAF 1."""
     frames = (line[place : place + 40] for place in range(0, len(line), 40))
-    controls = (trau_frames.control_of(trau_frames.bits_of(frame)) for frame in frames)
-    return [at for at, control in enumerate(controls) if control.startswith(trau_frames.SPEECH_UP) and SpeechControl.read(control).taf]
+    read = [read_up(bits_of(frame)) for frame in frames]
+    return [at for at, frame in enumerate(read) if frame.is_speech() and frame.taf]
 
 
 def script():
@@ -48,22 +44,11 @@ def script():
 
 def is_descriptor(payload):
     """Whether a payload has a silence descriptor."""
-    return bool(payload) and code_word.errors_of(trau_frames.data_of_gsm(payload)) == 0
-
-
-def fields(name):
-    """What tshark tells of each RTP packet: its number, payload type, sequence number, time stamp and payload."""
-    rows = [line.split("\t") for line in (DATA / name).read_text().split("\n")[:-1]]
-    return [(*map(int, row[:4]), bytes.fromhex(row[4])) for row in rows]
+    return bool(payload) and code_word.errors_of(data_of_gsm(payload)) == 0
 
 
 @unittest.skipUnless(HAS_DPKT, "no library dpkt")
-class Senders(InFolder):
-    def pcap(self, given, *words):
-        status, out, err = self.run_tool(lines.main, "pcap", given, self.path("line"), *words)
-        self.assertEqual((status, err), (0, ""))
-        return out, self.path("line").read_bytes()
-
+class Senders(InCaptures):
     def packets(self, name):
         """The packets of a capture, with their times."""
         return list(captures.library("pcap").UniversalReader(io.BytesIO((DATA / name).read_bytes())))
@@ -76,17 +61,6 @@ class Senders(InFolder):
             writer.writepkt(octets, ts=time)
         return self.path("changed.pcap", file.getvalue())
 
-    def rewritten(self, octets, change):
-        """An Ethernet frame whose RTP packet was changed."""
-        ethernet = captures.library("ethernet").Ethernet(octets)
-        rtp = captures.library("rtp").RTP(bytes(ethernet.data.data.data))
-        change(rtp)
-        ethernet.data.data.data = bytes(rtp)
-        ethernet.data.data.ulen = 8 + len(rtp)
-        ethernet.data.len = 28 + len(rtp)
-        ethernet.data.sum = ethernet.data.data.sum = 0
-        return bytes(ethernet)
-
     # A base station of Osmocom
 
     def wanted_sorts(self, sent):
@@ -97,13 +71,11 @@ class Senders(InFolder):
         sent = script()
         said, line = self.pcap(DATA / "osmo.pcap")
         # Gaps of 1, 3, 12, 1 and 2 frames in speech; two and four empty packets; 10, 23, 47, 5 and 3 frames left out in pauses.
-        self.assertEqual(
-            said, "pcap gsm packets 92 late 0 doubled 0 others 0 frames 86 sid 5 invalid 0 lost 0 gap 19 empty 6 paused 88 lead 0\n"
-        )
+        self.assertEqual(said, "pcap gsm packets 92 late 0 doubled 0 others 0 frames 86 sid 5 invalid 0 lost 0 gap 19 empty 6 paused 88 lead 0\n")
         self.assertEqual(sorts_of(line), self.wanted_sorts(sent))
-        datas = [trau_frames.data_of(each.frame) for each in trau_frames.search(trau_frames.bits_of(line))]
+        datas = [data_of(each.frame) for each in search(bits_of(line))]
         came = [at for at, payload in enumerate(sent) if payload]
-        self.assertEqual([trau_frames.gsm_of_data(datas[at]) for at in came], [sent[at] for at in came])
+        self.assertEqual([gsm_of_data(datas[at]) for at in came], [sent[at] for at in came])
 
     def test_taf_where_a_descriptor_is_due(self):
         sent = script()
@@ -139,7 +111,7 @@ class Senders(InFolder):
         self.assertEqual(sorts_of(line), wanted)
 
     def test_idle_frames_there_and_back(self):
-        datas = [trau_frames.data_of_gsm(payload) for payload in script()[:12]]
+        datas = [data_of_gsm(payload) for payload in script()[:12]]
         made = uplink_frames.UplinkFrames(code_word.Marker())
         made.take_all(datas[:5])
         made.idle(4)
@@ -191,22 +163,18 @@ class Senders(InFolder):
         words = ["pcap", DATA / "gstreamer.pcap", self.path("line")]
         self.assert_refused(lines.main, words, "payload types 98 (33 octets that begin with 1101: GSM, which --type 98=gsm takes)")
         said, line = self.pcap(DATA / "gstreamer.pcap", "--type", "98=gsm")
-        self.assertEqual(
-            said, "pcap gsm packets 87 late 0 doubled 0 others 0 frames 87 sid 0 invalid 0 lost 3 gap 10 empty 0 paused 0 lead 0\n"
-        )
+        self.assertEqual(said, "pcap gsm packets 87 late 0 doubled 0 others 0 frames 87 sid 0 invalid 0 lost 3 gap 10 empty 0 paused 0 lead 0\n")
         came = {(stamp - rows[0][3]) // 160: payload for _, _, _, stamp, payload in rows}
         self.assertEqual(sorts_of(line), ["good" if at in came else "bad" for at in range(100)])
         for at, payload in came.items():
-            self.assertEqual(trau_frames.gsm_of_data(trau_frames.data_of(trau_frames.bits_of(line[40 * at : 40 * at + 40]))), payload)
+            self.assertEqual(gsm_of_data(data_of(bits_of(line[40 * at : 40 * at + 40]))), payload)
         self.assertEqual(rows[-1][2] - rows[0][2] + 1 - len(rows), 3)
 
     def test_ffmpeg(self):
         # A filter left out two stretches of sound; three packets were lost.
         rows = fields("ffmpeg.txt")
         said, line = self.pcap(DATA / "ffmpeg.pcap")
-        self.assertEqual(
-            said, "pcap pcma packets 35 late 0 doubled 0 others 0 octets 5472 lost 480 gap 2048 lead 0 padded 0\n"
-        )
+        self.assertEqual(said, "pcap pcma packets 35 late 0 doubled 0 others 0 octets 5472 lost 480 gap 2048 lead 0 padded 0\n")
         wanted = bytearray([Law.A.idle()]) * 8000
         for _, _, _, stamp, payload in rows:
             place = stamp - rows[0][3]
@@ -217,7 +185,7 @@ class Senders(InFolder):
         def dynamic(rtp):
             rtp.pt = 111
 
-        changed = self.written([(time, self.rewritten(octets, dynamic)) for time, octets in self.packets("ffmpeg.pcap")])
+        changed = self.written([(time, rewritten(octets, dynamic)) for time, octets in self.packets("ffmpeg.pcap")])
         whole = self.pcap(DATA / "ffmpeg.pcap")[1]
         self.assertEqual(self.pcap(changed, "--type", "111=pcma", "--type", "98=gsm")[1], whole)
         for word in ("111", "111=amr", "128=gsm", "x=gsm", "=gsm"):
@@ -235,8 +203,7 @@ class Senders(InFolder):
         said, line = self.pcap(given, "--restart")
         # 40 frames, 0.58 s from the last of them to the first of the other 40.
         self.assertEqual(
-            said,
-            "pcap gsm packets 80 late 0 doubled 0 others 0 frames 80 sid 0 invalid 0 lost 0 gap 28 empty 0 paused 0 lead 0 restarts 1\n",
+            said, "pcap gsm packets 80 late 0 doubled 0 others 0 frames 80 sid 0 invalid 0 lost 0 gap 28 empty 0 paused 0 lead 0 restarts 1\n"
         )
         self.assertEqual(sorts_of(line), 40 * ["good"] + 28 * ["bad"] + 40 * ["good"])
         self.assertIn(" restarts 0\n", self.pcap(DATA / "osmo.pcap", "--restart")[0])
@@ -248,7 +215,7 @@ class Senders(InFolder):
             rtp.ts = (rtp.ts - 90 * 8000) % 4294967296
 
         packets = self.packets("gsm.pcap")
-        changed = [(place / 50, self.rewritten(octets, lower) if place >= 20 else octets) for place, (_, octets) in enumerate(packets)]
+        changed = [(place / 50, rewritten(octets, lower) if place >= 20 else octets) for place, (_, octets) in enumerate(packets)]
         self.assertEqual(self.pcap(self.written(changed), "--restart")[1], self.pcap(DATA / "gsm.pcap")[1])
         self.assert_refused(lines.main, ["pcap", self.path("changed.pcap"), self.path("line")], "of packet 21 is -90 s after that of packet 20")
 
@@ -262,9 +229,7 @@ class Senders(InFolder):
         self.assert_refused(lines.main, ["pcap", given, self.path("line")], "has 2 streams, one of which --stream names: 1 is ")
         one, other = (self.pcap(given, "--stream", number)[1] for number in "12")
         said, line = self.pcap(given, "--stream", "1,2")
-        self.assertEqual(
-            said, "pcap gsm packets 39 late 0 doubled 0 others 0 frames 39 sid 3 invalid 0 lost 0 gap 6 empty 0 paused 0 lead 0\n"
-        )
+        self.assertEqual(said, "pcap gsm packets 39 late 0 doubled 0 others 0 frames 39 sid 3 invalid 0 lost 0 gap 6 empty 0 paused 0 lead 0\n")
         self.assertEqual(line, one + 6 * uplink_frames.LOST + other)
         self.assert_refused(lines.main, ["pcap", given, self.path("line"), "--stream", "2,1"], "stream 1 begins 0.9")
         self.assert_refused(lines.main, ["pcap", given, self.path("line"), "--stream", "1,1"], "stream 1 begins 0.5")
@@ -280,7 +245,7 @@ class Senders(InFolder):
             rtp.data = payload
 
         packets = self.packets("gsm.pcap")
-        packets[place] = (packets[place][0], self.rewritten(packets[place][1], change))
+        packets[place] = (packets[place][0], rewritten(packets[place][1], change))
         return self.written(packets)
 
     def test_wrong_payloads(self):
@@ -293,9 +258,7 @@ class Senders(InFolder):
         ):
             given = self.with_payload(7, payload)
             words = ["pcap", given, self.path("line")]
-            self.assert_refused(
-                lines.main, words, f"packet 8 has no whole frames of GSM, but {said}; --partial counts such packets as lost\n"
-            )
+            self.assert_refused(lines.main, words, f"packet 8 has no whole frames of GSM, but {said}; --partial counts such packets as lost\n")
             out, line = self.pcap(given, "--partial")
             self.assertIn("packets 29 late 0 doubled 0 others 0 frames 29 sid 0 invalid 0 lost 1 gap 0 ", out)
             self.assertIn(" cut 0 wrong 1\n", out)
@@ -307,7 +270,7 @@ class Senders(InFolder):
             def change(rtp):
                 rtp.data, rtp.pt = payload_of(bytes(rtp.data)), kind
 
-            return self.written([(time, self.rewritten(octets, change)) for time, octets in self.packets("gsm.pcap")])
+            return self.written([(time, rewritten(octets, change)) for time, octets in self.packets("gsm.pcap")])
 
         given = changed(lambda frame: bytes([0xC0]) + frame[1:31], 97)
         said = "97 (31 octets that begin with 1100: enhanced full rate, which trau doesn't decode)\n"
@@ -370,7 +333,7 @@ class Jumps(unittest.TestCase):
 class Files(InFolder):
     def test_zeros_for_lost_frames(self):
         frames = (DATA / "speech.gsm").read_bytes()
-        descriptor = trau_frames.gsm_of_data(trau_frames.silence_descriptor(trau_frames.SILENCE).bits())
+        descriptor = gsm_of_data(bits_of_parameters(silence_descriptor(SILENCE)))
         given = self.path("7.gsm", frames[: 33 * 10] + 66 * b"\0" + descriptor + 33 * 30 * b"\0" + frames[33 * 10 :])
         words = ["uplink", given, self.path("7.up")]
         self.assert_refused(lines.main, words, "no frame of libgsm begins at octet 330: its first four bits aren't 1101; --zeros lost takes")
@@ -392,7 +355,7 @@ class Files(InFolder):
     def test_frames_of_a_pause(self):
         line = uplink_frames.UplinkFrames(code_word.Marker())
         line.lose(50)
-        line.take(trau_frames.silence_descriptor(trau_frames.SILENCE).bits())
+        line.take(bits_of_parameters(silence_descriptor(SILENCE)))
         line.lose(50)
         line.idle(30)
         line.lose(30)

@@ -11,12 +11,14 @@ import unittest
 from collections import Counter
 
 from support import HAS_LOCKS, TOP, InFolder
+
+from core.lines import SIDES
+from core.report import FailedLine, Report
 from test_timeline import lay
 
 import listening
 import run_texts
 import shard
-from run_texts import Report
 
 
 def restricted(report, orders, numbers):
@@ -39,7 +41,7 @@ def script(cut, part):
 class Components(unittest.TestCase):
     def components(self, *lines):
         text = "".join(f"0 {line}\n" for line in lines).encode()
-        return [sorted(calls) for calls in shard.components(run_texts.orders_of("text", text))]
+        return [sorted(calls) for calls in shard.components(run_texts.read_orders("text", text))]
 
     def test_bridges_join(self):
         self.assertEqual(self.components(), [])
@@ -73,9 +75,7 @@ class Farms(InFolder):
         cut = self.folder / f"cut-{len(list(self.folder.iterdir()))}"
         status, out, err = self.run_tool(shard.main, "cut", farm, cut, "--parts", parts, *words)
         self.assertEqual((status, err), (0, ""))
-        self.assertRegex(
-            out, r"^shard parts \d+ components \d+ calls \d+ orders \d+ largest \d+ heaviest \d+ of \d+( array 0-\d+)?\n$"
-        )
+        self.assertRegex(out, r"^shard parts \d+ components \d+ calls \d+ orders \d+ largest \d+ heaviest \d+ of \d+( array 0-\d+)?\n$")
         return cut
 
     def give_reports(self, cut, report):
@@ -110,7 +110,7 @@ class Farms(InFolder):
                 if link.is_symlink():
                     seen[link.name] += 1
                     self.assertEqual(os.readlink(link), str(farm / link.name))
-        self.assertEqual(seen, Counter(f"{call}.{side}" for call in range(1, 6) for side in run_texts.SIDES))
+        self.assertEqual(seen, Counter(f"{call}.{side}" for call in range(1, 6) for side in SIDES))
 
     def programs(self, cut):
         """The program that the script of each part starts, unless TRAU names another one."""
@@ -159,7 +159,7 @@ class Farms(InFolder):
     def test_lines_that_failed(self):
         farm = self.lay("clean")
         report = run_texts.read_report(farm / "report.txt")
-        report.failed = [run_texts.FailedLine(1, 2), run_texts.FailedLine(3, 3), run_texts.FailedLine(4, 2)]
+        report.failed = [FailedLine(1, 2), FailedLine(3, 3), FailedLine(4, 2)]
         cut = self.cut(farm, 3)
         self.give_reports(cut, report)
         self.assertEqual(self.run_tool(shard.main, "join", cut), (6, report.text(), ""))
@@ -273,9 +273,7 @@ class Farms(InFolder):
         report = run_texts.read_report(farm / "report.txt")
         cut = self.cut(farm, 2, "--periods", 153)
         self.give_reports(cut, report)
-        self.assert_refused(
-            shard.main, ["join", cut], "which isn't of a run to period 153; was this part run by other words?"
-        )
+        self.assert_refused(shard.main, ["join", cut], "which isn't of a run to period 153; was this part run by other words?")
 
     def test_refused_words(self):
         farm = self.lay("mixed")
@@ -287,15 +285,7 @@ class Farms(InFolder):
             self.assertFalse(cut.exists())
             self.assertEqual([path.name for path in self.folder.iterdir() if path.name.startswith(".")], [])
 
-        refused(
-            "names call 4097; the calls of one farm are 1 to 4,096",
-            farm,
-            cut,
-            "--parts",
-            2,
-            "--orders",
-            self.path("bad.txt"),
-        )
+        refused("names call 4097; the calls of one farm are 1 to 4,096", farm, cut, "--parts", 2, "--orders", self.path("bad.txt"))
         refused("--parts", farm, cut)
         refused("0 isn't 1 to 4,096", farm, cut, "--parts", 0)
         refused("251 isn't 1 to 250", farm, cut, "--parts", 2, "--batch", 251)

@@ -20,12 +20,13 @@ from pathlib import Path
 from unittest import mock
 
 from support import EXAMPLES, HAS_LOCKS, PLAIN_PATH, TOP, InFolder, put_python
+
+from core.words import Refusal
 from test_orders import MARK_FAULTS
 
 import build
 import build_for
 import orders
-import trau_frames
 import trau_words
 
 CRATES = """# crate: the crates that it stands on
@@ -117,7 +118,8 @@ class Started(InFolder):
             text = (TOP / name).read_text().replace("/proc/cpuinfo", shlex.quote(str(self.cpuinfo)))
             (self.top / name).write_text(text)
             (self.top / name).chmod(0o755)
-        shutil.copytree(TOP / "tools", self.top / "tools", ignore=shutil.ignore_patterns("__pycache__", "tests"))
+        for name in ("tools", "core"):
+            shutil.copytree(TOP / name, self.top / name, ignore=shutil.ignore_patterns("__pycache__", "tests"))
         (self.top / "tools" / "build_for.py").write_text(BUILD_FOR)
         # However full this machine's disk is, the stand-in begins, and keeps what it proves.
         script = self.top / "tools" / "build.py"
@@ -408,7 +410,7 @@ class TheFirstStart(Started):
             return types.SimpleNamespace(free=10**8)
 
         with mock.patch.object(shutil, "disk_usage", usage):
-            with self.assertRaisesRegex(trau_frames.Refusal, r"too little disk: this needs 0\.\d GB, and .* has 0\.1 GB left"):
+            with self.assertRaisesRegex(Refusal, r"too little disk: this needs 0\.\d GB, and .* has 0\.1 GB left"):
                 build.check_disk(self.top, build.needed(self.top, "trau_program"))
             keeps, kept = build.what_is_kept(str(self.tools / "rt"))
             self.assertFalse(keeps)
@@ -454,9 +456,9 @@ class TheTextOfAProgram(unittest.TestCase):
         for check in (rt.rtlib.stop_on_links, rt.rtlib.stop_on_unread, rt.rtlib.stop_on_text, rt.stop_on_words):
             check.assert_called_once()
         for code in ("renames", "ignore", "socket"):
-            with self.assertRaisesRegex(trau_frames.Refusal, "high: rt ci refuses its text"):
+            with self.assertRaisesRegex(Refusal, "high: rt ci refuses its text"):
                 build_for.check_text(self.toolchain(code), self.CRATE)
-        with self.assertRaisesRegex(trau_frames.Refusal, "high: isn't laid out"):
+        with self.assertRaisesRegex(Refusal, "high: isn't laid out"):
             build_for.check_text(self.toolchain("", laid_out=False), self.CRATE)
 
 
@@ -696,8 +698,7 @@ class Help(Started):
             subprocess.run([*git, *words], check=True, env=self.surroundings)
         (self.tools / "rt").unlink()
         self.assertRegex(
-            self.trau("--version")[1],
-            r"^trau [0-9a-f]{7,} of \d{4}-\d\d-\d\d, with changes; no kit: rt isn't on the path\nprogram: not built\n$",
+            self.trau("--version")[1], r"^trau [0-9a-f]{7,} of \d{4}-\d\d-\d\d, with changes; no kit: rt isn't on the path\nprogram: not built\n$"
         )
 
     def test_no_standard_output(self):

@@ -19,10 +19,12 @@ import levels
 import looks
 import picture
 import timeline
-import trau_frames
+from core.frame import Sort, bits_of
+from core.g711 import Law
+from core.orders import Order
+from core.report import Bridge, Reply, Span
+from core.search import FRAME_OF_DOWNLINK
 from run_lines import Answered, Call, Run
-from run_texts import Bridge, Order, Reply, Span
-from trau_frames import Law
 from uplink_periods import SORTS
 
 SVG = "{http://www.w3.org/2000/svg}"
@@ -149,8 +151,8 @@ class Farms(InFolder):
         seen = Counter()
         for _, folder, run in self.runs():
             for call in run.calls:
-                bits = trau_frames.bits_of((folder / f"{call.number}.down").read_bytes())
-                starts = [found.start() for found in trau_frames.FRAME_OF_DOWNLINK.finditer(bits)]
+                bits = bits_of((folder / f"{call.number}.down").read_bytes())
+                starts = [found.start() for found in FRAME_OF_DOWNLINK.finditer(bits)]
                 shifts = [(after - before - 320) // 2 for before, after in zip(starts, starts[1:])]
                 wanted = [shift for shift in shifts if shift]
                 octets = [made.shift for made in call.made if made.shift]
@@ -198,10 +200,10 @@ class Farms(InFolder):
 
     def test_losses_of_a_long_run(self):
         # 100,000 periods in 1,000 pixels. One of each loss, each in the middle of good frames, and two in one column.
-        sorts = bytearray([SORTS.index(trau_frames.Sort.GOOD)]) * 100000
+        sorts = bytearray([SORTS.index(Sort.GOOD)]) * 100000
         lost = {1060: "BAD", 20050: "MISS", 30050: "OTHER", 40060: "INVALID", 50050: "NONE", 60010: "BAD", 60090: "MISS"}
         for period, name in lost.items():
-            sorts[period] = SORTS.index(trau_frames.Sort[name])
+            sorts[period] = SORTS.index(Sort[name])
         call = Call(7, Span(0, 100000, "end up 0", {}))
         call.sorts = bytes(sorts)
         run = Run([Answered(Order(1, 0, "open", (7,), "open 7"), Reply())], [], [call], self.folder)

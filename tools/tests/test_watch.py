@@ -5,6 +5,8 @@ import unittest
 from unittest import mock
 
 from support import HAS_LOCKS, InFolder
+
+from core.profile import MOST_PERIODS
 from test_timeline import lay
 
 import run_texts
@@ -52,7 +54,7 @@ class Watching(InFolder):
         report = run_texts.report_of("report", self.report)
         wanted = {call: span.end - span.start for call, span in report.calls.items()}
         orders = run_texts.read_orders(self.folder / "orders.txt")
-        self.assertEqual(watch.expected_periods(self.folder, orders, run_texts.MOST_PERIODS), wanted)
+        self.assertEqual(watch.expected_periods(self.folder, orders, MOST_PERIODS), wanted)
         self.assertEqual(watch.expected_periods(self.folder, orders, 80), {1: 80, 2: 80, 4: 60, 3: 7})
 
     def test_a_run_that_is_on(self):

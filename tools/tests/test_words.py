@@ -71,10 +71,7 @@ class Documents(unittest.TestCase):
         for command, options in trau_words.OPTIONS_OF.items():
             text = (DOCS / "commands" / f"{command}.md").read_text()
             found = {name: values for name, *values in rows(text, ["`(--\\w+)`", "([\\d,]+) to ([\\d,]+)", "([\\d,]+)"])}
-            wanted = {
-                option.name: [grouped(number) for number in (option.least, option.most, option.default)]
-                for option in options
-            }
+            wanted = {option.name: [grouped(number) for number in (option.least, option.most, option.default)] for option in options}
             self.assertEqual(found, wanted, command)
 
     def test_statuses(self):
@@ -111,7 +108,7 @@ class Documents(unittest.TestCase):
         for text in (trau_words.help_text(), trau_words.pages_text()):
             self.assertTrue(all(len(line) < 80 for line in text.splitlines()))
         for made in (trau_words.help_text(), trau_words.man_page("trau x", "2026-01-01").replace("\\-", "-")):
-            for word in [command.name for command in trau_words.COMMANDS] + [option.name for option in trau_words.DRILL_OPTIONS]:
+            for word in [command.name for command in trau_words.COMMANDS] + [option.name for option in trau_words.OPTIONS_OF["drill"]]:
                 self.assertIn(word, made)
 
 

@@ -1,26 +1,28 @@
 """The numbers of this project's profile, each once: what the standards leave open, and this project chose.
 
-Tables that a standard has stand where the model uses them: GSM 06.10 in `codec`, GSM 08.60 in `frame`, G.711 in `g711`.
+Tables that a standard has stand where they are used: GSM 06.10 in `parameters` and the model's `codec`, GSM 08.60 in `frame`, G.711 in `g711`.
 """
 
 # Lines (docs/FILES.md). Octets in a period of 20 ms; an octet of an idle line to the exchange.
-UP_OCTETS = 40
+FRAME_OCTETS = 40
 PCM_OCTETS = 160
+PERIODS_A_SECOND = 50
+SAMPLES_A_SECOND = 8000
 FRAME_BITS = 320
 IDLE_A = 0xD5
 IDLE_MU = 0xFF
 
 # Numbers of calls, of periods, and the most blocks that a command on one call takes.
-MOST_CALL = 4096
+MOST_CALLS = 4096
 MOST_STAMP = 4_294_967_294
 MOST_PERIODS = 4_294_967_295
 
 # Patterns of C1 to C5 (docs/FILES.md, "Control bits").
-UP_SPEECH = (0, 0, 0, 1, 0)
-UP_IDLE = (1, 0, 0, 0, 0)
-UP_OTHER = (1, 1, 1, 1, 1)  # what is written where a frame of another kind is written
-DOWN_SPEECH = (1, 1, 1, 0, 0)
-DOWN_IDLE = (0, 1, 1, 1, 0)
+UP_SPEECH = "00010"
+UP_IDLE = "10000"
+UP_OTHER = "11111"  # what is written where a frame of another kind is written
+DOWN_SPEECH = "11100"
+DOWN_IDLE = "01110"
 
 # The search for frames on an uplink: so many misses in a row end the lock.
 MISSES_TO_HUNT = 3
@@ -46,6 +48,8 @@ SILENCE_LAG = 40
 SILENCE_GRID = 1
 SILENCE_PULSES = (3, 4, 3, 4, 4, 3, 3, 3, 3, 4, 4, 3, 3)
 
+TAF_PERIODS = 24  # from one silence descriptor of a pause to the next (GSM 06.31)
+
 # Discontinuous transmission (modelled on GSM 06.31 and 06.32).
 FIRST_LEVEL = 256  # a frame is speech from this peak on, before any order
 MOST_LEVEL = 32767
@@ -63,7 +67,7 @@ LEADING_ONES = 320  # ones at the start of a Down line, before the first frame
 
 # Time slots: four channels, two bits each of an octet.
 CHANNELS = 4
-MOST_SLOT_CALL = MOST_CALL - CHANNELS + 1
+MOST_SLOT_CALL = MOST_CALLS - CHANNELS + 1
 
 # The base station's end (docs/commands/follow.md).
 FOUND_BITS = 316  # a downlink frame may lack its four time bits
@@ -73,7 +77,7 @@ FRAMES_OF_A_WAIT = 8  # frames after which a request that wasn't met is made aga
 
 # Orders and texts (docs/OPERATORS.md, docs/FILES.md).
 MOST_ORDER_OCTETS = 1_048_576
-MOST_ORDER_LINES = 65_536
+MOST_ORDERS = 65_536
 MOST_MARKED_OCTETS = 1_310_720  # a mark and its orders together
 SUM_MODULUS = 1 << 32  # of the sums of octets in a mark, a drill and a live drill
 
@@ -94,14 +98,14 @@ DRILL_ADD = 1_013_904_223
 DRILL_MODULUS = 1 << 32
 DRILL_CALLS = 4_096  # call C begins at the seed times this, plus C
 DRILL_DRAWS = 256  # a draw is the highest octet of the generator
-# The frame on Up: from which draw on it is of which kind and class (names in frame.py); below the last, no frame.
+# The frame on Up: from which draw on it is of which sort (frame.py); None: no frame.
 DRILL_FRAMES = (
     (250, None),
-    (244, ("IDLE", "UNUSABLE")),
-    (230, ("SPEECH", "UNUSABLE")),
-    (220, ("SPEECH", "INVALID_SID")),
-    (200, ("SPEECH", "SID")),
-    (0, ("SPEECH", "GOOD")),
+    (244, "idle"),
+    (230, "bad"),
+    (220, "invalid"),
+    (200, "sid"),
+    (0, "good"),
 )
 DRILL_FIELDS = {0: 39, 1: 63}  # the alignment fields that draws stand for; any other draw stands for 0
 DRILL_TAF_PERIODS = 24  # TAF is 1 in the last of each

@@ -1,0 +1,42 @@
+"""Time slots of 64 kbit/s with four channels of 16 kbit/s (CCITT I.460, docs/FILES.md, "Time slots")."""
+
+from __future__ import annotations
+
+from typing import List, Sequence
+
+from .profile import CHANNELS
+
+SLOTS_OF_E1 = 32
+MOST_SLOTS = 256
+
+# Each octet with its bits in the other order.
+TURNED = bytes(int(f"{octet:08b}"[::-1], 2) for octet in range(256))
+# The four pairs of bits of each octet, the first bits first.
+PAIRS = [bytes(octet >> 6 - 2 * number & 3 for octet in range(256)) for number in range(CHANNELS)]
+
+
+def octets_turned(octets: bytes) -> bytes:
+    """The octets, each with its bits in the other order."""
+    return octets.translate(TURNED)
+
+
+def octets_of_pairs(columns: Sequence[bytes]) -> bytes:
+    """The octets that four columns of pairs of bits make, those of the first column first."""
+    return bytes([a << 6 | b << 4 | c << 2 | d for a, b, c, d in zip(*columns)])
+
+
+def channel_octets(slot: bytes, number: int) -> bytes:
+    """The octets of a channel of a slot; four octets of the slot carry one, its first bits first."""
+    pairs = slot[: len(slot) // 4 * 4].translate(PAIRS[number])
+    return octets_of_pairs([pairs[place::4] for place in range(4)])
+
+
+def split(slot: bytes) -> List[bytes]:
+    """The octets of the four channels that a slot carries, of its whole groups of four octets."""
+    return [channel_octets(slot, number) for number in range(CHANNELS)]
+
+
+def merge(channels: Sequence[bytes]) -> bytes:
+    """The slot that carries four channels of equal length: four of its octets for each octet of a channel."""
+    columns = [octets_of_pairs([octets.translate(pairs) for octets in channels]) for pairs in PAIRS]
+    return bytes([octet for group in zip(*columns) for octet in group])
