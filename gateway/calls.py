@@ -12,13 +12,15 @@ from typing import Callable, NamedTuple, Optional, Tuple
 import rtp
 import trau_fr
 from incoming import Incoming
-from jitter_buffer import Content, JitterBuffer
+from jitter_buffer import JitterBuffer
 from rtp import SAMPLES
 from settings import Settings
 from trau_fr import OCTETS, Kind
 
 DESCRIPTOR_EACH = 24  # periods of a pause (GSM 06.31)
 SOFT = 256  # samples below it are a pause of a line, for the jitter buffer alone
+SOFT_BLOCK = 4  # codes of block maxima up to it are soft speech, for the jitter buffer alone
+BLOCK_MAXIMA = (6, 13, 20, 27)  # octets of a frame (RFC 3551) whose last five bits begin the six of a block maximum
 STILL_AFTER = 250  # periods without a packet, 5 s
 SILENCE = trau_fr.Receiver().hand(None)  # a receiver that is quiet hands over the frame of silence
 NO_FRAME = bytes(OCTETS)
@@ -42,9 +44,10 @@ def soft_octets(law: str) -> bytes:
     return bytes(octet for octet, sample in zip(octets, trau_fr.expand(octets, law)) if abs(sample) < SOFT)
 
 
-def is_no_frame(content: Content) -> bool:
-    """Whether the base station sends nothing in this period."""
-    return content is None
+def is_soft_frame(frame: bytes) -> bool:
+    """Whether a frame is soft speech, for the jitter buffer alone. A descriptor isn't: a pause needs it."""
+    maxima = [(frame[at] & 31) << 1 | frame[at + 1] >> 7 for at in BLOCK_MAXIMA]
+    return max(maxima) <= SOFT_BLOCK and trau_fr.kind_of(frame) == Kind.SPEECH
 
 
 def idle_line(law: str) -> bytes:
@@ -55,8 +58,8 @@ def idle_line(law: str) -> bytes:
 def buffers(settings: Settings) -> Tuple[Incoming, Incoming]:
     """The two incoming streams of a call, from the base station and from the exchange."""
     soft = soft_octets(settings.law)
-    from_station = JitterBuffer(settings.depth, NO_FRAME, is_no_frame)
-    from_exchange = JitterBuffer(settings.depth, idle_line(settings.law), lambda content: not (content or b"").translate(None, soft))
+    from_station = JitterBuffer(settings.depth, NO_FRAME, is_soft_frame)
+    from_exchange = JitterBuffer(settings.depth, idle_line(settings.law), lambda line: not line.translate(None, soft))
     kind = rtp.ALAW if settings.law == "alaw" else rtp.MULAW
     return Incoming(rtp.GSM, OCTETS, from_station), Incoming(kind, 0, from_exchange)
 

@@ -8,7 +8,8 @@ from typing import Callable, Iterator, NamedTuple
 PHASES = 4
 PERIOD = 20_000_000  # nanoseconds
 PHASE = PERIOD // PHASES
-MOST_LATE = 1_000_000_000  # that is made up for; time beyond it is given up
+# Up to here late turns are made up for, so that neither the recording nor a peer with room for a burst loses speech. Time beyond it is given up.
+MOST_LATE = 1_000_000_000
 
 
 class Turn(NamedTuple):

@@ -9,6 +9,8 @@ import rtp
 from jitter_buffer import LIMIT, JitterBuffer
 from rtp import SAMPLES, Packet, Refused
 
+STILL = 2  # periods beyond the depth after which a source that brought nothing is still
+
 
 class Incoming:
     """The stream of one sender. `frame` is the size of a frame that fills a period, or 0 for octets of a line, one a sample."""
@@ -28,14 +30,15 @@ class Incoming:
         try:
             packet = rtp.parse(data)
             self.hold_to_form(packet)
-            self.hold_to_source(packet, tick + behind)
+            self.hold_to_source(packet, tick, behind)
             first = self.place(packet, tick, behind)
         except Refused as refused:
             self.counts[str(refused)] += 1
             return
         self.heard = tick
         for count, (period, part, piece) in enumerate(self.pieces(packet.payload, first)):
-            reason = self.buffer.put(period, part, piece, tick, count == 0)
+            is_watched = count == 0 and behind == 0  # a late tick says nothing about the path
+            reason = self.buffer.put(period, part, piece, tick, is_watched)
             if reason:
                 self.counts[reason] += 1
 
@@ -55,17 +58,22 @@ class Incoming:
         size = len(packet.payload)
         return size // self.frame * SAMPLES if self.frame else size
 
-    def hold_to_source(self, packet: Packet, tick: int) -> None:
-        """Another source has to bring two packets in a row (RFC 3550, A.1)."""
+    def hold_to_source(self, packet: Packet, tick: int, behind: int) -> None:
+        """Another source has to bring two packets in a row (RFC 3550, A.1) while the present one is still: of two at once, one is heard."""
         if packet.source == self.source:
             return
         if self.source is not None:
-            if self.probation != (packet.source, packet.number):
-                self.probation = packet.source, packet.number + 1 & rtp.NUMBERS
+            is_next = self.probation == (packet.source, packet.number)
+            self.probation = packet.source, packet.number + 1 & rtp.NUMBERS
+            if not is_next or not self.is_still(tick):
                 raise Refused("probation")
             self.counts["new-source"] += 1
         self.source, self.probation = packet.source, None
-        self.begin(packet, tick)
+        self.begin(packet, tick + behind)
+
+    def is_still(self, tick: int) -> bool:
+        """Whether the present source has brought nothing for some periods, and all that it brought is played."""
+        return tick > (self.heard or 0) + self.buffer.depth + STILL and self.buffer.is_empty(tick)
 
     def begin(self, packet: Packet, tick: int) -> None:
         """The stream begins with this packet."""
@@ -89,8 +97,7 @@ class Incoming:
             return 0
         if ahead > 0:
             self.stamp, self.position = packet.stamp, place
-        if behind == 0 and not self.buffer.has(period):  # a late tick and a doubled packet say nothing about the path
-            self.buffer.watch(margin)
+            self.buffer.follow(margin, tick)
         return place
 
     def give_up(self, periods: int, tick: int) -> None:

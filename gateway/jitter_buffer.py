@@ -6,47 +6,42 @@ change; so now and then a period is left out (a slip on) or one without content 
 
 from __future__ import annotations
 
-from collections import Counter, deque
-from dataclasses import dataclass
-from typing import Callable, Deque, Dict, List, Optional
+from collections import Counter
+from typing import Callable, Dict, List, Optional, Tuple
 
 LIMIT = 50  # periods that a packet may stand ahead; one that is further away is a jump
 WINDOW = 500  # packets or ticks over which margins are watched, 10 s
 FEWEST = 50  # packets that say something about a path
 STRAGGLERS = 100  # one packet in so many may come too late without a slip back
 MOST_MARGIN = 40  # periods; where packets wait so long, stragglers no longer bring slips back
-NEARLY = 20  # octets by which a packet may miss the end of the one before it
-PATIENCE = 250  # ticks that a slip waits for a pause
+PATIENCE = 250  # ticks that slips wait for a pause
+REST = 10  # ticks from a slip to the next one in what came
+KEPT = 2 * LIMIT  # periods for which it is known what of them was played
 
 Content = Optional[bytes]
-
-
-@dataclass
-class Laid:
-    """A period as far as it came, and how many of its octets didn't."""
-
-    octets: bytearray
-    missing: int
+Laid = Tuple[bytes, int]  # a period as far as it came, and a bit for each of its octets that didn't
 
 
 class JitterBuffer:
     """Takes pieces of periods, gives one period a tick."""
 
-    def __init__(self, depth: int, filler: bytes, is_pause: Callable[[Content], bool]) -> None:
-        """The first packet waits `depth` ticks. `filler` is a whole period, for what a sender leaves out of one."""
-        self.depth, self.filler, self.is_pause = depth, filler, is_pause
+    def __init__(self, depth: int, filler: bytes, is_soft: Callable[[bytes], bool]) -> None:
+        """The first packet waits `depth` ticks. `filler` is a whole period, for what a sender leaves out of one. `is_soft`: whether a
+        period is one in which a slip is hardly heard."""
+        self.depth, self.filler, self.is_soft = depth, filler, is_soft
+        self.whole = (1 << len(filler)) - 1
         self.counts: Counter[str] = Counter()
         self.start(0)
 
     def start(self, tick: int) -> None:
         """Begins anew: the sender's period 0 has come at this tick."""
         self.periods: Dict[int, Laid] = {}
-        self.played: Deque[int] = deque(maxlen=2 * LIMIT)  # whole periods
-        self.newest = 0  # of these; most packets are newer, and then nothing is searched
+        self.played: List[Tuple[Optional[int], int]] = [(None, 0)] * KEPT  # period p at p % KEPT, with what it lacked
         self.shift = -tick - self.depth
-        self.late_end: Optional[int] = None  # of the last late piece, in octets
+        self.was_late = False  # the newest packet
         self.owed = 0  # slips on, or below 0 slips back, that wait for a pause
-        self.patience = 0
+        self.patience = 0  # ticks that they wait
+        self.rest_until = tick
         self.watch_anew(tick)
 
     def watch_anew(self, tick: int) -> None:
@@ -58,39 +53,44 @@ class JitterBuffer:
         """The ticks until a period is played; below 0 it is too late."""
         return period - self.shift - tick
 
-    def watch(self, margin: int) -> None:
-        """Takes the margin of a packet that was read in time into account."""
-        self.margins.append(margin)
+    def is_empty(self, tick: int) -> bool:
+        """Whether nothing is left to be played."""
+        return not self.periods or self.margin(max(self.periods), tick) < 0
 
-    def has(self, period: int) -> bool:
-        """Whether all of a period came: it is held, or was played."""
+    def laid(self, period: int) -> Laid:
+        """What is held of a period, and which octets are neither held nor were played."""
         laid = self.periods.get(period)
-        if laid is None:
-            return period <= self.newest and period in self.played
-        return laid.missing <= 0
+        if laid:
+            return laid
+        played, missing = self.played[period % KEPT]
+        return self.filler, missing if played == period else self.whole
 
-    def put(self, period: int, part: int, piece: bytes, tick: int, is_first: bool = True) -> str:
-        """Puts a piece at a place of a period; the result is empty, or the reason why it isn't taken. `is_first`: of its packet."""
-        if self.has(period):
+    def put(self, period: int, part: int, piece: bytes, tick: int, is_watched: bool = False) -> str:
+        """Puts a piece at a place of a period; the result is empty, or the reason why it isn't taken. `is_watched`: unless it is doubled, its
+        margin says something about the path."""
+        octets, missing = self.laid(period)
+        end = part + len(piece)
+        places = (1 << end) - (1 << part)
+        if not missing & places:
             return "doubled"
-        if self.margin(period, tick) < 0:
-            begin = period * len(self.filler) + part
-            is_next = is_first and self.late_end is not None and abs(begin - self.late_end) < NEARLY
-            if not is_next:
-                self.late_end = begin + len(piece)
-                return "late"
-            self.play_later(period, tick)
-        laid = self.periods.setdefault(period, Laid(bytearray(self.filler), len(self.filler)))
-        laid.octets[part : part + len(piece)] = piece
-        laid.missing -= len(piece)
+        margin = self.margin(period, tick)
+        if is_watched:
+            self.margins.append(margin)
+        if margin < 0:
+            return "late"
+        self.periods[period] = octets[:part] + piece + octets[end:], missing & ~places
         return ""
 
-    def play_later(self, period: int, tick: int) -> None:
-        """The second late packet in a row moves the playing: the path got longer, or the sender is slow."""
-        self.counts["slips-back"] -= self.margin(period, tick)
-        self.shift += self.margin(period, tick)
-        self.owed, self.late_end = 0, None
-        self.watch_anew(tick)
+    def follow(self, margin: int, tick: int) -> None:
+        """A packet that is newer than all before has come, with this margin. If it is the second late one in a row, the path got longer, or
+        the sender is slow: the playing moves, so that the packet waits `depth` ticks, as the first one did."""
+        is_late = margin < 0
+        if is_late and self.was_late:
+            self.counts["slips-back"] += self.depth - margin
+            self.shift += margin - self.depth
+            self.owed, is_late = 0, False
+            self.watch_anew(tick)
+        self.was_late = is_late
 
     def take(self, tick: int) -> Content:
         """The period that is played at this tick, or None if it didn't come."""
@@ -102,10 +102,9 @@ class JitterBuffer:
         laid = self.periods.pop(period, None)
         if laid is None:
             return None
-        if laid.missing <= 0:
-            self.played.append(period)
-            self.newest = max(self.newest, period)
-        return bytes(laid.octets)
+        octets, missing = laid
+        self.played[period % KEPT] = period, missing
+        return octets
 
     def review(self, tick: int) -> None:
         """Decides on slips by the margins of all packets but the stragglers: they wait longer than the depth, or come just in time."""
@@ -120,10 +119,10 @@ class JitterBuffer:
         self.drop_past(tick)
 
     def slip(self, tick: int) -> None:
-        """Makes one slip that is owed, in a pause, or where none has come in time."""
+        """Makes one slip that is owed: where nothing came at once, else after a rest, and in a soft period until patience ends."""
         self.patience -= 1
         laid = self.periods.get(tick + self.shift)
-        if self.patience > 0 and not self.is_pause(laid and bytes(laid.octets)):
+        if laid and (tick < self.rest_until or self.patience > 0 and not self.is_soft(laid[0])):
             return
         if self.owed > 0:
             self.periods.pop(tick + self.shift, None)
@@ -134,6 +133,7 @@ class JitterBuffer:
             self.shift -= 1
             self.owed += 1
             self.counts["slips-back"] += 1
+        self.rest_until = tick + REST
         self.watch_anew(tick)
 
     def give_up(self, periods: int, tick: int) -> None:

@@ -17,7 +17,7 @@ from support import SPEECH, InFolder, TurnedClock
 
 import recorder
 import rtp
-from calls import SILENCE, idle_line, is_no_frame, soft_octets
+from calls import SILENCE, SOFT_BLOCK, idle_line, is_soft_frame, soft_octets
 from clock import PERIOD, Clock
 from core.profile import MOST_ORDERS
 from core.words import Refusal
@@ -33,8 +33,13 @@ from trau_fr import Kind, kind_of
 ONE = bytes(33)
 
 
+def is_loud(content):
+    """No period is soft for this jitter buffer."""
+    return False
+
+
 def buffer_of(depth=3):
-    return JitterBuffer(depth, ONE, is_no_frame)
+    return JitterBuffer(depth, ONE, is_loud)
 
 
 def gsm_stream(depth=3):
@@ -90,8 +95,20 @@ class Buffers(unittest.TestCase):
         self.assertEqual((buffer.put(0, 0, ONE, 0), buffer.take(0)), ("doubled", ONE))
         self.assertEqual(buffer.put(0, 0, ONE, 1), "doubled")
         self.assertEqual(buffer.put(1, 0, ONE, 2), "late")
-        self.assertEqual(buffer.put(2, 0, ONE, 3), "")
-        self.assertEqual((buffer.counts["slips-back"], buffer.take(3)), (1, ONE))
+
+    def test_the_second_late_packet_in_a_row_moves_the_playing(self):
+        for depth in (0, 3):
+            buffer = buffer_of(depth)
+            buffer.start(0)
+            for margin in (-4, 0, -1):
+                buffer.follow(margin, 9)
+            buffer.owed = 2  # slips on
+            self.assertEqual(buffer.counts["slips-back"], 0)
+            buffer.follow(-2, 9)
+            self.assertEqual(buffer.owed, 0)
+            for margin in (-2, 0, -2):
+                buffer.follow(margin, 9)
+                self.assertEqual((buffer.counts["slips-back"], -buffer.shift), (2 + depth, 2 + 2 * depth))
 
     def moved(self, margin, is_sent):
         """The slips of a stream whose packets stand so far ahead, and the ticks until the first one."""
@@ -100,9 +117,8 @@ class Buffers(unittest.TestCase):
         before, first = buffer.shift, None
         for tick in range(WINDOW + PATIENCE + 5):
             period = tick + before + margin
-            buffer.watch(buffer.margin(period, tick))
             if is_sent(period):
-                buffer.put(period, 0, ONE, tick)
+                buffer.put(period, 0, ONE, tick, True)
             buffer.take(tick)
             if buffer.shift != before and first is None:
                 first = tick
@@ -141,7 +157,7 @@ class Streams(unittest.TestCase):
     def test_octets_of_any_length(self):
         line = bytes(range(1, 251)) * 4
         for size in (80, 160, 240, 999):
-            stream = Incoming(rtp.ALAW, 0, JitterBuffer(0, idle_line("alaw"), is_no_frame))
+            stream = Incoming(rtp.ALAW, 0, JitterBuffer(0, idle_line("alaw"), is_loud))
             for number, at in enumerate(range(0, len(line), size)):
                 stream.packet(header(8, number, 0xFFFFFF00 + at, 5) + line[at : at + size], 0, 0)
             got = b"".join(self.taken(stream, range(7)))
@@ -157,9 +173,11 @@ class Streams(unittest.TestCase):
 
     def test_another_source_brings_two_packets(self):
         stream = gsm_stream()
-        for source, number in ((5, 1), (6, 100), (7, 3), (6, 101), (6, 102), (6, 103)):
-            stream.packet(header(3, number, 160 * number, source) + ONE, 0, 0)
-        self.assertEqual((stream.source, stream.counts["probation"], stream.counts["new-source"]), (6, 3, 1))
+        stream.packet(header(3, 1, 160, 5) + ONE, 0, 0)
+        self.assertEqual(self.taken(stream, range(5))[3], ONE)
+        for tick, source, number in ((5, 6, 99), (5, 6, 100), (6, 7, 3), (6, 6, 101), (6, 6, 102), (6, 6, 103)):
+            stream.packet(header(3, number, 160 * number, source) + ONE, tick, 0)
+        self.assertEqual((stream.source, stream.counts["probation"], stream.counts["new-source"]), (6, 4, 1))
 
     def test_a_jump_is_believed_if_the_next_packet_follows_it(self):
         stream = gsm_stream()
@@ -174,14 +192,15 @@ class Streams(unittest.TestCase):
 
     def test_nonsense(self):
         draw = random.Random(4)
-        line = JitterBuffer(3, idle_line("alaw"), is_no_frame)
+        line = JitterBuffer(3, idle_line("alaw"), is_loud)
         for stream in (gsm_stream(), Incoming(rtp.ALAW, 0, line)):
             count = 20_000
             for k in range(count):
                 packet = draw.choice((hostile_packet, self.nearly))(draw, stream.kind)
-                stream.packet(packet, k // 20, draw.randrange(3))
+                tick = k // 20 + k // 2000 * 3 * LIMIT  # so sometimes all are still
+                stream.packet(packet, tick, draw.randrange(3))
                 if k % 20 == 0:
-                    stream.buffer.take(k // 20)
+                    stream.buffer.take(tick)
                     self.assertLessEqual(len(stream.buffer.periods), 3 * LIMIT)
             self.assertGreater(sum(stream.counts.values()), count // 2)
             self.assertGreater(stream.counts["new-source"], 0)
@@ -237,7 +256,7 @@ class Playing(unittest.TestCase):
         self.assertEqual(numbers, list(range(100)))
 
     def test_stamps_of_octets_that_are_one_unit_off(self):
-        stream = Incoming(rtp.ALAW, 0, JitterBuffer(3, idle_line("alaw"), is_no_frame))
+        stream = Incoming(rtp.ALAW, 0, JitterBuffer(3, idle_line("alaw"), is_loud))
         played = list(self.played(stream, lambda tick: [header(8, tick, 160 * tick + tick % 2, 5) + b"\x11" * 160], 103))
         self.assertEqual([period.count(0xD5) for period in played[3:]], [0, 1] * 50)
 
@@ -258,9 +277,9 @@ class Playing(unittest.TestCase):
                 numbers = [] if 100 <= tick < 110 else [tick - 10 if tick >= 110 else tick]
                 return [header(8, n, 160 * n + (place if n else 0), 5) + b"\x11" * 160 for n in numbers]
 
-            stream = Incoming(rtp.ALAW, 0, JitterBuffer(3, idle_line("alaw"), is_no_frame))
+            stream = Incoming(rtp.ALAW, 0, JitterBuffer(3, idle_line("alaw"), is_loud))
             list(self.played(stream, packets, 200))
-            self.assertEqual((stream.counts["late"], stream.buffer.counts), (late, {"slips-back": 7}), place)
+            self.assertEqual((stream.counts["late"], stream.buffer.counts), (late, {"slips-back": 10}), place)
 
     def test_lone_stragglers_dont_raise_the_delay(self):
         def packets(tick):
@@ -508,6 +527,21 @@ class Silence(unittest.TestCase):
         self.assertIn(0xD5, soft_octets("alaw"))
         self.assertIn(0xFF, soft_octets("mulaw"))
         self.assertLess(len(soft_octets("alaw")), 40)
+
+    def frame(self, maxima, pulses):
+        """A frame with these block maxima and pulses, and with zeros else."""
+        number = 0xD << 36
+        for maximum in maxima:
+            number = number << 56 | maximum << 39 | pulses
+        return number.to_bytes(33, "big")
+
+    def test_soft_frames(self):
+        soft = [SOFT_BLOCK] * 4
+        self.assertTrue(is_soft_frame(self.frame(soft, (1 << 39) - 1)))
+        for k in range(4):
+            self.assertFalse(is_soft_frame(self.frame(soft[:k] + [SOFT_BLOCK + 1] + soft[k + 1 :], (1 << 39) - 1)))
+        descriptor = self.frame(soft, 0)
+        self.assertEqual((kind_of(descriptor), is_soft_frame(descriptor), is_soft_frame(ONE)), (Kind.DESCRIPTOR, False, False))
 
 
 if __name__ == "__main__":
