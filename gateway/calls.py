@@ -13,6 +13,7 @@ import rtp
 import trau_fr
 from incoming import Incoming
 from jitter_buffer import JitterBuffer
+from rtcp import Reports
 from rtp import SAMPLES
 from settings import Settings
 from trau_fr import OCTETS, Kind
@@ -24,6 +25,7 @@ BLOCK_MAXIMA = (6, 13, 20, 27)  # octets of a frame (RFC 3551) whose last five b
 STILL_AFTER = 250  # periods without a packet, 5 s
 SILENCE = trau_fr.Receiver().hand(None)  # a receiver that is quiet hands over the frame of silence
 NO_FRAME = bytes(OCTETS)
+NO_FAULTS = {"packets", "rtcp", "rtcp-sent", "far-lost"}  # counts
 
 Send = Callable[[bytes], None]
 
@@ -64,6 +66,20 @@ def buffers(settings: Settings) -> Tuple[Incoming, Incoming]:
     return Incoming(rtp.GSM, OCTETS, from_station), Incoming(kind, 0, from_exchange)
 
 
+class Stream(NamedTuple):
+    """One side of a call: what comes, what goes out, and the reports on both."""
+
+    incoming: Incoming
+    outgoing: rtp.Outgoing
+    reports: Reports
+
+    def faults(self) -> Counter[str]:
+        """What went wrong on the network, by reasons."""
+        came = Counter(missing=self.incoming.came()["missing"])
+        counts = self.incoming.counts + self.incoming.buffer.counts + came
+        return Counter({name: count for name, count in counts.items() if name not in NO_FAULTS})
+
+
 class Call:
     """One phone call. `hear` and then `speak` are called once a period; in a bridge both calls hear before one speaks."""
 
@@ -74,6 +90,8 @@ class Call:
         self.receiver, self.sender = trau_fr.Receiver(self.number), trau_fr.Sender()
         self.gsm, self.pcm = buffers(settings)
         self.to_gsm, self.to_pcm = rtp.Outgoing(rtp.GSM), rtp.Outgoing(self.pcm.kind)
+        pairs = {"gsm": (self.gsm, self.to_gsm), "pcm": (self.pcm, self.to_pcm)}
+        self.sides = {side: Stream(come, go, Reports(go, come.counts)) for side, (come, go) in pairs.items()}
         self.since_descriptor: Optional[int] = None  # periods, while comfort noise goes on
         self.pause: Optional[int] = None  # descriptors that the sender has made in a row
         self.partner: Optional[Call] = None
@@ -81,11 +99,11 @@ class Call:
         self.counts: Counter[str] = Counter()
 
     def frame_of(self, period: int) -> Optional[bytes]:
-        """The frame that the base station brought for a period. `prime`: the first period has a good frame of silence."""
+        """The frame that the base station brought for a period. `prime`: if the first one isn't good, it is a good frame of silence."""
         frame = self.gsm.buffer.take(period)
         if self.is_to_prime:
             self.is_to_prime = False
-            frame = frame or SILENCE
+            frame = SILENCE if frame is None or trau_fr.kind_of(frame) == Kind.LOST else frame
         if frame is not None and frame[0] >> 4 != 0xD:
             self.counts["not-gsm"] += 1
             return None
@@ -101,7 +119,7 @@ class Call:
         elif self.since_descriptor is not None:
             self.since_descriptor += 1
         is_due = self.since_descriptor is not None and self.since_descriptor % DESCRIPTOR_EACH == 0
-        self.counts["invalid" if frame is not None and kind == Kind.LOST else kind.name.lower()] += 1
+        self.counts[kind.name.lower() if kind != Kind.LOST else "no-gsm" if frame is None else "invalid"] += 1
         return kind, is_due and frame is None
 
     def hear(self, period: int) -> None:
@@ -141,9 +159,7 @@ class Call:
         frame = self.sender.send(trau_fr.expand(pcm, self.law), self.level, self.dtx)
         self.pause = None if frame.speech else 0 if self.pause is None else self.pause + 1
         if frame.speech or self.pause % DESCRIPTOR_EACH == 0:
-            send_gsm(self.to_gsm.packet(period, frame.octets))
-        if not frame.speech:
-            self.to_gsm.after_gap = True
+            send_gsm(self.to_gsm.packet(period, frame.octets, frame.speech))
         return trau_fr.write_downlink(frame.octets, Kind.SPEECH if frame.speech else Kind.DESCRIPTOR)
 
     def begin_bridge(self) -> None:
@@ -153,16 +169,16 @@ class Call:
 
     def give_up(self, periods: int, tick: int) -> None:
         """The clock has given up time."""
-        for incoming in (self.gsm, self.pcm):
-            incoming.give_up(periods, tick)
-        for outgoing in (self.to_gsm, self.to_pcm):
-            outgoing.give_up(periods)
+        for stream in self.sides.values():
+            stream.incoming.give_up(periods, tick)
+            stream.outgoing.give_up(periods)
 
-    def summary(self, end: int) -> str:
-        """The counts of a call that ends."""
-        words = [f"call {self.number} from {self.start} to {end}"]
+    def summary(self, until: str) -> str:
+        """The counts of a call up to now."""
+        words = [f"call {self.number} from {self.start} {until}"]
         words += [f"{name} {count}" for name, count in sorted(self.counts.items())]
-        for side, incoming in (("gsm", self.gsm), ("pcm", self.pcm)):
-            counts = incoming.counts + incoming.buffer.counts
+        for side, (incoming, outgoing, _) in self.sides.items():
+            jitter = incoming.reception.jitter >> 7 if incoming.reception else 0  # milliseconds
+            counts = incoming.counts + incoming.came() + incoming.buffer.counts + Counter(sent=outgoing.packets, jitter=jitter)
             words += [f"{side}-{name} {count}" for name, count in sorted(counts.items())]
         return " ".join(words)

@@ -2,9 +2,14 @@
 """A live gateway between GSM full rate over RTP and G.711 over RTP. It records what it decides, so that `trau run` makes the same of it,
 octet for octet (docs/GATEWAY.md).
 
-`run` takes lines (open, close, level, dtx, bridge, unbridge) from a file and from standard input, and prints `ready` when its sockets are
-open, and `ok` or `refused` for each line. It ends at an interrupt, SIGTERM or --seconds. Status 0; 1 if the recording ended before; 2 if it
-was refused. `check` replays a recording and compares: status 0 if all is equal, 1 if not.
+`run` takes lines (open, close, level, dtx, bridge, unbridge, counts, record) from a file and from standard input, and prints `ready` when its
+sockets are open, and `ok` or `refused` for each line. It ends at an interrupt, SIGTERM, SIGHUP or --seconds. Status 0; 1 if a recording ended
+before; 2 if it was refused. `check` replays a recording and compares: status 0 if all is equal, 1 if not.
+
+Counts of a call: periods with speech, descriptor, invalid (a damaged descriptor), not-gsm, no-gsm, no-pcm. Of each side: packets that came,
+those missing by their numbers, jitter in ms; late, doubled, far (a second off, once), jumps, slips-on, slips-back, given-up (with the clock),
+overflowed (no room in the kernel); refused: stranger, other-address (of this host), other-port, other-type, odd-size, empty, too-long, not-rtp,
+probation (of a new-source); sent, unsent, unreachable (the peer's port is closed); rtcp, rtcp-sent, far-lost (by the peer's reports).
 """
 
 from __future__ import annotations
@@ -42,7 +47,8 @@ def words_of(given: Sequence[str]) -> argparse.Namespace:
     run = commands.add_parser("run", help="processes live calls, and records them")
     run.add_argument("folder", type=Path, metavar="FOLDER", help="a new folder for the recording")
     run.add_argument("--calls", type=Path, metavar="FILE", help="lines that are executed before the first period")
-    run.add_argument("--address", type=address, default="0.0.0.0", metavar="A", help="the address of sockets if `open` names none (all)")
+    all_of_them = "all; of a strict call the one from which the peer is reached"
+    run.add_argument("--address", type=address, default="0.0.0.0", metavar="A", help=f"the address of sockets if `open` names none ({all_of_them})")
     run.add_argument("--seconds", type=number_within(1, 10**8), metavar="N", help="ends after this time")
     run.add_argument("--every", type=number_within(1, 250), default=1, metavar="N", help="periods that are held before a write (1)")
     run.add_argument("--most", type=number_within(1, 4096), default=200, metavar="N", help="calls that may be open at a time (200)")

@@ -7,6 +7,7 @@ from typing import Iterator, Optional, Tuple
 
 import rtp
 from jitter_buffer import LIMIT, JitterBuffer
+from rtcp import Reception
 from rtp import SAMPLES, Packet, Refused
 
 STILL = 2  # periods beyond the depth after which a source that brought nothing is still
@@ -19,6 +20,7 @@ class Incoming:
         self.kind, self.frame, self.buffer = kind, frame, buffer
         self.counts: Counter[str] = Counter()
         self.source: Optional[int] = None
+        self.reception: Optional[Reception] = None  # what came of it
         self.probation: Optional[Tuple[int, int]] = None  # another source, and the number that it must bring next
         self.jump: Optional[Tuple[int, int]] = None  # number and stamp with which a jump goes on
         self.stamp = self.position = 0  # a time stamp, and its place in samples from the first one
@@ -31,6 +33,7 @@ class Incoming:
             packet = rtp.parse(data)
             self.hold_to_form(packet)
             self.hold_to_source(packet, tick, behind)
+            self.count(packet, tick if behind == 0 and not self.stale else None)
             first = self.place(packet, tick, behind)
         except Refused as refused:
             self.counts[str(refused)] += 1
@@ -75,13 +78,24 @@ class Incoming:
         """Whether the present source has brought nothing for some periods, and all that it brought is played."""
         return tick > (self.heard or 0) + self.buffer.depth + STILL and self.buffer.is_empty(tick)
 
+    def count(self, packet: Packet, tick: Optional[int]) -> None:
+        """Counts a packet of the source that is heard; None is a tick that says nothing about its arrival."""
+        if self.reception is None or self.reception.source != packet.source:
+            self.counts.update(self.came())
+            self.reception = Reception(packet)
+        self.reception.count(packet, tick)
+
+    def came(self) -> Counter[str]:
+        """The packets of the present source, and those that are missing by their numbers."""
+        return Counter({"packets": self.reception.received, "missing": self.reception.missing()} if self.reception else {})
+
     def begin(self, packet: Packet, tick: int) -> None:
         """The stream begins with this packet."""
         self.stamp, self.position, self.jump = packet.stamp, 0, None
         self.buffer.start(tick)
 
     def place(self, packet: Packet, tick: int, behind: int) -> int:
-        """The place of the packet in samples. A jump of the time stamps is believed if the next packet follows it."""
+        """The place of the packet in samples. A jump of the time stamps is believed if the very next packet follows it."""
         ahead = (packet.stamp - self.stamp + 0x80000000 & rtp.STAMPS) - 0x80000000
         place = self.position + ahead
         period, _ = self.period_of(place)
@@ -95,6 +109,7 @@ class Incoming:
             self.counts["jumps"] += 1
             self.begin(packet, tick + behind)
             return 0
+        self.jump = None
         if ahead > 0:
             self.stamp, self.position = packet.stamp, place
             self.buffer.follow(margin, tick)

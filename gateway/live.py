@@ -3,21 +3,22 @@
 from __future__ import annotations
 
 import contextlib
-from core.words import Refusal
 import gc
 import os
+import queue
 import resource
 import select
 import shutil
 import signal
 import sys
+import threading
 import time
 from collections import deque
-from datetime import datetime, timezone
 from pathlib import Path
-from typing import Callable, Deque, List, NamedTuple, Optional
+from typing import Deque, List, NamedTuple, Optional, Tuple
 
 from clock import Clock, Turn
+from core.words import Refusal
 from network import Network
 from recorder import Recorder
 from switchboard import Switchboard
@@ -27,7 +28,10 @@ PERIODS = 50  # in a second
 MOST_LINES = 50  # that are executed in a period
 MOST_LINE = 1000  # octets
 MOST_REPLY = 1000  # characters: a pipe takes them whole or not at all (PIPE_BUF)
-DESCRIPTORS = (8, 64)  # of a call, and of all else
+MOST_SAID = 1000  # lines that wait for a reader
+LAST_WORDS = 2  # seconds that a reader has at the end
+MOST_BEHIND = 10  # periods by which the clock may be late when a call is opened
+DESCRIPTORS = (10, 64)  # of a call, and of all else
 
 
 class Options(NamedTuple):
@@ -42,19 +46,35 @@ class Options(NamedTuple):
 
 
 class Speaker:
-    """Prints lines on standard output, but never waits for a reader: lines for which there is no room are dropped and counted."""
+    """Prints lines on standard output by a thread, so that nothing waits for a reader: lines for which there is no room are dropped and counted."""
 
     def __init__(self) -> None:
         self.dropped = 0
+        self.lines: "queue.Queue[Optional[str]]" = queue.Queue(MOST_SAID)
+        self.writer = threading.Thread(target=self.write, daemon=True)
+        self.writer.start()
 
     def __call__(self, text: str) -> None:
         try:
-            if select.select([], [1], [], 0)[1]:
-                os.write(1, f"{text}\n".encode())
-                return
-        except OSError:
-            pass
-        self.dropped += 1
+            self.lines.put_nowait(text)
+        except queue.Full:
+            self.dropped += 1
+
+    def write(self) -> None:
+        """The thread that prints."""
+        while (text := self.lines.get()) is not None:
+            try:
+                rest = f"{text}\n".encode()
+                while rest:
+                    rest = rest[os.write(1, rest) :]
+            except OSError:
+                self.dropped += 1
+
+    def end(self) -> None:
+        """Prints what is left, if somebody reads it soon."""
+        with contextlib.suppress(queue.Full):
+            self.lines.put_nowait(None)
+        self.writer.join(LAST_WORDS)
 
 
 class Commands:
@@ -105,47 +125,61 @@ def without_comment(line: str) -> str:
 class Gateway:
     """The calls on a clock."""
 
-    def __init__(self, board: Switchboard, clock: Clock, commands: Commands, say: Callable[[str], None]) -> None:
+    def __init__(self, board: Switchboard, clock: Clock, commands: Commands, say: Speaker) -> None:
         self.board, self.clock, self.commands, self.say = board, clock, commands, say
-        self.is_to_end = False
+        self.is_to_end, self.late = False, 0  # turns that were said to be late
 
     def end(self, *_: object) -> None:
         """Ends the gateway at the next period; for signals."""
         self.is_to_end = True
 
-    def obey(self, line: str, period: int) -> None:
-        """Executes a line, and says whether it was."""
+    def obey(self, line: str, period: int, behind: int = 0) -> None:
+        """Executes a line in a period that is late by `behind`, and says whether it was."""
         try:
             if len(line) > MOST_LINE:
                 raise Refusal("the line is too long")
-            self.board.execute(line, period)
+            if behind > MOST_BEHIND and line.split()[0] == "open":
+                raise Refusal(f"the gateway is {20 * behind} ms behind its clock")
+            if line == "counts":
+                self.say(f"at {period} calls {len(self.board.connections)} {self.state()}")
+            else:
+                self.board.execute(line, period)
             self.say(f"ok {period} {' '.join(line.split()[:2])}")
         except (Refusal, OSError) as refused:
             self.say(f"refused {period} {line[:80]}: {getattr(refused, 'strerror', None) or refused}"[:MOST_REPLY])
 
+    def state(self) -> str:
+        """What a line says of the gateway: late turns and the latest one, what was given up and dropped, and its processor time."""
+        clock, used = self.clock, time.process_time()
+        times = f"late {clock.late} latest {clock.latest // 1_000_000} ms given-up {clock.given_up}"
+        return f"{times} dropped {self.say.dropped} processor {used:.2f} s"
+
     def begin_period(self, turn: Turn) -> None:
         """What is done once a period, before its calls."""
         for line in self.commands.taken():
-            self.obey(line, turn.period)
-        if turn.period % PERIODS == 0:
-            self.board.look_after(turn.period)
+            self.obey(line, turn.period, turn.behind)
+        self.board.look_after(turn.period)
+        if turn.period % PERIODS == 0 and self.clock.late > self.late:
+            self.say(f"late {self.clock.late - self.late} latest {self.clock.latest // 1_000_000} ms at {turn.period}")
+            self.late = self.clock.late
 
-    def run(self, periods: Optional[int]) -> int:
-        """Processes this number of periods, or until it is ended; the result is how many there were."""
-        self.board.recorder.time(f"0 at {datetime.now(timezone.utc).isoformat(timespec='milliseconds')}")
+    def run(self, periods: Optional[int]) -> Tuple[int, bool]:
+        """Processes this time, or until it is ended; the result is how many periods there were, and whether all is recorded."""
+        is_whole, end = False, None
         try:
             for turn in self.clock.turns():
                 if turn.given_up:
                     self.board.give_up(turn.given_up, turn.period)
                 if turn.phase == 0:
-                    if self.is_to_end or turn.period == periods:
+                    if self.is_to_end or periods is not None and turn.period + self.clock.given_up >= periods:
                         break
                     self.begin_period(turn)
                 self.board.process(turn.phase, turn.period, turn.behind)
             self.board.end(turn.period)
+            end = turn.period
         finally:
-            self.board.recorder.end()
-        return turn.period
+            is_whole = self.board.end_recordings(end)
+        return turn.period, is_whole
 
 
 def open_file(board: Switchboard, path: Path) -> None:
@@ -166,8 +200,8 @@ def begin(board: Switchboard, calls: Optional[Path]) -> None:
         if calls:
             open_file(board, calls)
     except (Refusal, OSError):
-        board.recorder.end()
-        shutil.rmtree(board.recorder.folder)
+        board.end_recordings(None)
+        shutil.rmtree(board.ended[0].folder)
         raise
 
 
@@ -183,6 +217,15 @@ def most_calls(wanted: int) -> int:
     return min(wanted, (soft - others) // each) if soft >= 0 else wanted
 
 
+def heed_signals(gateway: Gateway) -> None:
+    """Interrupts and hangups end the gateway, unless they are ignored as nohup has it. In the background the terminal never stops it."""
+    for number in (signal.SIGINT, signal.SIGTERM, signal.SIGHUP):
+        if number != signal.SIGHUP or signal.getsignal(number) != signal.SIG_IGN:
+            signal.signal(number, gateway.end)
+    for number in (signal.SIGTTIN, signal.SIGTTOU):
+        signal.signal(number, signal.SIG_IGN)
+
+
 def run(options: Options) -> int:
     """Runs the gateway. Status 0, or 1 if the recording ended before."""
     say = Speaker()
@@ -192,15 +235,11 @@ def run(options: Options) -> int:
     clock = Clock()
     gateway = Gateway(board, clock, Commands(None if sys.stdin is None else 0), say)
     begin(board, options.calls)
-    for number in (signal.SIGINT, signal.SIGTERM):
-        signal.signal(number, gateway.end)
+    heed_signals(gateway)
     gc.collect()
     gc.freeze()
     say("ready")
-    periods = gateway.run(None if options.seconds is None else options.seconds * PERIODS)
-    used = time.process_time()
-    say(
-        f"end period {periods} late {clock.late} latest {clock.latest // 1_000_000} ms given-up {clock.given_up}"
-        f" dropped {say.dropped} processor {used:.2f} s"
-    )
-    return 1 if recorder.has_ended else 0
+    periods, is_whole = gateway.run(None if options.seconds is None else options.seconds * PERIODS)
+    say(f"end period {periods} {gateway.state()}")
+    say.end()
+    return 0 if is_whole else 1

@@ -2,12 +2,16 @@
 
 from __future__ import annotations
 
+import contextlib
 import select
 import socket
-from typing import Dict, Optional
+import struct
+import time
+from typing import Dict, Iterator, Optional, Tuple
 
 from clock import PHASES
 from incoming import Incoming
+from rtcp import Reports, is_control
 from settings import Address, Side
 
 RECEIVE_BUFFER = 208 * 1024  # octets of the kernel for a socket, some seconds of packets
@@ -16,7 +20,12 @@ MOST_PACKETS, MOST_OCTETS = 4, 1500  # that are read at a tick for each socket o
 FEWEST_SOCKETS = 25  # for which is read in any case
 MOST_DATAGRAM = 9000  # octets, more than a second of A-law
 EXPEDITED = 0xB8  # the octet of the IP header that asks for expedited forwarding (RFC 3246)
-MOST_CONTROL = 100  # datagrams of RTCP that are counted at a time
+MOST_CONTROL = 100  # datagrams of RTCP, or of strangers, that are read at a time
+MOST_OLD = 2000  # datagrams that a socket may hold
+MEMORY, DROPS = 55, 8  # SO_MEMINFO of Linux, and the number in it that says how many datagrams found no room
+MOST_REPORT = 1500  # octets of one
+ARRIVAL = 35  # SO_TIMESTAMPNS of Linux: the kernel says when a datagram came, as RTCP waits up to a second to be read
+TIME = struct.Struct("@qq")  # seconds and nanoseconds of the system's clock
 KEEPS_PORT = 50  # periods that a port of the peer has to be still before another is heard
 
 
@@ -41,13 +50,18 @@ class Endpoint:
         self.incoming.packet(data, tick, behind)
 
 
+def prepare(one: socket.socket, buffer: int) -> None:
+    """Makes a socket one that never waits, with this buffer of the kernel."""
+    one.setblocking(False)
+    one.setsockopt(socket.SOL_SOCKET, socket.SO_RCVBUF, buffer)
+    one.setsockopt(socket.IPPROTO_IP, socket.IP_TOS, EXPEDITED)
+
+
 def bound(address: str, port: int, buffer: int) -> socket.socket:
     """A socket that never waits, with this buffer of the kernel. Raises OSError, which names the port, if it can't be had."""
     one = socket.socket(socket.AF_INET, socket.SOCK_DGRAM)
     try:
-        one.setblocking(False)
-        one.setsockopt(socket.SOL_SOCKET, socket.SO_RCVBUF, buffer)
-        one.setsockopt(socket.IPPROTO_IP, socket.IP_TOS, EXPEDITED)
+        prepare(one, buffer)
         one.bind((address, port))
     except OSError as failure:
         one.close()
@@ -55,33 +69,94 @@ def bound(address: str, port: int, buffer: int) -> socket.socket:
     return one
 
 
+def only_from(peer: Address, others: socket.socket) -> socket.socket:
+    """A second socket at the port of `others`: the kernel gives it what this peer sends to the address from which it is reached."""
+    one = socket.socket(socket.AF_INET, socket.SOCK_DGRAM)
+    both = (others, one)
+    try:
+        for each in both:
+            each.setsockopt(socket.SOL_SOCKET, socket.SO_REUSEADDR, 1)
+        prepare(one, RECEIVE_BUFFER)
+        one.bind(others.getsockname())
+        one.connect(peer)
+        for each in both:  # nobody else may join
+            each.setsockopt(socket.SOL_SOCKET, socket.SO_REUSEADDR, 0)
+    except OSError:
+        one.close()
+        raise
+    return one
+
+
+def drops_of(one: socket.socket) -> int:
+    """How many datagrams the kernel dropped, as a socket was full; 0 if an old kernel doesn't say it."""
+    try:
+        return struct.unpack_from("=I", one.getsockopt(socket.SOL_SOCKET, MEMORY, 4 * (DROPS + 1)), 4 * DROPS)[0]
+    except (OSError, struct.error):
+        return 0
+
+
 class SocketEndpoint(Endpoint):
     """An endpoint with sockets of the system."""
 
     def __init__(self, address: str, side: Side, is_strict: bool, incoming: Incoming) -> None:
         super().__init__(side, is_strict, incoming)
-        self.socket = bound(address, side.port, RECEIVE_BUFFER)
-        try:
+        self.reached = (self.peer[0], self.peer[1] + 1)  # where RTCP goes
+        with contextlib.ExitStack() as opened:
+            self.others = opened.enter_context(bound(address, side.port, CONTROL_BUFFER if is_strict else RECEIVE_BUFFER))
+            self.socket = opened.enter_context(only_from(self.peer, self.others)) if is_strict else self.others
+            self.control = opened.enter_context(bound(address, side.port + 1, CONTROL_BUFFER))
             if is_strict:
-                self.socket.connect(side.peer)  # the kernel drops what comes from others
-            self.control = bound(address, side.port + 1, CONTROL_BUFFER)
-        except OSError:
-            self.socket.close()
-            raise
+                self.control.connect(self.reached)
+            self.control.setsockopt(socket.SOL_SOCKET, ARRIVAL, 1)
+            self.opened = opened.pop_all()
 
-    def count_control(self) -> None:
-        """Counts the RTCP that came to the port above (RFC 3550, section 11). Nothing is answered."""
-        for _ in range(MOST_CONTROL):
+    def count_losses(self) -> None:
+        """Counts what found no room, and in a strict call what others sent, or the peer to another address of this host."""
+        self.incoming.counts["overflowed"] = drops_of(self.socket)
+        for _ in range(MOST_CONTROL if self.is_strict else 0):
             try:
-                self.control.recv(1)
+                _, sender = self.others.recvfrom(1)
             except OSError:
                 return
-            self.incoming.counts["rtcp"] += 1
+            self.incoming.counts["other-address" if sender == self.peer else "stranger"] += 1
+
+    def drop(self) -> None:
+        """Drops what came up to now."""
+        for _ in range(MOST_OLD):
+            try:
+                self.socket.recv(1)
+            except ConnectionRefusedError:
+                continue
+            except OSError:
+                return
+            self.incoming.counts["given-up"] += 1
+
+    def came_to_control(self) -> Iterator[Tuple[bytes, Address, int]]:
+        """What came to the port above, which is that of RTCP (RFC 3550, section 11): each datagram, its sender, and when it came."""
+        for _ in range(MOST_CONTROL):
+            try:
+                data, added, _, sender = self.control.recvmsg(MOST_REPORT, socket.CMSG_SPACE(TIME.size))
+            except ConnectionRefusedError:
+                continue
+            except OSError:
+                return
+            seconds, nanoseconds = TIME.unpack(added[0][2])
+            yield data, sender, seconds * 1_000_000_000 + nanoseconds
+
+    def report(self, reports: Reports, period: int) -> None:
+        """Counts the RTCP that came, and answers the peer's reports by one."""
+        is_asked = False
+        for data, sender, arrival in self.came_to_control():
+            self.incoming.counts["rtcp" if is_control(data) else "not-rtcp"] += 1
+            is_asked |= sender[0] == self.peer[0] and reports.take(data, arrival)
+        if is_asked:
+            with contextlib.suppress(OSError):
+                self.control.sendto(reports.answer(self.incoming.reception, time.time_ns(), period), self.reached)
+                self.incoming.counts["rtcp-sent"] += 1
 
     def close(self) -> None:
         """Closes the sockets."""
-        self.socket.close()
-        self.control.close()
+        self.opened.close()
 
     def send(self, datagram: bytes) -> None:
         """Sends to the peer; what can't be sent is counted and gone."""
@@ -90,7 +165,7 @@ class SocketEndpoint(Endpoint):
                 self.socket.sendto(datagram, self.peer)
                 return
             except ConnectionRefusedError:  # the ICMP answer to an earlier packet
-                continue
+                self.incoming.counts["unreachable"] += 1
             except OSError:
                 break
         self.incoming.counts["unsent"] += 1
@@ -134,6 +209,11 @@ class Network:
         del self.endpoints[endpoint.socket.fileno()]
         endpoint.close()
 
+    def drop(self) -> None:
+        """Drops what came up to now for all calls."""
+        for endpoint in self.endpoints.values():
+            endpoint.drop()
+
     def read(self, phase: int, tick: int, behind: int) -> None:
         """Takes what has come for the calls of a phase: one packet a socket in turn, so that a flood starves nobody. What is beyond the
         bounds waits for the next tick."""
@@ -145,7 +225,10 @@ class Network:
                 endpoint = self.endpoints[descriptor]
                 try:
                     data, sender = endpoint.socket.recvfrom(MOST_DATAGRAM)
+                except BlockingIOError:
+                    continue
                 except OSError:  # an ICMP answer to what was sent
+                    endpoint.incoming.counts["unreachable"] += 1
                     continue
                 octets -= len(data)
                 endpoint.arrived(data, sender, tick, behind)

@@ -1,23 +1,31 @@
-"""The recording: the four lines of each call and the orders, from which `trau run` makes the same again, and when its periods were.
+"""The recording: the four lines of each call and the orders, from which `trau run` makes the same again, when its periods were, and what the
+network did.
 
 Down is held back by one frame, since a run's Down begins with 320 ones and ends with the frame before the last: so the recorded lines are
-those of the run, octet for octet. A write that fails ends the recording, and no call.
+those of the run, octet for octet. A thread writes, so a disk that stalls stops no call; a write that fails, or a disk that is too slow, ends
+the recording, and no call.
 """
 
 from __future__ import annotations
 
 import errno
 import os
+import queue
+import threading
+from datetime import datetime, timezone
 from pathlib import Path
-from typing import Callable, Dict, List
+from typing import Callable, Dict, List, Optional, Set, Tuple
 
 from core.lines import SIDES
 from core.profile import MOST_ORDERS, MOST_ORDER_OCTETS
 
-
 NEW = os.O_WRONLY | os.O_CREAT | os.O_EXCL | os.O_APPEND
 FIRST_DOWN = b"\xff" * 40
 CLOSE_OCTETS = len("4294967294 close 4096\n")
+MOST_WAITING = 32 << 20  # octets that wait for the disk, some 8 s of 200 calls
+CLOCK, EVENTS, ORDERS = "clock.txt", "events.txt", "orders.txt"
+
+Work = Callable[[], object]
 
 
 def write_all(descriptor: int, data: bytes) -> None:
@@ -26,54 +34,111 @@ def write_all(descriptor: int, data: bytes) -> None:
         raise OSError(errno.ENOSPC, os.strerror(errno.ENOSPC))
 
 
-class Recorder:
-    """Writes a recording into a new folder."""
+def now() -> str:
+    """The time (UTC)."""
+    return datetime.now(timezone.utc).isoformat(timespec="milliseconds")
 
-    def __init__(self, folder: Path, every: int, say: Callable[[str], None]) -> None:
+
+class NoRecorder:
+    """What calls have that aren't recorded."""
+
+    used: Set[int] = set()
+    has_ended = False
+
+    def has_room(self, *_: int) -> bool:
+        """There is no order that could be too many."""
+        return True
+
+    def ignore(self, *_: object) -> None:
+        """Records nothing."""
+
+    order = event = open = period = write = close = ignore
+
+
+class Recorder:
+    """Writes a recording into a new folder. Its period 0 is the gateway's period `first`."""
+
+    def __init__(self, folder: Path, every: int, say: Callable[[str], None], first: int = 0) -> None:
         """`every` is the number of periods that are held before a write; `say` is told once if the recording ends."""
         folder.mkdir(mode=0o700, parents=True)
-        self.folder, self.every, self.say = folder, every, say
-        self.text, self.times = (os.open(folder / name, NEW, 0o600) for name in ("orders.txt", "clock.txt"))
+        self.folder, self.every, self.say, self.first = folder, every, say, first
+        self.texts = {name: os.open(folder / name, NEW, 0o600) for name in (ORDERS, CLOCK, EVENTS)}
         self.descriptors: Dict[int, List[int]] = {}
         self.held: Dict[int, List[List[bytes]]] = {}
+        self.used: Set[int] = set()  # numbers of calls: each serves once
         self.orders = self.order_octets = 0
         self.has_ended = False
+        self.given = self.written = 0  # octets, by the two threads
+        self.work: "queue.SimpleQueue[Optional[Tuple[Optional[int], Work]]]" = queue.SimpleQueue()
+        self.writer = threading.Thread(target=self.write_what_comes, daemon=True)
+        self.writer.start()
+        self.text(CLOCK, f"0 every {every}")
 
     def has_room(self, orders: int, opens: int = 0) -> bool:
         """Whether a run will take so many orders more, and then a `close` of each open call."""
-        more, octets = orders + opens + len(self.descriptors), 32 * orders + CLOSE_OCTETS * (opens + len(self.descriptors))
-        return self.orders + more <= MOST_ORDERS and self.order_octets + octets <= MOST_ORDER_OCTETS
+        more, octets = orders + opens + len(self.held), 32 * orders + CLOSE_OCTETS * (opens + len(self.held))
+        return self.has_ended or self.orders + more <= MOST_ORDERS and self.order_octets + octets <= MOST_ORDER_OCTETS
 
-    def attempt(self, work: Callable[[], None]) -> None:
-        """Does what may fail, unless the recording has ended."""
+    def attempt(self, octets: int, work: Work) -> None:
+        """Has the thread do what may fail or wait, unless the recording has ended."""
         if self.has_ended:
             return
-        try:
-            work()
-        except OSError as failure:
-            self.fail(failure)
+        if self.given - self.written > MOST_WAITING:
+            self.fail("the disk is too slow")
+        else:
+            self.given += octets
+            self.work.put((octets, work))
 
-    def fail(self, failure: OSError) -> None:
+    def write_what_comes(self) -> None:
+        """The thread that writes. After a failure nothing more is written, so that no line has a gap; files are closed all the same."""
+        has_failed = False
+        while (given := self.work.get()) is not None:
+            octets, work = given
+            try:
+                if not has_failed or octets is None:
+                    work()
+            except OSError as failure:
+                has_failed = True
+                self.fail(failure.strerror)
+            self.written += octets or 0
+
+    def fail(self, reason: str) -> None:
         """Ends the recording, and says so once."""
         if not self.has_ended:
             self.has_ended = True
-            self.say(f"recording ended: {failure.strerror}")
+            self.say(f"recording ended: {reason}")
 
-    def order(self, text: str) -> None:
-        """Records an order, before anything that it concerns."""
+    def text(self, name: str, text: str) -> None:
+        """Writes a line of a text."""
         line = f"{text}\n".encode()
-        self.orders += 1
-        self.order_octets += len(line)
-        self.attempt(lambda: write_all(self.text, line))
+        self.attempt(len(line), lambda: write_all(self.texts[name], line))
 
-    def time(self, text: str) -> None:
-        """Records what places a period in time."""
-        self.attempt(lambda: write_all(self.times, f"{text}\n".encode()))
+    def order(self, period: int, text: str) -> None:
+        """Records an order, before anything that it concerns."""
+        line = f"{period - self.first} {text}"
+        self.orders += 1
+        self.order_octets += len(line) + 1
+        self.text(ORDERS, line)
+
+    def time(self, period: int) -> None:
+        """Records when a period is."""
+        self.text(CLOCK, f"{period - self.first} at {now()}")
+
+    def give_up(self, period: int, periods: int) -> None:
+        """Records that the clock has given up time."""
+        self.text(CLOCK, f"{period - self.first} given-up {periods}")
+
+    def event(self, period: int, text: str) -> None:
+        """Records what the network did."""
+        self.text(EVENTS, f"{period - self.first} {text}")
 
     def open(self, call: int) -> None:
         """Makes the lines of a call."""
-        self.descriptors[call], self.held[call] = [], [[], [], [FIRST_DOWN], []]
-        self.attempt(lambda: self.descriptors[call].extend(os.open(self.folder / f"{call}.{side}", NEW, 0o600) for side in SIDES))
+        descriptors: List[int] = []
+        self.descriptors[call] = descriptors
+        self.used.add(call)
+        self.held[call] = [[], [], [FIRST_DOWN], []]
+        self.attempt(0, lambda: descriptors.extend(os.open(self.folder / f"{call}.{side}", NEW, 0o600) for side in SIDES))
 
     def period(self, call: int, up: bytes, pcm: bytes, down: bytes, out: bytes) -> None:
         """Holds a period of a call. It is written by `write`, after the packets of all calls have left."""
@@ -81,35 +146,35 @@ class Recorder:
             row.append(octets)
 
     def write(self, call: int, least: int = 0) -> None:
-        """Writes what is held of a call, if that is enough periods."""
-        periods = len(self.held[call][0])
-        if periods >= (least or self.every):
-            self.attempt(lambda: self.write_lines(call, periods))
-            for row in self.held[call]:
-                del row[:periods]
-
-    def write_lines(self, call: int, periods: int) -> None:
-        """Writes these periods of each line, one write each: a kill may come between the lines, and hardly within one."""
-        for descriptor, row in zip(self.descriptors[call], self.held[call]):
-            write_all(descriptor, b"".join(row[:periods]))
+        """Writes what is held of a call, if that is enough periods: one write for each line, as a kill hardly comes within one."""
+        periods, descriptors = len(self.held[call][0]), self.descriptors[call]
+        if periods < (least or self.every):
+            return
+        lines = [b"".join(row[:periods]) for row in self.held[call]]
+        for row in self.held[call]:
+            del row[:periods]
+        self.attempt(sum(map(len, lines)), lambda: [write_all(*each) for each in zip(descriptors, lines)])
 
     def close(self, call: int) -> None:
         """Writes what is held of a call and closes its lines."""
         self.write(call, 1)
         del self.held[call]
-        for descriptor in self.descriptors.pop(call):
-            self.close_file(descriptor)
+        descriptors = self.descriptors.pop(call)
+        self.work.put((None, lambda: self.close_files(descriptors)))
 
-    def end(self) -> None:
-        """Closes the recording. What is held of calls that weren't closed is written."""
+    def end(self, period: Optional[int] = None) -> None:
+        """Ends the recording. What is held of calls that weren't closed is written. A period says that all is whole."""
         for call in list(self.held):
             self.close(call)
-        for descriptor in (self.text, self.times):
-            self.close_file(descriptor)
+        if period is not None:
+            self.text(CLOCK, f"{period - self.first} end")
+        self.work.put((None, lambda: self.close_files(list(self.texts.values()))))
+        self.work.put(None)
 
-    def close_file(self, descriptor: int) -> None:
-        """Closes a file. A file system of the network may say only then that there is no room."""
-        try:
-            os.close(descriptor)
-        except OSError as failure:
-            self.fail(failure)
+    def close_files(self, descriptors: List[int]) -> None:
+        """Closes files. A file system of the network may say only then that there is no room."""
+        for descriptor in descriptors:
+            try:
+                os.close(descriptor)
+            except OSError as failure:
+                self.fail(failure.strerror)

@@ -1,7 +1,7 @@
 """The check of a recording: `trau run` makes its outgoing lines again in another folder, and they are compared octet for octet.
 
-A kill or a full disk may have cut lines anywhere. Then only whole periods count, and all calls end at one period, since a bridge would
-else end elsewhere.
+If clock.txt says that the recording ended, all must be there. Else a kill or a full disk has cut lines anywhere: only whole periods count, and
+all calls end at one period, since a bridge would else end elsewhere. A line that lacks more than that takes is a difference.
 """
 
 from __future__ import annotations
@@ -15,12 +15,14 @@ from typing import List, Optional
 
 from core.lines import INCOMING, OCTETS_OF_SIDE, OUTGOING, SIDES, whole_periods
 from core.orders import Order
-from core.words import Refusal
+from core.words import Refusal, number
 import listening
+from recorder import CLOCK
 from run_texts import read_orders, report_of
 from tool_ends import naming
 
 CHUNK = 1 << 20
+MOST_EVERY = 250  # periods that a recorder holds, if clock.txt doesn't say how many
 
 
 @dataclass
@@ -51,6 +53,10 @@ class Recorded:
         """Whether it isn't closed, or its lines end before."""
         return self.closed is None or self.end() < self.closed
 
+    def lacks(self, end: int) -> int:
+        """How many periods its shortest line lacks, where an open call ends at this period."""
+        return (end if self.closed is None else self.closed) - self.end()
+
 
 def whole_orders(folder: Path) -> List[Order]:
     """The orders of a recording, without a last one that was cut."""
@@ -72,9 +78,27 @@ def calls_of(folder: Path, orders: List[Order]) -> List[Recorded]:
     return calls
 
 
+def slack_of(folder: Path) -> int:
+    """How many periods a line may lack: none if the recording ended, else as many as were held before a write, and one."""
+    path = folder / CLOCK
+    with naming(path):
+        clock = path.read_text(encoding="utf-8", errors="replace") if path.exists() else ""
+    rows = [line.split() for line in clock.splitlines()]
+    if any(row[1:] == ["end"] for row in rows):
+        return 0
+    every = [number("".join(row[2:]), 1, MOST_EVERY) for row in rows if row[1:2] == ["every"]]
+    return 1 + ((every and every[0]) or MOST_EVERY)
+
+
 def end_of(calls: List[Recorded]) -> Optional[int]:
     """The period at which the comparison ends for all calls, or None if no call is cut."""
     return min((call.end() for call in calls if call.is_cut()), default=None)
+
+
+def short_ones(calls: List[Recorded], slack: int) -> List[Recorded]:
+    """The calls that lack more than a kill takes, where it came at the end of the longest line of an open call."""
+    end = max((call.start + call.longest for call in calls if call.closed is None), default=0)
+    return [call for call in calls if call.lacks(end) > slack]
 
 
 def lay(folder: Path, again: Path, calls: List[Recorded]) -> None:
@@ -147,21 +171,24 @@ def replay_in(folder: Path, again: Path, program: str) -> bool:
     """Replays and compares in this folder; the result is whether all is equal."""
     orders = whole_orders(folder)
     calls = calls_of(folder, orders)
+    short = short_ones(calls, slack_of(folder))
+    calls = [call for call in calls if call not in short]
     end = end_of(calls)
     if end is not None:
         rest = sum(call.longest - call.periods(end) for call in calls)
         print(f"cut at period {end}, {rest} recorded periods of calls not compared")
-    if end == 0 or not calls:
-        print("calls 0 differ 0")
-        return True
-    lay(folder, again, calls)
-    wrong = replayed(program, again, orders, end)
-    if wrong:
-        print(wrong)
-        return False
-    lines = [compared(folder, again, call, end) for call in calls]
-    differ = sum(not line.endswith(" equal") for line in lines)
-    print(*lines, f"calls {len(calls)} differ {differ}", sep="\n")
+    for call in short:
+        print(f"call {call.number} periods {call.whole} a line is short or missing")
+    is_replayed = end != 0 and calls != []
+    if is_replayed:
+        lay(folder, again, [*calls, *short])
+        wrong = replayed(program, again, orders, end)
+        if wrong and not short:  # where a line is short, a call ends before its orders
+            print(wrong)
+            return False
+    lines = [compared(folder, again, call, end) for call in calls] if is_replayed else []
+    differ = len(short) + sum(not line.endswith(" equal") for line in lines)
+    print(*lines, f"calls {len(short) + len(lines)} differ {differ}", sep="\n")
     return differ == 0
 
 

@@ -61,14 +61,17 @@ class Outgoing:
         self.kind = kind
         self.number, self.stamp, self.source = struct.unpack(">HII", random(10))
         self.after_gap = True
+        self.packets = self.octets = 0  # that were made; of payloads alone
 
-    def packet(self, period: int, payload: bytes) -> bytes:
-        """The datagram for this period of the gateway. The marker says that it is the first one after a gap."""
-        second = self.kind | (0x80 if self.after_gap else 0)
+    def packet(self, period: int, payload: bytes, is_speech: bool = True) -> bytes:
+        """The datagram for this period of the gateway. The marker says that it is the first speech after a gap (RFC 3551, 4.1)."""
+        second = self.kind | (0x80 if self.after_gap and is_speech else 0)
         stamp = self.stamp + SAMPLES * period & STAMPS
         datagram = HEADER.pack(0x80, second, self.number, stamp, self.source) + payload
         self.number = self.number + 1 & NUMBERS
-        self.after_gap = False
+        self.packets += 1
+        self.octets += len(payload)
+        self.after_gap = not is_speech
         return datagram
 
     def give_up(self, periods: int) -> None:

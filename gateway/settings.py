@@ -11,7 +11,9 @@ from core.words import Refusal
 from core.words import number as number_of
 
 MOST_DEPTH = 25  # periods
-FORM = "open C gsm [HOST:]PORT HOST:PORT pcm [HOST:]PORT HOST:PORT [mulaw] [level V] [dtx on|off] [depth N] [prime on|off] [strict on|off]"
+BROADCAST = ipaddress.IPv4Address("255.255.255.255")
+WORDS = "[mulaw] [level V] [dtx on|off] [depth N] [prime on|off] [strict on|off] [record on|off]"
+FORM = f"open C gsm [HOST:]PORT HOST:PORT pcm [HOST:]PORT HOST:PORT {WORDS}"
 
 Address = Tuple[str, int]
 
@@ -36,6 +38,7 @@ class Settings:
     depth: int = 3
     prime: bool = True
     strict: bool = True
+    record: bool = True
     sides: Dict[str, Side] = field(default_factory=dict)
 
 
@@ -61,9 +64,17 @@ def host(word: str) -> str:
         raise Refusal(f"{word} isn't an IPv4 address") from None
 
 
+def host_of_peer(word: str) -> str:
+    """The address of a peer. 0.0.0.0, which means hold in SDP, would be the host itself."""
+    one = ipaddress.IPv4Address(host(word))
+    if one.is_unspecified or one.is_multicast or one == BROADCAST:
+        raise Refusal(f"{word} isn't the address of a peer")
+    return str(one)
+
+
 def port(word: str) -> int:
-    """A port of UDP."""
-    return number(word, 1, 65535, "port")
+    """A port of UDP for RTP. RTCP has the next one."""
+    return number(word, 1, 65534, "port")
 
 
 def side(here: str, peer: str) -> Side:
@@ -72,7 +83,7 @@ def side(here: str, peer: str) -> Side:
     theirs, _, far = peer.rpartition(":")
     if port(local) % 2:
         raise Refusal(f"port {local} is odd")
-    return Side(port(local), (host(theirs), port(far)), host(ours) if ours else "")
+    return Side(port(local), (host_of_peer(theirs), port(far)), host(ours) if ours else "")
 
 
 # The words with a value that may follow: each with its reader.
@@ -82,6 +93,7 @@ VALUES: Dict[str, Callable[[str], object]] = {
     "depth": lambda word: number(word, 0, MOST_DEPTH, "depth"),
     "prime": switch,
     "strict": switch,
+    "record": switch,
 }
 
 

@@ -130,11 +130,13 @@ class Live:
                 raise Ended(f"it ended with {self.process.returncode}: {self.said}")
 
     def ask(self, line: str) -> str:
-        """Its reply to a line."""
-        self.process.stdin.write(f"{line}\n")
+        """Its reply to a line, which is asked again while the gateway is late."""
         while True:
+            self.process.stdin.write(f"{line}\n")
             said = self.read()
-            if said.startswith(("ok ", "refused ")) or not said:
+            while said and not said.startswith(("ok ", "refused ")):
+                said = self.read()
+            if "behind its clock" not in said:
                 return said
 
     def open(self, call: int, words: str = "") -> Peers:
@@ -148,7 +150,7 @@ class Live:
     def wait_for_periods(self, call: int, periods: int) -> None:
         """Waits until the recording has so many periods of a call."""
         line = self.folder / f"{call}.out"
-        while line.stat().st_size < 160 * periods and self.process.poll() is None:
+        while (not line.exists() or line.stat().st_size < 160 * periods) and self.process.poll() is None:
             time.sleep(0.005)
 
     def end(self, number: int = signal.SIGTERM) -> int:

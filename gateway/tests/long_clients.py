@@ -2,6 +2,7 @@
 sent. Each where its programs are installed. A busy machine loses packets in the clients; so what they got is compared in its order."""
 
 import contextlib
+import re
 import shutil
 import subprocess
 import time
@@ -139,6 +140,34 @@ class GStreamer(Clients):
         self.assert_got("Up has frames of GStreamer", up, sent, 300)
         line = b"".join(self.recorded("pcm", 160))
         self.assertIn(b"".join(LINE[20:60]), line)
+
+
+class Reports(Clients):
+    """RTCP with GStreamer's rtpbin, which prints what it read of the gateway's reports."""
+
+    def bin(self, start):
+        """A base station that sends a tone, and reports."""
+        here, gsm, _, _ = self.ports
+        caps = "application/x-rtp,media=audio,clock-rate=8000,encoding-name=GSM,payload=3"
+        words = "rtpbin name=b audiotestsrc samplesperbuffer=160 is-live=true ! audio/x-raw,rate=8000,channels=1 ! gsmenc ! rtpgsmpay"
+        words += f" ! b.send_rtp_sink_0 b.send_rtp_src_0 ! udpsink host={LOOPBACK} port={here}"
+        words += f" b.send_rtcp_src_0 ! udpsink host={LOOPBACK} port={here + 1} sync=false async=false"
+        words += f" udpsrc address={LOOPBACK} port={gsm} caps={caps} ! b.recv_rtp_sink_0"
+        words += f" udpsrc address={LOOPBACK} port={gsm + 1} ! b.recv_rtcp_sink_0 b. ! rtpgsmdepay ! fakesink"
+        return start("timeout", "120", "gst-launch-1.0", "-v", *words.split(), stdout=subprocess.PIPE, text=True)
+
+    def test_rtpbin_reads_the_reports(self):
+        if not has_elements(*GStreamer.NEEDED, "rtpbin"):
+            self.skipTest("GStreamer isn't installed with gsmenc")
+        live, block = self.start("strict off"), r"have-rb=.* rb-packetslost=\(int\)(-?\d+).* rb-round-trip=\(uint\)([1-9]\d*)"
+        with programs() as start, self.bin(start).stdout as said:
+            read = next(filter(None, (re.search(block, line.replace("\\", "")) for line in said)), None)
+        self.assertTrue(read, "no report with a round trip")
+        lost, trip = map(int, read.groups())
+        print(f"GStreamer's packets by the report: {lost} lost, round trip {1000 * trip / 65536:.1f} ms", flush=True)
+        self.assertLess(trip, 65536)
+        self.assertEqual(live.end(), 0)
+        self.assertRegex(live.said[-2], r" gsm-rtcp [1-9]\d* gsm-rtcp-sent [1-9]")
 
 
 @with_program

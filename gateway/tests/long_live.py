@@ -3,6 +3,7 @@ gateway that is stopped, a disk that is full (as root). Counts of packets depend
 
 import os
 import random
+import re
 import signal
 import subprocess
 import time
@@ -44,7 +45,12 @@ class Long(WithLive):
                     time.sleep(0.01)
             print(live.ask("close 3"))
         self.assertEqual(live.end(), 0)
-        print(*(line for line in live.said if line.startswith("call")), sep="\n")
+        ends = [line for line in live.said if re.match(r"call \d+ from", line)]
+        print(*ends, sep="\n")
+        alone = next(line for line in ends if line.startswith("call 3 "))
+        self.assertNotRegex(alone, "stranger|not-rtp|rtcp|other|odd|empty|too-long|probation|new-source|far|jumps|doubled|unreachable")
+        played, came = (int(re.search(rf" {name} (\d+)", alone)[1]) for name in ("speech", "gsm-packets"))
+        self.assertGreater(played, came * 0.9)  # a busy machine makes some late
         self.assert_replays(live.folder)
 
     def test_senders_that_change(self):

@@ -20,7 +20,7 @@ class Hour(InFolder):
             turned.bring(call, schedule(gsm, GSM, call, faults, 0.013), schedule(pcm, ALAW, call + 9, faults, 0.011))
         said = turned.run({0: [open_line(1), open_line(2)]}, HOUR)
         self.assert_replays(self.folder / "rec")
-        for call, words in ((1, ("lost 20", "gsm-slips-on 21", "pcm-slips-on 21")), (2, ("lost 25", "gsm-slips-back 22", "pcm-slips-back 21"))):
+        for call, words in ((1, ("no-gsm 20", "gsm-slips-on 21", "pcm-slips-on 21")), (2, ("no-gsm 25", "gsm-slips-back 22", "pcm-slips-back 21"))):
             closing = next(line for line in said if line.startswith(f"call {call} from"))
             for count in words:
                 self.assertIn(f" {count} ", closing + " ")

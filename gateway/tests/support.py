@@ -22,9 +22,10 @@ import replay
 import trau_fr
 from clock import Clock
 from incoming import Incoming
-from live import Commands, Gateway
+from live import Commands, Gateway, Speaker
 from network import Endpoint
 from recorder import Recorder
+from rtcp import Reports
 from settings import Address, Side
 from spoiler import Sent
 from switchboard import Switchboard
@@ -72,8 +73,11 @@ class TurnedEndpoint(Endpoint):
         self.address = side.port
         self.sent: List[bytes] = []
 
-    def count_control(self) -> None:
-        """As SocketEndpoint.count_control."""
+    def report(self, reports: Reports, period: int) -> None:
+        """As SocketEndpoint.report."""
+
+    def count_losses(self) -> None:
+        """As SocketEndpoint.count_losses."""
 
     def send(self, datagram: bytes) -> None:
         """Keeps what is sent."""
@@ -110,6 +114,13 @@ class TurnedNetwork:
         """As Network.close."""
         assert self.phases.pop(endpoint.address) == phase
 
+    def drop(self) -> None:
+        """As Network.drop."""
+        for port in self.phases:
+            while self.coming[port] and self.coming[port][0][0] <= self.clock.time:
+                heapq.heappop(self.coming[port])
+                self.endpoints[port].incoming.counts["given-up"] += 1
+
     def read(self, phase: int, tick: int, behind: int) -> None:
         """As Network.read."""
         for port in [port for port, each in self.phases.items() if each == phase]:
@@ -143,15 +154,25 @@ def open_line(call: int, words: str = "") -> str:
     return f"open {call} gsm {gsm} 127.0.0.1:{gsm + 1} pcm {pcm} 127.0.0.1:{pcm + 1} {words}".strip()
 
 
+class Kept(Speaker):
+    """Keeps what is said."""
+
+    def __init__(self) -> None:
+        self.dropped, self.said = 0, []
+
+    def __call__(self, text: str) -> None:
+        self.said.append(text)
+
+
 class Turned:
     """A gateway on a turned clock."""
 
     def __init__(self, folder: Path, every: int = 1) -> None:
-        self.said: List[str] = []
+        self.say = Kept()
         self.time = TurnedClock()
         self.network = TurnedNetwork(self.time)
-        self.recorder = Recorder(folder, every, self.said.append)
-        self.board = Switchboard(self.network, self.recorder, 100, self.said.append)
+        self.recorder = Recorder(folder, every, self.say)
+        self.board = Switchboard(self.network, self.recorder, 100, self.say)
 
     def bring(self, call: int, from_station: Iterable[Sent] = (), from_exchange: Iterable[Sent] = ()) -> None:
         """Packets that come to a call from its peers."""
@@ -164,9 +185,8 @@ class Turned:
 
     def run(self, lines: Dict[int, List[str]], periods: int) -> List[str]:
         """Runs the lines at their periods; the result is what the gateway said."""
-        gateway = Gateway(self.board, self.time.clock, GivenCommands(lines), self.said.append)
-        gateway.run(periods)
-        return self.said
+        Gateway(self.board, self.time.clock, GivenCommands(lines), self.say).run(periods)
+        return self.say.said
 
 
 class InFolder(unittest.TestCase):

@@ -2,10 +2,14 @@
 compared is a recording with its replay, so a slow machine changes no result."""
 
 import contextlib
+import os
+import pty
 import random
+import re
 import signal
 import subprocess
 import sys
+import time
 import unittest
 
 from live_support import LOOPBACK, Ended, Peers, WithLive, bound, hostile_packet, playing, talk, with_loopback
@@ -58,12 +62,44 @@ class Starts(WithLive):
             ran = subprocess.run(words, stdin=sink, stdout=subprocess.DEVNULL, stderr=subprocess.PIPE, text=True)
         self.assertEqual((ran.returncode, ran.stderr), (0, "gateway.py: standard input: Bad file descriptor\n"))
 
+    def test_a_hangup(self):  # as the end of an ssh session
+        live = self.live(self.folder / "rec", "--every", "250")
+        live.open(1)
+        live.ask("counts 1")
+        while not re.search("gsm-sent [1-9]", live.said[-2]):
+            live.ask("counts 1")
+        self.assertEqual(live.end(signal.SIGHUP), 0)
+        self.assertGreater((live.folder / "1.out").stat().st_size, 0)
+        self.assertRegex((live.folder / "clock.txt").read_text(), r"\n\d+ end\n$")
+
+    def test_a_terminal_that_nobody_reads(self):
+        here, there = pty.openpty()
+        self.addCleanup(os.close, here)
+        words = [sys.executable, "-B", str(GATEWAY / "gateway.py"), "run", str(self.folder / "rec"), "--address", LOOPBACK]
+        peers = Peers()
+        self.addCleanup(peers.close)
+        one = subprocess.Popen(words, stdin=subprocess.PIPE, stdout=there, text=True)
+        self.addCleanup(one.kill)
+        os.close(there)
+        one.stdin.write("".join(f"nonsense {k}\n" for k in range(3000)))
+        one.stdin.flush()
+        out = self.folder / "rec/1.out"
+        while not out.exists() or out.stat().st_size < 160 * 20:
+            self.assertIsNone(one.poll())
+            if not out.exists():
+                one.stdin.write(f"{peers.line(1, '')}\n")
+                one.stdin.flush()
+            time.sleep(0.1)
+        one.send_signal(signal.SIGTERM)
+        self.assertEqual(one.wait(), 0)
+        one.stdin.close()
+
     def test_seconds(self):
         live = self.live(self.folder / "rec", "--seconds", "1")
         self.assertEqual((live.finish(), live.said[-1][:14]), (0, "end period 50 "))
 
     def test_few_descriptors(self):
-        live = self.live(self.folder / "rec", descriptor_limit=64 + 8 * 2)
+        live = self.live(self.folder / "rec", descriptor_limit=64 + 10 * 2)
         for call in (1, 2):
             live.open(call)
         self.assertRegex(live.ask("open 3 gsm 2 127.0.0.1:2 pcm 4 127.0.0.1:2"), r"^refused \d+ open 3 .*: 2 calls are open$")

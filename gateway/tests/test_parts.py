@@ -7,10 +7,11 @@ import itertools
 import os
 import random
 import select
-import socket
 import struct
+import threading
 import unittest
 import unittest.mock
+from collections import Counter
 
 from live_support import bound, even_port, hostile_packet, with_loopback
 from support import SPEECH, InFolder, TurnedClock
@@ -26,6 +27,7 @@ from jitter_buffer import LIMIT, MOST_MARGIN, PATIENCE, WINDOW, JitterBuffer
 from live import Commands, Gateway
 from network import FEWEST_SOCKETS, KEEPS_PORT, MOST_OCTETS, MOST_PACKETS, Endpoint, Network
 from recorder import CLOSE_OCTETS, Recorder
+from rtcp import Reception, Reports
 from settings import Side, read_open
 from spoiler import header
 from trau_fr import Kind, kind_of
@@ -36,6 +38,21 @@ ONE = bytes(33)
 def is_loud(content):
     """No period is soft for this jitter buffer."""
     return False
+
+
+def blocks_of(blocks):
+    """Blocks of a report: each the source and its losses."""
+    return b"".join(struct.pack(">II16x", *block) for block in blocks)
+
+
+def sender_report(source, time, blocks=()):
+    """A sender report at a time of NTP."""
+    return struct.pack(">BBHIQ12x", 0x80 | len(blocks), 200, 6 + 6 * len(blocks), source, time) + blocks_of(blocks)
+
+
+def receiver_report(source, blocks):
+    """A receiver report."""
+    return struct.pack(">BBHI", 0x80 | len(blocks), 201, 1 + 6 * len(blocks), source) + blocks_of(blocks)
 
 
 def buffer_of(depth=3):
@@ -78,6 +95,11 @@ class Packets(unittest.TestCase):
         out.give_up(2)
         self.assertEqual(out.packet(3, b"b"), struct.pack(">BBHII", 0x80, 0x83, 0, 640, 5) + b"b")
         self.assertEqual(out.packet(4, b"c"), struct.pack(">BBHII", 0x80, 3, 1, 800, 5) + b"c")
+
+    def test_the_marker_is_of_the_first_speech_after_a_gap(self):
+        out = rtp.Outgoing(rtp.GSM)
+        markers = [out.packet(period, b"a", is_speech)[1] >> 7 for period, is_speech in enumerate((1, 1, 0, 0, 1, 1))]
+        self.assertEqual(markers, [1, 0, 0, 0, 1, 0])
 
 
 class Buffers(unittest.TestCase):
@@ -179,6 +201,16 @@ class Streams(unittest.TestCase):
             stream.packet(header(3, number, 160 * number, source) + ONE, tick, 0)
         self.assertEqual((stream.source, stream.counts["probation"], stream.counts["new-source"]), (6, 4, 1))
 
+    def test_two_senders_that_take_turns_as_one_source(self):
+        stream, played = gsm_stream(1), []
+        for tick in range(60):
+            if tick < 40:
+                stream.packet(header(3, tick, 160 * tick, 5) + SPEECH[tick], tick, 0)
+            stream.packet(header(3, 700 + tick, 160 * (9000 + tick), 5) + ONE, tick, 0)
+            played.append(stream.buffer.take(tick))
+        self.assertEqual(played, [None, *SPEECH[:39], None, *[ONE] * 19])
+        self.assertEqual((stream.counts["far"], stream.counts["jumps"]), (40, 1))
+
     def test_a_jump_is_believed_if_the_next_packet_follows_it(self):
         stream = gsm_stream()
         for number, stamp in ((1, 0), (2, 160 * 500), (2, 160), (3, 160 * 900), (4, 160 * 901), (5, 160 * 902)):
@@ -210,6 +242,96 @@ class Streams(unittest.TestCase):
         for number in range(3000):
             stream.packet(header(3, number, 160 * number % 30000, 5) + ONE * (number % 7), 0, number % 50)
         self.assertLessEqual(len(stream.buffer.periods), 3 * LIMIT)
+
+
+class Receptions(unittest.TestCase):
+    """What is reported of the packets that came."""
+
+    def reception(self, numbers, first=0):
+        """What came of packets with these numbers, each in the tick of its number."""
+        came = Reception(rtp.Packet(3, first, 0, 5, ONE))
+        for number in numbers:
+            came.count(rtp.Packet(3, number & 0xFFFF, 160 * number & rtp.STAMPS, 5, ONE), number)
+        return came
+
+    def block(self, came):
+        """The share that was lost, the packets that were lost, the highest number and the jitter."""
+        source, losses, highest, jitter, _, _ = struct.unpack(">IIIIII", came.block(0, 0))
+        self.assertEqual(source, 5)
+        return losses >> 24, losses & 0xFFFFFF, highest, jitter
+
+    def test_losses(self):
+        numbers = range(0xFFF0, 0x10010)
+        self.assertEqual(self.block(self.reception(numbers, 0xFFF0)), (0, 0, 0x1000F, 0))
+        came = self.reception([n for n in numbers if n % 4], 0xFFF0)
+        self.assertEqual((came.missing(), self.block(came)), (8, (64, 8, 0x1000F, 0)))
+        for _ in range(9):
+            came.count(rtp.Packet(3, 15, 0, 5, ONE), None)
+        self.assertEqual(self.block(came), (0, 0xFFFFFF, 0x1000F, 0))
+
+    def test_a_late_packet_isnt_lost(self):
+        self.assertEqual(self.reception([0, 2, 1, 3]).missing(), 0)
+
+    def test_a_sender_that_begins_anew(self):
+        came = self.reception([*range(5), *range(40_000, 40_010), 7, 8])
+        self.assertEqual((came.received, came.missing()), (17, 0))
+
+    def test_jitter(self):
+        came = Reception(rtp.Packet(3, 0, 0, 5, ONE))
+        for number in range(1000):
+            came.count(rtp.Packet(3, number, 160 * number, 5, ONE), number + number % 2)
+        self.assertEqual(self.block(came)[3], 159)  # it comes up to 160, and is cut down
+        before = came.jitter
+        for tick in (None, 5000, 9000):  # late ticks and jumps aren't jitter
+            came.count(rtp.Packet(3, 1000, 160_000, 5, ONE), tick)
+        self.assertEqual(came.jitter, before)
+
+
+class Answers(unittest.TestCase):
+    NOW = 1_000_000_000_500_000_000  # nanoseconds; in NTP's time 3,208,988,800.5 seconds
+
+    def answer(self, count, came=None, reports=None):
+        out = reports.outgoing if reports else rtp.Outgoing(rtp.GSM, lambda size: struct.pack(">HII", 0, 100, 9))
+        reports = reports or Reports(out, Counter())
+        for period in range(count):
+            out.packet(period, ONE)
+        return reports, reports.answer(came, self.NOW, 7)
+
+    def test_a_sender(self):
+        reports, answer = self.answer(3)
+        report = struct.pack(">BBHIQIII", 0x80, 200, 6, 9, 3_208_988_800 << 32 | 1 << 31, 100 + 7 * 160, 3, 99)
+        self.assertEqual(answer, report + struct.pack(">BBHIBB16s2x", 0x81, 202, 6, 9, 1, 16, reports.name))
+        self.assertEqual(self.answer(0, None, reports)[1][:8], struct.pack(">BBHI", 0x80, 201, 1, 9))
+
+    def test_the_block(self):
+        came = Receptions().reception(range(5))
+        reports = Reports(rtp.Outgoing(rtp.GSM), Counter())
+        self.assertTrue(reports.take(sender_report(5, 0x1122334455667788), self.NOW - 1_500_000_000))
+        wanted = struct.pack(">IIIIII", 5, 0, 4, 0, 0x33445566, 3 << 15)
+        self.assertEqual(self.answer(1, came, reports)[1][28:52], wanted)
+        reports.take(sender_report(6, 0x1122334455667788), self.NOW)  # of a source that isn't heard
+        self.assertEqual(self.answer(1, came, reports)[1][44:52], bytes(8))
+
+    def test_what_the_peer_lost(self):
+        reports = Reports(rtp.Outgoing(rtp.GSM), Counter())
+        blocks = [(8, 99), (reports.outgoing.source, 7 << 24 | 123)]
+        for report in (sender_report(5, 0, blocks), receiver_report(5, blocks)):
+            reports.counts.clear()
+            self.assertTrue(reports.take(report + bytes((0x80, 203, 0, 1)) + bytes(4), 0))
+            self.assertEqual(reports.counts, {"far-lost": 123})
+
+    def test_nonsense(self):
+        reports, draw = Reports(rtp.Outgoing(rtp.GSM), Counter()), random.Random(2)
+        whole = sender_report(5, 0, [(reports.outgoing.source, 1)]) + receiver_report(5, [])
+        for cut in range(len(whole)):
+            reports.take(whole[:cut], 0)
+        self.assertFalse(any(reports.take(data, 0) for data in (b"", whole[1:], whole + b"\0", b"\x40" + whole[1:], bytes(28))))
+        for _ in range(20_000):
+            data = bytearray(whole)
+            for _ in range(draw.randrange(4)):
+                data[draw.randrange(len(data))] = draw.choice((0, 0x80, 0x9F, 0xFF, 200, 201, draw.randrange(256)))
+            reports.take(bytes(data), 0)
+            self.assertEqual(len(reports.answer(None, 0, 0)), 8 + 28)
 
 
 class Playing(unittest.TestCase):
@@ -367,9 +489,13 @@ class OpenLines(unittest.TestCase):
             ("7 gsm 6000", "missing"),
             ("7 gsm 6001 127.0.0.1:6002", "is odd"),
             ("7 gsm 6000 host:6002", "host isn't an IPv4 address"),
+            ("7 gsm 6000 0.0.0.0:6002", "0.0.0.0 isn't the address of a peer"),
+            ("7 gsm 6000 224.0.0.1:6002", "isn't the address of a peer"),
+            ("7 gsm 6000 255.255.255.255:6002", "isn't the address of a peer"),
             ("7 gsm 6000 6002", " isn't an IPv4 address"),
             ("7 gsm here:6000 127.0.0.1:6002", "here isn't an IPv4 address"),
-            ("7 gsm 6000 127.0.0.1:0", "isn't 1 to 65,535"),
+            ("7 gsm 6000 127.0.0.1:0", "isn't 1 to 65,534"),
+            ("7 gsm 6000 127.0.0.1:65535", "isn't 1 to 65,534"),
             ("7 gsm 6000 127.0.0.1:6002", "both sides"),
             (f"{self.LINE} level 32768", "isn't 0 to 32,767"),
             (f"{self.LINE} dtx maybe", "isn't on or off"),
@@ -392,27 +518,74 @@ class Endpoints(unittest.TestCase):
             endpoint.arrived(self.packet(number), sender, 0, 0)
         self.assertEqual((endpoint.incoming.counts["stranger"], len(endpoint.incoming.buffer.periods)), (2, 1))
 
-    def opened(self, is_strict):
-        """A network with one endpoint in phase 0, its port, and the peer's socket."""
+    def opened(self, is_strict, address=None):
+        """A network with one endpoint in phase 0, its port, and the peer's socket, if the peer has no other address."""
         peer, network = bound(), Network("127.0.0.1")
         self.addCleanup(peer.close)
         while True:
             with contextlib.suppress(OSError):  # somebody may have one of the two ports
-                side = Side(even_port(), peer.getsockname())
+                side = Side(even_port(), address or peer.getsockname())
                 endpoint = network.open(side, is_strict, gsm_stream(), 0)
                 self.addCleanup(network.close, endpoint, 0)
                 return network, endpoint, side.port, peer
 
     @with_loopback
-    def test_the_kernel_drops_what_a_strict_peer_didnt_send(self):
+    def test_what_a_strict_peer_didnt_send_is_counted_alone(self):
         network, endpoint, port, peer = self.opened(True)
         with bound() as stranger:
             for _ in range(3):
                 stranger.sendto(self.packet(1), ("127.0.0.1", port))
         peer.sendto(self.packet(2), ("127.0.0.1", port))
-        while not endpoint.incoming.buffer.periods:
+        while not endpoint.incoming.buffer.periods or endpoint.incoming.counts["stranger"] < 3:
             network.read(0, 0, 0)
-        self.assertEqual(endpoint.incoming.counts, {})
+            endpoint.count_losses()
+        self.assertEqual(+endpoint.incoming.counts, {"stranger": 3})
+
+    @with_loopback
+    def test_a_strict_port_is_had_once(self):
+        network, _, port, peer = self.opened(True)
+        for is_strict in (True, False):
+            with self.assertRaisesRegex(OSError, "in use"):
+                network.open(Side(port, peer.getsockname()), is_strict, gsm_stream(), 0)
+
+    @with_loopback
+    def test_what_the_peer_sends_to_another_address_is_counted(self):
+        with bound() as peer:
+            while True:
+                with contextlib.suppress(OSError):  # somebody may have one of the ports
+                    port, network = even_port(), Network("0.0.0.0")
+                    endpoint = network.open(Side(port, peer.getsockname()), True, gsm_stream(), 0)
+                    break
+            self.addCleanup(network.close, endpoint, 0)
+            peer.sendto(self.packet(2), ("127.0.0.2", port))
+            while not endpoint.incoming.counts["other-address"]:
+                endpoint.count_losses()
+        self.assertEqual(+endpoint.incoming.counts, {"other-address": 1})
+
+    @with_loopback
+    def test_a_closed_port_of_the_peer_is_counted(self):
+        network, endpoint, _, peer = self.opened(True)
+        peer.close()
+        while not endpoint.incoming.counts["unreachable"]:
+            endpoint.send(ONE)
+            network.read(0, 0, 0)
+
+    @with_loopback
+    def test_what_finds_no_room_is_counted(self):
+        _, endpoint, port, peer = self.opened(True)
+        while not endpoint.incoming.counts["overflowed"]:
+            peer.sendto(bytes(8000), ("127.0.0.1", port))
+            endpoint.count_losses()
+
+    @with_loopback
+    def test_what_is_old_is_dropped(self):
+        network, endpoint, port, peer = self.opened(True)
+        for number in range(300):
+            peer.sendto(self.packet(number), ("127.0.0.1", port))
+        while endpoint.incoming.counts["given-up"] < 300:
+            network.drop()
+        network.read(0, 0, 0)
+        self.assertEqual((+endpoint.incoming.counts, endpoint.incoming.reception), ({"given-up": 300}, None))
 
     @with_loopback
     def test_what_is_read_at_a_tick_is_bounded(self):
@@ -426,16 +599,33 @@ class Endpoints(unittest.TestCase):
                     network.read(0, 0, 0)
                     self.assertLessEqual(arrived.call_count - before, most)
 
+    def answers(self, is_strict, senders, counted):
+        """The types of what the peer gets if these sockets send reports (None: its own), and itself nonsense."""
+        with bound() as control:
+            network, endpoint, port, _ = self.opened(is_strict, ("127.0.0.1", control.getsockname()[1] - 1))
+            reports, counts = Reports(rtp.Outgoing(rtp.GSM), endpoint.incoming.counts), endpoint.incoming.counts
+            datagrams = [*((one or control, sender_report(5, 1)) for one in senders), (control, bytes(28)), (control, b"\x80\xc8")]
+            for one, datagram in datagrams:
+                one.sendto(datagram, ("127.0.0.1", port + 1))
+            while counts["not-rtcp"] < 2:
+                endpoint.report(reports, 0)
+            self.assertEqual(counts["rtcp"], counted)
+            control.settimeout(60)
+            sent = [control.recv(1500)[1] for _ in range(counts["rtcp-sent"])]
+        self.assertLess(len(sent), 2)
+        return sent
+
     @with_loopback
-    def test_rtcp_is_counted(self):
-        _, endpoint, port, _ = self.opened(True)
-        with socket.socket(socket.AF_INET, socket.SOCK_DGRAM) as sender:
-            for _ in range(3):
-                sender.sendto(bytes(28), ("127.0.0.1", port + 1))
-        while endpoint.incoming.counts["rtcp"] < 3:
-            endpoint.count_control()
-        endpoint.count_control()
-        self.assertEqual(endpoint.incoming.counts["rtcp"], 3)
+    def test_the_peers_reports_are_answered_by_one(self):
+        with bound() as other, bound("127.0.0.2") as stranger:
+            for is_strict, senders, counted, wanted in (
+                (True, [], 0, []),
+                (True, [None, None], 2, [201]),
+                (True, [other, stranger], 0, []),
+                (False, [other, stranger], 2, [201]),
+                (False, [stranger], 1, []),
+            ):
+                self.assertEqual(self.answers(is_strict, senders, counted), wanted)
 
     def test_a_port_that_is_heard_is_kept(self):
         endpoint = Endpoint(Side(6000, self.PEER), False, gsm_stream())
@@ -463,11 +653,39 @@ class Recordings(InFolder):
             for _ in range(7):
                 recorder.period(1, b"u" * 40, b"p" * 160, b"d" * 40, b"o" * 160)
                 recorder.write(1)
-            recorder.close(1)
+            recorder.end()
+            recorder.writer.join()
             read = {side: (self.folder / str(every) / f"1.{side}").read_bytes() for side in ("up", "pcm", "down", "out")}
             wanted = {"up": b"u" * 280, "pcm": b"p" * 1120, "down": b"\xff" * 40 + b"d" * 240, "out": b"o" * 1120}
             self.assertEqual(read, wanted)
 
+    def stalled(self, periods):
+        """What a recording of a disk that stalls says, and a call's Out after these periods."""
+        really, is_over, said = os.write, threading.Event(), []
+
+        def write(descriptor, data):
+            is_over.wait(60)
+            return really(descriptor, data)
+
+        with unittest.mock.patch.object(recorder.os, "write", write):
+            one = Recorder(self.folder / "new", 1, said.append)
+            one.open(1)
+            for _ in range(periods):
+                one.period(1, b"u" * 40, b"p" * 160, b"d" * 40, b"o" * 160)
+                one.write(1)
+            self.assertFalse((one.folder / "1.out").exists())
+            is_over.set()
+            one.end(periods)
+            one.writer.join()
+        return said, (one.folder / "1.out").read_bytes(), (one.folder / "clock.txt").read_text()
+
+    def test_a_disk_that_stalls_holds_nobody_up(self):
+        self.assertEqual(self.stalled(500), ([], b"o" * 160 * 500, "0 every 1\n500 end\n"))
+
+    def test_a_disk_that_stalls_for_long_ends_the_recording(self):
+        with unittest.mock.patch.object(recorder, "MOST_WAITING", 400 * 100):
+            said, out, clock = self.stalled(500)
+        self.assertEqual((said, len(out), clock), (["recording ended: the disk is too slow"], 160 * 100, "0 every 1\n"))
 
     def test_a_close_that_fails_ends_the_recording_once(self):
         def close(descriptor):
@@ -480,12 +698,14 @@ class Recordings(InFolder):
         with unittest.mock.patch.object(recorder.os, "close", close):
             one.close(1)
             one.end()
+            one.writer.join()
         self.assertEqual((said, one.has_ended), (["recording ended: Disk quota exceeded"], True))
 
     def test_recordings_are_private(self):
         one = Recorder(self.folder / "new", 1, print)
         one.open(1)
         one.end()
+        one.writer.join()
         modes = {path.stat().st_mode & 0o777 for path in one.folder.iterdir()}
         self.assertEqual((one.folder.stat().st_mode & 0o777, modes), (0o700, {0o600}))
 

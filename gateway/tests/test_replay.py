@@ -66,8 +66,15 @@ class Checks(InFolder):
         status, _, err = self.run_tool(gateway.main, ["check", str(folder), "--trau", str(program)])
         self.assertEqual((status, err), (2, f"gateway.py: {program} run ended with status 1: out of order\n"))
 
-    def test_what_a_kill_leaves(self):
+    def killed(self, every):
+        """A recording of a gateway that was killed: clock.txt doesn't say that it ended."""
         folder = self.record()
+        clock = (folder / "clock.txt").read_text().replace("60 end\n", "").replace("0 every 1\n", f"0 every {every}\n")
+        (folder / "clock.txt").write_text(clock)
+        return folder
+
+    def test_what_a_kill_leaves(self):
+        folder = self.killed(14)
         self.cut("orders.txt", len("60 close 2\n") + 4)
         self.cut("1.down", 15 * 40)
         self.cut("2.up", 41)
@@ -75,11 +82,27 @@ class Checks(InFolder):
         lines = [cut, "call 1 periods 45 equal", "call 2 periods 45 equal", "call 3 periods 35 equal", "calls 3 differ 0"]
         self.assertEqual(self.checked(folder), (0, lines))
 
+    def test_a_line_that_lacks_more_than_a_kill_takes(self):
+        folder = self.killed(13)
+        self.cut("1.down", 15 * 40)
+        said = "call 1 periods 45 a line is short or missing"
+        self.assertEqual(self.checked(folder)[1][:4], [said, "call 2 periods 60 equal", "call 3 periods 40 equal", "calls 3 differ 1"])
+
+    def test_a_short_line_of_a_recording_that_ended(self):
+        for name, octets in (("1.up", 1), ("3.out", 160), ("2.down", 40)):
+            folder = self.record()
+            self.cut(name, octets)
+            status, lines = self.checked(folder)
+            self.assertEqual((status, lines[-2]), (1, "calls 3 differ 1"))
+            self.assertRegex(lines[0], rf"^call {name[0]} periods \d+ a line is short or missing$")
+            folder.rename(self.folder / name)
+
     def test_nothing_is_left(self):
         folder = self.record()
         for name in ("1.up", "2.up", "3.up"):
             (folder / name).unlink()
-        self.assertEqual(self.checked(folder), (0, ["cut at period 0, 160 recorded periods of calls not compared", "calls 0 differ 0"]))
+        status, lines = self.checked(folder)
+        self.assertEqual((status, lines[-2]), (1, "calls 3 differ 3"))
 
     def test_an_order_that_a_run_refuses(self):
         folder = self.record()

@@ -3,6 +3,7 @@
 import random
 import struct
 import unittest
+import unittest.mock
 
 from support import LINE, SPEECH, InFolder, Turned, cut, open_line, ports_of, repeated, with_program
 
@@ -198,14 +199,32 @@ class Quiet(InFolder):
         to_gsm, _ = turned.sent(1)
         stamps = [struct.unpack_from(">I", packet, 4)[0] for packet in to_gsm]
         self.assertEqual([(stamp - stamps[0] & 0xFFFFFFFF) // 160 for stamp in stamps], [0, 1, 2, 3, 4, 28, 52])
-        self.assertEqual([packet[1] >> 7 for packet in to_gsm], [1, 0, 0, 0, 0, 1, 1])
+        self.assertEqual([packet[1] >> 7 for packet in to_gsm], [1, 0, 0, 0, 0, 0, 0])
+
+    def test_speech_after_a_pause_has_the_marker(self):
+        turned = Turned(self.folder / "rec")
+        turned.bring(1, (), schedule(LINE[60:100], ALAW, 2, start=1.0))
+        turned.run({0: [open_line(1, "dtx on")]}, 90)
+        to_gsm, _ = turned.sent(1)
+        is_speech = [False, *(trau_fr.kind_of(packet[12:]) == trau_fr.Kind.SPEECH for packet in to_gsm)]
+        wanted = [int(now and not before) for before, now in zip(is_speech, is_speech[1:])]
+        self.assertEqual([packet[1] >> 7 for packet in to_gsm], wanted)
+        self.assertGreater(sum(wanted), 1)
+
+    def test_a_first_frame_that_isnt_good_is_replaced(self):
+        turned = Turned(self.folder / "rec")
+        for call, first in enumerate((bytes(33), damaged(DESCRIPTORS[0], random.Random(1), 9), SPEECH[5]), 1):
+            turned.bring(call, schedule([first], GSM, call), schedule(LINE[:40], ALAW, call + 3))
+        turned.run({0: [open_line(call, "depth 0") for call in (1, 2, 3)]}, 50)
+        first = [trau_fr.read_uplink((self.folder / f"rec/{call}.up").read_bytes()[:40]).octets for call in (1, 2, 3)]
+        self.assertEqual((first, [len(turned.sent(call)[0]) for call in (1, 2, 3)]), ([SILENCE, SILENCE, SPEECH[5]], [50] * 3))
 
     def test_a_call_that_hears_nothing_is_told(self):
         turned = Turned(self.folder / "rec")
         turned.bring(1, schedule(repeated(SPEECH, 300), GSM, 1, start=6.0), ())
         said = turned.run({0: [open_line(1)]}, 401)
-        self.assertIn("call 1 gsm hears nothing at 250", said)
-        self.assertIn("call 1 gsm hears again at 350", said)
+        self.assertIn("call 1 gsm hears nothing at 251", said)
+        self.assertIn("call 1 gsm hears again at 301", said)
 
 
 class Late(InFolder):
@@ -223,16 +242,33 @@ class Late(InFolder):
             turned.time.time += int(stops.pop(period, 0) * 1e9)
 
         board.process = slow
-        said = turned.run({0: [open_line(1), open_line(2)], 121: ["bridge 1 2"]}, periods)
+        said = turned.run({0: [open_line(1), open_line(2)], 121: ["bridge 1 2"]}, periods + 164)
         self.assertEqual((turned.time.clock.given_up, stops), (164, {}))
-        first, second = (self.folder / "rec/clock.txt").read_text().splitlines()
+        every, first, *rest = (self.folder / "rec/clock.txt").read_text().splitlines()
         self.assertRegex(first, r"^0 at \d{4}-\d\d-\d\dT\d\d:\d\d:\d\d\.\d{3}\+00:00$")
-        self.assertEqual(second, "120 given-up 164")
+        self.assertEqual((every, rest), ("0 every 1", ["120 given-up 164", "200 end"]))
+        self.assertIn("given up 164 periods at 120", said)
+        self.assertIn("late 135 latest 695 ms at 100", said)
         closing = next(line for line in said if line.startswith("call 1 from"))
         self.assertIn("gsm-given-up", closing)
         for word in ("late", "jumps", "slips"):
             self.assertNotIn(word, closing)
         self.assert_replays(self.folder / "rec")
+
+
+    def test_no_call_is_opened_while_the_clock_is_late(self):
+        turned = Turned(self.folder / "rec")
+        process = turned.board.process
+
+        def slow(phase, period, behind):
+            process(phase, period, behind)
+            turned.time.time += {(10, 3): 240, (30, 3): 200}.get((period, phase), 0) * 1_000_000
+
+        turned.board.process = slow
+        lines = {0: [open_line(1)], 11: [open_line(2), "level 1 300", "close 1"], 31: [open_line(3)], 40: [open_line(2)]}
+        said = [line for line in turned.run(lines, 50) if line.startswith(("ok", "refused"))]
+        refused = f"refused 11 {open_line(2)[:80]}: the gateway is 220 ms behind its clock"
+        self.assertEqual(said[1:], [refused, "ok 11 level 1", "ok 11 close 1", "ok 31 open 3", "ok 40 open 2"])
 
 
 class Ends(InFolder):
@@ -250,6 +286,65 @@ class Ends(InFolder):
         with self.assertRaises(MemoryError):
             turned.run({0: [open_line(1), open_line(2)]}, 60)
         self.assertEqual(self.assert_replays(self.folder / "rec")[1:3], ["call 1 periods 20 equal", "call 2 periods 20 equal"])
+
+
+class Recorded(InFolder):
+    """Which calls go to which recording."""
+
+    def run_two(self, lines, periods=80, words=""):
+        """Two calls that speak, and these lines."""
+        turned = Turned(self.folder / "rec")
+        for call in (1, 2):
+            turned.bring(call, schedule(SPEECH[:periods], GSM, call), schedule(LINE[:periods], ALAW, call + 5))
+        return turned, turned.run({0: [open_line(1, words)], **lines}, periods)
+
+    def orders(self, name):
+        return (self.folder / name / "orders.txt").read_text().splitlines()
+
+    @with_program
+    def test_a_new_recording_is_begun(self):
+        new = self.folder / "new"
+        lines = {20: [f"record {new}", open_line(2), "bridge 1 2"], 40: ["level 1 300", "close 1"], 41: [open_line(1)]}
+        _, said = self.run_two(lines)
+        self.assertIn("refused 20 bridge 1 2: the calls aren't in one recording", said)
+        self.assertEqual(self.orders("rec")[3:], ["40 level 1 300", "40 close 1"])
+        self.assertEqual([line for line in self.orders("new") if "open" in line], ["0 open 2", "21 open 1"])
+        ends = [(self.folder / name / "clock.txt").read_text().splitlines()[-1] for name in ("rec", "new")]
+        self.assertEqual(ends, ["40 end", "60 end"])
+        for name, count in (("rec", 1), ("new", 2)):
+            self.assertEqual(self.assert_replays(self.folder / name)[-1], f"calls {count} differ 0")
+
+    @with_program
+    def test_after_a_full_disk(self):
+        lines = {20: ["close 1", open_line(1)], 30: ["close 1", f"record {self.folder / 'new'}", open_line(2)]}
+        turned = Turned(self.folder / "rec")
+        turned.recorder.fail("No space left on device")
+        turned.recorder.orders = MOST_ORDERS
+        said = turned.run({0: [open_line(1)], **lines}, 50)
+        self.assertEqual([line for line in said if line.startswith("refused")], [])
+        self.assertEqual(self.assert_replays(self.folder / "new"), ["call 2 periods 20 equal", "calls 1 differ 0"])
+
+    @with_program
+    def test_calls_that_arent_recorded(self):
+        lines = {1: [open_line(2, "record off"), open_line(3)], 20: ["bridge 1 3", "bridge 1 2"], 60: ["close 2", open_line(2)]}
+        turned, said = self.run_two(lines, words="record off")
+        self.assertEqual([line for line in said if "bridge" in line], ["refused 20 bridge 1 3: the calls aren't in one recording", "ok 20 bridge 1"])
+        self.assertEqual([line for line in self.orders("rec") if "open" in line], ["1 open 3", "60 open 2"])
+        self.assertEqual(len(turned.sent(1)[1]), 80)
+        self.assertFalse((self.folder / "rec/1.up").exists())
+        self.assert_replays(self.folder / "rec")
+
+    def test_what_the_network_did(self):
+        turned = Turned(self.folder / "rec")
+        turned.bring(1, schedule(SPEECH[:150], GSM, 1, Faults(loss=0.1, doubled=0.1)), schedule(LINE[:20], ALAW, 2))
+        with unittest.mock.patch("switchboard.HOUR", 70):
+            turned.run({0: [open_line(1)]}, 150)
+        events = (self.folder / "rec/events.txt").read_text().splitlines()
+        self.assertEqual([line.split()[0] for line in events], ["1", "51", "101", "150"][-len(events) :])
+        for line in events:
+            self.assertRegex(line, r"^\d+ call 1( gsm-(missing|doubled) \d+)+$")
+        clock = (self.folder / "rec/clock.txt").read_text().splitlines()
+        self.assertEqual([line.split()[:2] for line in clock[1:]], [["0", "at"], ["70", "at"], ["140", "at"], ["150", "end"]])
 
 
 class Lines(InFolder):
@@ -277,6 +372,18 @@ class Lines(InFolder):
         said = turned.run({**lines, 0: [open_line(1), open_line(2)]}, 200)
         self.assertGreater(sum(line.startswith("ok") for line in said), 5)
         self.assertGreater(sum(line.startswith("refused") for line in said), 7900)
+
+    def test_counts_of_calls_that_are_open(self):
+        turned = Turned(self.folder / "rec")
+        turned.bring(1, schedule(SPEECH[:30], GSM, 1, Faults(loss=0.2)), schedule(LINE[:30], ALAW, 2))
+        said = turned.run({0: [open_line(1)], 40: ["counts 1", "counts 2", "counts", "counts 1 2"]}, 50)
+        first = said.index("ok 40 counts 1")
+        self.assertRegex(said[first - 1], r"^call 1 from 0 at 40 .* gsm-missing 4 gsm-packets 26 gsm-sent 40 pcm-packets 30 pcm-sent 40$")
+        self.assertEqual(said[first + 1], "refused 40 counts 2: the call isn't open")
+        self.assertRegex(said[first + 2], r"^at 40 calls 1 late 0 latest 0 ms given-up 0 dropped 0 processor \d+\.\d\d s$")
+        self.assertRegex(said[first + 4], "^refused 40 counts 1 2: it isn't open, close")
+        self.assertEqual(sum(line.startswith("call 1 from 0 to 50 ") for line in said), 1)
+        self.assertNotIn("counts", (self.folder / "rec/orders.txt").read_text())
 
     def test_the_most_calls(self):
         turned = Turned(self.folder / "rec")
