@@ -33,7 +33,8 @@ RANDOM_ADD = 13849
 RANDOM_MODULUS = 65536
 
 # Lost speech (modelled on GSM 06.11) and comfort noise (modelled on GSM 06.12).
-SILENT_AFTER = 17  # the lost frame, or the fall of noise, from which on there is silence
+SILENT_FROM_LOST = 17  # the lost frame from which on there is silence
+SILENT_FROM_FALL = 17  # the period of a fall of noise from which on there is silence
 MUTING_STEP = 4  # by how much the coded block maxima fall with each frame
 GRIDS = 4  # grid positions among which one is drawn
 NOISE_LAGS = (40, 120, 40, 120)

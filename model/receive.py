@@ -23,7 +23,7 @@ class Lost(NamedTuple):
 
     def made(self, source: RandomSource) -> Parameters:
         """The frame, with a draw of the grid in each block (docs/PROFILE.md, "Lost speech")."""
-        if self.n >= profile.SILENT_AFTER:
+        if self.n >= profile.SILENT_FROM_LOST:
             return SILENCE
         if self.n <= 1:
             return self.good
@@ -40,7 +40,7 @@ class Noise(NamedTuple):
 
     def made(self, source: RandomSource) -> Parameters:
         """The frame (docs/PROFILE.md, "Comfort noise")."""
-        return SILENCE if self.fall >= profile.SILENT_AFTER else comfort_noise(self.base, source, self.fall)
+        return SILENCE if self.fall >= profile.SILENT_FROM_FALL else comfort_noise(self.base, source, self.fall)
 
 
 Need = Union[None, Lost, Noise]  # None where the call is quiet
@@ -81,7 +81,7 @@ def falls(stretch: Sequence[Optional[UpFrame]]) -> List[int]:
     if len(missed) < profile.DESCRIPTORS_MISSED:
         return [0] * len(stretch)
     second = missed[profile.DESCRIPTORS_MISSED - 1]
-    return [max(0, min(k - second + 1, profile.SILENT_AFTER)) for k in range(len(stretch))]
+    return [max(0, min(k - second + 1, profile.SILENT_FROM_FALL)) for k in range(len(stretch))]
 
 
 def noise(stretch: Sequence[Optional[UpFrame]], before: Need) -> List[Need]:
@@ -103,7 +103,7 @@ def needs_of_stretch(stretch: Sequence[Optional[UpFrame]], before: Need) -> List
         return noise(stretch, before)
     if first is not None and first.sort is Sort.GOOD:
         good = parameters_of_bits(first.data)
-        return [Lost(good, min(n, profile.SILENT_AFTER)) for n in range(len(stretch))]
+        return [Lost(good, min(n, profile.SILENT_FROM_LOST)) for n in range(len(stretch))]
     return [None] * len(stretch)
 
 

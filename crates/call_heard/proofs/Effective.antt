@@ -1,5 +1,5 @@
 -- The effective frames of a call have their 260 bits, whatever its uplink.
-use Rattle.std.proofs.Common.{◌≡◌, refl, ◌∙◌, ℕ, ◌<◌, zero, suc, min, nat_le, Bool, List, [], ◌∷◌, length, arith}
+use Rattle.std.proofs.Common.{◌≡◌, refl, ◌∙◌, ℕ, ◌<◌, zero, suc, min, nat_le, nat_lt, Bool, List, [], ◌∷◌, length, arith}
 use Rattle.std.specs.Prelude.{◌==◌, slice_index_or}
 use Rattle.std.specs.List.{zip}
 use Rattle.std.proofs.lemmas.Bool.{cond_both}
@@ -12,13 +12,13 @@ use Rattle.trau_frame.specs.declared.frames.Class.TheVariants as classes
 use Rattle.trau_params.specs.Fields.{Fields, fields_in}
 use Rattle.trau_params.specs.Bits260.{bits260}
 use Rattle.trau_params.specs.Silence.{silent_fields}
-use Rattle.rx_subst.specs.Lost.{muted_of, lost_of}
-use Rattle.rx_noise.specs.Noise.{noise_pulses, all_noise_pulses, noise_at, noise_of}
-use Rattle.rx_noise.specs.Mix.{mixed, mix_of}
+use Rattle.rx_subst.specs.Lost.{silent_from_lost, muted_of, lost_of}
+use Rattle.rx_noise.specs.Noise.{silent_from_fall, noise_pulses, all_noise_pulses, noise_at, noise_of}
+use Rattle.rx_noise.specs.Mix.{mixture, mix_of}
 use Rattle.rx_handler.specs.Heard.{Heard, Good, Sid, Idle, Lost, heard_speech, heard_frame}
 use Rattle.rx_handler.specs.Origin.{Origin, NoFrame, GoodFrame, LostFrame, NoiseFrame, frame_of}
 use Rattle.rx_handler.specs.Effective.{is_anchor}
-use Rattle.rx_handler.specs.Past.{Anchor, NoAnchor, AtGood, AtSid, anchored, anchor_of, periods_of_fall, approached_of, start_from, approach_start_of, origin_from}
+use Rattle.rx_handler.specs.Past.{Anchor, NoAnchor, AtGood, AtSid, anchor_after, anchor_of, periods_of_fall, approached_of, start_from, approach_start_of, origin_from}
 use Rattle.rx_handler.specs.Past.{effective_of}
 use Rattle.call_leg.specs.Uplink.{Sighting, Nothing, Missed, Framed, heard_as, handed_fields}
 use Rattle.call_leg.specs.Periods.{CallPeriod, heard_of}
@@ -55,7 +55,8 @@ shape-lost : (last : Fields) (n : ℕ) (draw : ℕ → ℕ → ℕ) → HasShape
 unfolding lost_of
 shape-lost last n draw shape =
     cond_both (nat_le n 1) last _ HasShape (λ y. shape)
-    (λ m. cond_both (nat_le n 16) (muted_of last _ draw) silent_fields HasShape (λ y. shape-muted last _ draw shape) (λ k. shape-silent))
+    (λ m. cond_both (nat_lt n silent_from_lost) (muted_of last _ draw) silent_fields HasShape
+    (λ y. shape-muted last _ draw shape) (λ k. shape-silent))
 
 pulses-noise : (draw : ℕ → ℕ → ℕ) (j : ℕ) → j < 4 → length (slice_index_or (all_noise_pulses draw) j []) ≡ 13
 unfolding all_noise_pulses noise_pulses
@@ -68,13 +69,15 @@ pulses-noise draw (suc (suc (suc (suc j)))) below = absurd (omega (arith, below)
 shape-noise : (sid : Fields) (fall : ℕ) (draw : ℕ → ℕ → ℕ) → HasShape sid → HasShape (noise_of sid fall draw)
 unfolding noise_of noise_at
 shape-noise sid fall draw shape =
-    cond_both (nat_le fall 16) (noise_at sid fall draw) silent_fields HasShape (λ y. record { larc = shape.larc; pulses = pulses-noise draw })
+    cond_both (nat_lt fall silent_from_fall) (noise_at sid fall draw) silent_fields HasShape
+    (λ y. record { larc = shape.larc; pulses = pulses-noise draw })
     (λ n. shape-silent)
 
 shape-mix : (old new : Fields) (i : ℕ) → HasShape old → HasShape new → HasShape (mix_of old new i)
 unfolding mix_of
 shape-mix old new i before after = record {
-  larc = length-map (zip old.larc new.larc) (λ codes. mixed i codes.0 codes.1) ∙ length-zip old.larc new.larc ∙ (λ i. min (before.larc i) (after.larc i));
+  larc = length-map (zip old.larc new.larc) (λ codes. mixture i codes.0 codes.1) ∙ length-zip old.larc new.larc ∙
+      (λ i. min (before.larc i) (after.larc i));
   pulses = after.pulses;
 }
 
@@ -120,7 +123,7 @@ IsShapedAnchor NoAnchor = Unit {0}
 IsShapedAnchor (AtGood p since) = HasShape p
 IsShapedAnchor (AtSid q since) = HasShape q
 
-shaped-more : (y : Heard) (a : Anchor) → IsShapedAnchor a → IsShapedAnchor (anchored y a)
+shaped-more : (y : Heard) (a : Anchor) → IsShapedAnchor a → IsShapedAnchor (anchor_after y a)
 shaped-more y NoAnchor shape = tt
 shaped-more y (AtGood p since) shape = shape
 shaped-more y (AtSid q since) shape = shape

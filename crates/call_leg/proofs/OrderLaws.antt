@@ -6,7 +6,7 @@ use Rattle.trau_orders.specs.declared.order.DtxMode.{DtxMode}
 use Rattle.frame_sync.specs.Periods.{mode_after}
 use Rattle.frame_sync.specs.Stands as search
 use Rattle.frame_sync.specs.Memory.{SyncMemory, home_memory as search_home}
-use Rattle.rx_handler.specs.Past.{anchor_of, drawn}
+use Rattle.rx_handler.specs.Past.{anchor_of, draw_count}
 use Rattle.rx_handler.specs.Stands as rx
 use Rattle.rx_handler.specs.Memory.{home_memory as rx_home}
 use Rattle.rx_muting.specs.Draws.{state_after}
@@ -133,7 +133,7 @@ unfolding mode_after search.last_bits
 home_search = record { periods = All-nil (λ o. length o ≡ 40); after = refl }
 
 home_rx : (call : ℕ) → rx.Stands call [] (rx_home call)
-unfolding anchor_of drawn state_after
+unfolding anchor_of draw_count state_after
 home_rx call = record { state = refl; source = refl }
 
 -- **A new leg stands for a call before its first period.**

@@ -7,7 +7,7 @@ use Rattle.std.proofs.lemmas.List.Elements.{All-head, All-tail}
 use Rattle.ccu_end.specs.Found.{FoundFrame, HaveBits}
 use Rattle.ccu_end.specs.Window.{low_after}
 use Rattle.ccu_end.specs.Heard.{all_of}
-use Rattle.ccu_end.specs.Asked.{Answered, last_of, place_in, in_step, still_waits, waiting, offset_of, field_for, field_where, field_after, answered, speech_in}
+use Rattle.ccu_end.specs.Asked.{frames_of_wait, Answered, last_of, place_in, in_step, still_waits, waiting, offset_of, field_for, field_where, field_after, answered, speech_in}
 use Rattle.ccu_end.specs.Asked.{up_words, asked}
 use Rattle.ccu_end.specs.Step.{wait_next, waits_over, field_now, period_field, asked_with, waiting_after, answer_after}
 
@@ -50,7 +50,7 @@ step-more p f (g ∷ fs) =
 -- what is left of a request, by whether the frame is in step
 next_with : Option ℕ → Bool → Option ℕ
 next_with None e = None
-next_with (Some count) e = if e && nat_lt count 7 then Some (count + 1) else None
+next_with (Some count) e = if e && nat_lt (count + 1) frames_of_wait then Some (count + 1) else None
 
 next-is : (w : Option ℕ) (low p : ℕ) → next_with w (p == low + 4) ≡ wait_next w low p
 unfolding next_with
@@ -62,31 +62,32 @@ if_none : (b : Bool) (w : Option ℕ) → (if b && false then w else None) ≡ N
 if_none true w = refl
 if_none false w = refl
 
--- and it is over behind the eighth frame
-and_seven : (e : Bool) (n : ℕ) → nat_lt n 7 ≡ true → (if e then Some (n + 1) else None) ≡ (if e && nat_lt n 7 then Some (n + 1) else None)
-and_seven true n c = rw c refl
-and_seven false n c = refl
+-- before the last frame of a wait, and with it
+next_few : (e : Bool) (n : ℕ) → nat_lt (n + 1) frames_of_wait ≡ true → next_with (Some n) e ≡ (if e then Some (n + 1) else None)
+unfolding next_with
+next_few true n c = rw c refl
+next_few false n c = refl
 
-ended : (e : Bool) (n : ℕ) → nat_lt n 7 ≡ false → (b : Bool) → next_with (if b && true then Some n else None) e ≡ None
+ended : (e : Bool) (n : ℕ) → nat_lt (n + 1) frames_of_wait ≡ false → (b : Bool) → next_with (if b && true then Some n else None) e ≡ None
 unfolding next_with
 ended true n c true = rw c refl
 ended false n c true = refl
 ended e n c false = refl
 
 -- by the number of frames before it, whether they are in step, and whether it is
-count-more : (n : ℕ) (s e : Bool) → (if nat_lt (n + 1) 8 && (s && e) then Some (n + 1) else None) ≡ next_with (if nat_lt n 8 && s then Some n else None) e
+count-more : (n : ℕ) (s e : Bool) → (if nat_lt (n + 1) frames_of_wait && (s && e) then Some (n + 1) else None) ≡
+    next_with (if nat_lt n frames_of_wait && s then Some n else None) e
 unfolding next_with
-count-more n false e = if_none (nat_lt (n + 1) 8) (Some (n + 1)) ∙ sym (ap (λ w. next_with w e) (if_none (nat_lt n 8) (Some n)))
-count-more n true e = elim (cases_lt n 7) [
+count-more n false e = if_none (nat_lt (n + 1) frames_of_wait) (Some (n + 1)) ∙
+    sym (ap (λ w. next_with w e) (if_none (nat_lt n frames_of_wait) (Some n)))
+count-more n true e = elim (cases_lt (n + 1) frames_of_wait) [
   | inl few ↦
-      let a : nat_lt (n + 1) 8 ≡ true = lt-ltb _ _ (omega arith) in
-      let b : nat_lt n 8 ≡ true = lt-ltb _ _ (omega arith) in
-      let c : nat_lt n 7 ≡ true = lt-ltb _ _ few in
-      rw (a, b) (and_seven e n c)
+      let a : nat_lt (n + 1) frames_of_wait ≡ true = lt-ltb _ _ few in
+      let b : nat_lt n frames_of_wait ≡ true = lt-ltb _ _ (omega arith) in
+      rw (a, b) (sym (next_few e n a))
   | inr many ↦
-      let a : nat_lt (n + 1) 8 ≡ false = le-ltb _ _ (omega arith) in
-      let c : nat_lt n 7 ≡ false = le-ltb _ _ many in
-      rw a (sym (ended e n c (nat_lt n 8)))
+      let a : nat_lt (n + 1) frames_of_wait ≡ false = le-ltb _ _ many in
+      rw a (sym (ended e n a (nat_lt n frames_of_wait)))
 ]
 
 -- one frame more after a request
@@ -97,9 +98,9 @@ still-more sent since f low e =
     let p = place_in (last_of sent) in
     let n : length (since ++ f ∷ []) ≡ length since + 1 = length-append since (f ∷ []) in
     let next : place_from p since + 320 ≡ low + 4 = omega arith in
-    ap (λ b. if nat_lt (length (since ++ f ∷ [])) 8 && b then Some (length (since ++ f ∷ [])) else None) (step-more p f since) ∙
-    ap (λ k. if nat_lt k 8 && (in_step p since && (f.place == place_from p since + 320)) then Some k else None) n ∙
-    ap (λ q. if nat_lt (length since + 1) 8 && (in_step p since && (f.place == q)) then Some (length since + 1) else None) next ∙
+    ap (λ b. if nat_lt (length (since ++ f ∷ [])) frames_of_wait && b then Some (length (since ++ f ∷ [])) else None) (step-more p f since) ∙
+    ap (λ k. if nat_lt k frames_of_wait && (in_step p since && (f.place == place_from p since + 320)) then Some k else None) n ∙
+    ap (λ q. if nat_lt (length since + 1) frames_of_wait && (in_step p since && (f.place == q)) then Some (length since + 1) else None) next ∙
     count-more (length since) (in_step p since) (f.place == low + 4) ∙
     next-is (if still_waits sent since then Some (length since) else None) low f.place
 

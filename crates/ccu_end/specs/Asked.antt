@@ -44,9 +44,13 @@ abbrev pub in_step : ℕ → List FoundFrame → Bool
 in_step p [] = true
 in_step p (f ∷ fs) = f.place == p + 320 && in_step f.place fs
 
--- A request of the period in which `sent` were found waits as long as all frames found since are in step and fewer than eight.
+-- a request is over with this frame after it, counted from 1
+abbrev pub frames_of_wait : ℕ
+frames_of_wait = 8
+
+-- A request of the period in which `sent` were found waits as long as all frames found since are in step and fewer than these.
 abbrev pub still_waits : List FoundFrame → List FoundFrame → Bool
-still_waits sent since = nat_lt (length since) 8 && in_step (place_in (last_of sent)) since
+still_waits sent since = nat_lt (length since) frames_of_wait && in_step (place_in (last_of sent)) since
 
 -- How many frames were found since the newest request, if it still waits; None if it doesn't, or if there was none. `since`
 -- are the frames found after these periods.

@@ -2,12 +2,12 @@
 use Rattle.std.specs.Prelude.{ℕ, ◌+◌, ◌&&◌, if◌then◌else◌, ◌==◌, nat_lt, List, [], ◌∷◌, Option, Some, None}
 use Rattle.trau_frame.specs.UpFrame.{UpWords}
 use Rattle.ccu_end.specs.Found.{FoundFrame}
-use Rattle.ccu_end.specs.Asked.{last_of, offset_of, field_for, field_where, speech_in, up_words}
+use Rattle.ccu_end.specs.Asked.{frames_of_wait, last_of, offset_of, field_for, field_where, speech_in, up_words}
 
 -- a request that waits, when the next frame is found at place p; `low` is the place 316 bits after the one before
 abbrev pub wait_next : Option ℕ → ℕ → ℕ → Option ℕ
 wait_next None low p = None
-wait_next (Some count) low p = if p == low + 4 && nat_lt count 7 then Some (count + 1) else None
+wait_next (Some count) low p = if p == low + 4 && nat_lt (count + 1) frames_of_wait then Some (count + 1) else None
 
 -- the same over all frames of a period
 abbrev pub waits_over : Option ℕ → ℕ → List FoundFrame → Option ℕ

@@ -12,8 +12,8 @@ use crate::finds::{Found, Heard};
 use crate::frame::READ_BITS;
 use trau_frame::{Class, DownFrame, Kind, UpFrame};
 
-// A request waits no longer than to the eighth frame.
-const LAST_FRAME: u8 = 7;
+// A request is over with this frame after it, counted from 1 (this project's profile).
+const FRAMES_OF_WAIT: u8 = 8;
 
 // A waiting request (as the number of frames found since) when the next frame is found, at `place`. It was looked for from
 // `low` on, the place after the 316 bits of the frame before.
@@ -22,7 +22,7 @@ fn wait_next(waiting: Option<u8>, low: u64, place: u64) -> Option<u8>
     ensures { result ≡ wait_next waiting low place }
 {
     let count = waiting?;
-    if place == low + 4 && count < LAST_FRAME {
+    if place == low + 4 && count < FRAMES_OF_WAIT - 1 {
         Some(count + 1)
     } else {
         None
@@ -103,7 +103,8 @@ fn speech_in(last: Option<&Found>) -> Option<&[u8; 260]>
 fn up_frame(kind: Kind, class: Class, align: u8, d: [u8; 260]) -> UpFrame
     requires six_bits { align ≤ 63 }
     requires bits { AreBits d }
-    ensures { up_words_of result ≡ record { kind = kind; class = class; taf = false; dtxd = true; align = align; d = d } }
+    ensures { up_words_of result ≡
+        record { kind = kind; class = class; taf = false; dtxd = true; align = align; d = d } }
 {
     UpFrame {
         kind,

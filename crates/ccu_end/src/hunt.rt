@@ -18,7 +18,8 @@ fn matches_at(window: &[u8; 640], o: usize) -> bool
 /// The first index from `first` on at which the sync bits match and the first 316 bits of the frame are in the window.
 pub(crate) fn find_match(window: &[u8; 640], first: usize) -> Option<usize>
     requires { first ≤ 640 }
-    ensures found { IfSome result (λ o. (first ≤ o) × (o ≤ 324) × NoMatch window.now first o × (is_match (bit_in window.now) o ≡ true)) }
+    ensures found { IfSome result (λ o. (first ≤ o) × (o ≤ 324) × NoMatch window.now first o
+        × (is_match (bit_in window.now) o ≡ true)) }
     ensures none { IfNone result (NoMatch window.now first 325) }
 {
     for o in first..640 - READ_BITS + 1 {

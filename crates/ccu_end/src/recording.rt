@@ -49,7 +49,8 @@ pub(crate) enum PeriodEnd {
 fn send_up<T: Trunk>(ccu: &mut Ccu, call: u32, trunk: &mut T) -> Result<(), Failed>
     requires { IsCallNumber call }
     ensures same { ccu.new ≡ ccu.old }
-    ensures this { WritesAll (T.lines trunk.old call Down) (T.lines trunk.new call Down) result (octets_saying ccu.old.answer) }
+    ensures this { WritesAll (T.lines trunk.old call Down) (T.lines trunk.new call Down) result
+        (octets_saying ccu.old.answer) }
     ensures others { OthersStay (T.lines trunk.old) (T.lines trunk.new) call Down }
 {
     let mut bits = [0; 320];
@@ -79,7 +80,8 @@ fn follow_period<T: Trunk, D: Desk>(
 ) -> PeriodEnd
     requires number { IsCallNumber call }
     requires fewer { ccu.old.periods < 4294967295 }
-    ensures period { FollowsOn ccu.old ccu.new (T.lines trunk.old call Up) (T.lines trunk.new call Up) (T.lines trunk.old call Down)
+    ensures period { FollowsOn ccu.old ccu.new (T.lines trunk.old call Up)
+        (T.lines trunk.new call Up) (T.lines trunk.old call Down)
         (T.lines trunk.new call Down) (D.desk desk.old) (D.desk desk.new) result }
     ensures others { AllButTwo (T.lines trunk.old) (T.lines trunk.new) call Up Down }
 {
@@ -108,7 +110,8 @@ fn follow_line<T: Trunk, D: Desk>(call: u32, want: u16, trunk: &mut T, desk: &mu
     requires number { IsCallNumber call }
     requires high { want ≤ 316 }
     requires fours { want % 4 ≡ 0 }
-    ensures follows { Follows (T.lines trunk.old call Up) (T.lines trunk.new call Up) (T.lines trunk.old call Down) (T.lines trunk.new call Down)
+    ensures follows { Follows (T.lines trunk.old call Up) (T.lines trunk.new call Up)
+        (T.lines trunk.old call Down) (T.lines trunk.new call Down)
         (D.desk desk.old) (D.desk desk.new) want result }
     ensures others { AllButTwo (T.lines trunk.old) (T.lines trunk.new) call Up Down }
 {
@@ -169,9 +172,12 @@ pub fn follow<T: Trunk, D: Desk>(call: u32, want: u16, trunk: &mut T, desk: &mut
     requires number { IsCallNumber call }
     requires high { want ≤ 316 }
     requires fours { want % 4 ≡ 0 }
-    ensures runs { FollowRun (T.lines trunk.old) (T.lines trunk.new) (D.desk desk.old) (D.desk desk.new) call want result }
-    ensures causes { FollowCauses (T.lines trunk.old) (T.lines trunk.new) (D.desk desk.old) (D.desk desk.new) call (status_of result) }
-    ensures clean { CleanFollow (T.lines trunk.old) (T.lines trunk.new) (D.desk desk.old) (D.desk desk.new) call want (status_of result) }
+    ensures runs { FollowRun (T.lines trunk.old) (T.lines trunk.new) (D.desk desk.old)
+        (D.desk desk.new) call want result }
+    ensures causes { FollowCauses (T.lines trunk.old) (T.lines trunk.new) (D.desk desk.old)
+        (D.desk desk.new) call (status_of result) }
+    ensures clean { CleanFollow (T.lines trunk.old) (T.lines trunk.new) (D.desk desk.old)
+        (D.desk desk.new) call want (status_of result) }
 {
     let end = follow_line(call, want, trunk, desk);
     tell_last(call, end, desk)

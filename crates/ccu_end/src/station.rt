@@ -40,7 +40,14 @@ impl Model for Ccu {
 
     ghost Value = { CcuMemory };
 
-    ghost view = { λ s. record { periods = s.periods; last = s.last; low = s.low; want = s.want; waiting = s.waiting; answer = up_words_of s.answer } };
+    ghost view = { λ s. record {
+      periods = s.periods;
+      last = s.last;
+      low = s.low;
+      want = s.want;
+      waiting = s.waiting;
+      answer = up_words_of s.answer;
+    } };
 
     ghost invariant = { λ s. (s.low ≤ 320 * s.periods) × AreBits s.last };
 }
@@ -51,8 +58,10 @@ fn take_next(window: &[u8; 640], base: u64, low: &mut u64) -> Option<Found>
     requires small { base < 2 ^ 60 }
     requires near { low.old ≤ base + 320 }
     requires bits { AreBits window.now }
-    ensures found { IfSome result (λ f. IsNext window.now base low.old f × (low.new ≡ f.place + 316)) }
-    ensures none { IfNone result (NoneNext window.now base low.old (base + 5) × (low.new ≡ low.old)) }
+    ensures found { IfSome result (λ f. IsNext window.now base low.old f
+        × (low.new ≡ f.place + 316)) }
+    ensures none { IfNone result (NoneNext window.now base low.old (base + 5)
+        × (low.new ≡ low.old)) }
     ensures are_bits { IfSome result HaveBits }
 {
     let first = (*low).max(base.saturating_sub(READ_BITS as u64 - 1));
@@ -117,17 +126,21 @@ impl Ccu {
         requires { self.old.periods < 4294967295 }
 
         // By what is kept of the earlier periods, and the bits of this one.
-        ensures frames { AreNext (self.old.last ++ bits_of octets.now) (320 * self.old.periods) self.old.low (frames_of result) }
+        ensures frames { AreNext (self.old.last ++ bits_of octets.now) (320 * self.old.periods)
+            self.old.low (frames_of result) }
         ensures low { self.new.low ≡ low_after self.old.low (frames_of result) }
         ensures counted { self.new.periods ≡ self.old.periods + 1 }
         ensures last { self.new.last ≡ bits_of octets.now }
-        ensures waiting { self.new.waiting ≡ waiting_after self.old.waiting self.old.low self.old.want (frames_of result) }
-        ensures answer { self.new.answer ≡ answer_after self.old.waiting self.old.low self.old.want (frames_of result) }
+        ensures waiting { self.new.waiting ≡
+            waiting_after self.old.waiting self.old.low self.old.want (frames_of result) }
+        ensures answer { self.new.answer ≡
+            answer_after self.old.waiting self.old.low self.old.want (frames_of result) }
         ensures want { self.new.want ≡ self.old.want }
 
         // For any past: the frames found in its periods and in this one are those found in all bits so far, each in the
         // period of its bit 315.
-        ensures history { (past : List (List ℕ)) (heard : List (List FoundFrame)) → Stands past heard self.old →
+        ensures history { (past : List (List ℕ)) (heard : List (List FoundFrame)) →
+            Stands past heard self.old →
             Stands (octets.now ∷ past) (frames_of result ∷ heard) self.new }
 
         ensures none { IfNone result.first (result.second ≡ None) }
@@ -154,7 +167,8 @@ impl Ccu {
         ensures are_bits { AreBits bits.new }
 
         // For any past: it is what the definition `asked` gives for the frames found in its periods.
-        ensures history { (past : List (List ℕ)) (heard : List (List FoundFrame)) → Stands past heard self.old →
+        ensures history { (past : List (List ℕ)) (heard : List (List FoundFrame)) →
+            Stands past heard self.old →
             bits.new ≡ bits_saying (asked self.old.want heard) }
     {
         write_up(&self.answer, bits);

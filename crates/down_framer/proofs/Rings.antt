@@ -4,7 +4,7 @@ use Rattle.std.proofs.Common.{drop, replicate, arith, length-append, length-drop
 use Rattle.std.proofs.lemmas.List.{take_all, drop_all, length-replicate, take-replicate, append_assoc, append-nil}
 use Rattle.std.proofs.lemmas.List.Elements.{All-append, All-replicate, All-take, All-drop}
 use Rattle.circular_buffer.specs.Buffer.{Buffer, buffer, keep_last}
-use Rattle.time_align.specs.Shift.{IsShift}
+use Rattle.time_align.specs.Shift.{greatest_shift, IsShift}
 use Rattle.trau_bits.specs.Bits.{AreBits}
 use Rattle.down_framer.specs.Made.{octets_to_next, frame_on_line}
 use Rattle.down_framer.specs.Memory.{FramerMemory, home_memory, IsBetweenPeriods, IsWithinPeriod}
@@ -159,7 +159,8 @@ new-rings bits bits1 octets ones n eb eo el en e1 =
     }
 
 -- a period that is put keeps the balance
-pub put_within : (s : FramerMemory) (octets : List ℕ) → IsBetweenPeriods s → length octets ≡ 160 → s.to_skip ≤ 156 → IsWithinPeriod (after_put s octets)
+pub put_within : (s : FramerMemory) (octets : List ℕ) → IsBetweenPeriods s → length octets ≡ 160 → s.to_skip ≤ greatest_shift →
+    IsWithinPeriod (after_put s octets)
 put_within s octets between l b =
     let balance = between.balance in
     let short = between.short in

@@ -1,7 +1,7 @@
 -- When frames are made.
 use Rattle.std.proofs.Common.{◌≡◌, refl, ℕ, ◌+◌, ◌*◌, ◌/◌, ◌≤◌, ◌<◌, ℤ, pos, negsuc, nat_le, Option, Some, None, List, [], ◌∷◌, length, arith, ◌⊎◌, inl, inr}
 use Rattle.std.proofs.lemmas.Bool.{leb-true, leb-false, cond_both}
-use Rattle.time_align.specs.Shift.{latest_shift, IsShift}
+use Rattle.time_align.specs.Shift.{greatest_shift, latest_shift, IsShift}
 use Rattle.time_align.proofs.Shifts.{IsShift-latest_shift}
 use Rattle.down_framer.specs.Made.{Period, MadeFrame, octets_to_next, next_start, handed_due, counted_fields, shift_due, next_frame, grown, made_frames}
 
@@ -36,7 +36,7 @@ next_start-grown p past fs =
 -- After the tries of a period the next frame ends after it, and so soon that it would have been made in a later one.
 pub record AreMade {A : Type 0} (k : ℕ) (fs : List (MadeFrame A)) : Type 0 where
   pub low : 160 * k < next_start fs + 160
-  pub high : next_start fs ≤ 160 * k + 156
+  pub high : next_start fs ≤ 160 * k + greatest_shift
 
 -- after each period no frame is left to be made, and none is made too early
 pub AreMade-made_frames : {A : Type 0} (ps : List (Period A)) → AreMade (length ps) (made_frames ps)
@@ -52,7 +52,7 @@ AreMade-made_frames (p ∷ past) =
         × (next_start (made_frames (p ∷ past)) ≡ next_start (grown p past (made_frames past)))) ⊎
         ((next_start (grown p past (made_frames past)) ≤ 160 * length past) × (next_start (grown p past (made_frames past)) + 158 ≤ next_start
         (made_frames (p ∷ past))) × (next_start (made_frames (p ∷ past)) ≤ next_start (grown p past (made_frames past)) + 316)) →
-        160 * length past < next_start (made_frames past) + 160 → next_start (made_frames past) ≤ 160 * length past + 156 →
+        160 * length past < next_start (made_frames past) + 160 → next_start (made_frames past) ≤ 160 * length past + greatest_shift →
         AreMade (length (p ∷ past)) (made_frames (p ∷ past))
     two a b low high = record { low = omega arith; high = omega arith }
 

@@ -1,6 +1,7 @@
 -- At most one handed frame waits between periods: that of the newest period.
 use Rattle.std.proofs.Common.{◌≡◌, refl, sym, ap, ◌∙◌, subst, ℕ, ◌+◌, ◌*◌, ◌≤◌, ◌<◌, true, false, ◌||◌, Some, None, List, [], ◌∷◌, length, arith, ◌⊎◌, inl, inr}
 use Rattle.std.proofs.lemmas.Bool.{cases_lt, cases_Bool, cond-true, cond-false}
+use Rattle.time_align.specs.Shift.{greatest_shift}
 use Rattle.down_framer.specs.Made.{Period, MadeFrame, next_start, latest_start, hands_at, made_from, handed_due, next_frame, grown, made_frames}
 use Rattle.down_framer.specs.Bridges.{in_bridge, IsHistory}
 use Rattle.down_framer.proofs.Timing.{AreMade, AreMade-made_frames}
@@ -50,7 +51,7 @@ on_time p past fs s e b i up low =
 
 -- at its start, with octets to skip
 late : {A : Type 0} (p : Period A) (past : List (Period A)) (fs : List (MadeFrame A)) (s : ℕ) → p.bridged ≡ true →
-    s + made_from s fs ≡ length past → 160 * length past < next_start fs → next_start fs ≤ 160 * length past + 156 →
+    s + made_from s fs ≡ length past → 160 * length past < next_start fs → next_start fs ≤ 160 * length past + greatest_shift →
     Phase s (p ∷ past) (grown p past (grown p past fs))
 late p past fs s b i low high =
     let w : Behind s (p ∷ past) fs = record {

@@ -7,7 +7,7 @@ use Rattle.frame_sync.specs.declared.yields.Mode.{Mode}
 use Rattle.frame_sync.specs.declared.yields.Mode.TheVariants.{Hunting, Locked}
 use Rattle.frame_sync.specs.declared.yields.Yield.{Yield}
 use Rattle.frame_sync.specs.declared.yields.Yield.TheVariants.{Frame, Miss}
-use Rattle.frame_sync.specs.Yields.{NoMatch, Yields}
+use Rattle.frame_sync.specs.Yields.{misses_to_hunt, NoMatch, Yields}
 use Rattle.frame_sync.specs.Periods.{after_miss, first_match}
 use Rattle.frame_sync.specs.Memory.{low_of}
 use Rattle.frame_sync.proofs.Found.{FoundAt, first_match-says}
@@ -48,9 +48,9 @@ given-hunting bits low (Some p) h more =
     (from, h.before, h.matches, omega arith, refl, refl) (more p from)
 
 low-after_miss : (p misses : ℕ) → low_of (after_miss p misses) ≡ p + 320
-low-after_miss p misses = elim (cases_eq misses 2) [
-  | inl two ↦ rw (eq-eqb misses 2 two) refl
-  | inr less ↦ rw (ne_eqb misses 2 less) refl
+low-after_miss p misses = elim (cases_eq (misses + 1) misses_to_hunt) [
+  | inl last ↦ rw (eq-eqb (misses + 1) misses_to_hunt last) refl
+  | inr less ↦ rw (ne_eqb (misses + 1) misses_to_hunt less) refl
 ]
 
 -- in any mode, with at most k bits from the place on from which it goes on

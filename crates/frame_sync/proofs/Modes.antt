@@ -1,14 +1,14 @@
 -- The mode of the search by the yields so far, and what it gives next: the definition of all yields, met by the machine.
 use Rattle.std.proofs.Common.{◌≡◌, ℕ, zero, suc, ◌+◌, ◌<◌, ◌≤◌, Bool, true, false, List, [], ◌∷◌, ◌++◌, append_assoc, length, reverse, refl, sym, ap, ◌∙◌}
 use Rattle.std.proofs.Common.{subst, arith, inl, inr}
-use Rattle.std.proofs.lemmas.Bool.{cases_eq, eq-eqb, ne_eqb}
+use Rattle.std.proofs.lemmas.Bool.{cases_eq, eq-eqb, ne_eqb, lt-leb, le-leb}
 use Rattle.std.proofs.lemmas.List.{append-nil, reverse-append}
 use Rattle.trau_frame.specs.Match.{bit_in, is_match, frame_at}
 use Rattle.frame_sync.specs.declared.yields.Mode.{Mode}
 use Rattle.frame_sync.specs.declared.yields.Mode.TheVariants.{Hunting, Locked}
 use Rattle.frame_sync.specs.declared.yields.Yield.{Yield}
 use Rattle.frame_sync.specs.declared.yields.Yield.TheVariants.{Frame, Miss}
-use Rattle.frame_sync.specs.Yields.{NoMatch, IsFirstMatch, frame_or_miss, place_of, end_of_yields, hunts, IsNextYield, Yields}
+use Rattle.frame_sync.specs.Yields.{NoMatch, IsFirstMatch, frame_or_miss, place_of, end_of_yields, misses_to_hunt, misses_in_row, hunts, IsNextYield, Yields}
 use Rattle.frame_sync.specs.Periods.{after_miss}
 
 -- ---- what a mode gives
@@ -47,40 +47,38 @@ Missed k past = ⊥
 -- how the mode and the yields so far go together
 abbrev pub Tied : List Yield → Mode → Type 0
 Tied past (Hunting low) = (hunts past ≡ true) × (end_of_yields past ≡ low)
-Tied past (Locked next misses) = (end_of_yields past ≡ next) × (misses ≤ 2) × Missed misses past
+Tied past (Locked next misses) = (end_of_yields past ≡ next) × (misses < misses_to_hunt) × Missed misses past
 
--- up to two misses keep the lock
-missed-locked : (k : ℕ) (past : List Yield) → k ≤ 2 → Missed k past → hunts past ≡ false
+-- so many are the misses in a row
+misses_in_row-Missed : (k : ℕ) (past : List Yield) → Missed k past → misses_in_row past ≡ k
+misses_in_row-Missed zero [] m = absurd m
+misses_in_row-Missed zero (Frame p f ∷ older) m = refl
+misses_in_row-Missed zero (Miss p ∷ older) m = absurd m
+misses_in_row-Missed (suc k) [] m = absurd m
+misses_in_row-Missed (suc k) (Frame p f ∷ older) m = absurd m
+misses_in_row-Missed (suc k) (Miss p ∷ older) m = ap suc (misses_in_row-Missed k older m)
+
+-- fewer misses keep the lock
+missed-locked : (k : ℕ) (past : List Yield) → k < misses_to_hunt → Missed k past → hunts past ≡ false
 missed-locked zero [] l m = absurd m
-missed-locked zero (Frame p f ∷ older) l m = refl
-missed-locked zero (Miss p ∷ older) l m = absurd m
 missed-locked (suc k) [] l m = absurd m
-missed-locked (suc k) (Frame p f ∷ older) l m = absurd m
-missed-locked (suc zero) (Miss p ∷ []) l m = absurd m
-missed-locked (suc zero) (Miss p ∷ Frame q g ∷ older) l m = refl
-missed-locked (suc zero) (Miss p ∷ Miss q ∷ older) l m = absurd m
-missed-locked (suc (suc k)) (Miss p ∷ []) l m = absurd m
-missed-locked (suc (suc k)) (Miss p ∷ Frame q g ∷ older) l m = absurd m
-missed-locked (suc (suc zero)) (Miss p ∷ Miss q ∷ []) l m = absurd m
-missed-locked (suc (suc zero)) (Miss p ∷ Miss q ∷ Frame r h ∷ older) l m = refl
-missed-locked (suc (suc zero)) (Miss p ∷ Miss q ∷ Miss r ∷ older) l m = absurd m
-missed-locked (suc (suc (suc k))) (Miss p ∷ Miss q ∷ older) l m = absurd (omega arith)
+missed-locked k (y ∷ older) l m =
+    let count = misses_in_row-Missed k (y ∷ older) m in
+    lt-leb misses_to_hunt (misses_in_row (y ∷ older)) (omega arith)
 
--- the third gives it up
-third-hunts : (p : ℕ) (past : List Yield) → Missed 2 past → hunts (Miss p ∷ past) ≡ true
-third-hunts p [] m = absurd m
-third-hunts p (Frame q g ∷ older) m = absurd m
-third-hunts p (Miss q ∷ []) m = absurd m
-third-hunts p (Miss q ∷ Frame r h ∷ older) m = absurd m
-third-hunts p (Miss q ∷ Miss r ∷ older) m = refl
+-- the last one gives it up
+last-hunts : (p misses : ℕ) (past : List Yield) → misses + 1 ≡ misses_to_hunt → Missed misses past → hunts (Miss p ∷ past) ≡ true
+last-hunts p misses past last m =
+    let count = misses_in_row-Missed misses past m in
+    le-leb misses_to_hunt (suc (misses_in_row past)) (omega arith)
 
 -- so they go together after a miss
-tied-after_miss : (past : List Yield) (p misses : ℕ) → misses ≤ 2 → Missed misses past → Tied (Miss p ∷ past) (after_miss p misses)
-tied-after_miss past p misses l m = elim (cases_eq misses 2) [
-  | inl two ↦ rw (eq-eqb misses 2 two) (third-hunts p past (subst (λ k. Missed k past) two m), refl)
+tied-after_miss : (past : List Yield) (p misses : ℕ) → misses < misses_to_hunt → Missed misses past → Tied (Miss p ∷ past) (after_miss p misses)
+tied-after_miss past p misses l m = elim (cases_eq (misses + 1) misses_to_hunt) [
+  | inl last ↦ rw (eq-eqb (misses + 1) misses_to_hunt last) (last-hunts p misses past last m, refl)
   | inr less ↦
       let next : suc misses ≡ misses + 1 = omega arith in
-      rw (ne_eqb misses 2 less) (refl, omega arith, subst (λ k. Missed k (Miss p ∷ past)) next m)
+      rw (ne_eqb (misses + 1) misses_to_hunt less) (refl, omega arith, subst (λ k. Missed k (Miss p ∷ past)) next m)
 ]
 
 -- and after any yield

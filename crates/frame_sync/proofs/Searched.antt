@@ -10,7 +10,7 @@ use Rattle.frame_sync.specs.declared.yields.Mode.TheVariants.{Hunting, Locked}
 use Rattle.frame_sync.specs.declared.yields.Yield.{Yield}
 use Rattle.frame_sync.specs.declared.yields.Yield.TheVariants.{Frame}
 use Rattle.trau_frame.specs.Match.{bit_in, is_match, frame_at}
-use Rattle.frame_sync.specs.Yields.{NoMatch, place_of}
+use Rattle.frame_sync.specs.Yields.{misses_to_hunt, NoMatch, place_of}
 use Rattle.frame_sync.specs.Periods.{after_miss, found_in, hunted, yield_due, searched, CarriesFrame}
 use Rattle.frame_sync.specs.Step.{bit_of_two, ends_in_two}
 use Rattle.frame_sync.specs.Memory.{IsNear}
@@ -37,13 +37,13 @@ near-hunted line base low (Some p) l h =
     let below = h.below in
     (omega arith, omega arith, omega arith)
 
-near-after_miss : (base next misses : ℕ) → next ≤ base → base < next + 320 → misses ≤ 2 → IsNear (base + 320) (after_miss next misses)
-near-after_miss base next misses l h m = elim (cases_eq misses 2) [
-  | inl two ↦ rw (eq-eqb misses 2 two) (omega arith, omega arith, omega arith)
-  | inr less ↦ rw (ne_eqb misses 2 less) (omega arith, omega arith, omega arith)
+near-after_miss : (base next misses : ℕ) → next ≤ base → base < next + 320 → misses < misses_to_hunt → IsNear (base + 320) (after_miss next misses)
+near-after_miss base next misses l h m = elim (cases_eq (misses + 1) misses_to_hunt) [
+  | inl last ↦ rw (eq-eqb (misses + 1) misses_to_hunt last) (omega arith, omega arith, omega arith)
+  | inr less ↦ rw (ne_eqb (misses + 1) misses_to_hunt less) (omega arith, omega arith, omega arith)
 ]
 
-near-due : (line : ℕ → ℕ) (base next misses : ℕ) (b : Bool) → next ≤ base → base < next + 320 → misses ≤ 2 →
+near-due : (line : ℕ → ℕ) (base next misses : ℕ) (b : Bool) → next ≤ base → base < next + 320 → misses < misses_to_hunt →
     IsNear (base + 320) (yield_due line next misses b).1
 near-due line base next misses true l h m = (omega arith, omega arith, omega arith)
 near-due line base next misses false l h m = near-after_miss base next misses l h m

@@ -13,7 +13,7 @@ use Rattle.frame_sync.specs.declared.yields.Mode.TheVariants.{Hunting, Locked}
 use Rattle.frame_sync.specs.declared.yields.Yield.{Yield}
 use Rattle.frame_sync.specs.declared.yields.Yield.TheVariants.{Frame, Miss}
 use Rattle.trau_frame.specs.Match.{bit_in, is_match, frame_at}
-use Rattle.frame_sync.specs.Yields.{Yields}
+use Rattle.frame_sync.specs.Yields.{misses_to_hunt, Yields}
 use Rattle.frame_sync.specs.Periods.{after_miss, found_in, hunted, yield_due, searched, line_bits, mode_after, each_yield, ArePeriods}
 use Rattle.frame_sync.specs.Memory.{IsNear}
 use Rattle.trau_frame.proofs.Matches.{is_match-same, frame_at-same}
@@ -107,9 +107,9 @@ adds-hunted bits base low (Some p) count l old h =
 -- no frame ends in the bits after a miss
 none_ends-after_miss : (bits : List ℕ) (base next misses : ℕ) → length bits ≡ base + 320 → base < next + 320 →
     NoneEnds bits (length bits) (after_miss next misses)
-none_ends-after_miss bits base next misses count h = elim (cases_eq misses 2) [
-  | inl two ↦ rw (eq-eqb misses 2 two) (λ q a b. absurd (omega arith))
-  | inr less ↦ rw (ne_eqb misses 2 less) (omega arith)
+none_ends-after_miss bits base next misses count h = elim (cases_eq (misses + 1) misses_to_hunt) [
+  | inl last ↦ rw (eq-eqb (misses + 1) misses_to_hunt last) (λ q a b. absurd (omega arith))
+  | inr less ↦ rw (ne_eqb (misses + 1) misses_to_hunt less) (omega arith)
 ]
 
 adds-due : (bits : List ℕ) (base next misses : ℕ) (b : Bool) → length bits ≡ base + 320 → next ≤ base → base < next + 320 →

@@ -2,6 +2,7 @@
 use Rattle.std.specs.Prelude.{ℕ, ◌+◌, ◌≤◌, ◌<◌, List, replicate}
 use Rattle.frame_sync.specs.declared.yields.Mode.{Mode}
 use Rattle.frame_sync.specs.declared.yields.Mode.TheVariants.{Hunting, Locked}
+use Rattle.frame_sync.specs.Yields.{misses_to_hunt}
 
 -- the number of periods so far, the bits of the last one, and the mode
 pub record SyncMemory : Type 0 where
@@ -30,6 +31,6 @@ misses_of (Hunting low) = 0
 misses_of (Locked next misses) = misses
 
 -- the mode fits a line of `base` bits so far: the search hunts from `base` or an earlier place on, or the frame that is due begins at `base` or
--- before and ends in the next period; there are at most two misses
+-- before and ends in the next period; the misses haven't ended the lock
 abbrev pub IsNear : ℕ → Mode → Type 0
-IsNear base mode = (low_of mode ≤ base) × (base < high_of base mode) × (misses_of mode ≤ 2)
+IsNear base mode = (low_of mode ≤ base) × (base < high_of base mode) × (misses_of mode < misses_to_hunt)

@@ -9,11 +9,11 @@ use Rattle.frame_sync.specs.declared.yields.Mode.TheVariants.{Hunting, Locked}
 use Rattle.frame_sync.specs.declared.yields.Yield.{Yield}
 use Rattle.frame_sync.specs.declared.yields.Yield.TheVariants.{Frame, Miss}
 use Rattle.trau_frame.specs.Match.{bit_in, is_match, frame_at}
-use Rattle.frame_sync.specs.Yields.{place_of}
+use Rattle.frame_sync.specs.Yields.{misses_to_hunt, place_of}
 
--- the mode after a miss at p with `misses` misses in a row before it: after the third miss the search hunts
+-- the mode after a miss at p with `misses` misses in a row before it: after the last miss of a lock the search hunts
 abbrev pub after_miss : ℕ → ℕ → Mode
-after_miss p misses = if misses == 2 then Hunting (p + 320) else Locked (p + 320) (misses + 1)
+after_miss p misses = if misses + 1 == misses_to_hunt then Hunting (p + 320) else Locked (p + 320) (misses + 1)
 
 -- the first of `count` places from `first` on that matches
 unfoldable pub first_match : (ℕ → ℕ) → ℕ → ℕ → Option ℕ

@@ -1,6 +1,6 @@
 -- All yields of the search over a whole list of bits, each by the yields before it. When the search locks and when it loses the lock is this
 -- project's profile.
-use Rattle.std.specs.Prelude.{◌≡◌, ℕ, ◌+◌, ◌<◌, ◌≤◌, Bool, true, false, if◌then◌else◌, List, [], ◌∷◌, ◌++◌, length, reverse}
+use Rattle.std.specs.Prelude.{◌≡◌, ℕ, suc, ◌+◌, ◌<◌, ◌≤◌, Bool, true, false, if◌then◌else◌, nat_le, List, [], ◌∷◌, ◌++◌, length, reverse}
 use Rattle.trau_frame.specs.Match.{bit_in, is_match, frame_at}
 use Rattle.frame_sync.specs.declared.yields.Yield.{Yield}
 use Rattle.frame_sync.specs.declared.yields.Yield.TheVariants.{Frame, Miss}
@@ -27,12 +27,20 @@ abbrev pub end_of_yields : List Yield → ℕ
 end_of_yields [] = 0
 end_of_yields (y ∷ older) = place_of y + 320
 
--- whether the search hunts after these yields, the newest first: before any yield, and after three misses in a row. (A hunt yields a frame, so there
--- are never four misses in a row.)
+-- so many misses in a row end the lock; a hunt yields a frame, so there are never more
+abbrev pub misses_to_hunt : ℕ
+misses_to_hunt = 3
+
+-- how many misses in a row there are up to the newest yield, which is first
+abbrev pub misses_in_row : List Yield → ℕ
+misses_in_row [] = 0
+misses_in_row (Frame p f ∷ older) = 0
+misses_in_row (Miss p ∷ older) = suc (misses_in_row older)
+
+-- whether the search hunts after these yields, the newest first: before any yield, and after so many misses in a row
 abbrev pub hunts : List Yield → Bool
 hunts [] = true
-hunts (Miss p ∷ Miss q ∷ Miss r ∷ older) = true
-hunts (y ∷ older) = false
+hunts (y ∷ older) = nat_le misses_to_hunt (misses_in_row (y ∷ older))
 
 -- the next yield of the bits after these, the newest first
 pub record IsNextYield (bits : List ℕ) (past : List Yield) (y : Yield) : Type 0 where

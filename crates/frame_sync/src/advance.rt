@@ -5,6 +5,7 @@ ghost use Rattle.trau_bits.specs.Bits.{AreBits};
 ghost use Rattle.frame_sync.specs.declared.yields.Mode.TheVariants.{Hunting, Locked};
 ghost use Rattle.frame_sync.specs.declared.yields.Ending.TheVariants.{Framed};
 ghost use Rattle.trau_frame.specs.Match.{bit_in, frame_at};
+ghost use Rattle.frame_sync.specs.Yields.{misses_to_hunt};
 ghost use Rattle.frame_sync.specs.Periods.{after_miss, searched};
 ghost use Rattle.frame_sync.specs.Step.{bit_of_two, yield_of_ending, ends_in_two, LiesWithin};
 ghost use Rattle.frame_sync.specs.Memory.{IsNear};
@@ -12,6 +13,9 @@ ghost use Rattle.frame_sync.specs.Memory.{IsNear};
 use crate::hunt::find_match;
 use crate::yields::{Ending, Mode, Yield};
 use trau_frame::sync_matches;
+
+// So many misses in a row end the lock (this project's profile).
+const MISSES_TO_HUNT: u8 = 3;
 
 // The 320 bits of the window from place `o` on.
 fn frame_from(window: &[u8; 640], o: usize) -> &[u8; 320]
@@ -37,11 +41,11 @@ fn framed(place: u64) -> (Ending, Mode)
 
 // The mode after a miss at a place, with `misses` misses in a row before it.
 fn after_miss(place: u64, misses: u8) -> Mode
-    requires count { misses ≤ 2 }
+    requires count { misses < misses_to_hunt }
     requires small { place < 2 ^ 60 }
     ensures { result ≡ after_miss place misses }
 {
-    if misses == 2 {
+    if misses + 1 == MISSES_TO_HUNT {
         Mode::Hunting { low: place + 320 }
     } else {
         Mode::Locked {
@@ -56,7 +60,8 @@ fn hunt(low: u64, base: u64, window: &[u8; 640]) -> (Ending, Mode)
     requires near { low ≤ base }
     requires small { base < 2 ^ 60 }
     requires bits { AreBits window.now }
-    ensures value { ends_in_two base window.now result ≡ searched (bit_of_two base window.now) base (Hunting low) }
+    ensures value { ends_in_two base window.now result ≡
+        searched (bit_of_two base window.now) base (Hunting low) }
     ensures within { LiesWithin base result.0 }
 {
     let first = low.max(base.saturating_sub(319));
@@ -70,10 +75,11 @@ fn hunt(low: u64, base: u64, window: &[u8; 640]) -> (Ending, Mode)
 fn take_due(next: u64, misses: u8, base: u64, window: &[u8; 640]) -> (Ending, Mode)
     requires began { next ≤ base }
     requires ends { base < next + 320 }
-    requires count { misses ≤ 2 }
+    requires count { misses < misses_to_hunt }
     requires small { base < 2 ^ 60 }
     requires bits { AreBits window.now }
-    ensures value { ends_in_two base window.now result ≡ searched (bit_of_two base window.now) base (Locked next misses) }
+    ensures value { ends_in_two base window.now result ≡
+        searched (bit_of_two base window.now) base (Locked next misses) }
     ensures within { LiesWithin base result.0 }
 {
     if sync_matches(frame_from(window, (next + 320 - base) as usize)) {
@@ -89,7 +95,8 @@ pub(crate) fn advance(mode: Mode, base: u64, window: &[u8; 640]) -> (Ending, Mod
     requires near { IsNear base mode }
     requires small { base < 2 ^ 60 }
     requires bits { AreBits window.now }
-    ensures value { ends_in_two base window.now result ≡ searched (bit_of_two base window.now) base mode }
+    ensures value { ends_in_two base window.now result ≡
+        searched (bit_of_two base window.now) base mode }
     ensures within { LiesWithin base result.0 }
 {
     match mode {

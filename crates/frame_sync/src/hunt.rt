@@ -17,7 +17,8 @@ fn zeros_after(zeros: usize, bit: u8) -> usize
 /// The first matching place from `first` on whose frame ends in the window.
 pub(crate) fn find_match(window: &[u8; 640], first: usize) -> Option<usize>
     requires { first ≤ 320 }
-    ensures found { IfSome result (λ o. (first ≤ o) × (o ≤ 320) × NoMatch (bit_in window.now) first o × (is_match (bit_in window.now) o ≡ true)) }
+    ensures found { IfSome result (λ o. (first ≤ o) × (o ≤ 320)
+        × NoMatch (bit_in window.now) first o × (is_match (bit_in window.now) o ≡ true)) }
     ensures none { IfNone result (NoMatch (bit_in window.now) first 321) }
 {
     let mut zeros = 0;

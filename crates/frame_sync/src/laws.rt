@@ -7,7 +7,8 @@ ghost use Rattle.frame_sync.specs.Periods.{ArePeriods, all_bits, all_yields, yie
 
 /// The yields of the periods of a line, one after another, are the yields of all its bits.
 pub fn periods_give_all_yields()
-    ensures { (periods : List (List ℕ)) → ArePeriods periods → Yields (all_bits periods) (all_yields periods) }
+    ensures { (periods : List (List ℕ)) → ArePeriods periods →
+        Yields (all_bits periods) (all_yields periods) }
 {}
 
 /// Each list of bits has a list of yields. By `one_list` it is the only one.

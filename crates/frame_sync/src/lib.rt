@@ -3,7 +3,7 @@
 //! The search takes the octets of an uplink, 40 a period of 20 ms. It finds where frames begin, at any bit, and gives
 //! each frame or miss in the period that has its last bit. While it hunts, it locks on the first place whose 35 sync
 //! bits match. While locked, it expects a frame every 320 bits. A frame whose sync bits don't match is a miss, and
-//! after the third miss in a row the search hunts again.
+//! after MISSES_TO_HUNT misses in a row the search hunts again.
 //!
 //! `window` has the bits of two periods, `hunt` looks for the first match in them, `advance` takes the search over one
 //! period, and `search` has the state between periods.

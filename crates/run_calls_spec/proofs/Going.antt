@@ -6,6 +6,7 @@ use Rattle.std.specs.Prelude.{◌==◌, if◌then◌else◌, nat_lt, is_some, fi
 use Rattle.std.proofs.lemmas.Bool.{cases_lt, and_from, le-leb, lt-ltb, or_left, or_right, eq-eqb}
 use Rattle.std.proofs.lemmas.List.{length-reverse}
 use Rattle.std.proofs.lemmas.List.Elements.{filter-append}
+use Rattle.time_align.specs.Shift.{greatest_shift}
 use Rattle.trau_orders.specs.Lists.{AreOrders}
 use Rattle.switchboard.specs.declared.act.Span as board
 use Rattle.switchboard.specs.Calls.{opened_at}
@@ -129,7 +130,8 @@ handed_soon items enough r c t x j a b h =
     less : (i : ℕ) → i < t - x.from → t - x.from ≤ (span_for r c x).to - (span_for r c x).from → i < (span_for r c x).to - (span_for r c x).from
     less i l m = omega arith
 
-    soon : (s from t first start : ℕ) → s ≤ from → from ≤ t → from - s ≤ when first → first ≤ 160 * (from - s) + 156 → start ≡ first + 160 * (t - from) →
+    soon : (s from t first start : ℕ) → s ≤ from → from ≤ t → from - s ≤ when first → first ≤ 160 * (from - s) + greatest_shift →
+        start ≡ first + 160 * (t - from) →
         (t ≤ s + when start) × (s + when start ≤ t + 1)
     soon s from t first start k l m n e = (omega arith, omega arith)
 

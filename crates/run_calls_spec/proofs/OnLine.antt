@@ -7,6 +7,7 @@ use Rattle.std.proofs.lemmas.Bool.{cases_lt, ltb-true}
 use Rattle.std.proofs.lemmas.List.{append-nil, reverse-reverse, length-reverse, length-replicate, length-take, get_or-take, get_or-append-add}
 use Rattle.std.proofs.lemmas.List.{get_or_append_left}
 use Rattle.std.proofs.lemmas.List.Concat.{flat_map-append}
+use Rattle.time_align.specs.Shift.{greatest_shift}
 use Rattle.trau_frame.specs.DownFrame.{down_bits}
 use Rattle.trau_frame.proofs.Again.{length-down_bits}
 use Rattle.trau_orders.specs.Lists.{AreOrders}
@@ -160,7 +161,8 @@ whole_on_line items long r c t x j a s more =
 -- ---- what stays unwritten
 
 -- frames that begin in the call's periods end at most 156 octets after them
-next_near : (call : Call) (n m : ℕ) → ((j : ℕ) → j < m → when (frame_by_number call j).start < n) → numbered_start (first_frames call m) ≤ 160 * n + 156
+next_near : (call : Call) (n m : ℕ) → ((j : ℕ) → j < m → when (frame_by_number call j).start < n) →
+    numbered_start (first_frames call m) ≤ 160 * n + greatest_shift
 next_near call n zero h = omega arith
 next_near call n (suc m) h =
     let last = h m (omega arith) in
@@ -179,7 +181,7 @@ few_unwritten long r c a o =
     near (numbered_start (first_frames call n)) (end_in r c - start_in r c) (periods call) (length (down call)) (length (made_bits r c)) made
     (next_near call (periods call) n (λ j l. made_within call j whole l)) (count_periods r c) (long r c a o)
   where
-    near : (next n k long made : ℕ) → made ≡ 320 + 2 * next → next ≤ 160 * k + 156 → k ≡ n → long ≡ 320 * n → made ≤ long + 632
+    near : (next n k long made : ℕ) → made ≡ 320 + 2 * next → next ≤ 160 * k + greatest_shift → k ≡ n → long ≡ 320 * n → made ≤ long + 632
     near next n k long made m l e o = omega arith
 
 -- **The line is the first of the bits that are made.**

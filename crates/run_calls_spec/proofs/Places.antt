@@ -3,7 +3,7 @@ use Rattle.std.proofs.Common.{◌≡◌, refl, sym, ap, ◌∙◌, subst, ℕ, z
 use Rattle.std.proofs.Common.{map, inl, inr, ◌⊎◌, arith}
 use Rattle.std.specs.Prelude.{if◌then◌else◌, nat_le, filter, ◌↔◌}
 use Rattle.std.proofs.lemmas.Bool.{cases_Bool, cases_lt, lt-leb, le-leb, leb-true, leb-false}
-use Rattle.time_align.specs.Shift.{latest_shift, IsShift}
+use Rattle.time_align.specs.Shift.{greatest_shift, latest_shift, IsShift}
 use Rattle.time_align.proofs.Shifts.{IsShift-latest_shift}
 use Rattle.down_framer.specs.Made.{octets_to_next}
 use Rattle.down_framer.specs.ByNumber.{NumberedFrame, when, count_from, carried_item, fields_to, numbered_start}
@@ -124,7 +124,8 @@ first_made call span =
     rounded from start l = omega arith
 
 -- **It starts less than a period after the span.**
-pub first_start : (call : Call) (span : Span) (first : ℕ) → IsFirstOfSpan call span first → (frame_by_number call first).start ≤ 160 * span.from + 156
+pub first_start : (call : Call) (span : Span) (first : ℕ) → IsFirstOfSpan call span first →
+    (frame_by_number call first).start ≤ 160 * span.from + greatest_shift
 first_start call span zero f = omega arith
 first_start call span (suc n) f =
     let before = f.first n (omega arith) in

@@ -6,8 +6,8 @@ use Rattle.std.specs.List.{range_with_len}
 use Rattle.std.proofs.lemmas.List.{append-nil}
 use Rattle.rx_handler.specs.Heard.{Heard, Good, Sid, Idle, Lost}
 use Rattle.rx_handler.specs.Effective.{is_anchor, is_missed, latest_anchor, missed_since}
-use Rattle.rx_handler.specs.Past.{Anchor, NoAnchor, AtGood, AtSid, anchor_of, anchored, periods_of_fall}
-use Rattle.rx_handler.proofs.Missed.{missed_since-more, Second, second_missed, second_other}
+use Rattle.rx_handler.specs.Past.{Anchor, NoAnchor, AtGood, AtSid, anchor_of, anchor_after, periods_of_fall}
+use Rattle.rx_handler.proofs.Missed.{missed_since-more, Counted, counted_none, counted_missed, counted_other}
 
 -- the periods before k, the newest first
 abbrev pub periods_before : (ℕ → Heard) → ℕ → List Heard
@@ -17,14 +17,17 @@ periods_before heard (suc k) = heard k ∷ periods_before heard k
 -- the periods after anchor g up to k are `since`, the newest first
 pub record Since (heard : ℕ → Heard) (k g : ℕ) (since : List Heard) : Type 0 where
   pub count : length since ≡ k - g
-  pub second : Second k since (missed_since heard g k)
+  pub counted : Counted k since (missed_since heard g k)
 
 -- at the anchor itself
 since_none : (heard : ℕ → Heard) (k : ℕ) → Since heard k k []
 unfolding missed_since periods_of_fall
 since_none heard k =
     let none : k - k ≡ 0 = omega arith in
-    record { count = sym none; second = subst (λ n. Second k [] (filter (λ i. is_missed (heard i)) (range_with_len (k + 1) n))) (sym none) (refl, refl) }
+    record {
+      count = sym none;
+      counted = subst (λ n. Counted k [] (filter (λ i. is_missed (heard i)) (range_with_len (k + 1) n))) (sym none) (counted_none k);
+    }
 
 -- one more lost period after it
 since_more : (heard : ℕ → Heard) (k g : ℕ) (since : List Heard) (missed : Bool) → g ≤ k → heard (suc k) ≡ Lost missed →
@@ -33,12 +36,18 @@ since_more heard k g since true h e s =
     let count = s.count in
     let more : missed_since heard g (suc k) ≡ missed_since heard g k ++ suc k ∷ [] =
     missed_since-more heard g k h ∙ ap (λ y. missed_since heard g k ++ (if is_missed y then suc k ∷ [] else [])) e in
-    record { count = omega arith; second = subst (Second (suc k) (Lost true ∷ since)) (sym more) (second_missed k since (missed_since heard g k) s.second) }
+    record {
+      count = omega arith;
+      counted = subst (Counted (suc k) (Lost true ∷ since)) (sym more) (counted_missed k since (missed_since heard g k) s.counted);
+    }
 since_more heard k g since false h e s =
     let count = s.count in
     let more : missed_since heard g (suc k) ≡ missed_since heard g k =
     missed_since-more heard g k h ∙ ap (λ y. missed_since heard g k ++ (if is_missed y then suc k ∷ [] else [])) e ∙ append-nil (missed_since heard g k) in
-    record { count = omega arith; second = subst (Second (suc k) (Lost false ∷ since)) (sym more) (second_other k since (missed_since heard g k) s.second) }
+    record {
+      count = omega arith;
+      counted = subst (Counted (suc k) (Lost false ∷ since)) (sym more) (counted_other k since (missed_since heard g k) s.counted);
+    }
 
 -- anchor g, heard as this, is what the history has as its anchor
 unfoldable pub TellsAt : (ℕ → Heard) → ℕ → ℕ → Heard → Anchor → Type 0
@@ -54,17 +63,17 @@ Tells heard k (Some g) a = (g ≤ k) × TellsAt heard k g (heard g) a
 
 -- the same after one more lost period
 tells_more_at : (heard : ℕ → Heard) (k g : ℕ) (y : Heard) (a : Anchor) (missed : Bool) → g ≤ k → heard (suc k) ≡ Lost missed →
-    TellsAt heard k g y a → TellsAt heard (suc k) g y (anchored (Lost missed) a)
+    TellsAt heard k g y a → TellsAt heard (suc k) g y (anchor_after (Lost missed) a)
 unfolding TellsAt
-tells_more_at heard k g (Good p) a missed h e t = (Lost missed ∷ t.0, ap (anchored (Lost missed)) t.1, since_more heard k g t.0 missed h e t.2)
-tells_more_at heard k g (Sid q) a missed h e t = (Lost missed ∷ t.0, ap (anchored (Lost missed)) t.1, since_more heard k g t.0 missed h e t.2)
-tells_more_at heard k g Idle a missed h e t = ap (anchored (Lost missed)) t
+tells_more_at heard k g (Good p) a missed h e t = (Lost missed ∷ t.0, ap (anchor_after (Lost missed)) t.1, since_more heard k g t.0 missed h e t.2)
+tells_more_at heard k g (Sid q) a missed h e t = (Lost missed ∷ t.0, ap (anchor_after (Lost missed)) t.1, since_more heard k g t.0 missed h e t.2)
+tells_more_at heard k g Idle a missed h e t = ap (anchor_after (Lost missed)) t
 tells_more_at heard k g (Lost b) a missed h e t = t
 
 tells_more : (heard : ℕ → Heard) (k : ℕ) (o : Option ℕ) (a : Anchor) (missed : Bool) → heard (suc k) ≡ Lost missed →
-    Tells heard k o a → Tells heard (suc k) o (anchored (Lost missed) a)
+    Tells heard k o a → Tells heard (suc k) o (anchor_after (Lost missed) a)
 unfolding Tells
-tells_more heard k None a missed e t = ap (anchored (Lost missed)) t
+tells_more heard k None a missed e t = ap (anchor_after (Lost missed)) t
 tells_more heard k (Some g) a missed e t = let low = t.0 in (omega arith, tells_more_at heard k g (heard g) a missed t.0 e t.1)
 
 -- an anchor in period k itself

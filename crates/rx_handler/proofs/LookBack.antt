@@ -1,35 +1,49 @@
 -- A look back over numbered periods finds what a history with the newest period first tells.
 use Rattle.std.proofs.Common.{◌≡◌, refl, ap, ◌∙◌, sym, ℕ, ◌+◌, ◌-◌, ◌≤◌, min, zero, suc, Bool, true, false, if◌then◌else◌, Option, Some, None, List, [], ◌∷◌}
-use Rattle.std.proofs.Common.{◌++◌, length, arith}
+use Rattle.std.proofs.Common.{◌++◌, length, arith, inl, inr}
 use Rattle.std.specs.Prelude.{◌==◌, slice_get, reverse}
 use Rattle.std.specs.Option.{option_map_or}
+use Rattle.std.proofs.lemmas.Bool.{cases_lt}
 use Rattle.std.proofs.lemmas.List.{length-reverse}
+use Rattle.std.proofs.lemmas.Option.{slice_get-get_or, slice_get_past}
 use Rattle.std.proofs.lemmas.Grind.{reverse_onto}
 use Rattle.std.proofs.Math.Seq.{get_or-append_seam}
 use mathlib.Core.List.{reverse_aux}
 use Rattle.trau_params.specs.Fields.{Fields}
 use Rattle.rx_muting.specs.Draws.{draws_from}
-use Rattle.rx_noise.specs.Mix.{mix_of}
+use Rattle.rx_subst.specs.Lost.{silent_from_lost}
+use Rattle.rx_noise.specs.Mix.{approach_steps, mix_of}
+use Rattle.rx_noise.specs.Noise.{silent_from_fall}
+use Rattle.rx_handler.specs.Profile.{fall_from_missed}
 use Rattle.rx_handler.specs.Heard.{Heard, Good, Sid, Idle, Lost}
 use Rattle.rx_handler.specs.Origin.{GoodFrame, LostFrame, NoFrame, NoiseFrame, frame_of, draws_of}
 use Rattle.rx_handler.specs.Effective.{is_anchor, latest_anchor, missed_since, fall_at, approached_at, start_after, approach_start_at, origin_after, origin_at, draws_before}
 use Rattle.rx_handler.specs.Effective.{effective_at, heard_in}
-use Rattle.rx_handler.specs.Past.{Anchor, AtGood, anchor_of, periods_of_fall, approached_of, start_from, approach_start_of, origin_from, origin_of, drawn, effective_of}
-use Rattle.rx_handler.proofs.Missed.{Second, begun_same}
+use Rattle.rx_handler.specs.Past.{Anchor, AtGood, anchor_of, periods_of_fall, approached_of, start_from, approach_start_of, origin_from, origin_of, draw_count, effective_of}
+use Rattle.rx_handler.proofs.Missed.{Counted, begun_same}
 use Rattle.rx_handler.proofs.Anchors.{periods_before, Since, TellsAt, Tells, tells}
 
 -- ---- what the frame is made from
 
 -- the fall
-fall_same : (k : ℕ) (since : List Heard) (missed : List ℕ) → Second k since missed →
-    option_map_or (λ t. min (k - t + 1) 17) (slice_get missed 1) 0 ≡ min (periods_of_fall since) 17
-fall_same k since [] s = let fall = s.1 in omega arith
-fall_same k since (t ∷ []) s = let fall = s.1 in omega arith
-fall_same k since (r ∷ t ∷ more) s = let fall = s.1 in omega arith
+fall_same : (k : ℕ) (since : List Heard) (missed : List ℕ) → Counted k since missed →
+    option_map_or (λ t. min (k - t + 1) silent_from_fall) (slice_get missed (fall_from_missed - 1)) 0 ≡
+    min (periods_of_fall since) silent_from_fall
+fall_same k since missed s = elim (cases_lt (length missed) fall_from_missed) [
+  | inl few ↦
+      let fall = s.before few in
+      let none = slice_get_past missed (fall_from_missed - 1) (omega arith) in
+      rw none (omega arith)
+  | inr enough ↦
+      let fall = s.from enough in
+      let periods = fall.0 in
+      let some = slice_get-get_or missed (fall_from_missed - 1) 0 (omega arith) in
+      rw some (ap (λ n. min n silent_from_fall) (sym periods))
+]
 
 -- the frame of a good speech frame's row
 good_same : (p : Fields) (k g : ℕ) (since : List Heard) → g ≤ k → length since ≡ k - g →
-    (old : Fields → Fields) → (if g == k then GoodFrame p else LostFrame p (min (k - g) 17)) ≡ origin_from old (AtGood p since)
+    (old : Fields → Fields) → (if g == k then GoodFrame p else LostFrame p (min (k - g) silent_from_lost)) ≡ origin_from old (AtGood p since)
 good_same p k g [] h e old = let same : (g == k) ≡ true = grind arith in rw same
 good_same p k g (y ∷ since) h e old =
     let other : (g == k) ≡ false = grind arith in
@@ -37,7 +51,7 @@ good_same p k g (y ∷ since) h e old =
 
 -- how far the noise has moved
 moved_same : (old q : Fields) (k g : ℕ) (since : List Heard) → length since ≡ k - g → approached_at old q g k ≡ approached_of old q since
-moved_same old q k g since e = ap (λ n. mix_of old q (min (n + 1) 8)) (sym e)
+moved_same old q k g since e = ap (λ n. mix_of old q (min (n + 1) approach_steps)) (sym e)
 
 -- from where a further descriptor is approached, by the anchor before
 start_same_at : (heard : ℕ → Heard) (k : ℕ) (now past : Fields → Fields) (q : Fields) (g : ℕ) (y : Heard) (a : Anchor) → ((r : Fields) → now r ≡ past r) →
@@ -46,7 +60,7 @@ unfolding TellsAt fall_at
 start_same_at heard k now past q g (Good p) a e t = ap (λ a. start_from a past q) (sym t.1)
 start_same_at heard k now past q g (Sid r) a e t =
     let since : Since heard k g t.0 = t.2 in
-    ap (λ f. if f == 0 then approached_at (now r) r g k else q) (fall_same k t.0 (missed_since heard g k) since.second) ∙
+    ap (λ f. if f == 0 then approached_at (now r) r g k else q) (fall_same k t.0 (missed_since heard g k) since.counted) ∙
     ap (λ b. if b then approached_at (now r) r g k else q) (begun_same (periods_of_fall t.0)) ∙
     ap (λ old. if periods_of_fall t.0 == 0 then approached_at old r g k else q) (e r) ∙
     ap (λ base. if periods_of_fall t.0 == 0 then base else q) (moved_same (past r) r k g t.0 since.count) ∙
@@ -87,9 +101,9 @@ unfolding TellsAt fall_at
 origin_same_at heard k g (Good p) old a e h t = let since : Since heard k g t.0 = t.2 in good_same p k g t.0 h since.count old ∙ ap (origin_from old) (sym t.1)
 origin_same_at heard k g (Sid q) old a e h t =
     let since : Since heard k g t.0 = t.2 in
-    ap (NoiseFrame (approached_at (approach_start_at heard k q) q g k)) (fall_same k t.0 (missed_since heard g k) since.second) ∙
-    ap (λ o. NoiseFrame (approached_at o q g k) (min (periods_of_fall t.0) 17)) (e q) ∙
-    ap (λ base. NoiseFrame base (min (periods_of_fall t.0) 17)) (moved_same (old q) q k g t.0 since.count) ∙
+    ap (NoiseFrame (approached_at (approach_start_at heard k q) q g k)) (fall_same k t.0 (missed_since heard g k) since.counted) ∙
+    ap (λ o. NoiseFrame (approached_at o q g k) (min (periods_of_fall t.0) silent_from_fall)) (e q) ∙
+    ap (λ base. NoiseFrame base (min (periods_of_fall t.0) silent_from_fall)) (moved_same (old q) q k g t.0 since.count) ∙
     ap (origin_from old) (sym t.1)
 origin_same_at heard k g Idle old a e h t = ap (origin_from old) (sym t)
 origin_same_at heard k g (Lost missed) old a e h t = absurd t
@@ -107,11 +121,11 @@ origin-history heard k =
     (old-history heard k) (tells heard k)
 
 -- the draws before a period
-drawn-history : (heard : ℕ → Heard) (k : ℕ) → draws_before heard k ≡ drawn (periods_before heard k)
-unfolding draws_before drawn
+drawn-history : (heard : ℕ → Heard) (k : ℕ) → draws_before heard k ≡ draw_count (periods_before heard k)
+unfolding draws_before draw_count
 drawn-history heard zero = refl
 drawn-history heard (suc k) = ap (λ n. n + draws_of (origin_at heard k)) (drawn-history heard k) ∙
-    ap (λ o. drawn (periods_before heard k) + draws_of o) (origin-history heard k)
+    ap (λ o. draw_count (periods_before heard k) + draws_of o) (origin-history heard k)
 
 -- so the effective frame
 effective-periods : (call : ℕ) (heard : ℕ → Heard) (k : ℕ) → effective_at call heard k ≡ effective_of call (periods_before heard (suc k))

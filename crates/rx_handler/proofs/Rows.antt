@@ -85,7 +85,7 @@ later_invalid : effectives 7 (Good loud ∷ Lost false ∷ []) ≡ Speech loud �
 unfolding effective_at origin_at latest_anchor draws_before lost_of
 later_invalid = refl
 
--- ---- a new descriptor in noise is approached in eight steps
+-- ---- a new descriptor in noise is approached step by step
 
 abbrev low : Fields
 low = record loud { xmaxc = replicate 4 4 }

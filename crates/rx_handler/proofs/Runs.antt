@@ -5,7 +5,7 @@ use mathlib.Core.List.{reverse_aux}
 use Rattle.rx_muting.specs.Draws.{state_after}
 use Rattle.rx_handler.specs.Heard.{Heard}
 use Rattle.rx_handler.specs.Effective.{effective_at, effectives, heard_in}
-use Rattle.rx_handler.specs.Past.{anchor_of, drawn}
+use Rattle.rx_handler.specs.Past.{anchor_of, draw_count}
 use Rattle.rx_handler.specs.Memory.{RxMemory, home_memory}
 use Rattle.rx_handler.specs.Step.{received, all_received}
 use Rattle.rx_handler.specs.Stands.{Stands}
@@ -26,7 +26,7 @@ run call past (y ∷ ys) memory stands =
     ap (λ n. map (effective_at call (heard_in (reverse_aux past (y ∷ ys)))) (range_with_len n (length ys))) next)
 
 first_stands : (call : ℕ) → Stands call [] (home_memory call)
-unfolding anchor_of drawn state_after
+unfolding anchor_of draw_count state_after
 first_stands call = record { state = refl; source = refl }
 
 pub all_received-first : (call : ℕ) (ys : List Heard) → all_received (home_memory call) ys ≡ effectives call ys

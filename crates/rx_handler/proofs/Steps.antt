@@ -4,40 +4,47 @@ use Rattle.std.specs.Prelude.{◌==◌}
 use Rattle.std.proofs.lemmas.Grind.{common_steps}
 use Rattle.std.proofs.Math.Path.{fun_ext}
 use Rattle.trau_params.specs.Fields.{Fields}
-use Rattle.rx_noise.specs.Mix.{mix_of}
+use Rattle.rx_subst.specs.Lost.{silent_from_lost}
+use Rattle.rx_noise.specs.Mix.{approach_steps, mix_of}
+use Rattle.rx_noise.specs.Noise.{silent_from_fall}
 use Rattle.rx_noise.proofs.Mixing.{mix_of-one}
 use Rattle.rx_muting.specs.Draws.{state_after, draw_of, draws_from}
 use Rattle.rx_muting.proofs.Numbered.{draw_of-state_after, state_after-state_after}
+use Rattle.rx_handler.specs.Profile.{fall_from_missed}
 use Rattle.rx_handler.specs.Heard.{Heard, Good, Sid, Idle, Lost}
 use Rattle.rx_handler.specs.Origin.{Origin, NoiseFrame, frame_of, draws_of, EffectiveFields}
-use Rattle.rx_handler.specs.Past.{Anchor, NoAnchor, AtGood, AtSid, anchor_of, anchored, missed_in, periods_of_fall, approached_of, start_from, approach_start_of, origin_from}
-use Rattle.rx_handler.specs.Past.{origin_of, drawn, effective_of}
+use Rattle.rx_handler.specs.Past.{Anchor, NoAnchor, AtGood, AtSid, anchor_of, anchor_after, missed_in, periods_of_fall, approached_of, start_from, approach_start_of, origin_from}
+use Rattle.rx_handler.specs.Past.{origin_of, draw_count, effective_of}
 use Rattle.rx_handler.specs.Memory.{RxState, Speech, Noise, RxMemory}
 use Rattle.rx_handler.specs.Step.{missed_after, fall_after, state_after_loss, state_after_sid, next_state, origin_by, received}
 use Rattle.rx_handler.specs.Stands.{first_step, step_of, state_from, state_after_past, Stands}
 use Rattle.rx_handler.proofs.Missed.{begun_same}
 
 -- the counts of the table after one more lost period
-missed_more : (missed : Bool) (since : List Heard) → min (missed_in (Lost missed ∷ since)) 2 ≡ missed_after (min (missed_in since) 2) missed
+missed_more : (missed : Bool) (since : List Heard) →
+    min (missed_in (Lost missed ∷ since)) fall_from_missed ≡ missed_after (min (missed_in since) fall_from_missed) missed
 missed_more true since = let e : missed_in (Lost true ∷ since) ≡ suc (missed_in since) = refl in omega arith
 missed_more false since = let e : missed_in (Lost false ∷ since) ≡ missed_in since = refl in omega arith
 
 fall_more : (missed : Bool) (since : List Heard) →
-    min (periods_of_fall (Lost missed ∷ since)) 17 ≡ fall_after (min (missed_in (Lost missed ∷ since)) 2) (min (periods_of_fall since) 17)
+    min (periods_of_fall (Lost missed ∷ since)) silent_from_fall ≡
+    fall_after (min (missed_in (Lost missed ∷ since)) fall_from_missed) (min (periods_of_fall since) silent_from_fall)
 unfolding periods_of_fall
 fall_more missed since = grind (arith, common_steps)
 
 -- the state after it
 loss_more : (missed : Bool) (old : Fields → Fields) (step : ℕ) (a : Anchor) →
-    state_from old (min (step + 1) 8) (anchored (Lost missed) a) ≡ state_after_loss (state_from old step a) missed
+    state_from old (min (step + 1) approach_steps) (anchor_after (Lost missed) a) ≡ state_after_loss (state_from old step a) missed
 loss_more missed old step NoAnchor = refl
-loss_more missed old step (AtGood p since) = ap (Speech p) (let e : min (suc (length since)) 17 ≡ min (min (length since) 17 + 1) 17 = omega arith in e)
+loss_more missed old step (AtGood p since) =
+    ap (Speech p) (let e : min (suc (length since)) silent_from_lost ≡ min (min (length since) silent_from_lost + 1) silent_from_lost =
+    omega arith in e)
 loss_more missed old step (AtSid q since) =
     let count = missed_more missed since in
     let fall = fall_more missed since in
-    ap (λ k. Noise (old q) q (min (step + 1) 8) k (min (periods_of_fall (Lost missed ∷ since)) 17)) count ∙
-    ap (λ f. Noise (old q) q (min (step + 1) 8) (missed_after (min (missed_in since) 2) missed) f)
-    (fall ∙ ap (λ k. fall_after k (min (periods_of_fall since) 17)) count)
+    ap (λ k. Noise (old q) q (min (step + 1) approach_steps) k (min (periods_of_fall (Lost missed ∷ since)) silent_from_fall)) count ∙
+    ap (λ f. Noise (old q) q (min (step + 1) approach_steps) (missed_after (min (missed_in since) fall_from_missed) missed) f)
+    (fall ∙ ap (λ k. fall_after k (min (periods_of_fall since) silent_from_fall)) count)
 
 -- ---- the step of the table
 
@@ -45,7 +52,7 @@ loss_more missed old step (AtSid q since) =
 abbrev Near : (Fields → Fields) → ℕ → Anchor → Type 0
 Near old step NoAnchor = Unit {0}
 Near old step (AtGood p since) = Unit {0}
-Near old step (AtSid q since) = (step ≡ min (length since + 1) 8) ⊎ ((old q ≡ q) × (step ≤ 8))
+Near old step (AtSid q since) = (step ≡ min (length since + 1) approach_steps) ⊎ ((old q ≡ q) × (step ≤ approach_steps))
 
 -- a state's step and where the noise stands go together
 near_first : (q : Fields) (a : Anchor) (old : Fields → Fields) → Near (start_from a old) (first_step a) (AtSid q [])
@@ -53,11 +60,12 @@ near_first q NoAnchor old = inr (refl, omega arith)
 near_first q (AtGood p since) old = inr (refl, omega arith)
 near_first q (AtSid r since) old = inl refl
 
-near_more : (missed : Bool) (old : Fields → Fields) (step : ℕ) (a : Anchor) → Near old step a → Near old (min (step + 1) 8) (anchored (Lost missed) a)
+near_more : (missed : Bool) (old : Fields → Fields) (step : ℕ) (a : Anchor) → Near old step a →
+    Near old (min (step + 1) approach_steps) (anchor_after (Lost missed) a)
 near_more missed old step NoAnchor n = tt
 near_more missed old step (AtGood p since) n = tt
 near_more missed old step (AtSid q since) n = elim n [
-  | inl e ↦ inl (let f : min (step + 1) 8 ≡ min (suc (length since) + 1) 8 = omega arith in f)
+  | inl e ↦ inl (let f : min (step + 1) approach_steps ≡ min (suc (length since) + 1) approach_steps = omega arith in f)
   | inr s ↦ inr (s.0, omega arith)
 ]
 
@@ -70,13 +78,14 @@ near (Idle ∷ past) = tt
 near (Lost missed ∷ past) = near_more missed (λ q. approach_start_of past q) (step_of past) (anchor_of past) (near past)
 
 -- so the noise stands where it does by numbers
-moved_same : (old q : Fields) (step : ℕ) (since : List Heard) → (step ≡ min (length since + 1) 8) ⊎ ((old ≡ q) × (step ≤ 8)) →
+moved_same : (old q : Fields) (step : ℕ) (since : List Heard) →
+    (step ≡ min (length since + 1) approach_steps) ⊎ ((old ≡ q) × (step ≤ approach_steps)) →
     mix_of old q step ≡ approached_of old q since
 moved_same old q step since n = elim n [
   | inl e ↦ ap (mix_of old q) e
   | inr s ↦
       let e = s.0 in
-      rw e (mix_of-one q step s.1 ∙ sym (mix_of-one q (min (length since + 1) 8) (omega arith)))
+      rw e (mix_of-one q step s.1 ∙ sym (mix_of-one q (min (length since + 1) approach_steps) (omega arith)))
 ]
 
 -- ---- one period more
@@ -102,8 +111,9 @@ state-more (Lost missed) past = loss_more missed (λ q. approach_start_of past q
 origin_same : (old : Fields → Fields) (step : ℕ) (a : Anchor) → Near old step a → origin_by (state_from old step a) ≡ origin_from old a
 origin_same old step NoAnchor n = refl
 origin_same old step (AtGood p []) n = refl
-origin_same old step (AtGood p (y ∷ since)) n = let e : (min (suc (length since)) 17 == 0) ≡ false = grind arith in rw e
-origin_same old step (AtSid q since) n = ap (λ base. NoiseFrame base (min (periods_of_fall since) 17)) (moved_same (old q) q step since n)
+origin_same old step (AtGood p (y ∷ since)) n = let e : (min (suc (length since)) silent_from_lost == 0) ≡ false = grind arith in rw e
+origin_same old step (AtSid q since) n =
+    ap (λ base. NoiseFrame base (min (periods_of_fall since) silent_from_fall)) (moved_same (old q) q step since n)
 
 -- the frames of a source that has come this far are those by the numbers of all draws
 from_here : (origin : Origin) (call first : ℕ) → frame_of origin (draw_of (state_after call first)) ≡ frame_of origin (draws_from call first)
@@ -112,18 +122,19 @@ from_here origin call first = ap (frame_of origin) (fun_ext (λ k. fun_ext (λ m
 -- one step after any past
 pub received_more : (call : ℕ) (past : List Heard) (memory : RxMemory) (y : Heard) (answer : EffectiveFields) (after : RxMemory) →
     received memory y ≡ (answer, after) → Stands call past memory → Stands call (y ∷ past) after × (answer ≡ effective_of call (y ∷ past))
-unfolding received drawn effective_of
+unfolding received draw_count effective_of
 received_more call past memory y answer after step stands =
     let origin : Origin = origin_of (y ∷ past) in
     let state : next_state memory.state y ≡ state_after_past (y ∷ past) = ap (λ s. next_state s y) stands.state ∙ sym (state-more y past) in
     let same : origin_by (next_state memory.state y) ≡ origin = ap origin_by state ∙
     origin_same (λ q. approach_start_of (y ∷ past) q) (step_of (y ∷ past)) (anchor_of (y ∷ past)) (near (y ∷ past)) in
-    let source : memory.source ≡ state_after call (drawn past) = stands.source in
-    let frame : frame_of (origin_by (next_state memory.state y)) (draw_of memory.source) ≡ frame_of origin (draws_from call (drawn past)) =
-    ap (λ o. frame_of o (draw_of memory.source)) same ∙ ap (λ r. frame_of origin (draw_of r)) source ∙ from_here origin call (drawn past) in
-    let drawn_on : state_after memory.source (draws_of (origin_by (next_state memory.state y))) ≡ state_after call (drawn past + draws_of origin) =
+    let source : memory.source ≡ state_after call (draw_count past) = stands.source in
+    let frame : frame_of (origin_by (next_state memory.state y)) (draw_of memory.source) ≡ frame_of origin (draws_from call (draw_count past)) =
+    ap (λ o. frame_of o (draw_of memory.source)) same ∙ ap (λ r. frame_of origin (draw_of r)) source ∙ from_here origin call (draw_count past) in
+    let drawn_on : state_after memory.source (draws_of (origin_by (next_state memory.state y))) ≡
+    state_after call (draw_count past + draws_of origin) =
     ap (λ o. state_after memory.source (draws_of o)) same ∙ ap (λ r. state_after r (draws_of origin)) source ∙
-    state_after-state_after call (drawn past) (draws_of origin) in
+    state_after-state_after call (draw_count past) (draws_of origin) in
     (record { state = ap (λ m. m.1.state) (sym step) ∙ state; source = ap (λ m. m.1.source) (sym step) ∙ drawn_on }, ap (λ m. m.0) (sym step) ∙ frame)
 
 -- a step of the table by its parts

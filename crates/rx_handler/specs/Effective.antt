@@ -6,8 +6,10 @@ use Rattle.std.specs.List.{range_with_len}
 use Rattle.std.specs.Option.{option_map_or}
 use Rattle.trau_params.specs.Fields.{Fields}
 use Rattle.rx_muting.specs.Draws.{draws_from}
-use Rattle.rx_noise.specs.Mix.{mix_of}
-use Rattle.rx_handler.specs.Profile.{silent_after, approach_steps, fall_from_missed}
+use Rattle.rx_subst.specs.Lost.{silent_from_lost}
+use Rattle.rx_noise.specs.Mix.{approach_steps, mix_of}
+use Rattle.rx_noise.specs.Noise.{silent_from_fall}
+use Rattle.rx_handler.specs.Profile.{fall_from_missed}
 use Rattle.rx_handler.specs.Heard.{Heard, Good, Sid, Idle, Lost}
 use Rattle.rx_handler.specs.Origin.{Origin, NoFrame, GoodFrame, LostFrame, NoiseFrame, draws_of, frame_of, EffectiveFields}
 
@@ -36,7 +38,7 @@ missed_since heard g k = filter (λ i. is_missed (heard i)) (range_with_len (g +
 
 -- for how many periods the level has fallen in period k: 1 in that of the second missed descriptor after g
 unfoldable pub fall_at : (ℕ → Heard) → ℕ → ℕ → ℕ
-fall_at heard g k = option_map_or (λ t. min (k - t + 1) silent_after) (slice_get (missed_since heard g k) (fall_from_missed - 1)) 0
+fall_at heard g k = option_map_or (λ t. min (k - t + 1) silent_from_fall) (slice_get (missed_since heard g k) (fall_from_missed - 1)) 0
 
 -- the base of the noise in period k, if it has approached descriptor q from `old` since period g, a step in each period
 abbrev pub approached_at : Fields → Fields → ℕ → ℕ → Fields
@@ -65,7 +67,7 @@ base_at heard k g q = approached_at (approach_start_at heard k q) q g k
 
 -- what the frame of period k is made from, if the latest anchor is period g, heard as the last argument
 abbrev pub origin_after : (ℕ → Heard) → ℕ → ℕ → Heard → Origin
-origin_after heard k g (Good p) = if g == k then GoodFrame p else LostFrame p (min (k - g) silent_after)
+origin_after heard k g (Good p) = if g == k then GoodFrame p else LostFrame p (min (k - g) silent_from_lost)
 origin_after heard k g (Sid q) = NoiseFrame (base_at heard k g q) (fall_at heard g k)
 origin_after heard k g Idle = NoFrame
 origin_after heard k g (Lost missed) = NoFrame

@@ -5,7 +5,7 @@ use Rattle.trau_params.specs.Fields.{Fields}
 
 -- Speech: the last good frame, and how many periods ago it came.
 -- Noise: where the approach began, the latest descriptor, how many steps of the approach are done, how many descriptors
--- were missed since, and for how many periods the level has fallen. All counts stop at the numbers of `Profile`.
+-- were missed since, and for how many periods the level has fallen. All counts stop at the numbers of this project's profile.
 pub data RxState : Type 0 where
   Quiet : RxState
   Speech : Fields → ℕ → RxState

@@ -2,8 +2,10 @@
 use Rattle.std.specs.Prelude.{ℕ, ◌+◌, min, if◌then◌else◌, ◌==◌, nat_le, List, [], ◌∷◌, length, filter}
 use Rattle.trau_params.specs.Fields.{Fields}
 use Rattle.rx_muting.specs.Draws.{draws_from}
-use Rattle.rx_noise.specs.Mix.{mix_of}
-use Rattle.rx_handler.specs.Profile.{silent_after, approach_steps, fall_from_missed}
+use Rattle.rx_subst.specs.Lost.{silent_from_lost}
+use Rattle.rx_noise.specs.Mix.{approach_steps, mix_of}
+use Rattle.rx_noise.specs.Noise.{silent_from_fall}
+use Rattle.rx_handler.specs.Profile.{fall_from_missed}
 use Rattle.rx_handler.specs.Heard.{Heard, Good, Sid, Idle, Lost}
 use Rattle.rx_handler.specs.Origin.{Origin, NoFrame, GoodFrame, LostFrame, NoiseFrame, draws_of, frame_of, EffectiveFields, Quiet}
 use Rattle.rx_handler.specs.Effective.{is_anchor, is_missed}
@@ -15,10 +17,10 @@ pub data Anchor : Type 0 where
   AtGood AtSid : Fields → List Heard → Anchor
 
 -- the latest anchor after one more period, which is no anchor itself
-abbrev pub anchored : Heard → Anchor → Anchor
-anchored y NoAnchor = NoAnchor
-anchored y (AtGood p since) = AtGood p (y ∷ since)
-anchored y (AtSid q since) = AtSid q (y ∷ since)
+abbrev pub anchor_after : Heard → Anchor → Anchor
+anchor_after y NoAnchor = NoAnchor
+anchor_after y (AtGood p since) = AtGood p (y ∷ since)
+anchor_after y (AtSid q since) = AtSid q (y ∷ since)
 
 -- the latest anchor of a history
 unfoldable pub anchor_of : List Heard → Anchor
@@ -26,7 +28,7 @@ anchor_of [] = NoAnchor
 anchor_of (Good p ∷ past) = AtGood p []
 anchor_of (Sid q ∷ past) = AtSid q []
 anchor_of (Idle ∷ past) = NoAnchor
-anchor_of (Lost missed ∷ past) = anchored (Lost missed) (anchor_of past)
+anchor_of (Lost missed ∷ past) = anchor_after (Lost missed) (anchor_of past)
 
 -- how many descriptors were missed
 abbrev pub missed_in : List Heard → ℕ
@@ -57,18 +59,18 @@ approach_start_of (y ∷ past) q = if is_anchor y then start_from (anchor_of pas
 abbrev pub origin_from : (Fields → Fields) → Anchor → Origin
 origin_from old NoAnchor = NoFrame
 origin_from old (AtGood p []) = GoodFrame p
-origin_from old (AtGood p (y ∷ since)) = LostFrame p (min (length (y ∷ since)) silent_after)
-origin_from old (AtSid q since) = NoiseFrame (approached_of (old q) q since) (min (periods_of_fall since) silent_after)
+origin_from old (AtGood p (y ∷ since)) = LostFrame p (min (length (y ∷ since)) silent_from_lost)
+origin_from old (AtSid q since) = NoiseFrame (approached_of (old q) q since) (min (periods_of_fall since) silent_from_fall)
 
 abbrev pub origin_of : List Heard → Origin
 origin_of past = origin_from (λ q. approach_start_of past q) (anchor_of past)
 
 -- how many draws all periods took
-unfoldable pub drawn : List Heard → ℕ
-drawn [] = 0
-drawn (y ∷ past) = drawn past + draws_of (origin_of (y ∷ past))
+unfoldable pub draw_count : List Heard → ℕ
+draw_count [] = 0
+draw_count (y ∷ past) = draw_count past + draws_of (origin_of (y ∷ past))
 
 -- the effective frame of the newest period of a call
 unfoldable pub effective_of : ℕ → List Heard → EffectiveFields
 effective_of call [] = Quiet
-effective_of call (y ∷ past) = frame_of (origin_of (y ∷ past)) (draws_from call (drawn past))
+effective_of call (y ∷ past) = frame_of (origin_of (y ∷ past)) (draws_from call (draw_count past))

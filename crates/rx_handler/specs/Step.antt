@@ -2,8 +2,10 @@
 use Rattle.std.specs.Prelude.{ℕ, ◌+◌, min, Bool, if◌then◌else◌, ◌==◌, List, [], ◌∷◌}
 use Rattle.trau_params.specs.Fields.{Fields}
 use Rattle.rx_muting.specs.Draws.{state_after, draw_of}
-use Rattle.rx_noise.specs.Mix.{mix_of}
-use Rattle.rx_handler.specs.Profile.{silent_after, approach_steps, fall_from_missed}
+use Rattle.rx_subst.specs.Lost.{silent_from_lost}
+use Rattle.rx_noise.specs.Mix.{approach_steps, mix_of}
+use Rattle.rx_noise.specs.Noise.{silent_from_fall}
+use Rattle.rx_handler.specs.Profile.{fall_from_missed}
 use Rattle.rx_handler.specs.Heard.{Heard, Good, Sid, Idle, Lost}
 use Rattle.rx_handler.specs.Origin.{Origin, NoFrame, GoodFrame, LostFrame, NoiseFrame, draws_of, frame_of, EffectiveFields}
 use Rattle.rx_handler.specs.Memory.{RxState, Quiet, Speech, Noise, RxMemory}
@@ -14,12 +16,12 @@ missed_after count missed = min (count + (if missed then 1 else 0)) fall_from_mi
 
 -- for how many periods the level has fallen, after one more; `count` descriptors were missed by then
 abbrev pub fall_after : ℕ → ℕ → ℕ
-fall_after count fall = if count == fall_from_missed then min (fall + 1) silent_after else fall
+fall_after count fall = if count == fall_from_missed then min (fall + 1) silent_from_fall else fall
 
 -- after a lost period; `missed`: it brought an unusable speech frame where a silence descriptor was due (TAF 1)
 abbrev pub state_after_loss : RxState → Bool → RxState
 state_after_loss Quiet missed = Quiet
-state_after_loss (Speech p n) missed = Speech p (min (n + 1) silent_after)
+state_after_loss (Speech p n) missed = Speech p (min (n + 1) silent_from_lost)
 state_after_loss (Noise old q step count fall) missed =
     let after = missed_after count missed in Noise old q (min (step + 1) approach_steps) after (fall_after after fall)
 

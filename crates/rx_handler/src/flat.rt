@@ -1,7 +1,8 @@
 //! The state of the receive side as plain numbers, so that a C program can hold it.
 
 ghost use Rattle.std.specs.Prelude.{◌≤◌};
-ghost use Rattle.rx_handler.specs.Profile.{silent_after, approach_steps, fall_from_missed};
+ghost use Rattle.rx_noise.specs.Mix.{approach_steps};
+ghost use Rattle.rx_handler.specs.Profile.{fall_from_missed, most_periods};
 
 use crate::rx::Rx;
 use crate::state::{Fall, Pause, SinceGood, State};
@@ -14,8 +15,8 @@ use trau_params::{Params, silence};
 pub struct FlatRx {
     /// 0: the call is quiet. 1: speech. Any other number: noise.
     pub tag: u8,
-    /// In speech, how many periods ago the last good frame came. In noise, for how many periods its level has fallen. Both
-    /// are counted up to SILENT_AFTER of `rx_muting`.
+    /// In speech, how many periods ago the last good frame came, counted up to SILENT_FROM_LOST of `rx_subst`. In noise, for
+    /// how many periods its level has fallen, counted up to SILENT_FROM_FALL of `rx_noise`.
     pub periods: u8,
     /// In noise, how many steps of the approach are done, 1 to APPROACH_STEPS of `rx_noise`.
     pub step: u8,
@@ -27,7 +28,7 @@ pub struct FlatRx {
     pub first: Params,
     /// In noise, the latest descriptor.
     pub second: Params,
-    pub ghost periods_stop: { periods ≤ silent_after },
+    pub ghost periods_stop: { periods ≤ most_periods tag },
     pub ghost begun: { 1 ≤ step },
     pub ghost step_stops: { step ≤ approach_steps },
     pub ghost missed_stop: { missed ≤ fall_from_missed },

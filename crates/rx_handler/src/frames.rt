@@ -17,8 +17,10 @@ use trau_num::Draw;
 /// The effective frame of the period that led to this state. Its random parts are drawn from `draw`.
 #[tactic(auto, unfolding(rx_muting::specs::Draws::state_after))]
 pub(crate) fn frame(state: &State, draw: &mut Draw) -> Effective
-    ensures frame { effective_fields result ≡ frame_of (origin_by (state_of state.now)) (draw_of draw.old.r) }
-    ensures source { draw.new.r ≡ state_after draw.old.r (draws_of (origin_by (state_of state.now))) }
+    ensures frame { effective_fields result ≡
+        frame_of (origin_by (state_of state.now)) (draw_of draw.old.r) }
+    ensures source { draw.new.r ≡
+        state_after draw.old.r (draws_of (origin_by (state_of state.now))) }
 {
     match state {
         State::Quiet => Effective::Quiet,
@@ -33,8 +35,11 @@ pub(crate) fn frame(state: &State, draw: &mut Draw) -> Effective
 // In its own period the good frame; in each later one the frame that replaces lost speech.
 #[tactic(auto, unfolding(rx_muting::specs::Draws::state_after))]
 fn speech_frame(since: &SinceGood, draw: &mut Draw) -> Effective
-    ensures frame { effective_fields result ≡ frame_of (origin_by (Speech (fields_of since.now.last) since.now.periods)) (draw_of draw.old.r) }
-    ensures source { draw.new.r ≡ state_after draw.old.r (draws_of (origin_by (Speech (fields_of since.now.last) since.now.periods))) }
+    ensures frame { effective_fields result ≡
+        frame_of (origin_by (Speech (fields_of since.now.last) since.now.periods))
+        (draw_of draw.old.r) }
+    ensures source { draw.new.r ≡ state_after draw.old.r
+        (draws_of (origin_by (Speech (fields_of since.now.last) since.now.periods))) }
 {
     if since.periods == 0 {
         return Effective::Speech(since.last);

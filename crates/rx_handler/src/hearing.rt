@@ -8,8 +8,8 @@ ghost use Rattle.rx_handler.specs.State.{state_of, heard_fields};
 
 use crate::reception::Reception;
 use crate::state::{FALL_FROM_MISSED, Fall, Pause, SinceGood, State};
-use rx_muting::SILENT_AFTER;
-use rx_noise::{APPROACH_STEPS, mix};
+use rx_noise::{APPROACH_STEPS, SILENT_FROM_FALL, mix};
+use rx_subst::SILENT_FROM_LOST;
 use trau_params::Params;
 
 /// Changes the state by what a period brings.
@@ -70,7 +70,7 @@ fn count_lost(state: &mut State, sid_missed: bool)
 {
     match state {
         State::Quiet => {}
-        State::Speech(since) => since.periods = (since.periods + 1).min(SILENT_AFTER),
+        State::Speech(since) => since.periods = (since.periods + 1).min(SILENT_FROM_LOST),
         State::Noise(pause) => {
             pause.step = (pause.step + 1).min(APPROACH_STEPS);
             pause.fall = next_fall(pause.fall, sid_missed);
@@ -85,7 +85,7 @@ fn next_fall(fall: Fall, sid_missed: bool) -> Fall
 {
     let count = (fall.missed_sids + u8::from(sid_missed)).min(FALL_FROM_MISSED);
     let periods = if count == FALL_FROM_MISSED {
-        (fall.periods + 1).min(SILENT_AFTER)
+        (fall.periods + 1).min(SILENT_FROM_FALL)
     } else {
         fall.periods
     };

@@ -44,7 +44,7 @@ impl Rx {
     }
 
     /// The receive side before its first period, with a random source that starts at `seed`, any number of 16 bits.
-    #[tactic(auto, unfolding(crate::specs::Past::anchor_of, crate::specs::Past::drawn, rx_muting::specs::Draws::state_after))]
+    #[tactic(auto, unfolding(crate::specs::Past::anchor_of, crate::specs::Past::draw_count, rx_muting::specs::Draws::state_after))]
     pub fn from_seed(seed: u16) -> Rx
         ensures value { result ≡ home_memory seed }
         ensures history { Stands seed [] result }
@@ -59,31 +59,36 @@ impl Rx {
     /// heard as such. All else is lost: no frame (a miss, or a period without a yield), an invalid descriptor, unusable
     /// speech, a frame of another kind.
     pub fn take(&mut self, y: Option<&UpFrame>) -> Effective
-        ensures step { received self.old (heard_of (option_copied y.entry)) ≡ (effective_fields result, self.new) }
+        ensures step { received self.old (heard_of (option_copied y.entry)) ≡
+            (effective_fields result, self.new) }
 
         // If a past of the call leads to the memory before, the past with this period leads to the memory after, and the answer
         // is the effective frame of this period.
         ensures history { (call : ℕ) (past : List Heard) → Stands call past self.old →
             Stands call (heard_of (option_copied y.entry) ∷ past) self.new
-            × (effective_fields result ≡ effective_of call (heard_of (option_copied y.entry) ∷ past)) }
+            × (effective_fields result ≡
+            effective_of call (heard_of (option_copied y.entry) ∷ past)) }
 
         // The same frame, by looking back over numbered periods.
         ensures last { (call : ℕ) (past : List Heard) → Stands call past self.old →
-            effective_fields result ≡ effective_at call (heard_in (reverse (heard_of (option_copied y.entry) ∷ past))) (length past) }
+            effective_fields result ≡ effective_at call
+            (heard_in (reverse (heard_of (option_copied y.entry) ∷ past))) (length past) }
     {
         self.receive(&brought(y))
     }
 
     /// Processes one period by what it brings, and returns its effective frame.
     pub fn receive(&mut self, y: &Reception) -> Effective
-        ensures step { received self.old (heard_fields y.now) ≡ (effective_fields result, self.new) }
+        ensures step { received self.old (heard_fields y.now) ≡
+            (effective_fields result, self.new) }
 
         // As above, where `call` is the number that the random source started at.
         ensures history { (call : ℕ) (past : List Heard) → Stands call past self.old →
             Stands call (heard_fields y.now ∷ past) self.new
             × (effective_fields result ≡ effective_of call (heard_fields y.now ∷ past)) }
         ensures last { (call : ℕ) (past : List Heard) → Stands call past self.old →
-            effective_fields result ≡ effective_at call (heard_in (reverse (heard_fields y.now ∷ past))) (length past) }
+            effective_fields result ≡
+            effective_at call (heard_in (reverse (heard_fields y.now ∷ past))) (length past) }
     {
         hear(&mut self.state, y);
         frame(&self.state, &mut self.source)

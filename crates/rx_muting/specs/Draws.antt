@@ -2,6 +2,10 @@
 use Rattle.std.specs.Prelude.{ℕ, ◌+◌, zero, suc}
 use Rattle.trau_num.specs.Random.{state_after_draw, drawn_number}
 
+-- how many values a grid can have (Mc, 0 to 3), one of which is drawn
+abbrev pub grid_values : ℕ
+grid_values = 4
+
 -- the state of a source that starts at r, after this many draws
 unfoldable pub state_after : ℕ → ℕ → ℕ
 state_after r zero = r

@@ -1,7 +1,10 @@
-//! Laws of numbered draws, each the contract of a function that does nothing.
+//! Draws: how many values a grid can have, and laws of numbered draws, each the contract of a function that does nothing.
 
 ghost use Rattle.std.specs.Prelude.{◌≡◌, ℕ, ◌+◌, ◌<◌};
 ghost use Rattle.rx_muting.specs.Draws.{state_after, draw_of};
+
+/// How many values a grid can have (Mc, 0 to 3), one of which is drawn.
+pub const GRID_VALUES: u16 = 4;
 
 /// After some draws, a source gives the draws that are numbered from there on.
 pub fn go_on()

@@ -1,12 +1,12 @@
 -- The noise frame of a fall.
-use Rattle.std.proofs.Common.{◌≡◌, ℕ, ◌≤◌, true, arith}
-use Rattle.std.specs.Prelude.{nat_le}
+use Rattle.std.proofs.Common.{◌≡◌, ℕ, ◌*◌, ◌<◌, true, arith}
+use Rattle.std.specs.Prelude.{nat_lt}
 use Rattle.trau_params.specs.Fields.{Fields}
-use Rattle.rx_noise.specs.Noise.{noise_of, noise_at, noise_draws}
+use Rattle.rx_noise.specs.Noise.{silent_from_fall, block_draws, noise_of, noise_at, noise_draws}
 
-pub noise_of-falling : (sid : Fields) (fall : ℕ) (draw : ℕ → ℕ → ℕ) → fall ≤ 16 → noise_of sid fall draw ≡ noise_at sid fall draw
+pub noise_of-falling : (sid : Fields) (fall : ℕ) (draw : ℕ → ℕ → ℕ) → fall < silent_from_fall → noise_of sid fall draw ≡ noise_at sid fall draw
 unfolding noise_of
-noise_of-falling sid fall draw h = let e : nat_le fall 16 ≡ true = grind arith in rw e
+noise_of-falling sid fall draw h = let e : nat_lt fall silent_from_fall ≡ true = grind arith in rw e
 
-pub noise_draws-falling : (fall : ℕ) → fall ≤ 16 → noise_draws fall ≡ 56
-noise_draws-falling fall h = let e : nat_le fall 16 ≡ true = grind arith in rw e
+pub noise_draws-falling : (fall : ℕ) → fall < silent_from_fall → noise_draws fall ≡ 4 * block_draws
+noise_draws-falling fall h = let e : nat_lt fall silent_from_fall ≡ true = grind arith in rw e

@@ -6,7 +6,7 @@
 //! (`trau_params`), the number of periods for which its level has fallen, and the call's random source. `rx_handler`
 //! counts these periods: from that of the second missed descriptor on.
 //!
-//! A further descriptor of a pause is approached in eight steps; `mix` gives the descriptor after each of them.
+//! A further descriptor of a pause is approached in APPROACH_STEPS steps; `mix` gives the descriptor after each of them.
 //!
 //! Definitions: `specs/Noise.antt` (a noise frame), `specs/Mix.antt` (the steps from one descriptor to the next). GSM
 //! 06.12 says what a noise frame is made from; the numbers are this project's profile.
@@ -18,4 +18,4 @@ pub mod laws;
 mod noise;
 
 pub use approach::{APPROACH_STEPS, mix};
-pub use noise::noise_frame;
+pub use noise::{SILENT_FROM_FALL, noise_frame};

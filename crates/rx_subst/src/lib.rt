@@ -11,4 +11,4 @@
 
 mod lost;
 
-pub use lost::lost_frame;
+pub use lost::{SILENT_FROM_LOST, lost_frame};

@@ -1,8 +1,8 @@
 -- What a field or several ask for is a shift.
-use Rattle.std.proofs.Common.{◌≡◌, ap, ◌∙◌, ℕ, ◌<◌, ◌*◌, ℤ, pos, negsuc, nat_le, Option, Some, None, unwrap_or, List, [], ◌∷◌, refl, arith}
+use Rattle.std.proofs.Common.{◌≡◌, ap, ◌∙◌, ℕ, ◌<◌, ◌*◌, ℤ, pos, nat_le, Option, Some, None, unwrap_or, List, [], ◌∷◌, refl, arith}
 use Rattle.std.specs.Prelude.{◌==◌}
 use Rattle.std.proofs.lemmas.Bool.{cond_both, cond-false, leb-true, lt-leb, ne_eqb}
-use Rattle.time_align.specs.Shift.{shift_of, asked_then, latest_ask, latest_shift, IsShift}
+use Rattle.time_align.specs.Shift.{most_steps, step_octets, small_delay_field, small_delay, advance_field, advance, shift_of, asked_then, latest_ask, latest_shift, IsShift}
 
 -- what may be asked for, with 0 for nothing
 abbrev pub MayBeShift : Option ℤ → Type 0
@@ -12,9 +12,10 @@ pub IsShift-shift_of : (field : ℕ) → MayBeShift (shift_of field)
 unfolding shift_of
 IsShift-shift_of field =
     cond_both (field == 0) None _ MayBeShift (λ y. omega arith) (λ n0.
-    cond_both (nat_le field 39) (Some (pos (4 * field))) _ MayBeShift (λ y. let l = leb-true field 39 y in omega arith) (λ n1.
-    cond_both (field == 62) (Some (pos 2)) _ MayBeShift (λ y. omega arith) (λ n2.
-    cond_both (field == 63) (Some (negsuc 1)) None MayBeShift (λ y. refl) (λ n3. omega arith))))
+    cond_both (nat_le field most_steps) (Some (pos (step_octets * field))) _ MayBeShift
+    (λ y. let l = leb-true field most_steps y in omega arith) (λ n1.
+    cond_both (field == small_delay_field) (Some small_delay) _ MayBeShift (λ y. omega arith) (λ n2.
+    cond_both (field == advance_field) (Some advance) None MayBeShift (λ y. refl) (λ n3. omega arith))))
 
 -- a number beyond the 6 bits of a field asks for nothing
 pub asked_beyond : (field : ℕ) (before : Option ℤ) → 63 < field → asked_then field before ≡ before
@@ -22,9 +23,9 @@ unfolding shift_of
 asked_beyond field before l =
     let none : shift_of field ≡ None =
     cond-false (field == 0) None _ (ne_eqb field 0 (λ e. omega arith)) ∙
-    cond-false (nat_le field 39) (Some (pos (4 * field))) _ (lt-leb field 39 (omega arith)) ∙
-    cond-false (field == 62) (Some (pos 2)) _ (ne_eqb field 62 (λ e. omega arith)) ∙
-    cond-false (field == 63) (Some (negsuc 1)) None (ne_eqb field 63 (λ e. omega arith)) in
+    cond-false (nat_le field most_steps) (Some (pos (step_octets * field))) _ (lt-leb field most_steps (omega arith)) ∙
+    cond-false (field == small_delay_field) (Some small_delay) _ (ne_eqb field small_delay_field (λ e. omega arith)) ∙
+    cond-false (field == advance_field) (Some advance) None (ne_eqb field advance_field (λ e. omega arith)) in
     ap (λ (o : Option ℤ). elim o as (λ x. Option ℤ) [ None ↦ before | Some shift ↦ Some shift ]) none
 
 -- what was asked for, or before

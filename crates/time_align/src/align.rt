@@ -46,7 +46,8 @@ impl Align {
     /// number of 6 bits, the shift asked for before stays.
     pub fn ask(&mut self, field: u8)
         ensures step { self.new ≡ after_ask self.old field }
-        ensures history { (past : List Event) → Stands past self.old → Stands (Asks field ∷ past) self.new }
+        ensures history { (past : List Event) → Stands past self.old →
+            Stands (Asks field ∷ past) self.new }
     {
         if field > 63 {
             return;
@@ -59,7 +60,8 @@ impl Align {
     /// Freezes shifts, at the start of a bridge. The shift asked for is kept.
     pub fn freeze(&mut self)
         ensures step { self.new ≡ after_freeze self.old }
-        ensures history { (past : List Event) → Stands past self.old → Stands (Freezes ∷ past) self.new }
+        ensures history { (past : List Event) → Stands past self.old →
+            Stands (Freezes ∷ past) self.new }
     {
         self.frozen = true;
     }
@@ -67,7 +69,8 @@ impl Align {
     /// Thaws shifts, after a bridge has ended and none of its frames waits.
     pub fn thaw(&mut self)
         ensures step { self.new ≡ after_thaw self.old }
-        ensures history { (past : List Event) → Stands past self.old → Stands (Thaws ∷ past) self.new }
+        ensures history { (past : List Event) → Stands past self.old →
+            Stands (Thaws ∷ past) self.new }
     {
         self.frozen = false;
     }

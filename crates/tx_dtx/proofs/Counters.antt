@@ -7,7 +7,7 @@ use Rattle.std.proofs.lemmas.Grind.{common_steps}
 use Rattle.trau_params.specs.Fields.{Fields}
 use Rattle.tx_dtx.specs.Stretch.{Measures, Coded, is_active}
 use Rattle.tx_dtx.specs.SilenceDescriptor.{sid_of}
-use Rattle.tx_dtx.specs.Sent.{SidPlace, one_later, pause_of, is_sid_place, newest_four, latest_place, before_pause, still_used, sid_used}
+use Rattle.tx_dtx.specs.Sent.{described_from, hangover_after, SidPlace, one_later, pause_of, is_sid_place, newest_four, latest_place, before_pause, still_used, sid_used}
 use Rattle.tx_dtx.specs.Memory.{TxMemory, no_measures}
 use Rattle.tx_dtx.specs.Step.{elapsed_later, after_active, after_sid, hangs_at, after_early}
 use Rattle.tx_dtx.specs.Stands.{elapsed_of, Stands}
@@ -17,10 +17,10 @@ use Rattle.tx_dtx.specs.Stands.{elapsed_of, Stands}
 -- one frame later
 elapsed-later : (o : Option SidPlace) → elapsed_of (option_map one_later o) ≡ elapsed_later (elapsed_of o)
 elapsed-later None = refl
-elapsed-later (Some place) = let e : min (place.since + 1) 24 ≡ min (min place.since 24 + 1) 24 = omega arith in e
+elapsed-later (Some place) = let e : min (place.since + 1) hangover_after ≡ min (min place.since hangover_after + 1) hangover_after = omega arith in e
 
 -- a pause hangs, or goes on with the last SID, by what has elapsed at its first frame
-hangs_by : (o : Option SidPlace) → nat_le 24 (elapsed_later (elapsed_of o)) ≡ is_none (still_used o)
+hangs_by : (o : Option SidPlace) → nat_le hangover_after (elapsed_later (elapsed_of o)) ≡ is_none (still_used o)
 hangs_by None = refl
 hangs_by (Some place) = grind (arith, common_steps)
 
@@ -51,10 +51,13 @@ recent-more f past recent e = ap (λ z. f.measures ∷ take 2 z) e ∙ ap (λ z.
     take_take (a ∷ b ∷ []) = refl
     take_take (a ∷ b ∷ c ∷ xs) = refl
 
--- the newest four, where a pause of four comes before
+-- a SID is made after three frames, or more
+pub four_by_then : (fs : List Coded) → described_from ≤ length fs + 1 → 3 ≤ length fs
+four_by_then fs h = omega arith
+
+-- the newest four, where three come before
 pub newest-four : (f : Coded) (past : List Coded) (recent : List Measures) → recent ≡ take 3 (map (λ f. f.measures) past ++ replicate 3 no_measures) →
-    4 ≤ length past →
-    f.measures ∷ recent ≡ newest_four (f ∷ past)
+    3 ≤ length past → f.measures ∷ recent ≡ newest_four (f ∷ past)
 newest-four f [] recent e l = absurd (omega arith)
 newest-four f (a ∷ []) recent e l = absurd (omega arith)
 newest-four f (a ∷ b ∷ []) recent e l = absurd (omega arith)
@@ -71,14 +74,14 @@ pause-length (f ∷ fs) = elim (cases_Bool (is_active f)) [
 
 -- the memory but for the measures
 pub record Counts (past : List Coded) (m : TxMemory) : Type 0 where
-  pub run : m.run ≡ min (pause_of past) 5
+  pub run : m.run ≡ min (pause_of past) described_from
   pub elapsed : m.elapsed ≡ elapsed_of (latest_place past)
   pub hangs : 0 < pause_of past → m.hangs ≡ is_none (sid_used (before_pause past))
   pub sid : IfSome (latest_place past) (λ place. m.sid ≡ sid_of place.four)
 
--- fewer than five inactive frames make no SID place
-pub not_place : (f : Coded) (past : List Coded) → pause_of (f ∷ past) < 5 → is_sid_place (f ∷ past) ≡ false
-not_place f past l = lt-leb 5 (pause_of (f ∷ past)) l
+-- fewer inactive frames make no SID place
+pub not_place : (f : Coded) (past : List Coded) → pause_of (f ∷ past) < described_from → is_sid_place (f ∷ past) ≡ false
+not_place f past l = lt-leb described_from (pause_of (f ∷ past)) l
 
 -- an active frame
 pub active-counts : (f : Coded) (past : List Coded) (m : TxMemory) → is_active f ≡ true → Stands past m → Counts (f ∷ past) (after_active m)
@@ -97,14 +100,14 @@ active-counts f past m a s =
 pub one_longer : (f : Coded) (past : List Coded) → is_active f ≡ false → pause_of (f ∷ past) ≡ suc (pause_of past)
 one_longer f past n = cond-false (is_active f) 0 (suc (pause_of past)) n
 
--- an inactive frame after four
-pub sid-counts : (f : Coded) (past : List Coded) (m : TxMemory) → is_active f ≡ false → 4 ≤ pause_of past → Stands past m →
+-- an inactive frame at which a SID is made
+pub sid-counts : (f : Coded) (past : List Coded) (m : TxMemory) → is_active f ≡ false → described_from ≤ pause_of past + 1 → Stands past m →
     Counts (f ∷ past) (after_sid m (f.measures ∷ m.recent))
 sid-counts f past m n l s =
     let longer = one_longer f past n in
-    let place = sid_place f past (le-leb 5 (pause_of (f ∷ past)) (omega arith)) in
+    let place = sid_place f past (le-leb described_from (pause_of (f ∷ past)) (omega arith)) in
     let long = pause-length past in
-    let four = newest-four f past m.recent s.recent (omega arith) in
+    let four = newest-four f past m.recent s.recent (four_by_then past (omega arith)) in
     let before : before_pause (f ∷ past) ≡ before_pause past = cond-false (is_active f) (f ∷ past) (before_pause past) n in
     record {
       run = omega arith;
@@ -114,23 +117,25 @@ sid-counts f past m n l s =
     }
 
 -- whether the pause hangs, at its first frame and later
-pub hangs-now : (f : Coded) (past : List Coded) (m : TxMemory) → is_active f ≡ false → pause_of past < 4 → Stands past m →
+pub hangs-now : (f : Coded) (past : List Coded) (m : TxMemory) → is_active f ≡ false → pause_of past + 1 < described_from → Stands past m →
     hangs_at (pause_of past + 1) (elapsed_later m.elapsed) m.hangs ≡ is_none (sid_used (before_pause past))
-hangs-now f [] m n l s = ap (λ e. nat_le 24 (elapsed_later e)) s.elapsed
+hangs-now f [] m n l s = ap (λ e. nat_le hangover_after (elapsed_later e)) s.elapsed
 hangs-now f (g ∷ past) m n l s = elim (cases_Bool (is_active g)) [
   | inl a ↦
       let none : pause_of (g ∷ past) ≡ 0 = cond-true (is_active g) 0 (suc (pause_of past)) a in
       let before : before_pause (g ∷ past) ≡ g ∷ past = cond-true (is_active g) (g ∷ past) (before_pause past) a in
-      cond-true (pause_of (g ∷ past) + 1 == 1) (nat_le 24 (elapsed_later m.elapsed)) m.hangs (eq-eqb (pause_of (g ∷ past) + 1) 1 (omega arith)) ∙
-      ap (λ e. nat_le 24 (elapsed_later e)) s.elapsed ∙ hangs_by (latest_place (g ∷ past)) ∙ sym (ap (λ z. is_none (sid_used z)) before)
+      cond-true (pause_of (g ∷ past) + 1 == 1) (nat_le hangover_after (elapsed_later m.elapsed)) m.hangs
+      (eq-eqb (pause_of (g ∷ past) + 1) 1 (omega arith)) ∙
+      ap (λ e. nat_le hangover_after (elapsed_later e)) s.elapsed ∙ hangs_by (latest_place (g ∷ past)) ∙ sym (ap (λ z. is_none (sid_used z)) before)
   | inr p ↦
       let longer = one_longer g past p in
-      cond-false (pause_of (g ∷ past) + 1 == 1) (nat_le 24 (elapsed_later m.elapsed)) m.hangs (ne_eqb (pause_of (g ∷ past) + 1) 1 (omega arith))
+      cond-false (pause_of (g ∷ past) + 1 == 1) (nat_le hangover_after (elapsed_later m.elapsed)) m.hangs
+      (ne_eqb (pause_of (g ∷ past) + 1) 1 (omega arith))
       ∙ s.hangs (omega arith)
 ]
 
--- an inactive frame after fewer than four
-pub early-counts : (f : Coded) (past : List Coded) (m : TxMemory) → is_active f ≡ false → pause_of past < 4 → Stands past m →
+-- one earlier in its pause
+pub early-counts : (f : Coded) (past : List Coded) (m : TxMemory) → is_active f ≡ false → pause_of past + 1 < described_from → Stands past m →
     Counts (f ∷ past) (after_early m (pause_of past + 1))
 early-counts f past m n l s =
     let longer = one_longer f past n in

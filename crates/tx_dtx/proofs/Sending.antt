@@ -6,18 +6,18 @@ use Rattle.std.proofs.lemmas.Bool.{cases_Bool, cases_lt, cond-true, cond-false, 
 use Rattle.trau_params.specs.Fields.{Fields}
 use Rattle.tx_dtx.specs.Stretch.{Coded, is_active, Sent}
 use Rattle.tx_dtx.specs.SilenceDescriptor.{sid_of}
-use Rattle.tx_dtx.specs.Sent.{SidPlace, one_later, pause_of, is_sid_place, newest_four, latest_place, before_pause, still_used, itself, silence, sent_early}
+use Rattle.tx_dtx.specs.Sent.{described_from, hangover_after, SidPlace, one_later, pause_of, is_sid_place, newest_four, latest_place, before_pause, still_used, itself, silence, sent_early}
 use Rattle.tx_dtx.specs.Sent.{sent_of, all_sent}
 use Rattle.tx_dtx.specs.Memory.{TxMemory, home_memory}
-use Rattle.tx_dtx.specs.Step.{after_active, remembered, described, early, paused, sent_after, next_sent, sent_in_turn}
+use Rattle.tx_dtx.specs.Step.{after_active, with_measures, sid_step, early_step, pause_step, sent_after, next_sent, sent_in_turn}
 use Rattle.tx_dtx.specs.Stands.{Stands}
-use Rattle.tx_dtx.proofs.Counters.{no_place, recent-more, newest-four, pause-length, Counts, not_place, active-counts, one_longer, sid-counts, hangs-now}
+use Rattle.tx_dtx.proofs.Counters.{no_place, recent-more, four_by_then, newest-four, pause-length, Counts, not_place, active-counts, one_longer, sid-counts, hangs-now}
 use Rattle.tx_dtx.proofs.Counters.{early-counts}
 
 -- ---- what is sent
 
 -- the latest SID place of before a short pause has the last SID
-sid-before : (past : List Coded) (sid : Fields) → pause_of past < 4 → IfSome (latest_place past) (λ place. sid ≡ sid_of place.four) →
+sid-before : (past : List Coded) (sid : Fields) → pause_of past + 1 < described_from → IfSome (latest_place past) (λ place. sid ≡ sid_of place.four) →
     IfSome (latest_place (before_pause past)) (λ place. sid ≡ sid_of place.four)
 sid-before [] sid l h = h
 sid-before (f ∷ past) sid l h = elim (cases_Bool (is_active f)) [
@@ -37,7 +37,7 @@ sid-before (f ∷ past) sid l h = elim (cases_Bool (is_active f)) [
 sent-early : (f : Coded) (sid : Fields) (o : Option SidPlace) → IfSome o (λ place. sid ≡ sid_of place.four) →
     (if is_none (still_used o) then itself f.fields else record { fields = sid; sp = false }) ≡ sent_early f (still_used o)
 sent-early f sid None h = refl
-sent-early f sid (Some place) h = by (nat_le 24 (place.since + 1))
+sent-early f sid (Some place) h = by (nat_le hangover_after (place.since + 1))
   where
     by : (b : Bool) →
         (if is_none (if b then None else Some place) then itself f.fields else record { fields = sid; sp = false }) ≡
@@ -59,21 +59,22 @@ takes-active f past m a s = record {
 }
 
 -- an inactive frame of which a SID is made
-takes-sid : (f : Coded) (past : List Coded) (m : TxMemory) → is_active f ≡ false → 4 ≤ pause_of past → Stands past m → Takes f past (described m f.measures)
+takes-sid : (f : Coded) (past : List Coded) (m : TxMemory) → is_active f ≡ false → described_from ≤ pause_of past + 1 → Stands past m →
+    Takes f past (sid_step m f.measures)
 unfolding sent_of
 takes-sid f past m n l s =
     let longer = one_longer f past n in
     let long = pause-length past in
     record {
-      sent = ap silence (newest-four f past m.recent s.recent (omega arith)) ∙
+      sent = ap silence (newest-four f past m.recent s.recent (four_by_then past (omega arith))) ∙
           sym (cond-false (is_active f) (itself f.fields) _ n ∙
-          cond-true (is_sid_place (f ∷ past)) (silence (newest_four (f ∷ past))) _ (le-leb 5 (pause_of (f ∷ past)) (omega arith)));
+          cond-true (is_sid_place (f ∷ past)) (silence (newest_four (f ∷ past))) _ (le-leb described_from (pause_of (f ∷ past)) (omega arith)));
       counts = sid-counts f past m n l s;
     }
 
 -- one earlier in its pause
-takes-early : (f : Coded) (past : List Coded) (m : TxMemory) → is_active f ≡ false → pause_of past < 4 → Stands past m →
-    Takes f past (early m (pause_of past + 1) f.fields)
+takes-early : (f : Coded) (past : List Coded) (m : TxMemory) → is_active f ≡ false → pause_of past + 1 < described_from → Stands past m →
+    Takes f past (early_step m (pause_of past + 1) f.fields)
 unfolding sent_of
 takes-early f past m n l s =
     let longer = one_longer f past n in
@@ -86,22 +87,25 @@ takes-early f past m n l s =
     }
 
 -- any inactive frame
-takes-inactive : (f : Coded) (past : List Coded) (m : TxMemory) → is_active f ≡ false → Stands past m → Takes f past (paused m f.fields f.measures)
-unfolding paused
+takes-inactive : (f : Coded) (past : List Coded) (m : TxMemory) → is_active f ≡ false → Stands past m →
+    Takes f past (pause_step m f.fields f.measures)
+unfolding pause_step
 takes-inactive f past m n s =
     let run = s.run in
-    elim (cases_lt (pause_of past) 4) [
+    elim (cases_lt (pause_of past + 1) described_from) [
       | inl short ↦
-          let now : min (m.run + 1) 5 ≡ pause_of past + 1 = omega arith in
+          let now : min (m.run + 1) described_from ≡ pause_of past + 1 = omega arith in
           subst (Takes f past)
-          (sym (cond-false (min (m.run + 1) 5 == 5) (described m f.measures) (early m (min (m.run + 1) 5) f.fields)
-          (ne_eqb (min (m.run + 1) 5) 5 (omega arith)) ∙
-          ap (λ r. early m r f.fields) now))
+          (sym (cond-false (min (m.run + 1) described_from == described_from) (sid_step m f.measures)
+          (early_step m (min (m.run + 1) described_from) f.fields)
+          (ne_eqb (min (m.run + 1) described_from) described_from (omega arith)) ∙
+          ap (λ r. early_step m r f.fields) now))
           (takes-early f past m n short s)
       | inr long ↦
           subst (Takes f past)
-          (sym (cond-true (min (m.run + 1) 5 == 5) (described m f.measures) (early m (min (m.run + 1) 5) f.fields)
-          (eq-eqb (min (m.run + 1) 5) 5 (omega arith))))
+          (sym (cond-true (min (m.run + 1) described_from == described_from) (sid_step m f.measures)
+          (early_step m (min (m.run + 1) described_from) f.fields)
+          (eq-eqb (min (m.run + 1) described_from) described_from (omega arith))))
           (takes-sid f past m n long s)
     ]
 
@@ -109,8 +113,9 @@ takes-inactive f past m n s =
 takes : (f : Coded) (past : List Coded) (m : TxMemory) → Stands past m → Takes f past (sent_after m f)
 unfolding sent_after
 takes f past m s = elim (cases_Bool (is_active f)) [
-  | inl a ↦ subst (Takes f past) (sym (cond-true (is_active f) (itself f.fields, after_active m) (paused m f.fields f.measures) a)) (takes-active f past m a s)
-  | inr n ↦ subst (Takes f past) (sym (cond-false (is_active f) (itself f.fields, after_active m) (paused m f.fields f.measures) n))
+  | inl a ↦ subst (Takes f past) (sym (cond-true (is_active f) (itself f.fields, after_active m) (pause_step m f.fields f.measures) a))
+      (takes-active f past m a s)
+  | inr n ↦ subst (Takes f past) (sym (cond-false (is_active f) (itself f.fields, after_active m) (pause_step m f.fields f.measures) n))
       (takes-inactive f past m n s)
 ]
 
@@ -118,11 +123,12 @@ takes f past m s = elim (cases_Bool (is_active f)) [
 
 -- the measures are remembered after that
 taken-recent : (m : TxMemory) (f : Coded) → (sent_after m f).1.recent ≡ m.recent
-unfolding sent_after paused
-taken-recent m f = by (is_active f) (min (m.run + 1) 5 == 5)
+unfolding sent_after pause_step
+taken-recent m f = by (is_active f) (min (m.run + 1) described_from == described_from)
   where
     by : (a b : Bool) →
-        (if a then (itself f.fields, after_active m) else if b then described m f.measures else early m (min (m.run + 1) 5) f.fields).1.recent ≡
+        (if a then (itself f.fields, after_active m) else if b then sid_step m f.measures
+        else early_step m (min (m.run + 1) described_from) f.fields).1.recent ≡
         m.recent
     by true b = refl
     by false true = refl
@@ -145,10 +151,11 @@ step-stands f past m s =
     )
 
 -- a step, by its parts
-pub stepped_by : (m : TxMemory) (f : Coded) (sent : Sent) (between now : TxMemory) → sent_after m f ≡ (sent, between) → now ≡ remembered between f.measures →
+pub stepped_by : (m : TxMemory) (f : Coded) (sent : Sent) (between now : TxMemory) → sent_after m f ≡ (sent, between) →
+    now ≡ with_measures between f.measures →
     next_sent m f ≡ (sent, now)
 unfolding next_sent
-stepped_by m f sent between now t r = ap (λ (out : Sent × TxMemory). let s : Sent × TxMemory = (out.0, remembered out.1 f.measures) in s) t ∙
+stepped_by m f sent between now t r = ap (λ (out : Sent × TxMemory). let s : Sent × TxMemory = (out.0, with_measures out.1 f.measures) in s) t ∙
     ap (λ z. let s : Sent × TxMemory = (sent, z) in s) (sym r)
 
 -- the same in the stretch

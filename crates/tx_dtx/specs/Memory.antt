@@ -2,9 +2,10 @@
 use Rattle.std.specs.Prelude.{ℕ, pos, Bool, false, List, replicate}
 use Rattle.trau_params.specs.Fields.{Fields}
 use Rattle.tx_dtx.specs.Stretch.{Measures}
+use Rattle.tx_dtx.specs.Sent.{hangover_after}
 
--- the number of inactive frames in a row, 5 at most; the number of frames since the last SID was made, 24 at most; whether the last pause has a
--- hangover; the last SID; the measures of the last three frames
+-- the number of inactive frames in a row, counted up to `described_from`; the number of frames since the last SID was made, counted up to
+-- `hangover_after`; whether the last pause has a hangover; the last SID; the measures of the last three frames
 pub record TxMemory : Type 0 where
   pub run : ℕ
   pub elapsed : ℕ
@@ -28,4 +29,4 @@ no_fields = record {
 
 -- the memory in the home state
 abbrev pub home_memory : TxMemory
-home_memory = record { run = 0; elapsed = 24; hangs = false; sid = no_fields; recent = replicate 3 no_measures }
+home_memory = record { run = 0; elapsed = hangover_after; hangs = false; sid = no_fields; recent = replicate 3 no_measures }

@@ -5,14 +5,22 @@ use Rattle.trau_params.specs.Fields.{Fields}
 use Rattle.tx_dtx.specs.Stretch.{Measures, Coded, is_active, Sent}
 use Rattle.tx_dtx.specs.SilenceDescriptor.{sid_of}
 
+-- the inactive frame of a pause, counted from 1, at which its first SID is made; the ones before it may be a hangover
+abbrev pub described_from : ℕ
+described_from = 5
+
+-- a pause has a hangover if it begins this many frames, or more, after the last SID was made
+abbrev pub hangover_after : ℕ
+hangover_after = 24
+
 -- the number of inactive frames in a row up to the newest one
 abbrev pub pause_of : List Coded → ℕ
 pause_of [] = 0
 pause_of (f ∷ fs) = if is_active f then 0 else suc (pause_of fs)
 
--- a SID is made at each inactive frame that follows four inactive ones, from the newest four frames
+-- a SID is made at this inactive frame of a pause and at each later one, from the newest four frames
 abbrev pub is_sid_place : List Coded → Bool
-is_sid_place fs = nat_le 5 (pause_of fs)
+is_sid_place fs = nat_le described_from (pause_of fs)
 
 -- the measures of the newest four frames
 abbrev pub newest_four : List Coded → List Measures
@@ -39,10 +47,10 @@ abbrev pub before_pause : List Coded → List Coded
 before_pause [] = []
 before_pause (f ∷ fs) = if is_active f then f ∷ fs else before_pause fs
 
--- the SID that a pause begins with: the last one, unless the pause begins 24 frames or more after it
+-- the SID that a pause begins with: the last one, unless the pause has a hangover
 abbrev pub still_used : Option SidPlace → Option SidPlace
 still_used None = None
-still_used (Some place) = if nat_le 24 (place.since + 1) then None else Some place
+still_used (Some place) = if nat_le hangover_after (place.since + 1) then None else Some place
 
 abbrev pub sid_used : List Coded → Option SidPlace
 sid_used before = still_used (latest_place before)

@@ -1,5 +1,5 @@
 -- What the transmit side takes of a frame, and what it sends (this project's profile, modelled on GSM 06.31).
-use Rattle.std.specs.Prelude.{ℤ, Bool, not, ◌||◌, int_le, List}
+use Rattle.std.specs.Prelude.{ℤ, Bool, not, ◌||◌, int_le, List, [], ◌∷◌}
 use Rattle.trau_params.specs.Fields.{Fields, fields_of}
 use Rattle.trau_params.specs.declared.params.Params.{Params}
 use Rattle.trau_params.specs.declared.trace.Trace.{Trace}
@@ -12,6 +12,10 @@ pub record Measures : Type 0 where
 
 abbrev pub measures_of : Trace → Measures
 measures_of t = record { lar = t.lar; xmax = t.xmax }
+
+-- those of four frames
+abbrev pub measures_of_four : Trace → Trace → Trace → Trace → List Measures
+measures_of_four a b c d = measures_of a ∷ measures_of b ∷ measures_of c ∷ measures_of d ∷ []
 
 -- a coded frame: its parameters, its measures, the peak of its preprocessed samples, and the level and DTX in force
 pub record Coded : Type 0 where

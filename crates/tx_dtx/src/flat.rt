@@ -1,6 +1,7 @@
 //! The state of the transmit side as plain numbers, so that a C program can hold it.
 
 ghost use Rattle.std.specs.Prelude.{◌≤◌, ◌≤ℤ◌, pos, All};
+ghost use Rattle.tx_dtx.specs.Sent.{described_from, hangover_after};
 
 use crate::tx::Tx;
 use trau_params::{Params, Trace};
@@ -9,9 +10,9 @@ use trau_params::{Params, Trace};
 #[derive(Clone, Copy)]
 #[repr(C)]
 pub struct FlatTx {
-    /// The number of inactive frames in a row, counted up to 5.
+    /// The number of inactive frames in a row, counted up to DESCRIBED_FROM.
     pub run: u8,
-    /// The number of frames since the last SID was made, counted up to 24; 24 if none was made.
+    /// The number of frames since the last SID was made, counted up to HANGOVER_AFTER; this too if none was made.
     pub elapsed: u8,
     /// Whether the last pause has a hangover.
     pub hangs: bool,
@@ -29,8 +30,8 @@ pub struct FlatTx {
     pub third_last_lar: [i16; 8],
     /// That frame's block maxima.
     pub third_last_xmax: [i16; 4],
-    pub ghost run_stops: { run ≤ 5 },
-    pub ghost elapsed_stops: { elapsed ≤ 24 },
+    pub ghost run_stops: { run ≤ described_from },
+    pub ghost elapsed_stops: { elapsed ≤ hangover_after },
     pub ghost last_not_negative: { All (λ x. pos 0 ≤ℤ x) last_xmax },
     pub ghost second_not_negative: { All (λ x. pos 0 ≤ℤ x) second_last_xmax },
     pub ghost third_not_negative: { All (λ x. pos 0 ≤ℤ x) third_last_xmax },

@@ -4,7 +4,7 @@ ghost use Rattle.std.specs.Prelude.{◌≡◌, ℕ, pos, neg_ℤ, ◌+ℤ◌, �
 ghost use Rattle.std.specs.List.{range_with_len};
 ghost use Rattle.trau_num.specs.Num.{floor_shr, entry};
 ghost use Rattle.trau_params.specs.Fields.{fields_of};
-ghost use Rattle.tx_dtx.specs.Stretch.{measures_of};
+ghost use Rattle.tx_dtx.specs.Stretch.{measures_of_four};
 ghost use Rattle.tx_dtx.specs.SilenceDescriptor.{total, mean_ratio, mean_maximum, sid_of};
 
 use fr_lpc::quantise;
@@ -58,7 +58,7 @@ fn maxima(t: &Trace) -> i32
 // The mean block maximum of four frames, rounded down.
 #[tactic(auto, unfolding(crate::specs::SilenceDescriptor::mean_maximum))]
 fn mean_maximum(a: &Trace, b: &Trace, c: &Trace, d: &Trace) -> i16
-    ensures value { result ≡ mean_maximum (measures_of a.now ∷ measures_of b.now ∷ measures_of c.now ∷ measures_of d.now ∷ []) }
+    ensures value { result ≡ mean_maximum (measures_of_four a.now b.now c.now d.now) }
     ensures not_negative { pos 0 ≤ℤ result }
 {
     sixteenth((maxima(a) + maxima(b)) + (maxima(c) + maxima(d)))
@@ -66,7 +66,8 @@ fn mean_maximum(a: &Trace, b: &Trace, c: &Trace, d: &Trace) -> i16
 
 // The mean ratios of four frames.
 fn mean_ratios(a: &Trace, b: &Trace, c: &Trace, d: &Trace) -> [i16; 8]
-    ensures { result ≡ map (mean_ratio (measures_of a.now ∷ measures_of b.now ∷ measures_of c.now ∷ measures_of d.now ∷ [])) (range_with_len 0 8) }
+    ensures { result ≡
+        map (mean_ratio (measures_of_four a.now b.now c.now d.now)) (range_with_len 0 8) }
 {
     let mut mean = [0; 8];
     for i in 0..8 {
@@ -77,7 +78,7 @@ fn mean_ratios(a: &Trace, b: &Trace, c: &Trace, d: &Trace) -> [i16; 8]
 
 /// The SID of four frames, from their measures.
 pub(crate) fn sid(a: &Trace, b: &Trace, c: &Trace, d: &Trace) -> Params
-    ensures { fields_of result ≡ sid_of (measures_of a.now ∷ measures_of b.now ∷ measures_of c.now ∷ measures_of d.now ∷ []) }
+    ensures { fields_of result ≡ sid_of (measures_of_four a.now b.now c.now d.now) }
 {
     let larc = quantise(&mean_ratios(a, b, c, d));
     let xmaxc = quantise_max(mean_maximum(a, b, c, d));

@@ -3,19 +3,19 @@
 ghost use Rattle.std.specs.Prelude.{◌≡◌, ◌≤◌, List, [], ◌∷◌};
 ghost use Rattle.trau_params.specs.Fields.{fields_of};
 ghost use Rattle.tx_dtx.specs.Stretch.{Coded, coded_frame, measures_of, is_active_at, sent_frame};
-ghost use Rattle.tx_dtx.specs.Sent.{sent_of};
+ghost use Rattle.tx_dtx.specs.Sent.{described_from, sent_of};
 ghost use Rattle.tx_dtx.specs.Memory.{home_memory};
-ghost use Rattle.tx_dtx.specs.Step.{after_active, hangs_at, described, early, paused, sent_after, remembered, next_sent};
+ghost use Rattle.tx_dtx.specs.Step.{after_active, hangs_at, sid_step, early_step, pause_step, sent_after, with_measures, next_sent};
 ghost use Rattle.tx_dtx.specs.Stands.{Stands};
 
 use crate::sid::sid;
 use std::marker::Model;
 use trau_params::{Params, Trace};
 
-// From this frame of a pause on, each one becomes a SID.
+// From this frame of a pause on, counted from 1, each one becomes a SID (this project's profile).
 const DESCRIBED_FROM: u8 = 5;
 
-// A pause has a hangover if this many frames, or more, have passed since the last SID was made.
+// A pause has a hangover if this many frames, or more, have passed since the last SID was made (this project's profile).
 const HANGOVER_AFTER: u8 = 24;
 
 /// The state of the transmit side of one call.
@@ -39,6 +39,7 @@ impl Model for Tx {
     ghost use Rattle.std.specs.Prelude.{◌≤◌, [], ◌∷◌};
     ghost use Rattle.trau_params.specs.Fields.{fields_of};
     ghost use Rattle.tx_dtx.specs.Stretch.{measures_of};
+    ghost use Rattle.tx_dtx.specs.Sent.{described_from, hangover_after};
     ghost use Rattle.tx_dtx.specs.Memory.{TxMemory};
 
     ghost Value = { TxMemory };
@@ -51,7 +52,7 @@ impl Model for Tx {
       recent = measures_of t.last ∷ measures_of t.second_last ∷ measures_of t.third_last ∷ [];
     } };
 
-    ghost invariant = { λ t. (t.run ≤ 5) × (t.elapsed ≤ 24) };
+    ghost invariant = { λ t. (t.run ≤ described_from) × (t.elapsed ≤ hangover_after) };
 }
 
 // Whether a frame is speech, which is the voice activity of this project's profile.
@@ -103,7 +104,8 @@ impl Tx {
 
     // Takes an inactive frame, makes a SID from it and the three frames before it, and sends the SID.
     fn describe(&mut self, t: &Trace) -> (Params, bool)
-        ensures { described self.old (measures_of t.now) ≡ (sent_frame result.0 result.1, self.new) }
+        ensures { sid_step self.old (measures_of t.now) ≡
+            (sent_frame result.0 result.1, self.new) }
     {
         self.run = DESCRIBED_FROM;
         self.elapsed = 0;
@@ -113,8 +115,9 @@ impl Tx {
 
     // Takes an inactive frame, the run-th of its pause. Sends the frame itself, or the last SID.
     fn hold(&mut self, run: u8, p: &Params) -> (Params, bool)
-        requires { run ≤ 5 }
-        ensures { early self.old run (fields_of p.now) ≡ (sent_frame result.0 result.1, self.new) }
+        requires { run ≤ described_from }
+        ensures { early_step self.old run (fields_of p.now) ≡
+            (sent_frame result.0 result.1, self.new) }
     {
         self.run = run;
         self.elapsed = (self.elapsed + 1).min(HANGOVER_AFTER);
@@ -126,9 +129,10 @@ impl Tx {
     }
 
     // Takes an inactive frame. Returns the frame to send, and SP.
-    #[tactic(auto, unfolding(crate::specs::Step::paused))]
+    #[tactic(auto, unfolding(crate::specs::Step::pause_step))]
     fn pause(&mut self, p: &Params, t: &Trace) -> (Params, bool)
-        ensures { paused self.old (fields_of p.now) (measures_of t.now) ≡ (sent_frame result.0 result.1, self.new) }
+        ensures { pause_step self.old (fields_of p.now) (measures_of t.now) ≡
+            (sent_frame result.0 result.1, self.new) }
     {
         let run = (self.run + 1).min(DESCRIBED_FROM);
         if run == DESCRIBED_FROM {
@@ -140,7 +144,8 @@ impl Tx {
     // Takes a frame. Returns the frame to send, and SP.
     #[tactic(auto, unfolding(crate::specs::Step::sent_after))]
     fn take(&mut self, p: &Params, t: &Trace, peak: i16, level: i16, on: bool) -> (Params, bool)
-        ensures { sent_after self.old (coded_frame p.now t.now peak level on) ≡ (sent_frame result.0 result.1, self.new) }
+        ensures { sent_after self.old (coded_frame p.now t.now peak level on) ≡
+            (sent_frame result.0 result.1, self.new) }
     {
         if is_active(peak, level, on) {
             self.speak();
@@ -151,7 +156,7 @@ impl Tx {
 
     // Keeps a frame's measures.
     fn remember(&mut self, t: &Trace)
-        ensures { self.new ≡ remembered self.old (measures_of t.now) }
+        ensures { self.new ≡ with_measures self.old (measures_of t.now) }
     {
         self.third_last = self.second_last;
         self.second_last = self.last;
@@ -162,7 +167,8 @@ impl Tx {
     /// preprocessed samples, the level that the peak of an active frame reaches, and whether DTX is on. Returns the
     /// frame to send, and SP, which is true for speech.
     pub fn send(&mut self, p: &Params, t: &Trace, peak: i16, level: i16, on: bool) -> (Params, bool)
-        ensures step { next_sent self.old (coded_frame p.now t.now peak level on) ≡ (sent_frame result.0 result.1, self.new) }
+        ensures step { next_sent self.old (coded_frame p.now t.now peak level on) ≡
+            (sent_frame result.0 result.1, self.new) }
 
         // After the frames of any past, this one is sent as in the whole stretch.
         ensures history { (past : List Coded) → Stands past self.old →

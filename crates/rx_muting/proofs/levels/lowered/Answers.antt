@@ -1,12 +1,13 @@
 use Rattle.std.proofs.Common.{◌-◌, ◌*◌, ◌<◌, ◌≤◌, get_or, sym, ◌∙◌, arith, rules}
 use Rattle.std.proofs.lemmas.List.Elements.{All-from_get_or}
 use Rattle.trau_num.proofs.Fill.{fill_all}
+use Rattle.rx_muting.specs.Muting.{muting_step}
 use Rattle.rx_muting.proofs.Maxima.{lowered_by_places}
 use Rattle.rx_muting.proofs.levels.lowered.Goals as goal
 
 pub returns-clause-value : goal.returns-clause-value
 returns-clause-value c =
-    fill_all 0 (λ j. get_or c.args.xmaxc.now j 0 - 4 * c.args.steps) c.loop-j.maxima 4 c.loop-j.j (omega arith) c.loop-j.invariant
+    fill_all 0 (λ j. get_or c.args.xmaxc.now j 0 - muting_step * c.args.steps) c.loop-j.maxima 4 c.loop-j.j (omega arith) c.loop-j.invariant
     ∙ sym (lowered_by_places c.args.steps c.args.xmaxc.now 4 c.told-xmaxc)
 
 pub returns-clause-fit : goal.returns-clause-fit

@@ -1,4 +1,5 @@
 use Rattle.std.proofs.Common.{◌≡◌, ◌≤◌, ◌++◌, length, refl, sym, ap, ◌∙◌, subst, rules}
+use Rattle.time_align.specs.Shift.{greatest_shift}
 use Rattle.down_framer.specs.Made.{made_frames}
 use Rattle.down_framer.specs.Memory.{FramerMemory, IsWithinPeriod}
 use Rattle.down_framer.specs.Step.{after_put}
@@ -26,7 +27,7 @@ returns-clause-step c = step_now c
 
 pub returns-clause-within : goal.returns-clause-within
 returns-clause-within c =
-    let bounded = subst (λ (s : FramerMemory). s.to_skip ≤ 156) c.self.view_is c.self.invariant.bounded in
+    let bounded = subst (λ (s : FramerMemory). s.to_skip ≤ greatest_shift) c.self.view_is c.self.invariant.bounded in
     subst IsWithinPeriod (sym (step_now c)) (put_within c.args.self.now c.args.octets.now c.requires.between c.told-octets bounded)
 
 pub returns-clause-places : goal.returns-clause-places

@@ -1,7 +1,7 @@
 use Rattle.std.proofs.Common.{rules}
-use Rattle.tx_dtx.specs.Step.{paused}
+use Rattle.tx_dtx.specs.Step.{pause_step}
 use Rattle.tx_dtx.proofs.tx.Tx.pause.Goals as goal
 
 pub returns-then-run-eq-DESCRIBED_FROM : goal.returns-then-run-eq-DESCRIBED_FROM
-unfolding paused
+unfolding pause_step
 returns-then-run-eq-DESCRIBED_FROM c = search rules
