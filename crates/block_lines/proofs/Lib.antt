@@ -4,6 +4,6 @@ pub mod Blocks
 pub mod Ending
 pub mod Making
 pub mod Outputs
-pub mod Putting
-pub mod Rounds
-pub mod Writing
+mod Putting
+mod Rounds
+mod Writing

@@ -1,4 +1,4 @@
--- What a machine makes of the octets left.
+-- For crates above: where no octets remain, a machine makes nothing of them (`nothing_left`).
 use Rattle.std.proofs.Common.{◌≡◌, inr, ℕ, List, [], ◌++◌, sym, ◌∙◌, ap, subst, arith, append-nil}
 use Rattle.block_lines.specs.Machines.{IsRest, Machine}
 use Rattle.block_lines.specs.Step.{Makes}

@@ -1,4 +1,4 @@
--- How many frames are made, and how many carry a handed one.
+-- For crates above: how many frames a history makes and carries at most, and that counters that fit are exact (`exact_u32`, `exact_u64`).
 use Rattle.std.proofs.Common.{◌≡◌, ℕ, ◌+◌, ◌*◌, ◌≤◌, suc, ℤ, pos, Bool, ◌&&◌, if◌then◌else◌, nat_le, Option, Some, None, is_some, List, [], ◌∷◌, length, arith}
 use Rattle.std.specs.Prelude.{◌==◌}
 use Rattle.std.proofs.lemmas.Bool.{cond_both}

@@ -1,3 +1,4 @@
+-- For crates above: a bridge that is still to begin has an empty stretch (`plain-new`).
 -- How many handed frames wait, and the start and the end of a bridge.
 use Rattle.std.proofs.Common.{◌≡◌, refl, sym, ap, ◌∙◌, subst, ℕ, ◌+◌, ◌*◌, ◌≤◌, suc, Bool, true, false, not, ◌&&◌, ◌||◌, nat_le, Option, Some, None, is_some}
 use Rattle.std.proofs.Common.{filter, List, [], ◌∷◌, length, slice_get, arith, inl, inr}
@@ -80,14 +81,14 @@ made-within [] = tt
 made-within (p ∷ past) = grown-within p past (grown p past (made_frames past))
     (grown-within p past (made_frames past) (within-more (epoch_of past) (epoch_of (p ∷ past)) (made_frames past) (epoch-more p past) (made-within past)))
 
--- so a new bridge has no coded frame yet ..
+-- so a new bridge has no coded frame yet
 stretch-new : (c e : ℕ) (fs : List CallFrame) → Within e fs → coded_stretch c (suc e) fs ≡ []
 stretch-new c e [] w = refl
 stretch-new c e (f ∷ fs) w =
     cond-false (is_coded c f && f.epoch == suc e) (f ∷ coded_stretch c (suc e) fs) []
     (and_right (is_coded c f) (f.epoch == suc e) (ne_eqb f.epoch (suc e) (λ q. let x = w.0 in omega arith)))
 
--- .. and has sent none
+-- a new bridge has sent no handed frame
 carried_none : (e : ℕ) (fs : List CallFrame) → Within e fs → carried (suc e) fs ≡ 0
 carried_none e [] w = refl
 carried_none e (f ∷ fs) w =

@@ -54,15 +54,15 @@ one_more q x l =
 
 -- ---- the coder
 
--- the transmit side is at home ..
+-- the transmit side's initial memory stands for no frames
 pub home_tx-stands : tx.Stands [] tx_home
 home_tx-stands = record { run = refl; elapsed = refl; hangs = λ l. absurd (omega arith); sid = tt; recent = refl }
 
--- .. and so is the coder
+-- the coder's initial memory stands for no frames
 home-stands : (law : Law) → CoderStands law [] home_coder
 home-stands law = record { encoder = encoding.home-stands; tx = home_tx-stands }
 
--- the next frame of a stretch, where no handed one waits ..
+-- the next frame of a stretch, where no handed one waits
 own-stands : (who : Who) (f : CallFrame) (fs : List CallFrame) (m : CoderMemory) (held : List ℕ) (quiet : Bool) (level : ℤ) (on : Bool) → f.carries ≡ None →
     quiet ≡ quiet_now who.number f.load → level ≡ level_now f.load → on ≡ dtx_now f.load → take 160 held ≡ take 160 (drop f.start (pcm_of f.load)) →
     CoderStands who.law (coded_stretch who.number f.epoch fs) m →
@@ -101,7 +101,7 @@ one_carried : (ts : List CallPeriod) (o : Option ℕ) (x : List ℕ) → Some x 
 one_carried ts None x e = cc
 one_carried ts (Some h) x e = (h, refl, ap (λ o. unwrap_or o []) e)
 
--- .. and whatever waits
+-- the next frame of a stretch, whatever waits
 next-stands : (who : Who) (f : CallFrame) (fs : List CallFrame) (q : List (List ℕ)) (m : CoderMemory) (held : List ℕ) (quiet : Bool) (level : ℤ) (on : Bool) →
     slice_get q 0 ≡ bits_in f.load f.carries →
     quiet ≡ quiet_now who.number f.load → level ≡ level_now f.load → on ≡ dtx_now f.load → take 160 held ≡ take 160 (drop f.start (pcm_of f.load)) →
@@ -117,7 +117,7 @@ next-stands who f fs (x ∷ more) m held quiet level on e eq el eo et h =
 
 -- ---- the shifts
 
--- thawing keeps the shift that was asked for ..
+-- thawing keeps the shift that was asked for
 pub thawed-kept : (m : align.AlignMemory) (bridged : Bool) (q : List (List ℕ)) → (thawed m bridged q).kept ≡ m.kept
 thawed-kept m bridged q = go (bridged || not (length q == 0))
   where
@@ -125,7 +125,7 @@ thawed-kept m bridged q = go (bridged || not (length q == 0))
     go true = refl
     go false = refl
 
--- .. and the shifts are frozen as long as a bridge is on or a frame waits
+-- shifts that are frozen stay so as long as a bridge is on or a frame waits
 pub thawed-frozen : (m : align.AlignMemory) (bridged : Bool) (q : List (List ℕ)) → (thawed m bridged q).frozen ≡ (m.frozen && (bridged || not (length q == 0)))
 thawed-frozen m bridged q = go m.frozen (bridged || not (length q == 0)) refl
   where

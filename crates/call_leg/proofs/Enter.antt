@@ -1,3 +1,4 @@
+-- For crates above: the downlink's history has one period for each of the call's (`length-down_periods`).
 -- A period begins: its octets are put, and what is handed over in it joins the queue.
 use Rattle.std.proofs.Common.{◌≡◌, refl, sym, ap, ◌∙◌, ℕ, ◌+◌, ◌≤◌, ◌<◌, zero, suc, true, false, ◌||◌, if◌then◌else◌, Option, Some, None, is_some, unwrap_or}
 use Rattle.std.proofs.Common.{List, [], ◌∷◌, ◌++◌, length, slice_get, option_to_list, arith, ◌⊎◌, inl, inr}
@@ -38,11 +39,11 @@ pub place-none : {A : Type 0} (ps : List (Period A)) (fs : List (MadeFrame A)) (
     place_at ps fs n (Some s) ≡ None
 place-none ps fs s n h e b = ap (λ k. if hands_at k ps then Some k else None) e ∙ cond-false (hands_at h ps) (Some h) None b
 
--- what was handed over in the newest period ..
+-- what was handed over in the newest period
 handed-new : (t : CallPeriod) (past : List CallPeriod) (h : ℕ) (x : List ℕ) → h ≡ length past → t.handed ≡ Some x → handed_in h (t ∷ past) ≡ x
 handed-new t past h x e q = cond-true (h == length past) (unwrap_or t.handed []) (handed_in h past) (eq-eqb h (length past) e) ∙ ap (λ o. unwrap_or o []) q
 
--- .. and in an earlier one
+-- what was handed over in an earlier period
 handed-old : (t : CallPeriod) (past : List CallPeriod) (h : ℕ) → h < length past → handed_in h (t ∷ past) ≡ handed_in h past
 handed-old t past h l = cond-false (h == length past) (unwrap_or t.handed []) (handed_in h past) (ne_eqb h (length past) (omega arith))
 
@@ -133,7 +134,7 @@ handed_none t e = go t.handed e
 
 -- ---- the queue at the start of a period
 
--- what waits, with one period more: before the first bridge ..
+-- what waits, with one period more: before the first bridge
 enter_first : (t : CallPeriod) (past : List CallPeriod) (fs : List CallFrame) (q : List (List ℕ)) → t.handed ≡ None → latest_start (down_periods (t ∷ past))
     ≡ None → q ≡ [] → Waits (t ∷ past) fs (q ++ option_to_list t.handed)
 enter_first t past fs q h e z = record {
@@ -141,7 +142,7 @@ enter_first t past fs q h e z = record {
       ∙ sym (ap (λ o. bits_in (t ∷ past) (place_at (down_periods (t ∷ past)) fs n o)) e);
 }
 
--- .. and in the latest one
+-- what waits, with one period more: in the latest bridge
 enter_by : (t : CallPeriod) (past : List CallPeriod) (fs : List CallFrame) (q r : List (List ℕ)) (s : ℕ) → latest_start (down_periods (t ∷ past)) ≡ Some s →
     q ≡ r →
     ((n : ℕ) → slice_get (r ++ option_to_list t.handed) n ≡ bits_in (t ∷ past) (place_at (down_periods (t ∷ past)) fs n (Some s))) →

@@ -1,3 +1,4 @@
+-- For crates above: after its turn or its bridge's end, each half still stands for its history; the turn gives the call's note and lines.
 -- The halves of a leg, apart, on any memory that stands.
 use Rattle.std.proofs.Common.{◌≡◌, refl, sym, ap, ◌∙◌, subst, ℕ, Bool, true, false, not, Option, Some, None, is_some, unwrap_or, List, [], ◌∷◌, ◌++◌, length}
 use Rattle.std.proofs.lemmas.List.{append-nil}

@@ -1,4 +1,4 @@
--- The octets of the Up line, period by period.
+-- For crates above: the Up line has one list of octets for each period (`length-ups_of`).
 use Rattle.std.proofs.Common.{◌≡◌, refl, ap, List, [], ◌∷◌}
 use Rattle.std.specs.Prelude.{length, suc}
 use Rattle.call_leg.specs.Periods.{CallPeriod, ups_of}

@@ -1,3 +1,4 @@
+-- For crates above: two halves that stand for one history make a leg that stands for it (`join-stands`).
 -- The halves of a leg's period, on any memory that stands.
 use Rattle.std.proofs.Common.{◌≡◌, sym, ap, subst, ℕ, Option, Some, None, is_some, List, ◌∷◌, length}
 use Rattle.trau_params.specs.Bits260.{bits260}
@@ -22,7 +23,7 @@ pub join-stands : (who : Who) (ts : List CallPeriod) (now : Settings) (u : UpMem
 join-stands who ts now u d h k =
     record { up = record { law = h.law; search = h.search; rx = h.rx; decoder = h.decoder; counts = h.counts; bridged = k.bridged }; down = k }
 
--- **The uplink half of a period: what it leaves ..**
+-- **After the uplink half of a period the leg stands midway.**
 pub up-stands : (who : Who) (ts : List CallPeriod) (now : Settings) (up : List ℕ) (m : LegMemory) → length up ≡ 40 → Stands who ts now m →
     Midway who ts now up None (up_worked m up).2
 unfolding up_worked up_turned
@@ -32,14 +33,14 @@ up-stands who ts now up m l h = record {
       (noted-stands who ts now up m.down h.down);
 }
 
--- .. its effective frame ..
+-- the uplink half gives the call's effective frame
 pub up-effective : (who : Who) (ts : List CallPeriod) (now : Settings) (up pcm : List ℕ) (handed : Option (List ℕ)) (m : LegMemory) → length up ≡ 40 →
     Stands who ts now m →
     (up_worked m up).0 ≡ effective_now who.number (period_with now up pcm handed ∷ ts)
 unfolding up_worked
 up-effective who ts now up pcm handed m l h = ap (λ (n : Note). n.eff) (turn-note who ts now up (up_of m) l h.up)
 
--- .. and its octets
+-- the uplink half gives the call's octets on Out
 pub up-plays : (who : Who) (ts : List CallPeriod) (now : Settings) (up pcm : List ℕ) (handed : Option (List ℕ)) (m : LegMemory) → length up ≡ 40 →
     is_some handed ≡ now.bridged →
     Stands who ts now m → (up_worked m up).1 ≡ out_of who (period_with now up pcm handed ∷ ts)

@@ -1,23 +1,23 @@
-pub mod Inside
-pub mod Shifts
-pub mod Queue
+mod Inside
+mod Shifts
+mod Queue
 pub mod Enter
-pub mod Numbered
-pub mod Period
+mod Numbered
+mod Period
 pub mod Stretch
 pub mod Step
 pub mod Bridges
 pub mod Bounds
 pub mod Heard
-pub mod Stepping
+mod Stepping
 pub mod Lines
-pub mod UpLaws
-pub mod DownLaws
+mod UpLaws
+mod DownLaws
 pub mod OrderLaws
 pub mod LineLaws
 pub mod HalfLaws
 pub mod LegLaws
 pub mod HalfSteps
-pub mod Reloaded
-pub mod Noted
+mod Reloaded
+mod Noted
 pub mod NotedRuns

@@ -1,4 +1,4 @@
--- How long the lines of a call are, and that the Down line is made of bits.
+-- For crates above: a period has 320 bits of Down and 160 octets of Out, and Down is made of bits if all handed frames are (`HandBits`).
 use Rattle.std.proofs.Common.{◌≡◌, subst, ◌∙◌, ℕ, FitsSigned, w16, ◌*◌, ◌<◌, ℤ, pos, negsuc, true, if◌then◌else◌, nat_le, Option, Some, None, IfSome, unwrap_or}
 use Rattle.std.proofs.Common.{get_or, All, List, [], ◌∷◌, length, drop, replicate, arith, length-take, length-drop}
 use Rattle.std.specs.Prelude.{◌==◌}
@@ -53,7 +53,7 @@ length-down_now who t past =
 
 -- ---- octets
 
--- an idle octet is an octet ..
+-- an idle octet is below 256
 idle-is : (law : Law) → idle_of law < 256
 idle-is A = omega arith
 idle-is Mu = omega arith
@@ -63,7 +63,7 @@ parts : (law : Law) → PartsWords (companding law)
 parts A = a.parts
 parts Mu = mu.parts
 
--- .. and so is each other
+-- each octet of a law is below 256
 octet-is : (law : Law) (x : ℤ) → FitsSigned w16 x → octet_of (companding law) x < 256
 octet-is law x f = let p = parts law x f in subst (λ n. n < 256) (octet_of-only (companding law) x p.0 p.1) p.1.is_octet
 

@@ -1,4 +1,4 @@
--- The whole Down line.
+-- For crates above: the Down line is a prefix of all frames made, one after another (`line-is_made`).
 use Rattle.std.proofs.Common.{◌≡◌, refl, sym, ap, ◌∙◌, ℕ, ◌+◌, ◌*◌, ◌<◌, zero, suc, Bool, true, false, if◌then◌else◌, nat_le, List, [], ◌∷◌, ◌++◌, length, take}
 use Rattle.std.proofs.Common.{drop, arith, append_assoc}
 use Rattle.std.proofs.lemmas.List.{append-nil, take-append-le}

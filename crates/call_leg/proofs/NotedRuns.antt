@@ -1,3 +1,4 @@
+-- For crates above: a downlink half that runs by the uplink's notes gives the octets of the call's Down line (`run-downs`).
 -- The runs of the halves of a leg: what the notes of the one make of the other.
 use Rattle.std.proofs.Common.{◌≡◌, refl, ap, ◌∙◌, ◌&&◌, ℕ, zero, suc, ◌≤◌, nat_lt, Bool, true, false, if◌then◌else◌, Some, None, is_some}
 use Rattle.std.proofs.Common.{List, ◌∷◌, ◌++◌, length, get_or, arith}
@@ -26,7 +27,7 @@ pub run-notes : (h : LegHistory) (ups pcms : ℕ → List ℕ) (items : List Eff
     UpRun h ups (length items) n notes outs → AreNotes h ups pcms items n notes
 run-notes h ups pcms items n notes outs u = u.told pcms (handed_run h items) (run-ends h items n)
 
--- .. and its octets are those of the call's Out line
+-- an uplink half's run has the octets of the call's Out line
 pub run-outs : (h : LegHistory) (ups pcms : ℕ → List ℕ) (items : List EffectiveFields) (n : ℕ) (notes : List Note) (outs : List ℕ) →
     UpRun h ups (length items) n notes outs → outs ≡ outs_run h ups pcms (handed_run h items) n
 run-outs h ups pcms items n notes outs u = u.out pcms (handed_run h items) (run-ends h items n)
@@ -43,7 +44,7 @@ module _ (h : LegHistory) (ups pcms : ℕ → List ℕ) (items : List EffectiveF
       ∙ ap (λ (ts : List NotedPeriod). noted_with (settings_at k h.now) (note_in h.who.number (periods_run h ups pcms (handed_run h items) k) (ups k)) (pcms k)
       (handed_run h items k) ∷ ts) (run-periods k (omega arith))
 
-  -- .. and its octets are those of the call's Down line
+  -- a downlink half's run has the octets of the call's Down line
   pub run-downs : (k : ℕ) → k ≤ n → noted_downs h notes items pcms k ≡ downs_run h ups pcms (handed_run h items) k
   run-downs zero le = refl
   run-downs (suc k) le =

@@ -1,4 +1,4 @@
--- The orders between periods, on any memory that stands.
+-- For crates above: a new leg stands for its call (`new-stands`), and a leg still does after each order between periods.
 use Rattle.std.proofs.Common.{◌≡◌, refl, sym, ap, ◌∙◌, subst, ℕ, ℤ, true, None, List, [], length}
 use Rattle.std.proofs.lemmas.Bool.{true≢false}
 use Rattle.std.proofs.lemmas.List.Elements.{All-nil}

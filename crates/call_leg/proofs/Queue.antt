@@ -39,14 +39,14 @@ get-drop : (q : List (List ℕ)) (n : ℕ) → slice_get (drop 1 q) n ≡ slice_
 get-drop [] n = refl
 get-drop (x ∷ xs) n = refl
 
--- a frame takes the first that waits ..
+-- a frame takes the first that waits
 pub waits-next : (t : CallPeriod) (past : List CallPeriod) (fs : List CallFrame) (q : List (List ℕ)) → Waits (t ∷ past) fs q →
     Waits (t ∷ past) (next_frame (down_period t past) (down_periods past) fs ∷ fs) (drop 1 q)
 waits-next t past fs q h = record {
   each = λ n. get-drop q n ∙ h.each (suc n) ∙ sym (ap (bits_in (t ∷ past)) (due-next (down_period t past) (down_periods past) fs n));
 }
 
--- .. which is what its period was handed
+-- the first that waits is what the due period was handed
 pub waits-first : (ts : List CallPeriod) (fs : List CallFrame) (q : List (List ℕ)) → Waits ts fs q → slice_get q 0
     ≡ bits_in ts (handed_due (down_periods ts) fs)
 waits-first ts fs q h = h.each 0 ∙ sym (ap (bits_in ts) (due-first (down_periods ts) fs))
@@ -95,7 +95,7 @@ adopted (Some h) false frozen v w e n q = cond-true frozen (pos 0) v e
 adopted None true frozen v w e n q = absurd (n refl refl)
 adopted None false frozen v w e n q = cond-false frozen (pos 0) v e ∙ q
 
--- a frame that carries something leaves the fields since the last that doesn't ..
+-- a frame that carries something leaves the fields since the last that doesn't
 since-carries : {A : Type 0} (ps : List (Period A)) (f : MadeFrame A) (fs : List (MadeFrame A)) (h : ℕ) → f.carries ≡ Some h → counted_fields ps (f ∷ fs)
     ≡ counted_fields ps fs
 since-carries ps f fs h e =
@@ -104,7 +104,7 @@ since-carries ps f fs h e =
       | Some m ↦ take (length ps - (m.period + 1)) (map (λ p. p.field) ps)
     ]) e
 
--- .. and one that carries nothing starts anew
+-- a frame that carries nothing starts the fields anew
 since-none : {A : Type 0} (ps : List (Period A)) (f : MadeFrame A) (fs : List (MadeFrame A)) → f.carries ≡ None → length ps ≡ f.period + 1 →
     counted_fields ps (f ∷ fs) ≡ []
 since-none ps f fs e l =

@@ -1,3 +1,4 @@
+-- For crates above: the downlink counts the bridges of the call's history (`begun-same`).
 -- The downlink half, when one more frame is made.
 use Rattle.std.proofs.Common.{◌≡◌, refl, sym, ap, ◌∙◌, subst, ℕ, ◌+◌, ◌-◌, ◌*◌, ◌≤◌, ◌<◌, suc, ℤ, pos, Bool, true, false, not, ◌&&◌, ◌||◌, if◌then◌else◌}
 use Rattle.std.proofs.Common.{Option, Some, None, is_some, unwrap_or, filter, List, [], ◌∷◌, ◌++◌, length, drop, length-append, length-drop, arith, min}

@@ -1,3 +1,4 @@
+-- For crates above: the newest frame carries handed bits, is coded, or is idle (`frame-carries`, `frame-coded`, `frame-quiet`).
 -- Stretches with one more frame.
 use Rattle.std.proofs.Common.{◌≡◌, refl, ap, ◌∙◌, ℕ, Bool, true, false, not, ◌&&◌, if◌then◌else◌, Option, Some, None, is_none, List, [], ◌∷◌, eq-eqb}
 use Rattle.std.specs.Prelude.{◌==◌}

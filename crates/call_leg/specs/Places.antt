@@ -68,9 +68,9 @@ pub record DownStands (who : Who) (ts : List CallPeriod) (now : Settings) (d : D
 pub record Between (who : Who) (ts : List CallPeriod) (now : Settings) (d : DownMemory) : Type 0 where
   pub held : DownStands who ts now d
   pub open held use *
-  -- the 160 octets of the next frame haven't all come ..
+  -- the 160 octets of the next frame haven't all come
   pub ahead : 160 * length ts < next_start (frames_of ts) + 160
-  -- .. and those of each made frame have
+  -- the 160 octets of each made frame have come
   pub come : All (λ f. f.start + 160 ≤ 160 * length ts) (frames_of ts)
   -- the downlink made so far: 320 bits, and two for each octet before the next frame
   pub line : length (down_made who (frames_of ts)) ≡ 320 + 2 * next_start (frames_of ts)

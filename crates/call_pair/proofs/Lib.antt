@@ -1,16 +1,16 @@
-pub mod Turns
-pub mod Lengths
+mod Turns
+mod Lengths
 pub mod Places
 pub mod Octets
-pub mod Steps
+mod Steps
 pub mod RunsAlone
 pub mod Runs
-pub mod Joined
+mod Joined
 pub mod Sequences
 pub mod Phased
-pub mod BridgeEnd
-pub mod UplinkRuns
-pub mod DownlinkRuns
-pub mod Telling
-pub mod Lent
+mod BridgeEnd
+mod UplinkRuns
+mod DownlinkRuns
+mod Telling
+mod Lent
 pub mod Rounded

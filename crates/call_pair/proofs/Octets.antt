@@ -1,3 +1,4 @@
+-- For crates above: how many octets k periods have on Down and on Out (`length-downs_of`, `length-outs_of`).
 -- The octets of a place more.
 use Rattle.std.proofs.Common.{◌≡◌, ℕ, zero, suc, ◌+◌, ◌*◌, ◌≤◌, List, [], ◌∷◌, ◌++◌, length, drop, refl, sym, ap, ◌∙◌, arith}
 use Rattle.std.proofs.lemmas.List.{length-append, take_at, drop_at, drop-drop}

@@ -1,3 +1,4 @@
+-- For crates above: a place is below a limit or not, as a test (`is_below`, `not_below`).
 -- The octets of a place, octets that are written, and tests of places.
 use Rattle.std.proofs.Common.{◌≡◌, ◌∙◌, ℕ, ◌+◌, ◌-◌, ◌*◌, ◌<◌, ◌≤◌, ◌==◌, ltb, true, false, List, ◌++◌, length, take, drop, sym, ap, append_assoc, length-append, Vec, arith}
 use Rattle.std.proofs.lemmas.Bool.Decides.{nat_tests}

@@ -1,4 +1,4 @@
--- A round of a call is its run.
+-- For crates above: a round of one call or of two is the run of their halves, place by place (`one-rounded`, `two-rounded`).
 use Rattle.std.proofs.Common.{◌≡◌, refl, sym, ap, ◌∙◌, ℕ, min, [], take, List}
 use Rattle.rx_handler.specs.Origin.{EffectiveFields}
 use Rattle.call_pair.specs.Memory.{HalfMemory, Job, One, Two}

@@ -1,3 +1,4 @@
+-- For crates above: a job of two bridged calls ends as their histories say (`two-finished`).
 -- The job of two calls from place to place, for every history of theirs.
 use Rattle.std.proofs.Common.{◌≡◌, ℕ, zero, suc, ◌+◌, ◌<◌, ◌≤◌, max, min, ltb, Bool, true, false, if◌then◌else◌, Option, Some, None, List, ◌∷◌, refl, sym, ap}
 use Rattle.std.proofs.Common.{subst, ◌∙◌, ⊎_elim, arith}

@@ -1,3 +1,4 @@
+-- For crates above: the memory of an uplink half after k places (`ups`).
 -- The halves of a half's leg from place to place, where a bridge that it has ends at place m.
 use Rattle.std.proofs.Common.{◌≡◌, ◌==◌, ◌&&◌, ℕ, zero, suc, ◌+◌, ◌*◌, ◌<◌, ◌≤◌, min, ltb, Bool, true, false, if◌then◌else◌, Option, List, refl, sym, ap, ◌∙◌}
 use Rattle.std.proofs.Common.{⊎_elim, arith}

@@ -63,7 +63,7 @@ bridged = alone (pos 5) ∷ alone (pos 4) ∷ alone (pos 3) ∷ in_bridge (pos 2
 abbrev parameters : Fields
 parameters = fields_in (data_of (bits_of speech))
 
--- the receive side gets the five frames, the second of them in a bridge, and has decoded three since ..
+-- the receive side gets the five frames, the second of them in a bridge, and has decoded three since
 bridged_heard : receiver_periods bridged ≡ receiver_period (Good parameters) false ∷ receiver_period (Good parameters) false ∷
     receiver_period (Good parameters) false ∷ receiver_period (Good parameters) true ∷ receiver_period (Good parameters) false ∷ []
 unfolding sighting_after searched first_match is_match role_of line_bits mode_after bits_of words_in number_in place_of_role frame_at
@@ -73,12 +73,12 @@ bridged_decoded : decoded_stretch 1 (receiver_periods bridged) ≡ parameters �
 unfolding sighting_after searched first_match is_match role_of line_bits mode_after bits_of words_in number_in place_of_role frame_at effective_of anchor_of
 bridged_decoded = refl
 
--- .. the transmit side has sent the last three ..
+-- the transmit side has sent the last three
 bridged_sent : map (λ t. t.level) (sender_periods who bridged) ≡ pos 5 ∷ pos 4 ∷ pos 3 ∷ []
 unfolding sighting_after searched first_match is_match role_of line_bits mode_after bits_of words_in number_in place_of_role frame_at effective_of anchor_of
 bridged_sent = refl
 
--- .. and each period makes the frame of its own octets, the second with the item
+-- each period makes the frame of its own octets, the second with the item
 bridged_starts : map (λ f. f.start) (frames_by_period bridged) ≡ 640 ∷ 480 ∷ 320 ∷ 160 ∷ 0 ∷ []
 bridged_starts = refl
 

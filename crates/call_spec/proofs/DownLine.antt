@@ -1,4 +1,4 @@
--- The Down line, period by period, is the whole one.
+-- For crates above: each frame on the Down line, and so the line, is that of the call as a whole (`frame-placed`, `down-whole`).
 use Rattle.std.proofs.Common.{◌≡◌, refl, sym, ap, ◌∙◌, ℕ, ◌*◌, ◌≤◌, Bool, true, false, ◌&&◌, if◌then◌else◌, nat_le, nat_lt, Option, Some, None, List, [], ◌∷◌}
 use Rattle.std.proofs.Common.{◌++◌, length, map, take, reverse, replicate, arith, append_assoc, length-append}
 use Rattle.std.specs.Prelude.{◌==◌, not, is_none, unwrap_or}

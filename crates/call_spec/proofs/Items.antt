@@ -1,3 +1,4 @@
+-- For crates above: the frames made in a history are the first ones by number, with its bridges in order (`made-in_order`).
 -- Of the bridges of a history at most one has an item for each of its frames.
 use Rattle.std.proofs.Common.{◌≡◌, refl, sym, ap, ◌∙◌, subst, inl, inr, ℕ, ◌+◌, ◌*◌, ◌<◌, zero, suc, Bool, true, false, if◌then◌else◌, nat_le, Option}
 use Rattle.std.proofs.Common.{List, [], ◌∷◌, ◌++◌, length, map, reverse, arith, append_assoc, length-append}

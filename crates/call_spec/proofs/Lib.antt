@@ -1,21 +1,21 @@
 pub mod Stretched
 pub mod Ranges
-pub mod Speaking
+mod Speaking
 pub mod Items
-pub mod HandedAt
-pub mod Spans
-pub mod Starts
+mod HandedAt
+mod Spans
+mod Starts
 pub mod Reading
-pub mod Yields
-pub mod OutLine
+mod Yields
+mod OutLine
 pub mod Frames
 pub mod Loads
 pub mod Sending
-pub mod PlacedFrames
+mod PlacedFrames
 pub mod DownLine
-pub mod FirstPeriods
-pub mod Ordered
-pub mod SpansSoFar
+mod FirstPeriods
+mod Ordered
+mod SpansSoFar
 pub mod Whole
-pub mod ByPeriod
+mod ByPeriod
 mod Rows

@@ -1,4 +1,4 @@
--- What is known of each made frame by its place among the periods of a history.
+-- For crates above: each made frame is placed in a period of its history (`ArePlaced`, `placed`).
 use Rattle.std.proofs.Common.{◌≡◌, refl, sym, ◌∙◌, subst, inl, inr, ℕ, ◌+◌, ◌*◌, ◌<◌, ◌≤◌, Bool, true, false, if◌then◌else◌, nat_le, Option, Some, None, List}
 use Rattle.std.proofs.Common.{[], ◌∷◌, ◌++◌, length, arith, append_assoc}
 use Rattle.std.proofs.lemmas.Bool.{cases_lt, cond_both, leb-true}

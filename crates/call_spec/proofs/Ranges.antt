@@ -1,3 +1,4 @@
+-- For crates above: what a period of a history is: it, and the periods before it (`IsPeriod`).
 -- What a history says of each period, in the order of the periods.
 use Rattle.std.proofs.Common.{◌≡◌, refl, sym, ap, ◌∙◌, ℕ, ◌+◌, ◌<◌, List, [], ◌∷◌, ◌++◌, length, map, reverse, arith, append_assoc, length-append, get_or}
 use Rattle.std.specs.List.{range_with_len}

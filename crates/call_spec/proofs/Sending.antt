@@ -1,4 +1,4 @@
--- What is sent of a stretch of frames, with one more frame.
+-- For crates above: a stretch with one more frame sends that frame after the others (`adds-frame`, `frame_after`).
 use Rattle.std.proofs.Common.{◌≡◌, refl, sym, ap, ◌∙◌, ℤ, Bool, true, false, ◌&&◌, if◌then◌else◌, List, [], ◌∷◌, ◌++◌, length, map, reverse, arith}
 use Rattle.std.proofs.Common.{length-append}
 use Rattle.std.specs.Prelude.{not}

@@ -1,4 +1,4 @@
--- The history of a call as a whole is one of its periods, and says all of it.
+-- For crates above: the periods of a whole call are a history (`history-whole`), and the call of that history is the call (`call-whole`).
 use Rattle.std.proofs.Common.{◌≡◌, refl, sym, ap, ◌∙◌, inl, inr, ℕ, ◌+◌, ◌*◌, ◌≤◌, zero, suc, true, false, ◌||◌, Option, Some, None, List, [], ◌∷◌, length}
 use Rattle.std.proofs.Common.{drop, reverse, All, arith, length-drop, length-take}
 use Rattle.std.specs.Prelude.{is_some}

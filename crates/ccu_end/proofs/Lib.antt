@@ -1,8 +1,8 @@
-pub mod Reading
-pub mod Searching
+mod Reading
+mod Searching
 pub mod Lines
 pub mod Shifts
-pub mod Shifted
+mod Shifted
 mod Once
 mod Rows
 mod Alike

@@ -1,3 +1,4 @@
+-- For crates above: all frames that a prefix of a downlink has whole are found, and no others (`made-found`).
 -- A downlink as far as it is made: its frames stand apart, and every bit beside them is one.
 use Rattle.std.proofs.Common.{◌≡◌, ℕ, ◌+◌, ◌-◌, ◌*◌, ◌≤◌, ◌<◌, ℤ, pos, negsuc, Some, List, [], ◌∷◌, ◌++◌, length, take, replicate, get_or, sym, ap, ◌∙◌, inl}
 use Rattle.std.proofs.Common.{inr, arith, length-append, length-take}

@@ -1,4 +1,4 @@
--- The places of made frames by their shifts.
+-- For crates above: the shifts of made frames say where the frames are (`made-places`).
 use Rattle.std.proofs.Common.{◌≡◌, ℕ, ◌+◌, ◌*◌, ℤ, List, [], ◌∷◌, ◌++◌, map, refl, sym, ap, ◌∙◌, arith}
 use Rattle.std.proofs.lemmas.List.{map-append}
 use Rattle.trau_frame.specs.declared.frames.DownFrame.{DownFrame}

@@ -1,3 +1,4 @@
+-- For crates above: words whose first is a command with options ask for that kind of command (`has_options`).
 -- Words tell by the first of them what they ask for.
 use Rattle.std.proofs.Common.{◌≡◌, ℕ, ◌+◌, ◌*◌, List, [], ◌∷◌, length, get_or, inl, inr, refl, sym, ◌∙◌, ap, subst}
 use Rattle.std.specs.Prelude.{◌==◌, if◌then◌else◌, codes}

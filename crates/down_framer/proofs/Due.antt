@@ -1,4 +1,4 @@
--- Which handed frame is due, and what a period makes of it.
+-- For crates above: which handed item is due, which periods hand one over, and when a period makes a frame.
 use Rattle.std.proofs.Common.{◌≡◌, refl, ap, ◌∙◌, ℕ, ◌+◌, ◌*◌, ◌≤◌, ◌<◌, suc, ℤ, pos, Bool, true, false, if◌then◌else◌, nat_le, Option, Some, None, List, []}
 use Rattle.std.proofs.Common.{◌∷◌, length, filter, arith, inl, inr}
 use Rattle.std.specs.Prelude.{◌==◌}

@@ -1,3 +1,4 @@
+-- For crates above: a bridge by its ends (`bridge`); a bridge that goes on has started (`started`).
 -- The latest of the bridges of some periods.
 use Rattle.std.proofs.Common.{◌≡◌, refl, sym, ap, ◌∙◌, subst, ℕ, ◌+◌, ◌≤◌, true, false, ◌||◌, if◌then◌else◌, nat_lt, Some, None, List, [], ◌∷◌, ◌++◌, length}
 use Rattle.std.proofs.Common.{arith, inl, inr, length-append}

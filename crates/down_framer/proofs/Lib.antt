@@ -1,14 +1,14 @@
-pub mod Lists
+mod Lists
 pub mod Timing
 pub mod Store
 pub mod Due
 pub mod Waiting
 pub mod Calls
-pub mod Rings
-pub mod History
+mod Rings
+mod History
 pub mod Latest
 pub mod Used
-pub mod Asked
+mod Asked
 pub mod Carried
 pub mod Numbers
 pub mod FrameLaws

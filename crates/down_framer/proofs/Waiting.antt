@@ -1,4 +1,4 @@
--- At most one handed frame waits between periods: that of the newest period.
+-- For crates above: between periods at most one handed frame waits, that of the newest period (`Phase`, `phase`).
 use Rattle.std.proofs.Common.{◌≡◌, refl, sym, ap, ◌∙◌, subst, ℕ, ◌+◌, ◌*◌, ◌≤◌, ◌<◌, true, false, ◌||◌, Some, None, List, [], ◌∷◌, length, arith, ◌⊎◌, inl, inr}
 use Rattle.std.proofs.lemmas.Bool.{cases_lt, cases_Bool, cond-true, cond-false}
 use Rattle.time_align.specs.Shift.{greatest_shift}

@@ -1,8 +1,8 @@
 -- The lines of marks and their numbers, how long they are, what a front of a text tells of them, and how two lists of calls differ.
-pub mod Fields
-pub mod Rising
-pub mod Lines
-pub mod Fronts
-pub mod Reading
-pub mod Differences
-pub mod Short
+mod Fields
+mod Rising
+mod Lines
+mod Fronts
+mod Reading
+mod Differences
+mod Short

@@ -1,6 +1,6 @@
 -- Lemmas on draws, lines and orders.
-pub mod Drawing
-pub mod Octets
-pub mod Setting
-pub mod Texts
-pub mod Spelling
+mod Drawing
+mod Octets
+mod Setting
+mod Texts
+mod Spelling

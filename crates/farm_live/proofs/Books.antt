@@ -20,14 +20,14 @@ pub after_one_more : (ts : List CallPeriod) (es : List Entry) (e : Entry) → pe
 after_one_more ts [] e = refl
 after_one_more ts (x ∷ es) e = after_one_more (period_of x.post ∷ ts) es e
 
--- the octets of one entry more are those of the call ..
+-- one more entry is legal if its octets are those of the call
 pub legal_one_more : (who : Who) (ts : List CallPeriod) (es : List Entry) (e : Entry) → IsWorkedFrom who ts es → HasPeriod e.post →
     e.out ≡ out_of who (period_of e.post ∷ periods_after ts es) → bits_of e.down ≡ down_now who (period_of e.post ∷ periods_after ts es) →
     IsWorkedFrom who ts (es ++ e ∷ [])
 legal_one_more who ts [] e p sized out down = (sized, out, down, tt)
 legal_one_more who ts (x ∷ es) e p sized out down = (p.0, p.1, p.2, legal_one_more who (period_of x.post ∷ ts) es e p.3 sized out down)
 
--- .. where the leg worked its post after the history
+-- one more entry is legal if the leg worked its post after the history
 pub leg_one_more : (call : ℕ) (es : List Entry) (e : Entry) (old new : LegMemory) → IsLegal call es → HasPeriod e.post →
     Stands (who_at call) (periods_after [] es) new_settings old → WorksOn old e new →
     IsLegal call (es ++ e ∷ []) × Stands (who_at call) (periods_after [] (es ++ e ∷ [])) new_settings new

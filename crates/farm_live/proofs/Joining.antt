@@ -54,11 +54,11 @@ last_is new rest all u k e f = sym (ap (λ xs. get_or xs k u) e ∙ ap (λ n. ge
 pub last-lt : (new rest all : List Seat) (u : Seat) (k : ℕ) → all ≡ new ++ u ∷ rest → k ≡ length new → k < length all
 last-lt new rest all u k e f = let l = ap length e in let m = length-append new (u ∷ rest) in omega arith
 
--- what holds of all items holds of that one ..
+-- what holds of all items holds of that one
 pub all_at : {X : Type 0} (P : X → Type 0) (new rest : List X) (u : X) → All P (new ++ u ∷ rest) → P u
 all_at P new rest u a = subst P (get_or-append_seam new u rest u) (a (length new) u (let l = length-append new (u ∷ rest) in omega arith))
 
--- .. and of a front
+-- what holds of all items holds of a prefix
 pub all_front : {X : Type 0} (P : X → Type 0) (xs ys : List X) → All P (xs ++ ys) → All P xs
 all_front P xs ys a = λ k d h. subst P (get_or_append_left xs ys d k h) (a k d (let l = length-append xs ys in omega arith))
 
@@ -71,13 +71,13 @@ pub turned_round : {X : Type 0} (cs rest : List X) (u : X) → (cs ++ reverse re
 turned_round cs rest u = append_assoc cs (reverse rest) (u ∷ []) ∙ ap (λ l. cs ++ l) (sym (reverse-append (u ∷ []) rest))
 
 module _ {Q A : Type 0} where
-  -- before the first seat none is joined ..
+  -- before the first seat none is joined
   pub none_joined : (inbox : ℕ) (slots : List (Line Q A)) (cs : List Caller) (c : Caller) (n : ℕ) (seats : List Seat) → AreJoined inbox slots cs seats →
       length slots ≤ n → AreHalfJoined inbox slots cs c n seats
   none_joined inbox slots cs c n seats all
       h = record { one_each = all.one_each; done = λ k slot s le lt. absurd (omega arith); left = λ k slot s lt there. all.each k slot s there }
 
-  -- .. and at the end all are
+  -- at the end all seats are joined
   pub all_joined : (inbox : ℕ) (slots : List (Line Q A)) (cs : List Caller) (c : Caller) (seats : List Seat) → AreHalfJoined inbox slots cs c 0 seats →
       AreJoined inbox slots (cs ++ c ∷ []) seats
   all_joined inbox slots cs c seats half = record {

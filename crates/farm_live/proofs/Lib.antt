@@ -1,11 +1,11 @@
-pub mod Books
-pub mod Weights
-pub mod Records
-pub mod Slots
-pub mod Splits
-pub mod Taking
-pub mod Turning
-pub mod Rows
+mod Books
+mod Weights
+mod Records
+mod Slots
+mod Splits
+mod Taking
+mod Turning
+mod Rows
 pub mod NewFarm
-pub mod Joining
-pub mod Wholes
+mod Joining
+mod Wholes

@@ -1,3 +1,4 @@
+-- For crates above: the numbers of a new farm's first and last callers (`first_numbers`, `last_numbers`), and lent lists (`written_back`).
 -- The seats of a new farm.
 use Rattle.std.proofs.Common.{◌≡◌, ◌≢◌, ℕ, zero, suc, ◌+◌, ◌-◌, ◌<◌, ◌≤◌, true, false, ◌==◌, Option, List, [], ◌∷◌, ◌++◌, length, take, drop, set, get_or}
 use Rattle.std.proofs.Common.{get_or-set_same, get_or-set_other, refl, sym, ap, ◌∙◌, subst, ⊎_elim, arith, length-append}
@@ -121,16 +122,16 @@ module _ {Q A : Type 0} where
         (get_or seats k s)
     pub left : (k : ℕ) (slot : Line Q A) (s : Seat) → n ≤ k → k < length seats → IsNewSeat cs (book_at inbox k) (get_or slots k slot) (get_or seats k s)
 
-  -- before the first call no seat is cut ..
+  -- before the first call no seat is cut
   pub none_cut : (cs : List ℕ) (inbox : ℕ) (slots : List (Line Q A)) (seats : List Seat) → IsNewRow cs inbox slots seats → AreCut cs inbox slots 0 seats
   none_cut cs inbox slots seats all = record { one_each = all.0; done = λ k slot s h. absurd (omega arith); left = λ k slot s h lt. all.1 k slot s lt }
 
-  -- .. and at the end all are ..
+  -- at the end all seats are cut
   pub all_cut : (cs : List ℕ) (inbox : ℕ) (slots : List (Line Q A)) (n : ℕ) (seats : List Seat) → AreCut cs inbox slots n seats → length slots ≤ n →
       IsNewRow (drop 1 cs) inbox slots seats
   all_cut cs inbox slots n seats cut h = (cut.one_each, λ k slot s lt. cut.done k slot s (omega (arith, cut.one_each)) lt)
 
-  -- .. one after another
+  -- one seat more is cut
   pub one_cut : (cs : List ℕ) (inbox : ℕ) (slots : List (Line Q A)) (k : ℕ) (seats : List Seat) (t : Seat) → AreCut cs inbox slots k seats → k < length slots →
       ((slot : Line Q A) → IsNewSeat (drop 1 cs) (book_at inbox k) (get_or slots k slot) t) → AreCut cs inbox slots (k + 1) (set seats k t)
   one_cut cs inbox slots k seats t cut there new = let long = length-set seats k t in record {
@@ -147,7 +148,7 @@ module _ {Q A : Type 0} where
 
   -- ---- the callers
 
-  -- new seats are those of the caller ..
+  -- new seats are those of the caller
   pub seats_are : (inbox caller : ℕ) (cs : List ℕ) (slots : List (Line Q A)) (seats : List Seat) → 0 < times caller cs → IsNewRow cs inbox slots seats →
       AreSeats inbox slots caller seats
   seats_are inbox caller cs slots seats mine row = record {
@@ -164,7 +165,7 @@ module _ {Q A : Type 0} where
         };
   }
 
-  -- .. and so the caller is a new one
+  -- so the caller is a new one
   pub caller_is : (inbox callers i : ℕ) (slots : List (Line Q A)) (c : Caller) (cs : List ℕ) → c.number ≡ i → cs ≡ numbers_of callers i → 0 < times i cs →
       IsNewRow cs inbox slots c.seats.items →
       IsNewCaller inbox callers i slots c

@@ -30,15 +30,15 @@ no_tokens (x ∷ xs) e = absurd (omega arith)
 
 -- ---- what was seen
 
--- a book begins with itself ..
+-- a book begins with itself
 pub begins_itself : (k : BookState) → BeginsWith k k
 begins_itself k = record { history = ([], sym (append-nil k.history)); posts = ([], sym (append-nil (record_of k))) }
 
--- to begin with a list goes on from list to list ..
+-- a list that starts with a list starts with what that list starts with
 pub further : {X : Type 0} (a b c : List X) → StartsWith a b → StartsWith b c → StartsWith a c
 further a b c p q = (q.0 ++ p.0, p.1 ∙ ap (λ l. l ++ p.0) q.1 ∙ append_assoc c q.0 p.0)
 
--- .. and so from book to book
+-- a book that begins with a book begins with what that book begins with
 pub begins_further : (a b c : BookState) → BeginsWith a b → BeginsWith b c → BeginsWith a c
 begins_further a b c p
     q = record {

@@ -143,7 +143,7 @@ not_mine : (views : List View) (port j : ℕ) (v u : View) (c : ℕ) → ((h : �
     → 0 < times c u.callers → times c v.callers ≡ 0
 not_mine views port j v u c all at b ne has_it = omega (arith, once c, all (is_at c), both-le (has (is_at c)) views port j v u ne at b)
 
--- the view that gave the book back fits it ..
+-- the view that gave the book back fits it
 gave_fits : (v : View) (b : BookState) → FitsBook v.taken v → May v b → FitsBook b (gave v b)
 gave_fits v b f may = record {
   held = λ p. absurd (true≢false (sym p));
@@ -166,7 +166,7 @@ call_of_others views port j v u b all at e ne f may c has_it =
     (omega (arith, x (is_at c), all (is_at c), both-le (has (is_at c)) views port j v u ne at e)))
     may.is_of
 
--- .. and so do the others
+-- the other views fit it too
 others_fit : (views : List View) (port j : ℕ) (v u : View) (b : BookState) → v.holds ≡ true → weigh held views ≤ 1 →
     ((h : ℕ → ℕ) → weigh (has h) views ≡ weigh h all_callers)
     → get_elem? views port ≡ some v → get_elem? views j ≡ some u → j ≢ port → FitsBook v.taken u → May v b → FitsBook b u

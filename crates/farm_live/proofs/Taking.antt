@@ -65,7 +65,7 @@ new_are v b back more q = ap (drop (length (record_of b))) q ∙ drop-append_sea
 nothing_new : (v : View) (b back : BookState) → record_of back ≡ record_of b → added (took v b) back ≡ []
 nothing_new v b back q = ap (drop (length (record_of b))) q ∙ drop-length (record_of b)
 
--- a book may be given back that has worked posts ..
+-- a book may be given back when posts of it were worked
 may_without : (v : View) (b back : BookState) (grown : List Entry) → Held v (took v b) → back.is_of ≡ b.is_of → back.history ≡ b.history ++ grown →
     record_of back ≡ record_of b → May (took v b) back
 may_without v b back grown h is_of p q =
@@ -78,7 +78,7 @@ may_without v b back grown h is_of p q =
       is_of = inl (is_of, sym h.is_of);
     }
 
--- .. as it was taken ..
+-- a book may be given back as it was taken
 pub may_same : (v : View) (b : BookState) → Held v (took v b) → May (took v b) b
 may_same v b h = may_without v b b [] h refl (sym (append-nil b.history)) refl
 
@@ -124,7 +124,7 @@ one_post_more v x mine few =
     let long = length-append v.made (x ∷ []) in
     omega arith
 
--- .. or with a caller's post more, which has the next number
+-- a book may be given back with one more post of a caller, which has the next number
 pub may_post : (v : View) (b : BookState) (x : Post) → Held v (took v b) → 0 < times x.caller v.callers → x.number ≡ length (of_caller x.caller v.made) →
     length v.made < 16777216 →
     May (took v b) (with_post b x)

@@ -37,13 +37,13 @@ none_weigh f (x ∷ xs) each = let first = each 0 x refl in let rest = none_weig
 
 -- ---- callers' numbers
 
--- no number before the first stands among numbers in order ..
+-- no number before the first is among numbers in order
 pub none_before : (c k n : ℕ) → c < k → times c (ascending k n) ≡ 0
 none_before c k zero lt = refl
 none_before c k (suc n) lt = ⊎_elim (λ (e : (k == c) ≡ true). absurd (let q : k ≡ c = eqb-true k c e in omega arith))
     (λ (e : (k == c) ≡ false). let q : bit (k == c) ≡ 0 = ap bit e in omega (arith, none_before c (suc k) n (omega arith))) (cases_Bool (k == c))
 
--- .. and each at most once
+-- each number is among them at most once
 pub once_each : (c k n : ℕ) → times c (ascending k n) ≤ 1
 once_each c k zero = omega arith
 once_each c k (suc n) = ⊎_elim (λ (e : (k == c) ≡ true). let q : bit (k == c) ≡ 1 = ap bit e in let s : k ≡ c = eqb-true k c e in omega

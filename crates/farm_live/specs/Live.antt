@@ -83,7 +83,7 @@ module _ {Q A : Type 0} where
   AreNew callers inbox slots seats = (k : ℕ) (slot : Slotted (Option Token) (Doing Token View) Q A) (s : Seat) → k < length seats →
       IsNewSeat callers (book_at inbox k) (slice_index_or slots k slot) (slice_index_or seats k s)
 
-  -- .. and one at each call
+  -- such seats, one at each call
   abbrev pub IsNewRow : List ℕ → ℕ → List (Slotted (Option Token) (Doing Token View) Q A) → List Seat → Type 0
   IsNewRow callers inbox slots seats = (length seats ≡ length slots) × AreNew callers inbox slots seats
 

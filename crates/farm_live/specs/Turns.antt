@@ -27,7 +27,7 @@ pub record Held (v w : View) : Type 0 where
   pub few : length (record_of w.taken) ≤ most_posts
   pub mine : length v.made ≤ 16777216 * number_of_callers v
 
--- .. and it was given back as `back`, with these additional posts
+-- The book was taken and given back as `back`, with these additional posts.
 pub record Turned (v w : View) (back : BookState) (more : List Post) : Type 0 where
   pub took : Held v w
   pub free : w.holds ≡ false
@@ -35,7 +35,7 @@ pub record Turned (v w : View) (back : BookState) (more : List Post) : Type 0 wh
   pub seen : w.seen ≡ back ∷ []
   pub made : w.made ≡ v.made ++ more
 
--- .. and it was given back as it was taken
+-- The book was taken and given back as it was.
 abbrev pub Looked : View → View → Type 0
 Looked v w = Turned v w w.taken []
 

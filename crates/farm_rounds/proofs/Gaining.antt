@@ -1,3 +1,4 @@
+-- For crates above: a listed line was listed before or failed in the round (`gained_cases`); lines with too few octets lack periods (`fewer_up`).
 -- The lines that are listed after a round: those from before and those that failed in it, each once, and what the calls that
 -- go on know of theirs.
 use Rattle.std.proofs.Common.{◌≡◌, refl, sym, ap, ◌∙◌, subst, ℕ, ◌*◌, ◌/◌, ◌<◌, Bool, true, false, Some, List, ◌++◌, length, map, arith, inl, inr, ◌⊎◌}

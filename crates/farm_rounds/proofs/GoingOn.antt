@@ -1,4 +1,4 @@
--- The calls that go on after a round.
+-- For crates above: a call goes on as its own seat says (`goes_on_at`).
 use Rattle.std.proofs.Common.{◌≡◌, refl, sym, ◌∙◌, ℕ, ◌<◌, false, List, length, arith, inl, inr}
 use Rattle.std.specs.Prelude.{◌==◌, ◌&&◌}
 use Rattle.std.proofs.lemmas.Bool.{cases_Bool, cases_order, eq-eqb, ne_eqb, and_from, and_left, and_right}

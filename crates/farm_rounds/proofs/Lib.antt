@@ -1,37 +1,37 @@
-pub mod Boxes
+mod Boxes
 pub mod Rising
 pub mod GoingOn
-pub mod Keyed
-pub mod Acting
-pub mod Changing
-pub mod Mutual
-pub mod Standing
-pub mod Edited
-pub mod Placed
-pub mod Opening
-pub mod Ending
-pub mod Farms
-pub mod Numbered
-pub mod Passing
-pub mod Written
-pub mod Marked
-pub mod Flags
-pub mod Found
-pub mod Planning
-pub mod Phased
-pub mod Working
-pub mod Rounded
-pub mod Finished
-pub mod Works
-pub mod Outcome
-pub mod Filling
-pub mod Summing
-pub mod Listed
-pub mod Draining
-pub mod Tallied
-pub mod Meeting
-pub mod Failing
+mod Keyed
+mod Acting
+mod Changing
+mod Mutual
+mod Standing
+mod Edited
+mod Placed
+mod Opening
+mod Ending
+mod Farms
+mod Numbered
+mod Passing
+mod Written
+mod Marked
+mod Flags
+mod Found
+mod Planning
+mod Phased
+mod Working
+mod Rounded
+mod Finished
+mod Works
+mod Outcome
+mod Filling
+mod Summing
+mod Listed
+mod Draining
+mod Tallied
+mod Meeting
+mod Failing
 pub mod Naming
-pub mod Once
+mod Once
 pub mod Gaining
-pub mod Known
+mod Known

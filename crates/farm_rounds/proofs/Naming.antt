@@ -1,3 +1,4 @@
+-- For crates above: a line is listed exactly if its name is among those of failed lines (`listed_name`, `name_listed`), and how such tests combine.
 -- The lines that are listed as failed, as a test and by their names, and those that failed in a round.
 use Rattle.std.proofs.Common.{◌≡◌, refl, sym, ap, ◌∙◌, subst, ℕ, zero, suc, ◌<◌, Bool, true, false, Some, None, List, [], ◌∷◌, length, map, get_or, inl, inr, ◌⊎◌, arith}
 use Rattle.std.specs.Prelude.{◌==◌, ◌||◌, if◌then◌else◌}

@@ -1,3 +1,4 @@
+-- For crates above: an item of a list of numbers is among it, as a test (`there`).
 -- Lists of numbers that rise.
 use Rattle.std.proofs.Common.{◌≡◌, refl, sym, subst, ℕ, ◌+◌, ◌-◌, ◌<◌, ◌≤◌, zero, suc, true, false, List, ◌∷◌, length, get_or, arith, inl, inr, Result, Ok, Err}
 use Rattle.std.specs.Prelude.{◌==◌, ◌||◌, ◌&&◌, not}

@@ -1,9 +1,9 @@
 -- A run from clock to clock.
 pub mod Reach
-pub mod Reaching
-pub mod Stepping
-pub mod Meeting
-pub mod Summing
-pub mod First
-pub mod Idle
+mod Reaching
+mod Stepping
+mod Meeting
+mod Summing
+mod First
+mod Idle
 pub mod Last

@@ -1,10 +1,10 @@
-pub mod Ordered
-pub mod Rounds
-pub mod Worked
+mod Ordered
+mod Rounds
+mod Worked
 pub mod Listed
-pub mod Told
-pub mod Noted
+mod Told
+mod Noted
 pub mod Clocks
 pub mod Lines
-pub mod Reported
+mod Reported
 pub mod Marked

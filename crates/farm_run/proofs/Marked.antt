@@ -1,5 +1,5 @@
 -- A run that is marked, and one that is resumed at a mark.
-pub mod Calls
-pub mod Numbers
+mod Calls
+mod Numbers
 pub mod Resumption
-pub mod Parts
+mod Parts

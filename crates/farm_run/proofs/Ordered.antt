@@ -1,6 +1,6 @@
 -- One more order: the board, the farm and the definition of the run go on together.
-pub mod Matching
-pub mod Due
-pub mod Changing
-pub mod Following
-pub mod Doing
+mod Matching
+mod Due
+mod Changing
+mod Following
+mod Doing

@@ -1,10 +1,10 @@
 -- A round of periods, by the definition of the run: what is taken, what each call has had behind it, and which calls end.
-pub mod Taken
-pub mod Histories
-pub mod Open
-pub mod Partners
-pub mod Finished
-pub mod Octets
-pub mod Ends
-pub mod Giving
-pub mod Taking
+mod Taken
+mod Histories
+mod Open
+mod Partners
+mod Finished
+mod Octets
+mod Ends
+mod Giving
+mod Taking

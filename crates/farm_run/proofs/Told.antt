@@ -1,7 +1,7 @@
 -- The ends of calls, as the board is told of them.
-pub mod Few
-pub mod Boards
-pub mod Seats
-pub mod Lacking
-pub mod Next
-pub mod Ends
+mod Few
+mod Boards
+mod Seats
+mod Lacking
+mod Next
+mod Ends

@@ -1,3 +1,3 @@
 -- Lemmas on what the tools make.
-pub mod Machines
-pub mod Making
+mod Machines
+mod Making

@@ -1,3 +1,4 @@
+-- For crates above: the encoder's memory stands for all frames since its reset (`home-stands`, `frame-stands`).
 -- One frame, by the memory before it and by all frames of the past.
 use Rattle.std.proofs.Common.{◌≡◌, ℕ, ℤ, List, [], ◌∷◌, ◌++◌, refl, ap, subst, ◌∙◌}
 use Rattle.fr_pre.specs.Memory as pre

@@ -1,9 +1,9 @@
-pub mod Blocks
+mod Blocks
 pub mod Histories
-pub mod Lags
-pub mod Lanes
+mod Lags
+mod Lanes
 pub mod Predictions
-pub mod Rows
-pub mod Search
-pub mod Tops
-pub mod Words
+mod Rows
+mod Search
+mod Tops
+mod Words

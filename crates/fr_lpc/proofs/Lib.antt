@@ -1,6 +1,6 @@
-pub mod Energy
-pub mod Over
-pub mod Recursion
-pub mod Scaled
-pub mod Table
+mod Energy
+mod Over
+mod Recursion
+mod Scaled
+mod Table
 mod Dots

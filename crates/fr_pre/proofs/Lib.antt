@@ -1,4 +1,4 @@
-pub mod Floors
-pub mod Shifted
+mod Floors
+mod Shifted
 pub mod Run
-pub mod Chain
+mod Chain

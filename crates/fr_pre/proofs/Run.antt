@@ -1,3 +1,4 @@
+-- For crates above: the passes over one more frame give its samples by the rule (`history`).
 -- The passes over a frame give what the rule gives sample by sample.
 use Rattle.std.proofs.Common.{◌≡◌, ℕ, ◌+◌, ◌<◌, suc, zero, ℤ, pos, ◌+ℤ◌, ◌-ℤ◌, ◌*ℤ◌, length, drop, List, [], ◌∷◌, ◌++◌, refl, sym, ◌∙◌, ap, arith, drop-cons}
 use Rattle.std.proofs.lemmas.Int.{ints}

@@ -1,3 +1,4 @@
+-- For crates above: an uplink frame that is written is heard as it was given (`heard-written`).
 -- What is heard in an uplink frame.
 use Rattle.std.proofs.Common.{◌≡◌, ℕ, ◌<◌, ◌==◌, zero, suc, Bool, false, ◌/◌, ◌↔◌, Option, Some, None, option_map, IfSome, IsSome, List, refl, ap, arith, rules}
 use Rattle.std.specs.Prelude.{slice_index}

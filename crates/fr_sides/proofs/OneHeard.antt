@@ -1,4 +1,4 @@
--- Of a kind, TAF and octets one thing is heard.
+-- For crates above: a kind, TAF and octets are heard in one way only (`one-heard`), and carry one frame (`same-frame`).
 use Rattle.std.proofs.Common.{◌≡◌, ℕ, ◌+◌, ◌*◌, ◌/◌, ◌^◌, ◌<◌, Bool, Option, Some, None, option_map, List, All, length, get_or, refl, sym, ap, ◌∙◌, arith}
 use Rattle.std.specs.Prelude.{slice_index}
 use Rattle.trau_params.specs.declared.params.Params.{Params}

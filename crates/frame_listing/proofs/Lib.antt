@@ -1,3 +1,3 @@
 -- Lemmas on listings.
-pub mod Periods
+mod Periods
 pub mod Whole

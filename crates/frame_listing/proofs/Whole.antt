@@ -1,4 +1,4 @@
--- What is printed, by all bits of the periods. The crates above cite `prints_all`.
+-- For crates above: what is printed follows from all bits of the periods (`prints_all`).
 use Rattle.std.proofs.Common.{◌++◌, length, ap}
 use Rattle.std.specs.Prelude.{codes, decimal}
 use Rattle.std.specs.List.{flat_map}

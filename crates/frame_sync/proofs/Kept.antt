@@ -1,4 +1,4 @@
--- The bits that are kept of a period.
+-- For crates above: the bits that are kept of a window's second half are those of its period (`second_period`).
 use Rattle.std.proofs.Common.{◌≡◌, ◌++◌, ℕ, List, length, take, drop, sym, ap, ◌∙◌, arith}
 use Rattle.std.proofs.lemmas.List.{take_all}
 use Rattle.std.proofs.Math.Seq.{drop-append_seam}

@@ -1,10 +1,10 @@
 pub mod Kept
-pub mod Scan
-pub mod Found
+mod Scan
+mod Found
 pub mod Searched
 pub mod Steps
-pub mod Modes
+mod Modes
 pub mod Whole
 pub mod Unique
 pub mod Order
-pub mod Existence
+mod Existence

@@ -1,4 +1,4 @@
--- A list of bits has one list of yields.
+-- For crates above: a list of bits has one list of yields (`same_yields`).
 use Rattle.std.proofs.Common.{◌≡◌, ℕ, List, [], ◌∷◌, ◌++◌, reverse, refl, sym, ap, ◌∙◌, subst, inl, inr}
 use Rattle.std.proofs.lemmas.Bool.{cases_order, cases_Bool}
 use Rattle.std.proofs.lemmas.List.{append-nil}

@@ -1,4 +1,4 @@
--- Octets carry one frame alone, and a frame is carried by one list of octets alone.
+-- For crates above: octets carry one frame only (`one_frame`), and a frame has one list of octets only (`one_packing`).
 use Rattle.std.proofs.Common.{◌≡◌, ℕ, ◌+◌, ◌-◌, ◌^◌, ◌<◌, ◌≤◌, zero, suc, List, [], ◌∷◌, ◌++◌, All, length, get_or, sym, ap, subst, ◌∙◌}
 use Rattle.std.proofs.Common.{inl, inr, replicate, arith}
 use Rattle.std.proofs.lemmas.Bool.{cases_lt}

@@ -67,7 +67,7 @@ module _ {Q A : Type 0} (drill : LiveDrill) (inbox : ℕ) (slots : List (Line Q 
             ((ended i (poster_of c) (omega (arith, h, count))).posted (done' i (poster_of c) (omega (arith, h, count))));
       }
 
-  -- .. as they are taken out of a list that was lent to the threads
+  -- posters are ready as they are taken out of a list that was lent to the threads
   pub posters_back : {V E : Type 0} (items_of : V → List Caller) (r : Result V E) (lent new before : List Poster) (len : ℕ) → len ≡ length before →
       lent ≡ before → length new ≡ length lent → length lent ≡ drill.callers →
       ((k : ℕ) (p : Poster) → k < length lent → IsReady drill inbox slots k (get_or lent k p)) →

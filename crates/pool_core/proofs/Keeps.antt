@@ -109,7 +109,7 @@ taken_keeps s w v (job ∷ jobs) i t e =
           omega (arith, i.all);
     }
 
--- each step keeps what the machine keeps: a run ..
+-- a run keeps what the machine keeps
 pub run_keeps : (s : PoolState) (w p : ℕ) (o : Option ℕ) → IsState s → hand s w ≡ o → IsState (run s p o)
 run_keeps s w p None i e = i
 run_keeps s w p (Some job) i e = record {
@@ -146,7 +146,7 @@ run_keeps s w p (Some job) i e = record {
 held_below : (s : PoolState) (w job : ℕ) → IsState s → hand s w ≡ Some job → job < length s.lens
 held_below s w job i e = subst (λ (o : Option ℕ). IfSome o (λ job. job < length s.lens)) e (i.holding w)
 
--- .. a push ..
+-- a push keeps what the machine keeps
 pub pushed_keeps : (s : PoolState) (w : ℕ) (o : Option ℕ) → IsState s → w < length s.hands → hand s w ≡ o → IsState (pushed s w o)
 pushed_keeps s w None i lw e = i
 pushed_keeps s w (Some job) i lw e =
@@ -173,7 +173,7 @@ pushed_keeps s w (Some job) i lw e =
           omega (arith, i.all);
     }
 
--- .. a finish ..
+-- a finish keeps what the machine keeps
 pub completed_keeps : (s : PoolState) (w : ℕ) (o : Option ℕ) → IsState s → w < length s.hands → hand s w ≡ o → IsState (completed s w o)
 completed_keeps s w None i lw e = i
 completed_keeps s w (Some job) i lw e = record {
@@ -195,7 +195,7 @@ completed_keeps s w (Some job) i lw e = record {
       omega (arith, i.all);
 }
 
--- .. any legal step ..
+-- any legal step keeps what the machine keeps
 pub moved_keeps : (s : PoolState) (x : PoolStep) → IsState s → is_legal s x ≡ true → IsState (moved s x)
 moved_keeps s (Pop w) i e = taken_keeps s w w (deque s w) i (legal_pop s w e) refl
 moved_keeps s (Steal t v) i e = taken_keeps s t v (deque s v) i (legal_steal s t v e) refl
@@ -203,7 +203,7 @@ moved_keeps s (Run w p) i e = run_keeps s w p (hand s w) i refl
 moved_keeps s (Push w) i e = pushed_keeps s w (hand s w) i (legal_push s w e) refl
 moved_keeps s (Finish w) i e = completed_keeps s w (hand s w) i (legal_finish s w e) refl
 
--- .. and any step
+-- any step keeps what the machine keeps
 pub stepped_keeps : (s : PoolState) (x : PoolStep) → IsState s → IsState (stepped s x)
 stepped_keeps s x i = by s x i (is_legal s x) refl
   where

@@ -1,6 +1,6 @@
-pub mod Keeps
-pub mod Start
-pub mod Whole
-pub mod Done
-pub mod Rows
-pub mod Pools
+mod Keeps
+mod Start
+mod Whole
+mod Done
+mod Rows
+mod Pools

@@ -105,7 +105,7 @@ taken_none lens places ws hands finished w v e l =
     let s = pool_state lens places ws hands finished in
     sym (ap (taken s w v) (deque_at ws (length hands) v l ∙ e))
 
--- to remove the entry and put its job into a hand is to take it ..
+-- to remove the entry and put its job into a hand is to take it
 pub taken_state : (lens places : List ℕ) (ws : List Waiting) (hands : List (Option ℕ)) (finished : List ℕ) (w v i : ℕ) (d : Waiting) → IsFront ws v i →
     v < length hands →
     pool_state lens places (take i ws ++ drop (suc i) ws) (set hands w (Some (get_or ws i d).job)) finished
@@ -120,7 +120,7 @@ taken_state lens places ws hands finished w v i d f l =
     (deques_removed ws (length hands) v i (jobs_of ms v) f l refl)
     ∙ sym (ap (taken s w v) (front_jobs ws (length hands) v i d f l))
 
--- .. and the pool is one still
+-- after a job is taken the pool is still one
 pub taken_pool : (lens places : List ℕ) (ws : List Waiting) (hands : List (Option ℕ)) (finished : List ℕ) (w v i : ℕ) (d : Waiting) →
     IsPool lens places ws hands finished → IsFront ws v i →
     TakesJob (pool_state lens places ws hands finished) w v → IsPool lens places (take i ws ++ drop (suc i) ws) (set hands w (Some (get_or ws i d).job))

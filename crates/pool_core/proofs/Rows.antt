@@ -50,7 +50,7 @@ deques_push ws n y l = set_at (jobs_of (ws ++ y ∷ [])) (jobs_of ws) n y.worker
 front_tail : (x : Waiting) (ws : List Waiting) (v i : ℕ) → IsFront (x ∷ ws) v (suc i) → IsFront ws v i
 front_tail x ws v i f = record { inside = let l = f.inside in omega arith; before = λ j d l. f.before (suc j) d (omega arith); here = f.here }
 
--- the front entry of a worker is removed: its jobs lose the first ..
+-- if the first entry of a worker is removed, its jobs lose the first
 pub jobs_removed : (ws : List Waiting) (v i : ℕ) (d : Waiting) → IsFront ws v i → jobs_of ws v ≡ (get_or ws i d).job ∷ jobs_of (take i ws ++ drop (suc i) ws) v
 jobs_removed [] v i d f = absurd (let l = f.inside in omega arith)
 jobs_removed (x ∷ ws) v zero d f = ap (λ (t : Bool). if t then x.job ∷ jobs_of ws v else jobs_of ws v) (eq-eqb x.worker v (f.here d))
@@ -60,7 +60,7 @@ jobs_removed (x ∷ ws) v (suc i) d f =
     ∙ ap (λ jobs. (get_or ws i d).job ∷ jobs)
     (sym (ap (λ (t : Bool). if t then x.job ∷ jobs_of (take i ws ++ drop (suc i) ws) v else jobs_of (take i ws ++ drop (suc i) ws) v) e))
 
--- .. and those of others stay
+-- if the first entry of a worker is removed, the jobs of others stay
 jobs_others : (ws : List Waiting) (v i w : ℕ) → IsFront ws v i → w ≢ v → jobs_of (take i ws ++ drop (suc i) ws) w ≡ jobs_of ws w
 jobs_others [] v i w f h = absurd (let l = f.inside in omega arith)
 jobs_others (x ∷ ws) v zero w f h = sym (ap (λ (t : Bool). if t then x.job ∷ jobs_of ws w else jobs_of ws w) (ne_eqb x.worker w (λ e. h (sym e ∙ f.here x))))

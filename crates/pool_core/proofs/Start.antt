@@ -40,7 +40,7 @@ set_at f g n v ys l e same =
 filter_one : (p : ℕ → Bool) (x : ℕ) → filter p (x ∷ []) ≡ (if p x then x ∷ [] else [])
 filter_one p x = refl
 
--- job n goes to the worker with its number modulo that of the workers ..
+-- job n goes to the worker with its number modulo that of the workers
 pub dealt_more : (workers n w : ℕ) → dealt workers (n + 1) w ≡ dealt workers n w ++ (if n % workers == w then n ∷ [] else [])
 dealt_more workers n w =
     ap (filter (λ job. job % workers == w)) (range_more 0 n)
@@ -48,12 +48,12 @@ dealt_more workers n w =
     ∙ ap (λ k. dealt workers n w ++ filter (λ job. job % workers == w) (k ∷ [])) (let e : 0 + n ≡ n = omega arith in e)
     ∙ ap (λ xs. dealt workers n w ++ xs) (filter_one (λ job. job % workers == w) n)
 
--- .. who has it at the end ..
+-- that worker has job n at the end
 dealt_here : (workers n : ℕ) → dealt workers (n + 1) (n % workers) ≡ dealt workers n (n % workers) ++ n ∷ []
 dealt_here workers n = dealt_more workers n (n % workers) ∙ ap (λ (t : Bool). dealt workers n (n % workers) ++ (if t then n ∷ [] else []))
     (eq-eqb (n % workers) (n % workers) refl)
 
--- .. and to no other
+-- no other worker has job n
 dealt_other : (workers n w : ℕ) → w ≢ n % workers → dealt workers (n + 1) w ≡ dealt workers n w
 dealt_other workers n w h =
     dealt_more workers n w ∙ ap (λ (t : Bool). dealt workers n w ++ (if t then n ∷ [] else [])) (ne_eqb (n % workers) w (λ e. h (sym e))) ∙ append-nil _

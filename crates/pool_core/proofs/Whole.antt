@@ -35,7 +35,7 @@ after_keeps s (x ∷ xs) i = after_keeps (stepped s x) xs (stepped_keeps s x i)
 
 -- ---- what a step leaves
 
--- no step changes the lengths ..
+-- no step changes the lengths
 taken_lens : (s : PoolState) (w v : ℕ) (jobs : List ℕ) → ((taken s w v jobs).lens ≡ s.lens) × ((taken s w v jobs).places ≡ s.places)
 taken_lens s w v [] = (refl, refl)
 taken_lens s w v (job ∷ jobs) = (refl, refl)
@@ -66,7 +66,7 @@ chosen_lens s x false = refl
 pub stepped_lens : (s : PoolState) (x : PoolStep) → (stepped s x).lens ≡ s.lens
 stepped_lens s x = chosen_lens s x (is_legal s x)
 
--- .. and no list of steps
+-- no list of steps changes the lengths
 pub after_lens : (s : PoolState) (xs : List PoolStep) → (after s xs).lens ≡ s.lens
 after_lens s [] = refl
 after_lens s (x ∷ xs) = after_lens (stepped s x) xs ∙ stepped_lens s x

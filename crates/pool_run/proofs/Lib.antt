@@ -1,12 +1,12 @@
-pub mod Deques
-pub mod Rows
-pub mod Joining
-pub mod Left
-pub mod Lists
-pub mod Members
-pub mod Orders
-pub mod Pools
-pub mod Cuts
-pub mod Rooms
-pub mod Settled
-pub mod Weights
+mod Deques
+mod Rows
+mod Joining
+mod Left
+mod Lists
+mod Members
+mod Orders
+mod Pools
+mod Cuts
+mod Rooms
+mod Settled
+mod Weights

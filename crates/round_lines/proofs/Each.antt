@@ -1,4 +1,4 @@
--- One more seat is served, whatever it is that is done to each.
+-- For crates above: what holds of the seats so far holds with one more, whatever is done to each (`each_more`, `keeps_more`, `same_from_more`).
 use Rattle.std.proofs.Common.{◌≡◌, sym, ap, ◌∙◌, subst, ℕ, ◌+◌, ◌<◌, ◌≤◌, ◌≢◌, List, length, set, arith, inl, inr}
 use Rattle.std.proofs.lemmas.Bool.{cases_lt}
 use Rattle.std.proofs.lemmas.List.{length-set, get_or-set_same, get_or-set_other}

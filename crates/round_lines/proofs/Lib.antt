@@ -1,4 +1,4 @@
 pub mod Each
-pub mod Failing
+mod Failing
 pub mod Listing
 pub mod Shifting

@@ -1,3 +1,4 @@
+-- For crates above: whole periods before a round don't change which line lacks octets in it (`lack_shifts`).
 -- A round's ends are the ends of the whole lines.
 use Rattle.std.proofs.Common.{◌≡◌, sym, ◌∙◌, ℕ, ◌+◌, ◌*◌, ◌/◌, ◌<◌, ◌≤◌, Bool, arith, inl, inr}
 use Rattle.std.specs.Prelude.{if◌then◌else◌, nat_lt}

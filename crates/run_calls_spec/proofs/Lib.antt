@@ -1,13 +1,13 @@
-pub mod InTime
-pub mod Spans
-pub mod Periods
-pub mod Items
-pub mod Frames
-pub mod Places
-pub mod Sent
-pub mod Carried
-pub mod OnLine
-pub mod Going
+mod InTime
+mod Spans
+mod Periods
+mod Items
+mod Frames
+mod Places
+mod Sent
+mod Carried
+mod OnLine
+mod Going
 mod Carrying
-pub mod Apart
-pub mod Told
+mod Apart
+mod Told

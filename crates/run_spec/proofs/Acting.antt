@@ -1,3 +1,4 @@
+-- For crates above: after an order a call's settings are changed as its act says (`settings_ordered`).
 -- What each act changes of what is set for a call.
 use Rattle.std.proofs.Common.{◌≡◌, refl, sym, ap, ◌∙◌, subst, ℕ, ◌≤◌, Bool, true, false, Option, Some, None, List, [], ◌∷◌, ◌++◌, map, inl, inr, arith}
 use Rattle.std.specs.Prelude.{ℤ, pos, ◌&&◌, ◌||◌, is_some, option_map, find, Result, Ok, Err, ◌==◌, if◌then◌else◌}

@@ -1,4 +1,4 @@
--- The bridge of a call, from period to period.
+-- For crates above: a call's bridge and settings from period to period (`bridge_after`, `bridge_later`, `next_settings`).
 use Rattle.std.proofs.Common.{◌≡◌, refl, sym, ap, ◌∙◌, ℕ, ◌+◌, ◌<◌, ◌≤◌, Bool, true, false, Option, Some, None, List, inl, inr, arith}
 use Rattle.std.specs.Prelude.{ℤ, pos, not, ◌&&◌, is_some, is_none, nat_lt, ◌==◌, if◌then◌else◌}
 use Rattle.std.specs.List.{list_any}

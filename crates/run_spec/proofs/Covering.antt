@@ -1,3 +1,4 @@
+-- For crates above: the span of a bridge that is over ends before that (`over_within`), and a call ends within its lines (`ends_within`).
 -- Which periods a bridge covers: none of them once it was over, and none just before the next one.
 use Rattle.std.proofs.Common.{◌≡◌, refl, sym, ap, ◌∙◌, subst, ℕ, ◌+◌, ◌<◌, ◌≤◌, min, Bool, true, false, Option, Some, None, List, [], ◌∷◌, ◌++◌, inl, inr, ◌⊎◌}
 use Rattle.std.proofs.Common.{arith}

@@ -1,4 +1,4 @@
--- The ends of calls, known in their round.
+-- For crates above: how each call of a run ends, known in its round, and the report once all orders were executed (`report_end`).
 use Rattle.std.proofs.Common.{◌≡◌, refl, sym, ap, ◌∙◌, subst, ℕ, ◌+◌, ◌<◌, ◌≤◌, Bool, Option, Some, None, List, [], ◌∷◌, ◌++◌, map, arith, true, false}
 use Rattle.std.specs.Prelude.{length, IfSome, not, nat_le, nat_lt, filter, if◌then◌else◌}
 use Rattle.std.specs.List.{AllByRecursion}

@@ -1,4 +1,4 @@
--- Orders that are executed after others.
+-- For crates above: orders that are executed after others add their replies (`executed-added`, `AreReplies`), openings and closings.
 use Rattle.std.proofs.Common.{◌≡◌, refl, sym, ap, ◌∙◌, subst, ℕ, Bool, true, false, Option, Some, List, [], ◌∷◌, ◌++◌, map}
 use Rattle.std.specs.Prelude.{Result, Ok, Err, find, option_map, if◌then◌else◌, filter, nat_lt}
 use Rattle.std.proofs.lemmas.List.{append_assoc, append-nil, map-append}

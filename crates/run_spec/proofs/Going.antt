@@ -1,4 +1,4 @@
--- What a run's rounds go on with.
+-- For crates above: what the next period of a call has in a run so far: its start, law, settings, uplink and handed item (`periods_more`).
 use Rattle.std.proofs.Common.{◌≡◌, refl, sym, ap, ◌∙◌, ℕ, zero, suc, ◌+◌, ◌-◌, ◌<◌, ◌≤◌, Bool, true, false, Option, Some, None, List, [], ◌∷◌, ◌++◌, map, inl}
 use Rattle.std.proofs.Common.{inr, arith}
 use Rattle.std.specs.Prelude.{Ok, not, ◌&&◌, ◌||◌, is_some, is_none, option_map, ◌==◌, if◌then◌else◌, nat_lt}

@@ -3,27 +3,27 @@ pub mod Executing
 pub mod Showing
 pub mod OpenCalls
 pub mod Standing
-pub mod NewOrder
-pub mod Apart
+mod NewOrder
+mod Apart
 pub mod Settling
 pub mod SoFar
 pub mod Settled
 pub mod Bridging
-pub mod Ordering
-pub mod Unbridging
+mod Ordering
+mod Unbridging
 pub mod Acting
 pub mod Ending
 pub mod Covering
-pub mod History
+mod History
 pub mod Going
 mod Worked
-pub mod Carrying
-pub mod CarriedOnce
-pub mod Sending
-pub mod LatestBridge
+mod Carrying
+mod CarriedOnce
+mod Sending
+mod LatestBridge
 pub mod Sent
-pub mod Rounds
+mod Rounds
 pub mod LongerLines
-pub mod Cut
-pub mod Joining
+mod Cut
+mod Joining
 mod Marks

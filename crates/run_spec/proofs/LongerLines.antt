@@ -1,4 +1,4 @@
--- How long the outgoing lines of a call are, and what more periods add to them.
+-- For crates above: how long the outgoing lines of a call are, and that more periods only append to them (`down_on`, `out_more`).
 use Rattle.std.proofs.Common.{◌≡◌, refl, sym, ap, ◌∙◌, ℕ, zero, suc, ◌+◌, ◌*◌, List, [], ◌∷◌, ◌++◌, length, arith, append_assoc, append-nil}
 use Rattle.std.proofs.lemmas.List.{length-append}
 use Rattle.trau_bits.specs.Bits.{octets_of}

@@ -1,4 +1,4 @@
--- Which calls are open after some orders, and after more.
+-- For crates above: which calls are opened, closed, open or gone after some orders, and after more of them or later.
 use Rattle.std.proofs.Common.{◌≡◌, refl, sym, ap, ◌∙◌, ℕ, ◌+◌, ◌≤◌, Bool, true, false, Option, Some, None, List, ◌++◌, inl, inr, ◌⊎◌, arith}
 use Rattle.std.specs.Prelude.{not, ◌&&◌, is_some, nat_lt}
 use Rattle.std.proofs.lemmas.Bool.{ltb-true, lt-ltb}

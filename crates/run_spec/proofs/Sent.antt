@@ -1,4 +1,4 @@
--- The frames that a call sent in its latest bridge, as the report wants them.
+-- For crates above: how many frames a call sent in its latest bridge, as the report says, at its end and at its next bridge (`sent_at_end`).
 use Rattle.std.proofs.Common.{◌≡◌, refl, sym, ap, ◌∙◌, subst, ℕ, zero, suc, ◌+◌, ◌-◌, ◌<◌, ◌≤◌, Bool, true, false, Option, Some, None, List, [], ◌∷◌, ◌++◌, map}
 use Rattle.std.proofs.Common.{length, get_or, inl, inr, arith}
 use Rattle.std.specs.Prelude.{Ok, ◌&&◌, ◌||◌, nat_le, ◌==◌, if◌then◌else◌, IfSome}

@@ -1,3 +1,4 @@
+-- For crates above: periods with the same parts are the same (`same_period`).
 -- A period of the whole run is that which is known while it goes on.
 use Rattle.std.proofs.Common.{◌≡◌, refl, sym, ap, ◌∙◌, ℕ, ◌+◌, ◌-◌, ◌<◌, ◌≤◌, Bool, true, false, Option, Some, None, List, [], ◌∷◌, ◌++◌, arith}
 use Rattle.std.specs.Prelude.{ℤ, pos, option_map, find, nat_le, ◌==◌, if◌then◌else◌, ◌&&◌}

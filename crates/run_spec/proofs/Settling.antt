@@ -1,3 +1,4 @@
+-- For crates above: where a call starts and ends (`start_is`, `ends_by`), and which periods a bridge covers (`covers`), whatever is ordered later.
 -- A period with no order between the clock and it: what later orders and ends don't change.
 use Rattle.std.proofs.Common.{◌≡◌, refl, sym, ap, ◌∙◌, subst, ℕ, ◌+◌, ◌<◌, ◌≤◌, Bool, true, false, Option, Some, None, List, [], ◌∷◌, ◌++◌, map, min, inl, inr}
 use Rattle.std.proofs.Common.{arith}

@@ -1,4 +1,4 @@
--- What an accepted order shows of the orders before it.
+-- For crates above: what an accepted order shows of the orders before it (`shown`), and that a call opens at its order's stamp (`opens`).
 use Rattle.std.proofs.Common.{◌≡◌, refl, sym, ap, subst, ℕ, Bool, true, false, Option, Some, None, [], ◌∷◌, inl, inr}
 use Rattle.std.specs.Prelude.{Result, Ok, Err, not, option_map, ◌==◌, if◌then◌else◌}
 use Rattle.std.proofs.lemmas.Bool.{eqb-true}

@@ -1,4 +1,4 @@
--- A run so far, and the whole run.
+-- For crates above: what holds of a run so far, also after the next order or later, and the rest of the whole run (`rest_in`, `done-rest`).
 use Rattle.std.proofs.Common.{◌≡◌, refl, sym, ap, ◌∙◌, subst, ℕ, suc, ◌<◌, ◌≤◌, Bool, true, false, List, [], ◌∷◌, ◌++◌, map, length, get_or, arith}
 use Rattle.std.specs.Prelude.{IfSome, filter, nat_lt, if◌then◌else◌}
 use Rattle.std.specs.List.{AllByRecursion}

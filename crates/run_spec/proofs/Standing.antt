@@ -1,4 +1,4 @@
--- How the calls and bridges of a run stand after some orders: a call's bridges don't overlap.
+-- For crates above: how the calls and bridges of a run stand after some orders (`Standing`): a call's bridges don't overlap (`NeverOverlap`).
 use Rattle.std.proofs.Common.{◌≡◌, refl, ap, ℕ, ◌+◌, ◌<◌, ◌≤◌, Bool, true, false, Option, Some, None, List, [], ◌∷◌, inl, inr, arith}
 use Rattle.std.specs.Prelude.{◌&&◌, ◌||◌, is_none, nat_lt}
 use Rattle.std.specs.List.{AllByRecursion}

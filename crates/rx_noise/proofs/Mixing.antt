@@ -1,3 +1,4 @@
+-- For crates above: fields that are mixed with themselves don't change (`mix_of-one`).
 -- Codes that are mixed, place by place.
 use Rattle.std.proofs.Common.{◌≡◌, ℕ, ◌+◌, ◌-◌, ◌*◌, ◌<◌, ◌≤◌, ◌∙◌, refl, sym, ap, get_or, length, map, List, [], ◌∷◌, mul-add, arith}
 use Rattle.std.specs.Prelude.{zip}

@@ -1,4 +1,4 @@
--- What one more executed order changes.
+-- For crates above: what one more executed order changes of the bridges (`bridges-more`, `after`), and of what was found before (`or_else`).
 use Rattle.std.proofs.Common.{◌≡◌, refl, sym, ap, ◌∙◌, ℕ, Bool, true, false, Option, Some, None, List, [], ◌∷◌, ◌++◌, map}
 use Rattle.std.specs.Prelude.{Result, Ok, Err, find, option_map, if◌then◌else◌}
 use Rattle.std.proofs.lemmas.List.{append_assoc, append-nil, map-append}

@@ -1,3 +1,4 @@
+-- For crates above: a call that was opened keeps its law, whatever is executed later (`law_stays`).
 -- The law of each call, after one more order.
 use Rattle.std.proofs.Common.{◌≡◌, refl, sym, ap, ◌∙◌, ℕ, Bool, true, false, Option, Some, None, List, [], ◌∷◌, ◌++◌, inl, inr}
 use Rattle.std.specs.Prelude.{Result, Ok, Err, find, is_some, option_map, if◌then◌else◌, ◌==◌, IfOk}

@@ -1,3 +1,4 @@
+-- For crates above: accepted acts are in range (`in_range`), stamps that are left rise (`left_rising`), and one more end is in time (`before_more`).
 -- Laws of the board's steps.
 use Rattle.std.proofs.Common.{◌≡◌, refl, sym, ap, ◌∙◌, ℕ, zero, suc, ◌+◌, ◌<◌, ◌≤◌, ◌≢◌, Bool, false, Option, Some, None, List, [], ◌∷◌, ◌++◌, map, get_or, set}
 use Rattle.std.proofs.Common.{drop, replicate, arith, append_assoc, length-drop, subst, true, inl, inr}

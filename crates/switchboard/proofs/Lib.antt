@@ -1,24 +1,24 @@
 pub mod Lists
-pub mod Sizes
-pub mod Spans
-pub mod Known
+mod Sizes
+mod Spans
+mod Known
 pub mod Steps
 pub mod GivenLaws
-pub mod TableCalls
-pub mod TableBridged
-pub mod TableParted
-pub mod TableLost
+mod TableCalls
+mod TableBridged
+mod TableParted
+mod TableLost
 pub mod Replies
-pub mod MovesOpened
+mod MovesOpened
 pub mod MovesParted
-pub mod Moves
-pub mod Pairs
-pub mod Partners
-pub mod BoardLists
-pub mod Boards
-pub mod ChangesInTable
-pub mod Changes
-pub mod Runs
+mod Moves
+mod Pairs
+mod Partners
+mod BoardLists
+mod Boards
+mod ChangesInTable
+mod Changes
+mod Runs
 pub mod Whole
 pub mod Laws
 mod Worked

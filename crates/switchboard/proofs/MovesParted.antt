@@ -1,3 +1,4 @@
+-- For crates above: closing either of its calls ends a bridge (`closes_this`).
 -- An order that ends a bridge or a call, in the table and in the list of orders.
 use Rattle.std.proofs.Common.{◌≡◌, refl, sym, ap, ◌∙◌, subst, ℕ, ◌+◌, ◌<◌, ◌≤◌, ◌≢◌, Bool, true, false, Option, Some, None, List, [], ◌∷◌, ◌++◌, length, map}
 use Rattle.std.proofs.Common.{set, arith, inl, inr, ◌⊎◌}

@@ -1,3 +1,4 @@
+-- For crates above: an order of each kind is refused (`IsRefused`), or the board was as the order needs it (`Joined`).
 -- What an accepted order shows.
 use Rattle.std.proofs.Common.{◌≡◌, refl, sym, ap, ◌∙◌, ℕ, ◌≢◌, Bool, true, false, Option, Some, None, List, [], ◌∷◌, inl, inr, ◌⊎◌}
 use Rattle.std.specs.Prelude.{Result, Ok, Err, IsErr, ℤ, not, is_none, ◌==◌, option_map}

@@ -1,3 +1,4 @@
+-- For crates above: after one more order, which calls are closed (`closed-more`), and that other bridges are unchanged (`after_kept`).
 -- One more executed order.
 use Rattle.std.proofs.Common.{◌≡◌, refl, sym, ap, ◌∙◌, subst, ℕ, zero, suc, ◌<◌, ◌≤◌, ◌≢◌, Bool, true, false, Option, Some, None, List, [], ◌∷◌, ◌++◌, length}
 use Rattle.std.proofs.Common.{map, get_or, set, arith, inl, inr}

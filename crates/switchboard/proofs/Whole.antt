@@ -1,3 +1,4 @@
+-- For crates above: the end of a call that started at s, by where it was closed (`end_by`).
 -- The spans, once each call has ended.
 use Rattle.std.proofs.Common.{Bool, true, ◌≡◌, refl, sym, ap, ◌∙◌, subst, ℕ, suc, ◌+◌, ◌<◌, ◌≤◌, min, true, Option, Some, None, List, [], ◌∷◌, length, map}
 use Rattle.std.proofs.Common.{get_or, arith}

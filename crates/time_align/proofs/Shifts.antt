@@ -1,3 +1,4 @@
+-- For crates above: what several fields ask for together is a shift (`IsShift-latest_shift`).
 -- What a field or several ask for is a shift.
 use Rattle.std.proofs.Common.{◌≡◌, ap, ◌∙◌, ℕ, ◌<◌, ◌*◌, ℤ, pos, nat_le, Option, Some, None, unwrap_or, List, [], ◌∷◌, refl, arith}
 use Rattle.std.specs.Prelude.{◌==◌}

@@ -1,7 +1,7 @@
-pub mod Laid
-pub mod Mapping
+mod Laid
+mod Mapping
 pub mod MuOctets
-pub mod MuSegments
+mod MuSegments
 pub mod Octets
 mod Rows
-pub mod Segments
+mod Segments

@@ -1,4 +1,4 @@
--- The bits of octets that come one behind the other.
+-- For crates above: the bits of two octet lists in a row are those of each in a row (`bits_of-append`).
 use Rattle.std.proofs.Common.{◌≡◌, inl, inr, ℕ, ◌-◌, ◌*◌, ◌/◌, ◌<◌, ◌≤◌, List, ◌++◌, length, get_or, refl, sym, ap, ◌∙◌, arith, length-append}
 use Rattle.std.specs.Prelude.{◌%◌}
 use Rattle.std.specs.Int.{bit_at}

@@ -1,11 +1,11 @@
 pub mod Places
 pub mod RowPlaces
-pub mod Copied
+mod Copied
 pub mod ReadRows
 pub mod WrittenRows
 pub mod Again
-pub mod Words
-pub mod Relayed
+mod Words
+mod Relayed
 pub mod UpAgain
 pub mod Matches
 mod Apart

@@ -1,3 +1,4 @@
+-- For crates above: the data bits that are read out of bits are bits (`data_of-below`).
 -- Data bits are read row by row.
 use Rattle.std.proofs.Common.{◌≡◌, ℕ, ◌+◌, ◌-◌, ◌*◌, ◌<◌, ◌≤◌, List, map, length, get_or, slice_range, refl, sym, ap, ◌∙◌, subst, arith, inl, inr}
 use Rattle.std.specs.List.{range_with_len}

@@ -1,3 +1,4 @@
+-- For crates above: a list of bits has a bit at each index, a 0 after its end (`bit-below`).
 -- The places of control and data bits, row by row.
 use Rattle.std.proofs.Common.{◌≡◌, ℕ, ◌+◌, ◌*◌, ◌<◌, ◌≤◌, List, length, get_or, refl, sym, ap, ◌∙◌, arith, inl, inr}
 use Rattle.std.proofs.lemmas.Bool.{cases_lt}

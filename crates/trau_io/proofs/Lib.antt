@@ -1,5 +1,5 @@
 -- Lemmas on operations of the outside.
 mod Filling
 mod Moves
-pub mod Runs
+mod Runs
 pub mod Tables

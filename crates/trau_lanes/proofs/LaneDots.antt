@@ -1,4 +1,4 @@
--- Signed lanes of 32 bits whose sums and products fit, and sums of products lane by lane.
+-- For crates above: sums and products of 32-bit lanes don't wrap within bounds (`Within`), and so sums of products lane by lane (`Pairs`).
 use Rattle.std.proofs.Common.{◌≡◌, ℕ, zero, suc, ◌+◌, ◌*◌, ◌%◌, ◌^◌, ◌≤◌, ℤ, pos, ◌+ℤ◌, ◌*ℤ◌, unsigned_abs, FitsSigned, w16, w32, to_z, of_z, fold, map, List}
 use Rattle.std.proofs.Common.{[], ◌∷◌, ◌++◌, length, get_or, refl, ap, sym, ◌∙◌, arith, lit<, mul-le-mul, add-zero, add-one}
 use Rattle.std.specs.List.{range_with_len}

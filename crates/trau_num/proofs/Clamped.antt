@@ -1,4 +1,4 @@
--- What saturates is a word.
+-- For crates above: a saturated number, sum or difference is a word (`clamp_word`, `add_word`, `sub_word`).
 use Rattle.std.proofs.Common.{ℤ, ◌+ℤ◌, ◌-ℤ◌, FitsSigned, w16, arith}
 use Rattle.std.proofs.lemmas.Int.{ints}
 use Rattle.trau_num.specs.Num.{clamp16, add_of, sub_of}

@@ -1,4 +1,4 @@
--- The least of some numbers at which a function is greatest, and a search for the first number that passes a test.
+-- For crates above: the least number at which a function is greatest (`IsLeastGreatest`), and the first that passes a test (`first_found`).
 use Rattle.std.proofs.Common.{◌≡◌, ℕ, ℤ, zero, suc, ◌+◌, ◌<◌, ◌≤◌, ◌<ℤ◌, ◌≤ℤ◌, true, false, Bool, Some, None, arith, inl, inr, refl, ap, ◌∙◌}
 use Rattle.std.specs.Prelude.{int_lt, int_le}
 use Rattle.std.specs.List.{range_with_len, find, list_all}

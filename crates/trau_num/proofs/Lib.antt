@@ -2,6 +2,6 @@ pub mod Clamped
 pub mod Fill
 pub mod Fitting
 pub mod Greatest
-pub mod LeftShifts
+mod LeftShifts
 pub mod Mapped
 pub mod Weights

@@ -1,4 +1,4 @@
--- One sample after another, in place: a loop over them maps them.
+-- For crates above: a loop over samples in place maps them (`over_more`, `over_all`).
 use Rattle.std.proofs.Common.{◌≡◌, ℕ, ℤ, ◌+◌, ◌<◌, ◌≤◌, pos, set, length, take, drop, List, [], ◌++◌, map, ap, ◌∙◌, arith, length-append, length-take-le}
 use Rattle.std.proofs.Common.{length-drop}
 use Rattle.std.proofs.lemmas.List.{drop_all, take_all, append-nil, get_or_default, length-map}

@@ -1,3 +1,4 @@
+-- For crates above: the first line of a text (`first_line`), and none of an empty one (`no_line`).
 -- The lines of a text, the first first.
 use Rattle.std.proofs.Common.{◌≡◌, ◌≢◌, ◌<◌, ℕ, List, [], ◌∷◌, ◌++◌, length, Option, None, Some, eqb, false, refl, ◌∙◌, ap, arith}
 use Rattle.std.specs.Prelude.{IfSome, IsNone}

@@ -1,4 +1,4 @@
--- The bits of fields and of a frame are bits.
+-- For crates above: the 260 bits of fields are bits (`AreBits-bits260`).
 use Rattle.std.proofs.Common.{ℕ, ◌/◌, ◌%◌, ◌+◌, ◌^◌, ◌<◌, zero, suc, List, [], ◌∷◌, arith}
 use Rattle.std.specs.List.{range_with_len, flat_map}
 use Rattle.std.proofs.lemmas.List.Elements.{All-nil, All-append, All-map}

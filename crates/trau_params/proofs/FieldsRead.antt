@@ -1,4 +1,4 @@
--- The fields that the bits of a frame carry are the frame's.
+-- For crates above: the fields that are read out of a frame's bits are the frame's (`fields_in-bits260_of`).
 use Rattle.std.proofs.Common.{◌≡◌, ℕ, ◌+◌, ◌*◌, ◌/◌, ◌%◌, ◌^◌, ◌<◌, zero, suc, List, [], map, length, get_or, refl, sym, ap, subst, ◌∙◌, arith}
 use Rattle.std.specs.List.{range_with_len}
 use Rattle.std.proofs.Math.Nat.{div-eq_of_lt}

@@ -1,4 +1,4 @@
--- What holds of each of four is so at each place of their list.
+-- For crates above: what holds of each of four items holds at each index of their list (`all_four`).
 use Rattle.std.proofs.Common.{ℕ, zero, suc, ◌<◌, [], ◌∷◌, get_or, arith}
 
 pub all_four : {X : Type 0} (P : X → Type 0) (a b c d : X) → P a → P b → P c → P d →

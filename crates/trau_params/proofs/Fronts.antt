@@ -1,4 +1,4 @@
--- Fields that stand one after the other at the front of a list of bits.
+-- For crates above: a field is written, or read, bit by bit after the fields before it (`put_next`, `read_next`).
 use Rattle.std.proofs.Common.{◌≡◌, ℕ, ◌+◌, ◌-◌, ◌*◌, ◌/◌, ◌%◌, ◌^◌, ◌<◌, ◌≤◌, zero, suc, List, [], ◌∷◌, ◌++◌, length, map, take, set, get_or, refl, sym, ap}
 use Rattle.std.proofs.Common.{subst, ◌∙◌, inl, inr, sum, append_assoc, arith}
 use Rattle.std.specs.List.{range_with_len, flat_map}

@@ -1,6 +1,6 @@
 pub mod AreBits
-pub mod BlockBits
-pub mod FieldPlaces
+mod BlockBits
+mod FieldPlaces
 pub mod FieldsRead
 pub mod FieldsWritten
 pub mod Four

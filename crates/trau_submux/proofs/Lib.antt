@@ -1,15 +1,15 @@
 -- Lemmas on channels.
-pub mod Channels
-pub mod Ending
-pub mod Gaining
-pub mod Groups
-pub mod Merged
+mod Channels
+mod Ending
+mod Gaining
+mod Groups
+mod Merged
 mod Pieces
-pub mod Merging
-pub mod Last
-pub mod Parts
-pub mod Reading
-pub mod Splitting
-pub mod Taking
+mod Merging
+mod Last
+mod Parts
+mod Reading
+mod Splitting
+mod Taking
 mod Lanewise
-pub mod Vectors
+mod Vectors

@@ -1,3 +1,3 @@
-pub mod Means
-pub mod Counters
+mod Means
+mod Counters
 pub mod Sending

@@ -1,4 +1,4 @@
--- What is sent by the memory is what the stretch says.
+-- For crates above: what is sent by the memory is what the definition of the stretch gives (`step-stands`).
 use Rattle.std.proofs.Common.{◌≡◌, ◌+◌, ◌<◌, ◌≤◌, min, Bool, true, false, if◌then◌else◌, nat_le, Option, Some, None, List, [], ◌∷◌, ◌++◌, take, refl, sym, ap}
 use Rattle.std.proofs.Common.{◌∙◌, arith, inl, inr, subst}
 use Rattle.std.specs.Prelude.{option_map, is_none, IfSome, ◌==◌}

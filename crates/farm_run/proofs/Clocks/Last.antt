@@ -1,3 +1,4 @@
+-- For crates above: if no line has a new fault, no line is listed (`none_listed`).
 -- A run at its end: what it leaves on the lines.
 use Rattle.std.proofs.Common.{◌≡◌, refl, sym, ap, ◌∙◌, subst, ℕ, ◌-◌, ◌*◌, Bool, true, false, Some, List, [], ◌∷◌, length, drop, inr, append-nil}
 use Rattle.trau_io.specs.declared.line.Line.{Line}

@@ -1,3 +1,4 @@
+-- For crates above: each call ends within its run (`end_within_run`).
 -- How many of its periods a call has had at the clock.
 use Rattle.std.proofs.Common.{◌≡◌, refl, sym, ap, ◌∙◌, subst, ℕ, ◌+◌, ◌-◌, ◌<◌, ◌≤◌, Bool, true, false, ◌&&◌, Option, Some, None, List, [], ◌∷◌, inl, inr}
 use Rattle.std.proofs.Common.{◌⊎◌, arith}

@@ -1,3 +1,4 @@
+-- For crates above: a run that did not begin is one that was cut short by lack of memory (`cut_first`).
 -- A run that want of memory cut short.
 use Rattle.std.proofs.Common.{◌≡◌, refl, sym, subst, ℕ, ◌-◌, ◌≤◌, Bool, false, List, [], arith}
 use Rattle.std.specs.Prelude.{min, Result, Ok, Err, OnErr}

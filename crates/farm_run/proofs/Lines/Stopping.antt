@@ -1,3 +1,4 @@
+-- For crates above: a run that left all its output stopped at its end, from its start or from a mark on (`stops_all`, `stops_all_from`).
 -- A run that stops at a period, before its end or there.
 use Rattle.std.proofs.Common.{◌≡◌, refl, sym, ap, ◌∙◌, subst, ℕ, ◌+◌, ◌-◌, ◌*◌, ◌<◌, ◌≤◌, Bool, true, false, Option, Some, None, List, [], length, take, drop}
 use Rattle.std.proofs.Common.{inl, inr, arith}

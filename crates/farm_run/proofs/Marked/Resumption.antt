@@ -1,3 +1,4 @@
+-- For crates above: a resumed run that did not begin is one that was cut short (`unbegun_cut`).
 -- A resumed run: where its mark is compared, at its end, and where want of memory cuts it short.
 use Rattle.std.proofs.Common.{◌≡◌, refl, sym, ap, ◌∙◌, subst, ℕ, ◌≤◌, Bool, true, false, List, [], length, map, arith}
 use Rattle.std.specs.Prelude.{max, is_some}
