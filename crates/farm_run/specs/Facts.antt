@@ -6,7 +6,7 @@ use Rattle.std.specs.List.Sorted.{IsNonDecreasingBy}
 use Rattle.trau_io.specs.declared.ends.CallEnd.{CallEnd}
 use Rattle.switchboard.specs.declared.act.Span.{Span}
 use Rattle.switchboard.specs.Ends.{Given, spans_now, spans_of}
-use Rattle.switchboard.specs.Runs.{AllEnded}
+use Rattle.switchboard.specs.Runs.{AllEndedAt}
 use Rattle.switchboard.specs.State.{State, told_in, numbered}
 use Rattle.farm_report.specs.declared.report.SpanLine.{SpanLine}
 use Rattle.farm_report.specs.declared.report.CallLine.{CallLine}
@@ -63,5 +63,5 @@ pub record Reports (b : State) (farm : FarmMemory) (j : JournalMemory) (orders :
   -- the bridges that have ended, with the numbers of frames that their calls have sent in them
   pub spans : report.spans ≡ span_lines (sent_in_table sent) (spans_now (told_in b) b.done) j.bridges
   -- if each call has ended, these are all bridges
-  pub whole : (given : ℕ → Given) (periods : ℕ) → AllEnded given periods b →
+  pub whole : (given : ℕ → Given) (periods : ℕ) → AllEndedAt given periods b →
       report.spans ≡ span_lines (sent_in_table sent) (spans_of given periods b.done) j.bridges

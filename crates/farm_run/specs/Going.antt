@@ -19,7 +19,7 @@ ends_within r ds t n c = is_open (gone_at (whole_in r) t ds) ds c && nat_lt (pla
 -- the board after these ends were reported to it, one after another
 abbrev pub told_after : State → List CallEnd → State
 told_after s [] = s
-told_after s (e ∷ ends) = told_after (told_more s e.call e.at) ends
+told_after s (e ∷ ends) = told_after (told_more s e) ends
 
 -- whether the end of a call is one of these
 abbrev pub is_told : ℕ → List CallEnd → Bool

@@ -1,8 +1,9 @@
 -- The lists of a board: its orders with their replies, the ends that were told, and the room for bridges and spans.
 use Rattle.std.proofs.Common.{◌≡◌, refl, sym, ap, ◌∙◌, ℕ, zero, suc, ◌+◌, ◌<◌, ◌≤◌, Option, Some, None, List, [], ◌∷◌, ◌++◌, length, map, get_or, set, drop}
 use Rattle.std.proofs.Common.{arith}
-use Rattle.std.specs.Prelude.{Result, Ok, Err, is_some}
+use Rattle.std.specs.Prelude.{Result, Ok, Err, is_some, option_map}
 use Rattle.std.proofs.lemmas.List.{length-append, length-map, map-set, set-get_or}
+use Rattle.trau_io.specs.declared.ends.CallEnd.{CallEnd}
 use Rattle.trau_orders.specs.declared.order.Order.{Order}
 use Rattle.trau_orders.specs.Lists.{AreOrders}
 use Rattle.switchboard.specs.declared.act.Act.{Act}
@@ -81,7 +82,7 @@ last-before os xs o a e =
 
 -- the ends that a board was told are those of its table
 pub gone_same : (os : List Order) (xs : List Reply) (r : Rows) → gone_in (board_state os xs r) ≡ gone_of r
-gone_same os xs r = λ i. λ c. is_some (get_or-map_all (λ (e : Call). e.gone) r.calls c never i)
+gone_same os xs r = λ i. λ c. is_some (option_map (λ (e : CallEnd). e.at) (get_or-map_all (λ (e : Call). e.gone) r.calls c never i))
 
 -- a call that keeps its end is put in the place of another
 gone_set : (cs : List Call) (c : ℕ) (e : Call) → e.gone ≡ (get_or cs c never).gone → map (λ (e : Call). e.gone) (set cs c e) ≡ map (λ (e : Call). e.gone) cs
@@ -112,7 +113,7 @@ told_same r t (Err e) = refl
 
 pub calls_same : (r : Rows) (t : ℕ) (x : Result Act Refusal) → length (applied r t x).calls ≡ length r.calls
 calls_same r t x =
-    let gone : Call → Option ℕ = λ e. e.gone in
+    let gone : Call → Option CallEnd = λ e. e.gone in
     sym (length-map (applied r t x).calls gone) ∙ ap length (told_same r t x) ∙ length-map r.calls gone
 
 pub most_same : (r : Rows) (t : ℕ) (x : Result Act Refusal) → (applied r t x).most ≡ r.most

@@ -1,9 +1,10 @@
 -- The board before and after an order, and after an end.
 use Rattle.std.proofs.Common.{◌≡◌, refl, sym, ap, ◌∙◌, subst, ℕ, zero, suc, ◌+◌, ◌<◌, ◌≤◌, true, Option, Some, None, List, [], ◌∷◌, ◌++◌, length, map, drop}
 use Rattle.std.proofs.Common.{replicate, arith}
-use Rattle.std.specs.Prelude.{Result, IfSome}
+use Rattle.std.specs.Prelude.{Result, IfSome, option_map}
 use Rattle.std.specs.List.{filter_map}
 use Rattle.std.proofs.lemmas.List.{length-append, length-replicate, length-set, map-set}
+use Rattle.trau_io.specs.declared.ends.CallEnd.{CallEnd}
 use Rattle.trau_orders.specs.declared.order.Order.{Order}
 use Rattle.trau_orders.specs.Lists.{AreOrders, NamesCalls}
 use Rattle.switchboard.specs.declared.act.Act.{Act}
@@ -12,8 +13,8 @@ use Rattle.switchboard.specs.declared.act.Reply.{Reply}
 use Rattle.switchboard.specs.declared.table.Call.{Call}
 use Rattle.switchboard.specs.Calls.{Done, is_open}
 use Rattle.switchboard.specs.Replies.{reply_from, reply_to}
-use Rattle.switchboard.specs.Rows.{Rows, IsSized, rows, never, call_in, is_open_in, known_in, applied, gone_of, call_ended_in, span_in}
-use Rattle.switchboard.specs.State.{State, new_board, first_order, last_stamp, numbered, told_in, gone_in, told_more, after_turn, reply_of}
+use Rattle.switchboard.specs.Rows.{Rows, IsSized, rows, never, call_in, is_open_in, known_in, applied, gone_of, call_ended_in, span_in, gone_from_in, gone_from}
+use Rattle.switchboard.specs.State.{State, new_board, first_order, last_stamp, numbered, end_told, told_in, gone_in, told_more, after_turn, reply_of}
 use Rattle.switchboard.specs.Ends.{spans_now}
 use Rattle.switchboard.specs.Stands.{IsLatest, Stands, IsBoard, dones, board_state}
 use Rattle.switchboard.proofs.Lists.{get_or-map_all}
@@ -45,8 +46,8 @@ board-new os t a e = subst (λ (t : Rows). IsBoard os [] t) (sym e) (record {
       sound = λ k l. absurd (omega arith);
       over = λ c i j l h p q. absurd (omega arith);
       shut = λ c s j e l q. absurd (omega arith);
-      untold = λ c s e. ap (λ (e : Call). e.gone) (never_past 4097 c);
-      unused = λ c e. (ap (λ (e : Call). e.closed) (never_past 4097 c), ap (λ (e : Call). e.gone) (never_past 4097 c));
+      untold = λ c s e. ap gone_from (never_past 4097 c);
+      unused = λ c e. (ap (λ (e : Call). e.closed) (never_past 4097 c), ap gone_from (never_past 4097 c));
       spans = refl;
     };
   });
@@ -129,29 +130,30 @@ told_call os xs r c b e =
     let h = b.stands.inside c (open_parts _ _ _ f).0 in
     (h, open_agrees r (dones os xs) c b.stands h ∙ f)
 
-pub board-told : (os : List Order) (xs : List Reply) (r : Rows) (c at : ℕ) → IsBoard os xs r → IsSized r.calls r.bridges → last_stamp (dones os xs) ≤ at →
-    (c < 4097) × (is_open_in r c ≡ true) → IsBoard os xs (call_ended_in r at c)
-board-told os xs r c at b z late o =
-    let e : Call = record (call_in r c) { gone = Some at } in
+pub board-told : (os : List Order) (xs : List Reply) (r : Rows) (end : CallEnd) → IsBoard os xs r → IsSized r.calls r.bridges →
+    last_stamp (dones os xs) ≤ end.at → (end.call < 4097) × (is_open_in r end.call ≡ true) → IsBoard os xs (call_ended_in r end)
+board-told os xs r end b z late o =
+    let e : Call = record (call_in r end.call) { gone = Some end } in
     record {
       orders = b.orders;
       few = b.few;
       numbered = b.numbered;
       most = b.most;
-      places = length-set r.calls c e ∙ b.places;
+      places = length-set r.calls end.call e ∙ b.places;
       stands = record {
-        opened = λ k h. field_kept (λ (x : Call). x.opened) r.calls c e refl k ∙ b.stands.opened k h;
-        closed = λ k h. field_kept (λ (x : Call). x.closed) r.calls c e refl k ∙ b.stands.closed k h;
+        opened = λ k h. field_kept (λ (x : Call). x.opened) r.calls end.call e refl k ∙ b.stands.opened k h;
+        closed = λ k h. field_kept (λ (x : Call). x.closed) r.calls end.call e refl k ∙ b.stands.closed k h;
         inside = b.stands.inside;
         bridges = b.stands.bridges;
-        table = table_lost r _ at c b.stands.table late (omega (arith, o.0, z.all)) o.0 o.1;
+        table = table_lost r _ end b.stands.table late (omega (arith, o.0, z.all)) o.0 o.1;
       };
     }
 
-pub state-told : (os : List Order) (xs : List Reply) (r : Rows) (c at : ℕ) → board_state os xs (call_ended_in r at c) ≡ told_more (board_state os xs r) c at
-state-told os xs r c at =
+pub state-told : (os : List Order) (xs : List Reply) (r : Rows) (end : CallEnd) →
+    board_state os xs (call_ended_in r end) ≡ told_more (board_state os xs r) end
+state-told os xs r end =
     ap (λ ts. record { left = drop (length xs) os; done = dones os xs; told = ts })
-    (map-set (λ (e : Call). e.gone) r.calls c (record (call_in r c) { gone = Some at }))
+    (map-set (λ (e : Call). e.gone) r.calls end.call (record (call_in r end.call) { gone = Some end }))
 
 -- ---- as the board's functions meet them: `s` is what is seen of the board
 
@@ -167,10 +169,17 @@ pub record Ready (os : List Order) (xs : List Reply) (r : Rows) (s : State) (o :
 pub next_of : (os : List Order) (xs : List Reply) (r : Rows) (s : State) (o : Order) → Ready os xs r s o → first_order (drop (length xs) os) ≡ Some o
 next_of os xs r s o y = ap (λ (s : State). first_order s.left) y.seen ∙ y.next
 
+-- the end that a board was told of a call is that of its table
+pub end_is : (os : List Order) (xs : List Reply) (r : Rows) (c : ℕ) → end_told (board_state os xs r) c ≡ (call_in r c).gone
+end_is os xs r c = get_or-map_all (λ (e : Call). e.gone) r.calls c never
+
+end_from : (os : List Order) (xs : List Reply) (r : Rows) (c : ℕ) → told_in (board_state os xs r) c ≡ gone_from_in r c
+end_from os xs r c = ap (option_map (λ (e : CallEnd). e.at)) (end_is os xs r c)
+
 -- each end that was told lies before it
 pub told_of : (os : List Order) (xs : List Reply) (r : Rows) (s : State) (o : Order) → Ready os xs r s o → IsSome_before r o.stamp
 told_of os xs r s o y c =
-    let e : told_in s c ≡ (call_in r c).gone = sym (ap (λ (s : State). told_in s c) y.seen) ∙ get_or-map_all (λ (e : Call). e.gone) r.calls c never in
+    let e : told_in s c ≡ gone_from_in r c = sym (ap (λ (s : State). told_in s c) y.seen) ∙ end_from os xs r c in
     subst (λ (i : Option ℕ). IfSome i (λ at. at < o.stamp)) e (y.ends c)
 
 -- the replies after this order
@@ -198,8 +207,8 @@ execute_answer os xs r s o x k y p q =
     ∙ answer-more os xs r o y.board y.sized (next_of os xs r s o y) y.calls ∙ ap (λ s. reply_of s (Some o)) y.seen
 
 -- the ends that were told are those of the table
-pub told_is : (os : List Order) (xs : List Reply) (r : Rows) → told_in (board_state os xs r) ≡ (λ c. (call_in r c).gone)
-told_is os xs r = λ i. λ c. get_or-map_all (λ (e : Call). e.gone) r.calls c never i
+pub told_is : (os : List Order) (xs : List Reply) (r : Rows) → told_in (board_state os xs r) ≡ gone_from_in r
+told_is os xs r = λ i. λ c. end_from os xs r c i
 
 -- the spans of the table are those of the board
 pub spans_seen : (os : List Order) (xs : List Reply) (r : Rows) (s : State) → IsBoard os xs r → board_state os xs r ≡ s → r.spans ≡ spans_now (told_in s) s.done

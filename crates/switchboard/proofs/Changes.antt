@@ -3,6 +3,7 @@ use Rattle.std.proofs.Common.{◌≡◌, refl, sym, ap, ◌∙◌, subst, ℕ, �
 use Rattle.std.specs.Prelude.{Result, Ok, Err, not, ◌&&◌, ◌||◌, is_some, option_map, find, IfOk, IfSome, OnErr}
 use Rattle.std.proofs.lemmas.Bool.{cases_lt}
 use Rattle.std.proofs.lemmas.List.{length-set}
+use Rattle.trau_io.specs.declared.ends.CallEnd.{CallEnd}
 use Rattle.trau_orders.specs.declared.order.Order.{Order}
 use Rattle.switchboard.specs.declared.act.Act.{Act}
 use Rattle.switchboard.specs.declared.act.Refusal.{Refusal}
@@ -11,13 +12,13 @@ use Rattle.switchboard.specs.declared.table.Bridge.{Bridge}
 use Rattle.switchboard.specs.declared.table.Call.{Call}
 use Rattle.switchboard.specs.Calls.{Done, opened_at, is_open, has_ended}
 use Rattle.switchboard.specs.Bridges.{bridges, joins, lasts, other, bridge_of, no_bridge}
-use Rattle.switchboard.specs.Replies.{Known, reply_from}
-use Rattle.switchboard.specs.Rows.{Rows, IsSized, call_in, bridge_at_place, is_open_in, bridge_in, known_in, applied, gone_of, call_ended_in}
+use Rattle.switchboard.specs.Replies.{Known, reply_from, reply_to}
+use Rattle.switchboard.specs.Rows.{Rows, IsSized, call_in, bridge_at_place, is_open_in, bridge_in, known_in, applied, gone_of, call_ended_in, gone_from_in, gone_from}
 use Rattle.switchboard.specs.State.{State, new_board, told_in, gone_in}
 use Rattle.switchboard.specs.Stands.{IsLatest, IsTable, Stands, IsBoard, dones, board_state}
 use Rattle.switchboard.specs.Runs.{IsUnchanged}
-use Rattle.switchboard.specs.Open.{opened_now, open_now, partner_now, ArePairs, opened_after, open_after, partner_after, open_without, partner_without, Finds}
-use Rattle.switchboard.specs.Open.{Rests, IsAsBefore}
+use Rattle.switchboard.specs.Open.{opened_now, open_now, law_now, partner_now, ArePairs, opened_after, open_after, law_after, partner_after, open_without}
+use Rattle.switchboard.specs.Open.{partner_without, Finds, Rests, IsExecuted, IsAsBefore}
 use Rattle.switchboard.proofs.Known.{not_true, open_parts, open_agrees, bridge_agrees}
 use Rattle.switchboard.proofs.Lists.{find-none}
 use Rattle.switchboard.proofs.Steps.{field_kept}
@@ -26,7 +27,8 @@ use Rattle.switchboard.proofs.MovesParted.{latest_live}
 use Rattle.switchboard.proofs.Pairs.{partner_in, was_opened, past, named, latest_any, pairs_in}
 use Rattle.switchboard.proofs.Partners.{shut_open, shut_partner}
 use Rattle.switchboard.proofs.BoardLists.{gone_same, calls_same, last-before}
-use Rattle.switchboard.proofs.Boards.{Ready, reply_at, told_is, next_of, told_of, execute_board}
+use Rattle.switchboard.proofs.Boards.{Ready, reply_at, reply_is, told_is, next_of, told_of, execute_board, execute_state}
+use Rattle.switchboard.proofs.GivenLaws.{law_more}
 use Rattle.switchboard.proofs.ChangesInTable.{Moved, Does, moved}
 
 -- ---- what is seen of the table
@@ -35,7 +37,7 @@ pub record Seen (r : Rows) (s : State) : Type 0 where
   pub opened : opened_now s ≡ was_opened r
   pub lives : open_now s ≡ is_open_in r
   pub partner : partner_now s ≡ partner_in r
-  pub told : told_in s ≡ (λ c. (call_in r c).gone)
+  pub told : told_in s ≡ gone_from_in r
   pub bridges : bridges s.done ≡ r.bridges
 
 -- the latest bridge of a call stands in the list
@@ -67,7 +69,7 @@ lives_agrees : (r : Rows) (ds : List Done) (c : ℕ) → Stands r ds → length 
 lives_agrees r ds c s len = elim (cases_lt c 4097) [
   | inl h ↦ sym (open_agrees r ds c s h)
   | inr h ↦ not_true _ (λ q. let k = s.inside c (open_parts _ _ _ q).0 in omega arith)
-      ∙ sym (ap (λ (e : Call). is_some e.opened && not (is_some e.closed) && not (is_some e.gone)) (past r c len h))
+      ∙ sym (ap (λ (e : Call). is_some e.opened && not (is_some e.closed) && not (is_some (gone_from e))) (past r c len h))
 ]
 
 -- .. and its bridge
@@ -96,44 +98,44 @@ seen os xs r s b len e =
 
 -- ---- the changes of a board
 
-pub record Changes (s n : State) (t : ℕ) (a : Act) : Type 0 where
-  pub finds : Finds a (opened_now s) (open_now s) (partner_now s)
-  pub opened : (c : ℕ) → opened_now n c ≡ opened_after a (opened_now s) c
-  pub lives : (c : ℕ) → open_now n c ≡ open_after a (open_now s) c
-  pub partner : (c : ℕ) → partner_now n c ≡ partner_after a (partner_now s) c
-  pub rests : Rests a (told_in s) (bridges s.done) t
-
--- what moves in the table changes of the board
-changes : (r n : Rows) (s m : State) (t : ℕ) (a : Act) → Seen r s → Seen n m → Moved r n t a → Changes s m t a
-changes r n s m t a x y v = record {
-  finds = subst (λ (f : ℕ → Bool). Finds a f (open_now s) (partner_now s)) (sym x.opened)
-      (subst (λ (f : ℕ → Bool). Finds a (was_opened r) f (partner_now s)) (sym x.lives)
-      (subst (λ (f : ℕ → Option ℕ). Finds a (was_opened r) (is_open_in r) f) (sym x.partner) v.finds));
-  opened = λ c. ap (λ f. f c) y.opened ∙ v.opened c ∙ ap (λ f. opened_after a f c) (sym x.opened);
-  lives = λ c. ap (λ f. f c) y.lives ∙ v.lives c ∙ ap (λ f. open_after a f c) (sym x.lives);
-  partner = λ c. ap (λ f. f c) y.partner ∙ v.partner c ∙ ap (λ f. partner_after a f c) (sym x.partner);
-  rests = subst (λ (f : ℕ → Option ℕ). Rests a f (bridges s.done) t) (sym x.told) (subst (λ (bs : List Bridge). Rests a (λ c. (call_in r c).gone) bs t)
-      (sym x.bridges) v.rests);
-}
+-- what moves in the table changes of the board, but for the laws
+changes : (r n : Rows) (s m : State) (t : ℕ) (a : Act) → Seen r s → Seen n m → Moved r n t a →
+    (Finds a (opened_now s) (open_now s) (partner_now s) → (c : ℕ) → law_now m c ≡ law_after a (law_now s) c) → IsExecuted s m t a
+changes r n s m t a x y v laws =
+    let finds = subst (λ (f : ℕ → Bool). Finds a f (open_now s) (partner_now s)) (sym x.opened)
+    (subst (λ (f : ℕ → Bool). Finds a (was_opened r) f (partner_now s)) (sym x.lives)
+    (subst (λ (f : ℕ → Option ℕ). Finds a (was_opened r) (is_open_in r) f) (sym x.partner) v.finds)) in
+    record {
+      finds = finds;
+      rests = subst (λ (f : ℕ → Option ℕ). Rests a f (bridges s.done) t) (sym x.told)
+          (subst (λ (bs : List Bridge). Rests a (gone_from_in r) bs t) (sym x.bridges) v.rests);
+      opened = λ c. ap (λ f. f c) y.opened ∙ v.opened c ∙ ap (λ f. opened_after a f c) (sym x.opened);
+      is_open = λ c. ap (λ f. f c) y.lives ∙ v.lives c ∙ ap (λ f. open_after a f c) (sym x.lives);
+      law = laws finds;
+      partner = λ c. ap (λ f. f c) y.partner ∙ v.partner c ∙ ap (λ f. partner_after a f c) (sym x.partner);
+    }
 
 -- of an act that was accepted more can be said
-pub each_ok : (x : Result Act Refusal) (P Q : Act → Type 0) → ((a : Act) → P a → Q a) → IfOk x P → IfOk x Q
-each_ok (Ok a) P Q h p = h a p
+each_ok : (x : Result Act Refusal) (P Q : Act → Type 0) → ((a : Act) → x ≡ Ok a → P a → Q a) → IfOk x P → IfOk x Q
+each_ok (Ok a) P Q h p = h a refl p
 each_ok (Err e) P Q h p = tt
 
 -- an order
 pub execute_changes : (os : List Order) (xs ys : List Reply) (r n : Rows) (s : State) (o : Order) (x : Result Act Refusal) → Ready os xs r s o →
     x ≡ reply_from (known_in r o.stamp) o.what →
-    n ≡ applied r o.stamp x → ys ≡ xs ++ reply_at xs r o ∷ [] → IfOk x (Changes s (board_state os ys n) o.stamp)
+    n ≡ applied r o.stamp x → ys ≡ xs ++ reply_at xs r o ∷ [] → IfOk x (IsExecuted s (board_state os ys n) o.stamp)
 execute_changes os xs ys r n s o x y p q e =
     let t = o.stamp in
     let z = y.sized in
+    let first = next_of os xs r s o y in
     let before = seen os xs r s y.board z.all y.seen in
     let after = seen os ys n (board_state os ys n) (execute_board os xs ys r n s o x y p q e) (ap (λ (n : Rows). length n.calls) q ∙ calls_same r t x
     ∙ z.all) refl in
-    each_ok x (Moved r n t) _ (λ a m. changes r n s (board_state os ys n) t a before after m)
+    let replied = sym (p ∙ reply_is os xs r o y.board z first y.calls ∙ ap (λ (s : State). reply_to (gone_in s) s.done o) y.seen) in
+    let next = execute_state os xs ys r n s o x y p q e in
+    each_ok x (Moved r n t) _ (λ a is m. changes r n s (board_state os ys n) t a before after m (law_more s _ o a (replied ∙ is) next))
     (subst (λ (n : Rows). IfOk x (Moved r n t)) (sym q) (subst (λ (x : Result Act Refusal). Does r t x) (sym p)
-    (moved r (dones os xs) t o.what y.board.stands z.all (last-before os xs o y.board.orders (next_of os xs r s o y)) (told_of os xs r s o y) y.calls)))
+    (moved r (dones os xs) t o.what y.board.stands z.all (last-before os xs o y.board.orders first) (told_of os xs r s o y) y.calls)))
 
 -- an end
 pub record Without (s n : State) (m : ℕ) : Type 0 where
@@ -147,12 +149,12 @@ shut_by_end true true = refl
 shut_by_end true false = refl
 shut_by_end false l = refl
 
-pub ended_changes : (os : List Order) (xs : List Reply) (r n : Rows) (s : State) (m at : ℕ) → IsBoard os xs r → IsSized r.calls r.bridges → board_state os xs r
-    ≡ s → m < 4097 →
-    n ≡ call_ended_in r at m → IsBoard os xs n → Without s (board_state os xs n) m
-ended_changes os xs r n s m at b z e l q next =
-    let g : Call = record (call_in r m) { gone = Some at } in
-    let k : Rows = call_ended_in r at m in
+pub ended_changes : (os : List Order) (xs : List Reply) (r n : Rows) (s : State) (end : CallEnd) → IsBoard os xs r → IsSized r.calls r.bridges →
+    board_state os xs r ≡ s → end.call < 4097 → n ≡ call_ended_in r end → IsBoard os xs n → Without s (board_state os xs n) end.call
+ended_changes os xs r n s end b z e l q next =
+    let m = end.call in
+    let g : Call = record (call_in r m) { gone = Some end } in
+    let k : Rows = call_ended_in r end in
     let before = seen os xs r s b z.all e in
     let after = seen os xs n (board_state os xs n) next (ap (λ (n : Rows). length n.calls) q ∙ length-set r.calls m g ∙ z.all) refl in
     let lm : m < length r.calls = omega (arith, z.all) in

@@ -16,6 +16,7 @@ use Rattle.switchboard.specs.Calls.{Done}
 use Rattle.switchboard.specs.Bridges.{joins, other, no_bridge}
 use Rattle.switchboard.specs.Replies.{reply_from}
 use Rattle.switchboard.specs.Rows.{Rows, call_in, bridge_at_place, is_open_in, is_live_in, bridge_in, bridge_ended_in, known_in, applied, closed_in, parted_at}
+use Rattle.switchboard.specs.Rows.{gone_from_in}
 use Rattle.switchboard.specs.Rows.{parted_in}
 use Rattle.switchboard.specs.State.{last_stamp}
 use Rattle.switchboard.specs.Stands.{IsTable, Stands}
@@ -41,7 +42,7 @@ pub record Moved (r n : Rows) (t : ℕ) (a : Act) : Type 0 where
   pub opened : (c : ℕ) → was_opened n c ≡ opened_after a (was_opened r) c
   pub lives : (c : ℕ) → is_open_in n c ≡ open_after a (is_open_in r) c
   pub partner : (c : ℕ) → partner_in n c ≡ partner_after a (partner_in r) c
-  pub rests : Rests a (λ c. (call_in r c).gone) r.bridges t
+  pub rests : Rests a (gone_from_in r) r.bridges t
 
 -- `open`
 moved_opened : (r : Rows) (now t m : ℕ) (law : Law) → IsTable r now → length r.calls ≡ 4097 → (1 ≤ m) × (m ≤ 4096) → was_opened r m ≡ false →
@@ -67,13 +68,13 @@ closed_was r t m c = ap is_some (field_kept (λ (x : Call). x.opened) r.calls m 
 
 -- .. and of which are open only that call
 closed_lives : (r : Rows) (t m : ℕ) → m < length r.calls → (c : ℕ) → is_open_in (closed_in r t m) c ≡ open_without m (is_open_in r) c
-closed_lives r t m l c = shut_open r m (closed_call r t m) r.spans l (shut_by_order (is_some (call_in r m).opened) (not (is_some (call_in r m).gone))) c
+closed_lives r t m l c = shut_open r m (closed_call r t m) r.spans l (shut_by_order (is_some (call_in r m).opened) (not (is_some (gone_from_in r m)))) c
 
 -- neither that call nor its partner has one any more
 closed_partner : (r : Rows) (now t m : ℕ) → IsTable r now → length r.calls ≡ 4097 → m < 4097 → (c : ℕ) → partner_in (closed_in r t m) c
     ≡ partner_without m (partner_in r) c
 closed_partner r now t m s len l c = shut_partner r now m (closed_call r t m) r.spans s len (omega arith)
-    (shut_by_order (is_some (call_in r m).opened) (not (is_some (call_in r m).gone))) refl c
+    (shut_by_order (is_some (call_in r m).opened) (not (is_some (gone_from_in r m)))) refl c
 
 -- parted, and then closed
 closed_parted : (t q w : Bool) (o : Option ℕ) → (t ≡ true → q ≡ true) → w ≡ q → (if t || false then None else if q then None else o) ≡ (if w then None else o)
@@ -118,9 +119,9 @@ moved_closed r t m s len l lives (Some y) e =
 -- where a call has no bridge now, its earlier bridges are over
 rested : (r : Rows) (ds : List Done) (t c : ℕ) → Stands r ds → last_stamp ds ≤ t → IsSome_before r t → c < 4097 → bridge_in r c ≡ None → bridge_ended_in r t c
     ≡ None →
-    HasRested (λ c. (call_in r c).gone) r.bridges t c
+    HasRested (gone_from_in r) r.bridges t c
 rested r ds t c s late told h none no_end =
-    All-from_get_or (λ x. joins c x ≡ true → HasEnded (λ c. (call_in r c).gone) t x) r.bridges no_bridge (λ j l q.
+    All-from_get_or (λ x. joins c x ≡ true → HasEnded (gone_from_in r) t x) r.bridges no_bridge (λ j l q.
     let o = over_before r ds t c s late told h none no_end j l q in
     record {
       at = o.at;

@@ -1,7 +1,7 @@
 -- For crates above: a call that was opened keeps its law, whatever is executed later (`law_stays`).
 -- The law of each call, after one more order.
 use Rattle.std.proofs.Common.{◌≡◌, refl, sym, ap, ◌∙◌, ℕ, Bool, true, false, Option, Some, None, List, [], ◌∷◌, ◌++◌, inl, inr}
-use Rattle.std.specs.Prelude.{Result, Ok, Err, find, is_some, option_map, if◌then◌else◌, ◌==◌, IfOk}
+use Rattle.std.specs.Prelude.{Result, Ok, find, is_some, option_map, if◌then◌else◌, ◌==◌}
 use Rattle.std.proofs.lemmas.Bool.{cases_eq, eq-eqb, ne_eqb}
 use Rattle.trau_alaw.specs.declared.Law.{Law}
 use Rattle.trau_alaw.specs.declared.Law.TheVariants.{A}
@@ -9,9 +9,8 @@ use Rattle.trau_orders.specs.declared.order.Order.{Order}
 use Rattle.switchboard.specs.declared.act.Act.{Act}
 use Rattle.switchboard.specs.declared.act.Act.TheVariants as act
 use Rattle.switchboard.specs.declared.act.Refusal.{Refusal}
-use Rattle.switchboard.specs.declared.act.Reply.{Reply}
 use Rattle.switchboard.specs.Calls.{Done, is_this, opened_by, law_by, opened_at, law_at}
-use Rattle.switchboard.specs.State.{State, after_turn, done_by, reply_of}
+use Rattle.switchboard.specs.State.{State, after_turn, done_by}
 use Rattle.switchboard.specs.Open.{opened_now, open_now, law_now, partner_now, law_after, Finds}
 use Rattle.switchboard.proofs.Appending.{or_else}
 use Rattle.switchboard.proofs.Steps.{or_else-none}
@@ -87,15 +86,9 @@ follows s o (act.Unbridged a b) f c = law_kept c s.done _ refl
 follows s o (act.LevelSet n v) f c = law_kept c s.done _ refl
 follows s o (act.DtxSet n m) f c = law_kept c s.done _ refl
 
--- so it is after the next order ..
-changes_by : (s n : State) (o : Order) (x : Result Act Refusal) → (done_by s o).result ≡ x → n ≡ after_turn s (Some o) →
-    IfOk x (λ a. Finds a (opened_now s) (open_now s) (partner_now s)) → IfOk x (λ a. (c : ℕ) → law_now n c ≡ law_after a (law_now s) c)
-changes_by s n o (Err e) same next finds = tt
-changes_by s n o (Ok a) same next finds = λ c.
+-- so it is after the next order
+pub law_more : (s n : State) (o : Order) (a : Act) → (done_by s o).result ≡ Ok a → n ≡ after_turn s (Some o) →
+    Finds a (opened_now s) (open_now s) (partner_now s) → (c : ℕ) → law_now n c ≡ law_after a (law_now s) c
+law_more s n o a same next finds c =
     ap (λ (n : State). law_now n c) next ∙ ap (λ (x : Result Act Refusal). law_at c (s.done ++ record { order = o; result = x } ∷ [])) same
     ∙ follows s o a finds c
-
--- .. by its reply
-pub law_changes : (s n : State) (o : Order) (r : Reply) → n ≡ after_turn s (Some o) → Some r ≡ reply_of s (Some o) →
-    IfOk r.result (λ a. Finds a (opened_now s) (open_now s) (partner_now s)) → IfOk r.result (λ a. (c : ℕ) → law_now n c ≡ law_after a (law_now s) c)
-law_changes s n o r next answer finds = changes_by s n o r.result (let q : (done_by s o).result ≡ r.result = cc in q) next finds

@@ -11,6 +11,7 @@ use Rattle.switchboard.specs.Calls.{has_ended, Done, is_open, is_this, opened_at
 use Rattle.switchboard.specs.Replies.{Known, known_of, reply_from}
 use Rattle.switchboard.specs.Bridges.{lasts, joins, bridge_of, bridge_ended, no_bridge}
 use Rattle.switchboard.specs.Rows.{Rows, IsSized, has_ended_in, call_in, bridge_at_place, is_open_in, is_live_in, bridge_in, bridge_ended_in, bridge_end_in}
+use Rattle.switchboard.specs.Rows.{gone_from_in}
 use Rattle.switchboard.specs.Rows.{known_in, some_if, gone_of}
 use Rattle.switchboard.specs.Ends.{least}
 use Rattle.switchboard.specs.State.{last_stamp}
@@ -53,11 +54,11 @@ live-no_end r x e =
     let p = live_parts r x e in
     let a = open_parts _ _ _ p.1 in
     let b = open_parts _ _ _ p.2 in
-    ap (λ o. least o (least (call_in r x.a).gone (call_in r x.b).gone)) p.0 ∙ ap (λ o. least o (call_in r x.b).gone) a.2 ∙ b.2
+    ap (λ o. least o (least (gone_from_in r x.a) (gone_from_in r x.b))) p.0 ∙ ap (λ o. least o (gone_from_in r x.b)) a.2 ∙ b.2
 
 pub no_end-live : (r : Rows) (now : ℕ) (x : Bridge) → IsSound r now x → bridge_end_in r x ≡ None → is_live_in r x ≡ true
 no_end-live r now x s e =
-    let p = least_none x.ended (least (call_in r x.a).gone (call_in r x.b).gone) e in
+    let p = least_none x.ended (least (gone_from_in r x.a) (gone_from_in r x.b)) e in
     let o = s.lasts e in
     and_from _ _ (and_from _ _ (ap is_none p.0) o.0) o.1
 
@@ -103,8 +104,8 @@ earlier_over r ds c j k s h e l q =
 -- what the table tells of a call is what the executed orders say: that it is open ..
 pub open_agrees : (r : Rows) (ds : List Done) (c : ℕ) → Stands r ds → c < 4097 → is_open_in r c ≡ is_open (gone_of r) ds c
 open_agrees r ds c s h =
-    ap (λ o. is_some o && not (is_some (call_in r c).closed) && not (is_some (call_in r c).gone)) (s.opened c h)
-    ∙ ap (λ o. is_some (opened_at c ds) && not (is_some o) && not (is_some (call_in r c).gone)) (s.closed c h)
+    ap (λ o. is_some o && not (is_some (call_in r c).closed) && not (is_some (gone_from_in r c))) (s.opened c h)
+    ∙ ap (λ o. is_some (opened_at c ds) && not (is_some o) && not (is_some (gone_from_in r c))) (s.closed c h)
 
 -- .. that it has ended ..
 ended_call_agrees : (r : Rows) (ds : List Done) (c : ℕ) → Stands r ds → c < 4097 → has_ended_in r c ≡ has_ended (gone_of r) ds c

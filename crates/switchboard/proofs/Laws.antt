@@ -6,6 +6,7 @@ use Rattle.std.specs.Prelude.{Result, Ok, Err, not, ◌&&◌, is_some, is_none, 
 use Rattle.std.specs.List.{All, filter_map}
 use Rattle.std.proofs.lemmas.List.{map-append, append-nil, get_or-drop}
 use Rattle.std.proofs.lemmas.Bool.{eq-eqb, ne_eqb}
+use Rattle.trau_io.specs.declared.ends.CallEnd.{CallEnd}
 use Rattle.trau_orders.specs.declared.order.What.{What}
 use Rattle.trau_orders.specs.declared.order.What.TheVariants as what
 use Rattle.trau_orders.specs.Lists.{AreOrders, NamesCalls, HasLevel}
@@ -30,7 +31,7 @@ use Rattle.switchboard.proofs.Replies.{IsRefused, open_accepted, close_accepted,
 use Rattle.switchboard.proofs.Steps.{last-more, or_else-none, opened-more, closed-more, after_kept, map_after_same}
 
 -- before the first order no end is told
-abbrev untold : ℕ → List (Option ℕ)
+abbrev untold : ℕ → List (Option CallEnd)
 untold n = replicate n None
 
 -- a new board was told no end
@@ -44,20 +45,24 @@ none_before t None e = tt
 none_before t (Some u) e = absurd cc
 
 pub told_none : (s : State) (os : List Order) → s ≡ new_board os → (t : ℕ) → EndBefore t s
-told_none s os e t c = none_before t (told_in s c) (ap (λ (s : State). told_in s c) e ∙ none_at 4097 c)
+told_none s os e t c = none_before t (told_in s c) (ap (λ (s : State). told_in s c) e ∙ ap (option_map (λ (end : CallEnd). end.at)) (none_at 4097 c))
+
+-- the period of the end that is told of a call
+abbrev at_in : List (Option CallEnd) → ℕ → Option ℕ
+at_in xs c = option_map (λ (end : CallEnd). end.at) (get_or xs c None)
 
 -- one end more
-before_set : (t at : ℕ) (xs : List (Option ℕ)) (i : ℕ) → at < t → ((c : ℕ) → IfSome (get_or xs c None) (λ u. u < t)) → (c : ℕ) →
-    IfSome (get_or (set xs i (Some at)) c None) (λ u. u < t)
-before_set t at [] i l h c = h c
-before_set t at (x ∷ xs) zero l h zero = l
-before_set t at (x ∷ xs) zero l h (suc c) = h (suc c)
-before_set t at (x ∷ xs) (suc i) l h zero = h zero
-before_set t at (x ∷ xs) (suc i) l h (suc c) = before_set t at xs i l (λ k. h (suc k)) c
+before_set : (t : ℕ) (end : CallEnd) (xs : List (Option CallEnd)) (i : ℕ) → end.at < t → ((c : ℕ) → IfSome (at_in xs c) (λ u. u < t)) → (c : ℕ) →
+    IfSome (at_in (set xs i (Some end)) c) (λ u. u < t)
+before_set t end [] i l h c = h c
+before_set t end (x ∷ xs) zero l h zero = l
+before_set t end (x ∷ xs) zero l h (suc c) = h (suc c)
+before_set t end (x ∷ xs) (suc i) l h zero = h zero
+before_set t end (x ∷ xs) (suc i) l h (suc c) = before_set t end xs i l (λ k. h (suc k)) c
 
 -- one more end before t
-pub before_more : (s n : State) (call at : ℕ) → n ≡ told_more s call at → (t : ℕ) → at < t → EndBefore t s → EndBefore t n
-before_more s n call at e t l h = subst (λ (n : State). EndBefore t n) (sym e) (before_set t at s.told call l h)
+pub before_more : (s n : State) (end : CallEnd) → n ≡ told_more s end → (t : ℕ) → end.at < t → EndBefore t s → EndBefore t n
+before_more s n end e t l h = subst (λ (n : State). EndBefore t n) (sym e) (before_set t end s.told end.call l h)
 
 -- an order tells no end
 pub before_turned : (s n : State) (o : Order) → n ≡ after_turn s (Some o) → (t : ℕ) → EndBefore t s → EndBefore t n

@@ -15,6 +15,7 @@ use Rattle.switchboard.specs.Calls.{Done, is_this}
 use Rattle.switchboard.specs.Bridges.{joins, other}
 use Rattle.switchboard.specs.Replies.{reply_from}
 use Rattle.switchboard.specs.Rows.{Rows, IsSized, call_in, bridge_at_place, is_open_in, is_live_in, bridge_in, bridge_ended_in, bridge_end_in, some_if}
+use Rattle.switchboard.specs.Rows.{gone_from_in}
 use Rattle.switchboard.specs.Rows.{known_in, applied, bridged_in}
 use Rattle.switchboard.specs.Ends.{least}
 use Rattle.switchboard.specs.State.{last_stamp}
@@ -33,8 +34,8 @@ use Rattle.switchboard.proofs.Lists.{not_both}
 ended_before : (r : Rows) (now t : ℕ) (x : Bridge) → IsSound r now x → now ≤ t → IsSome_before r t → is_this t x.ended ≡ false → (o : Option ℕ) → x.ended ≡ o →
     (v : ℕ) → bridge_end_in r x ≡ Some v → v < t
 ended_before r now t x s late told no_end None e v f =
-    least_before t v (call_in r x.a).gone (call_in r x.b).gone (told x.a) (told x.b)
-    (sym (ap (λ o. least o (least (call_in r x.a).gone (call_in r x.b).gone)) e) ∙ f)
+    least_before t v (gone_from_in r x.a) (gone_from_in r x.b) (told x.a) (told x.b)
+    (sym (ap (λ o. least o (least (gone_from_in r x.a) (gone_from_in r x.b))) e) ∙ f)
 ended_before r now t x s late told no_end (Some u) e v f =
     let k = s.ended u e in
     let g : u ≡ v = cc (k.0, f) in

@@ -12,7 +12,7 @@ use Rattle.switchboard.specs.declared.act.Refusal.{Refusal}
 use Rattle.switchboard.specs.declared.table.Call.{Call}
 use Rattle.switchboard.specs.Calls.{Done, opened_at, closed_at}
 use Rattle.switchboard.specs.Bridges.{ends_bridge, bridge_by}
-use Rattle.switchboard.specs.Rows.{Rows, call_in, opened_in}
+use Rattle.switchboard.specs.Rows.{Rows, call_in, opened_in, gone_from_in}
 use Rattle.switchboard.specs.State.{last_stamp}
 use Rattle.switchboard.specs.Stands.{IsTable, Stands}
 use Rattle.switchboard.proofs.Appending.{or_else, after, bridges-more}
@@ -58,7 +58,7 @@ stands_same r ds d s late opened closed ends begins =
     (table_later r _ _ s.table late)
 
 abbrev pub IsSome_before : Rows → ℕ → Type 0
-IsSome_before r t = (c : ℕ) → IfSome (call_in r c).gone (λ u. u < t)
+IsSome_before r t = (c : ℕ) → IfSome (gone_from_in r c) (λ u. u < t)
 
 pub stamped : (t : Bool) (d : Done) → (if t then Some d.order.stamp else None) ≡ option_map (λ d. d.order.stamp) (if t then Some d else None)
 stamped true d = refl

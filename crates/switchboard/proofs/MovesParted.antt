@@ -11,6 +11,7 @@ use Rattle.switchboard.specs.declared.table.Bridge.{Bridge}
 use Rattle.switchboard.specs.Calls.{Done}
 use Rattle.switchboard.specs.Bridges.{ends_bridge, joins, other, no_bridge}
 use Rattle.switchboard.specs.Rows.{Rows, IsSized, call_in, bridge_at_place, is_open_in, is_live_in, bridge_in, some_if, closed_in, parted_at, parted_in}
+use Rattle.switchboard.specs.Rows.{gone_from_in}
 use Rattle.switchboard.specs.State.{last_stamp}
 use Rattle.switchboard.specs.Stands.{IsLatest, IsTable, Stands}
 use Rattle.switchboard.proofs.Appending.{or_else, after}
@@ -146,8 +147,8 @@ closes_pair c x y q e = elim (cases_Bool (c == x.a)) [
 -- ---- closing
 
 -- ends before t lie before t + 1 too
-sooner : (r : Rows) (t : ℕ) → IsSome_before r t → (d : ℕ) → IfSome (call_in r d).gone (λ u. u < t + 1)
-sooner r t told d = by t (call_in r d).gone (told d)
+sooner : (r : Rows) (t : ℕ) → IsSome_before r t → (d : ℕ) → IfSome (gone_from_in r d) (λ u. u < t + 1)
+sooner r t told d = by t (gone_from_in r d) (told d)
   where
     by : (t : ℕ) (o : Option ℕ) → IfSome o (λ u. u < t) → IfSome o (λ u. u < t + 1)
     by t None h = h

@@ -8,7 +8,7 @@ use Rattle.switchboard.specs.declared.act.Span.{Span}
 use Rattle.switchboard.specs.declared.table.Bridge.{Bridge}
 use Rattle.switchboard.specs.declared.table.Call.{Call}
 use Rattle.switchboard.specs.Bridges.{joins, other, no_bridge}
-use Rattle.switchboard.specs.Rows.{Rows, never, call_in, bridge_at_place, is_open_in, is_live_in, opened_in, bridged_in, parted_at}
+use Rattle.switchboard.specs.Rows.{Rows, never, call_in, bridge_at_place, is_open_in, is_live_in, opened_in, bridged_in, parted_at, gone_from_in, gone_from}
 use Rattle.switchboard.specs.Stands.{IsTable}
 use Rattle.switchboard.specs.Open.{open_without, partner_without_both, partner_without, partner_after}
 use Rattle.switchboard.proofs.Known.{not_true, live_parts}
@@ -23,7 +23,7 @@ use Rattle.switchboard.proofs.Lists.{not_both}
 -- ---- a call m is open no more
 
 abbrev is_open_call : Call → Bool
-is_open_call e = is_some e.opened && not (is_some e.closed) && not (is_some e.gone)
+is_open_call e = is_some e.opened && not (is_some e.closed) && not (is_some (gone_from e))
 
 abbrev pub with_call : Rows → ℕ → Call → List Span → Rows
 with_call r m e ss = record r { calls = set r.calls m e; spans = ss }
@@ -57,7 +57,7 @@ shut_live : (r : Rows) (m : ℕ) (e : Call) (ss : List Span) → m < length r.ca
     is_live_in (with_call r m e ss) x ≡ is_live_in r x
 shut_live r m e ss l shut x h = elim (cases_Bool (joins m x)) [
   | inl q ↦ shut_joined r m e ss l shut x q ∙ sym (h q)
-  | inr q ↦ let n = lost_apart r 0 m x q in shut_apart r m e ss x n.0 n.1
+  | inr q ↦ let n = lost_apart m x q in shut_apart r m e ss x n.0 n.1
 ]
 
 pub shut_partner : (r : Rows) (now m : ℕ) (e : Call) (ss : List Span) → IsTable r now → length r.calls ≡ 4097 → m < length r.calls → is_open_call e ≡ false →
@@ -184,7 +184,7 @@ opened_open r now t m s l new c =
     elim (cases_eq c m) [
       | inl p ↦
           ap (is_open_in (opened_in r t m)) p ∙ ap is_open_call (get_or-set_same r.calls m (opened_call r t m) never l)
-          ∙ ap (λ o. not (is_some o) && not (is_some (call_in r m).gone)) u.0 ∙ ap (λ o. not (is_some o)) u.1
+          ∙ ap (λ o. not (is_some o) && not (is_some (gone_from_in r m))) u.0 ∙ ap (λ o. not (is_some o)) u.1
           ∙ sym (ap (λ (t : Bool). t || is_open_in r c) (eq-eqb c m p))
       | inr n ↦ open_other r m c (opened_call r t m) n ∙ sym (ap (λ (t : Bool). t || is_open_in r c) (ne_eqb c m n))
     ]

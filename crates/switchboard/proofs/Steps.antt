@@ -10,7 +10,7 @@ use Rattle.switchboard.specs.declared.table.Bridge.{Bridge}
 use Rattle.switchboard.specs.declared.table.Call.{Call}
 use Rattle.switchboard.specs.Calls.{Done, opened_by, closed_by, is_this, opened_at, closed_at}
 use Rattle.switchboard.specs.Bridges.{ends_bridge, no_bridge}
-use Rattle.switchboard.specs.Rows.{Rows, never, call_in, bridge_end_in, some_if}
+use Rattle.switchboard.specs.Rows.{Rows, never, call_in, bridge_end_in, some_if, gone_from_in}
 use Rattle.switchboard.specs.Ends.{least}
 use Rattle.switchboard.specs.State.{last_stamp}
 use Rattle.switchboard.specs.Stands.{IsOver, IsSound, IsTable}
@@ -155,14 +155,14 @@ table_later r now t s
 
 -- a change of calls that keeps their ends and bridges
 pub record Keeps (r r' : Rows) : Type 0 where
-  pub gone : (c : ℕ) → (call_in r' c).gone ≡ (call_in r c).gone
+  pub gone : (c : ℕ) → gone_from_in r' c ≡ gone_from_in r c
   pub place : (c : ℕ) → (call_in r' c).bridge ≡ (call_in r c).bridge
   pub bridges : r'.bridges ≡ r.bridges
   pub spans : r'.spans ≡ r.spans
 
 -- a bridge keeps its end where its calls keep theirs
 pub end_kept : (r r' : Rows) → Keeps r r' → (x : Bridge) → bridge_end_in r' x ≡ bridge_end_in r x
-end_kept r r' k x = ap (λ o. least x.ended (least o (call_in r' x.b).gone)) (k.gone x.a) ∙ ap (λ o. least x.ended (least (call_in r x.a).gone o)) (k.gone x.b)
+end_kept r r' k x = ap (λ o. least x.ended (least o (gone_from_in r' x.b))) (k.gone x.a) ∙ ap (λ o. least x.ended (least (gone_from_in r x.a) o)) (k.gone x.b)
 
 pub over_kept : (r r' : Rows) (t : ℕ) (x : Bridge) → bridge_end_in r' x ≡ bridge_end_in r x → IsOver r t x → IsOver r' t x
 over_kept r r' t x e o = record { at = o.at; ended = e ∙ o.ended; before = o.before }

@@ -9,7 +9,7 @@ use Rattle.std.proofs.lemmas.List.Elements.{filter_map-append}
 use Rattle.switchboard.specs.declared.table.Bridge.{Bridge}
 use Rattle.switchboard.specs.declared.table.Call.{Call}
 use Rattle.switchboard.specs.Bridges.{joins, no_bridge}
-use Rattle.switchboard.specs.Rows.{Rows, never, call_in, bridge_at_place, is_open_in, bridge_end_in, span_in, with_latest, bridged_in}
+use Rattle.switchboard.specs.Rows.{Rows, never, call_in, bridge_at_place, is_open_in, bridge_end_in, span_in, with_latest, bridged_in, gone_from_in, gone_from}
 use Rattle.switchboard.specs.Ends.{least, span_to}
 use Rattle.switchboard.specs.Stands.{IsOver, IsLatest, IsSound, IsTable}
 use Rattle.switchboard.proofs.Known.{not_true, open_parts}
@@ -56,18 +56,18 @@ bridged_field f r k a b h c =
 pub bridged_open : (r : Rows) (t a b c : ℕ) → is_open_in (bridged_in r t a b) c ≡ is_open_in r c
 bridged_open r t a b c =
     let k = length r.bridges in
-    ap (λ o. is_some o && not (is_some (call_in (bridged_in r t a b) c).closed) && not (is_some (call_in (bridged_in r t a b) c).gone))
+    ap (λ o. is_some o && not (is_some (call_in (bridged_in r t a b) c).closed) && not (is_some (gone_from_in (bridged_in r t a b) c)))
     (bridged_field (λ x. x.opened) r k a b (λ e. refl) c)
-    ∙ ap (λ o. is_some (call_in r c).opened && not (is_some o) && not (is_some (call_in (bridged_in r t a b) c).gone))
+    ∙ ap (λ o. is_some (call_in r c).opened && not (is_some o) && not (is_some (gone_from_in (bridged_in r t a b) c)))
     (bridged_field (λ x. x.closed) r k a b (λ e. refl) c)
-    ∙ ap (λ o. is_some (call_in r c).opened && not (is_some (call_in r c).closed) && not (is_some o)) (bridged_field (λ x. x.gone) r k a b (λ e. refl) c)
+    ∙ ap (λ o. is_some (call_in r c).opened && not (is_some (call_in r c).closed) && not (is_some o)) (bridged_field gone_from r k a b (λ e. refl) c)
 
 -- .. and of no end
 bridged_end : (r : Rows) (t a b : ℕ) (x : Bridge) → bridge_end_in (bridged_in r t a b) x ≡ bridge_end_in r x
 bridged_end r t a b x =
     let k = length r.bridges in
-    ap (λ o. least x.ended (least o (call_in (bridged_in r t a b) x.b).gone)) (bridged_field (λ x. x.gone) r k a b (λ e. refl) x.a)
-    ∙ ap (λ o. least x.ended (least (call_in r x.a).gone o)) (bridged_field (λ x. x.gone) r k a b (λ e. refl) x.b)
+    ap (λ o. least x.ended (least o (gone_from_in (bridged_in r t a b) x.b))) (bridged_field gone_from r k a b (λ e. refl) x.a)
+    ∙ ap (λ o. least x.ended (least (gone_from_in r x.a) o)) (bridged_field gone_from r k a b (λ e. refl) x.b)
 
 -- the bridges stay at their places
 pub old_place : (bs : List Bridge) (y : Bridge) (j : ℕ) → j < length bs → get_or (bs ++ y ∷ []) j no_bridge ≡ get_or bs j no_bridge
@@ -121,7 +121,7 @@ table_bridged r t a b s len la lb apart oa ob over =
     let m = more_length r.bridges y in
     let ga = open_parts _ _ _ oa in
     let gb = open_parts _ _ _ ob in
-    let none : bridge_end_in r y ≡ None = ap (λ o. least o (call_in r b).gone) ga.2 ∙ gb.2 in
+    let none : bridge_end_in r y ≡ None = ap (λ o. least o (gone_from_in r b)) ga.2 ∙ gb.2 in
     record {
       latest = λ c h. elim (placed r a b (length r.bridges) c (omega arith) (omega arith)) [
         | inl p ↦ subst (λ (o : Option ℕ). IsLatest n.bridges c o) (sym p.0) (latest_new r.bridges c t a b p.1)
@@ -160,8 +160,8 @@ table_bridged r t a b s len la lb apart oa ob over =
       unused = λ c e.
           let k = length r.bridges in
           let u = s.unused c (sym (bridged_field (λ x. x.opened) r k a b (λ e. refl) c) ∙ e) in
-          (bridged_field (λ x. x.closed) r k a b (λ e. refl) c ∙ u.0, bridged_field (λ x. x.gone) r k a b (λ e. refl) c ∙ u.1);
-      untold = λ c u e. bridged_field (λ x. x.gone) r (length r.bridges) a b (λ e. refl) c
+          (bridged_field (λ x. x.closed) r k a b (λ e. refl) c ∙ u.0, bridged_field gone_from r k a b (λ e. refl) c ∙ u.1);
+      untold = λ c u e. bridged_field gone_from r (length r.bridges) a b (λ e. refl) c
           ∙ s.untold c u (sym (bridged_field (λ x. x.closed) r (length r.bridges) a b (λ e. refl) c) ∙ e);
       shut = λ c u j e l q.
           let was : (call_in r c).closed ≡ Some u = sym (bridged_field (λ x. x.closed) r (length r.bridges) a b (λ e. refl) c) ∙ e in

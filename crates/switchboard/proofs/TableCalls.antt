@@ -9,6 +9,7 @@ use Rattle.switchboard.specs.declared.table.Bridge.{Bridge}
 use Rattle.switchboard.specs.declared.table.Call.{Call}
 use Rattle.switchboard.specs.Bridges.{joins}
 use Rattle.switchboard.specs.Rows.{Rows, never, call_in, bridge_at_place, is_open_in, is_live_in, bridge_end_in, span_in, opened_in, closed_in}
+use Rattle.switchboard.specs.Rows.{gone_from_in, gone_from}
 use Rattle.switchboard.specs.Ends.{least, span_to}
 use Rattle.switchboard.specs.Stands.{IsOver, IsLatest, IsSound, IsTable}
 use Rattle.switchboard.proofs.Known.{open_parts, no_end-live, over-not_live}
@@ -42,8 +43,8 @@ pub table_kept : (r : Rows) (now : ℕ) (cs : List Call) → Keeps r (record r {
     × (is_open_in (record r { calls = cs }) (bridge_at_place r j).b ≡ true)) →
     ((c s j : ℕ) → (get_or cs c never).closed ≡ Some s → j < length r.bridges → joins c (bridge_at_place r j) ≡ true → IsOver r (s + 1) (bridge_at_place r j)) →
     ((c : ℕ) → is_some (call_in r c).opened ≡ true → is_some (get_or cs c never).opened ≡ true) →
-    ((c s : ℕ) → (get_or cs c never).closed ≡ Some s → (get_or cs c never).gone ≡ None) →
-    ((c : ℕ) → (get_or cs c never).opened ≡ None → ((get_or cs c never).closed ≡ None) × ((get_or cs c never).gone ≡ None)) →
+    ((c s : ℕ) → (get_or cs c never).closed ≡ Some s → gone_from (get_or cs c never) ≡ None) →
+    ((c : ℕ) → (get_or cs c never).opened ≡ None → ((get_or cs c never).closed ≡ None) × (gone_from (get_or cs c never) ≡ None)) →
     IsTable (record r { calls = cs }) now
 table_kept r now cs k s lasts shut known untold unused =
     let n : Rows = record r { calls = cs } in
@@ -67,14 +68,14 @@ table_kept r now cs k s lasts shut known untold unused =
 -- a call that was opened is changed
 pub unused_set : (r : Rows) (now c : ℕ) (e : Call) → IsTable r now → c < length r.calls → (e.opened ≡ None → ⊥) → (d : ℕ) →
     (get_or (set r.calls c e) d never).opened ≡ None →
-    ((get_or (set r.calls c e) d never).closed ≡ None) × ((get_or (set r.calls c e) d never).gone ≡ None)
+    ((get_or (set r.calls c e) d never).closed ≡ None) × (gone_from (get_or (set r.calls c e) d never) ≡ None)
 unused_set r now c e s l opened d h = elim (cases_eq d c) [
   | inl p ↦ absurd (opened (sym (ap (λ (d : ℕ). (get_or (set r.calls c e) d never).opened) p
       ∙ ap (λ (x : Call). x.opened) (get_or-set_same r.calls c e never l)) ∙ h))
   | inr n ↦
       let q = get_or-set_other r.calls c d e never n in
       let u = s.unused d (sym (ap (λ (x : Call). x.opened) q) ∙ h) in
-      (ap (λ (x : Call). x.closed) q ∙ u.0, ap (λ (x : Call). x.gone) q ∙ u.1)
+      (ap (λ (x : Call). x.closed) q ∙ u.0, ap gone_from q ∙ u.1)
 ]
 
 pub some_not_none : (o : Option ℕ) → is_some o ≡ true → o ≡ None → ⊥
@@ -82,9 +83,9 @@ some_not_none None e h = cc
 some_not_none (Some x) e h = cc
 
 -- a changed call keeps them
-pub keeps_calls : (r : Rows) (c : ℕ) (e : Call) → e.gone ≡ (call_in r c).gone → e.bridge ≡ (call_in r c).bridge → Keeps r (record r { calls = set r.calls c e })
+pub keeps_calls : (r : Rows) (c : ℕ) (e : Call) → gone_from e ≡ gone_from_in r c → e.bridge ≡ (call_in r c).bridge → Keeps r (record r { calls = set r.calls c e })
 keeps_calls r c e p q = record {
-  gone = field_kept (λ x. x.gone) r.calls c e p;
+  gone = field_kept gone_from r.calls c e p;
   place = field_kept (λ x. x.bridge) r.calls c e q;
   bridges = refl;
   spans = refl;
@@ -96,7 +97,7 @@ open_more r t c k l old h =
     let e : Call = record (call_in r c) { opened = Some t } in
     let p = open_parts _ _ _ h in
     open_made _ _ _ (ap is_some (field_set (λ x. x.opened) r.calls c e t l refl old k) ∙ some_left _ _ p.0)
-    (field_kept (λ x. x.closed) r.calls c e refl k ∙ p.1) (field_kept (λ x. x.gone) r.calls c e refl k ∙ p.2)
+    (field_kept (λ x. x.closed) r.calls c e refl k ∙ p.1) (field_kept gone_from r.calls c e refl k ∙ p.2)
 
 pub table_opened : (r : Rows) (now t c : ℕ) → IsTable r now → c < length r.calls → (call_in r c).opened ≡ None → IsTable (opened_in r t c) now
 table_opened r now t c s l old =
@@ -104,13 +105,13 @@ table_opened r now t c s l old =
     (λ j m e. let q = (s.sound j m).lasts e in (open_more r t c _ l old q.0, open_more r t c _ l old q.1))
     (λ d u j e m q. s.shut d u j (sym (field_kept (λ x. x.closed) r.calls c (record (call_in r c) { opened = Some t }) refl d) ∙ e) m q)
     (λ d h. ap is_some (field_set (λ x. x.opened) r.calls c (record (call_in r c) { opened = Some t }) t l refl old d) ∙ some_left _ _ h)
-    (λ d u e. field_kept (λ x. x.gone) r.calls c (record (call_in r c) { opened = Some t }) refl d
+    (λ d u e. field_kept gone_from r.calls c (record (call_in r c) { opened = Some t }) refl d
     ∙ s.untold d u (sym (field_kept (λ x. x.closed) r.calls c (record (call_in r c) { opened = Some t }) refl d) ∙ e))
     (unused_set r now c (record (call_in r c) { opened = Some t }) s l (λ e. cc))
 
 -- a changed call changes nothing of whether another is open
 pub open_other : (r : Rows) (c k : ℕ) (e : Call) → k ≢ c → is_open_in (record r { calls = set r.calls c e }) k ≡ is_open_in r k
-open_other r c k e n = ap (λ (x : Call). is_some x.opened && not (is_some x.closed) && not (is_some x.gone)) (get_or-set_other r.calls c k e never n)
+open_other r c k e n = ap (λ (x : Call). is_some x.opened && not (is_some x.closed) && not (is_some (gone_from x))) (get_or-set_other r.calls c k e never n)
 
 -- the lesser of two lies before what both lie before
 pub least_before : (t v : ℕ) (a b : Option ℕ) → IfSome a (λ u. u < t) → IfSome b (λ u. u < t) → least a b ≡ Some v → v < t
@@ -120,11 +121,11 @@ least_before t v (Some x) None p q e = let f : x ≡ v = cc in omega arith
 least_before t v (Some x) (Some y) p q e = let f : min x y ≡ v = cc in omega arith
 
 -- a bridge with an end ended before t, where each end that was told did
-ended_by : (r : Rows) (now t : ℕ) (x : Bridge) → IsSound r now x → now ≤ t → ((d : ℕ) → IfSome (call_in r d).gone (λ u. u < t + 1)) → (o : Option ℕ) →
+ended_by : (r : Rows) (now t : ℕ) (x : Bridge) → IsSound r now x → now ≤ t → ((d : ℕ) → IfSome (gone_from_in r d) (λ u. u < t + 1)) → (o : Option ℕ) →
     x.ended ≡ o → (v : ℕ) → bridge_end_in r x ≡ Some v → v < t + 1
 ended_by r now t x s late told None e v f =
-    least_before (t + 1) v (call_in r x.a).gone (call_in r x.b).gone (told x.a) (told x.b)
-    (sym (ap (λ o. least o (least (call_in r x.a).gone (call_in r x.b).gone)) e) ∙ f)
+    least_before (t + 1) v (gone_from_in r x.a) (gone_from_in r x.b) (told x.a) (told x.b)
+    (sym (ap (λ o. least o (least (gone_from_in r x.a) (gone_from_in r x.b))) e) ∙ f)
 ended_by r now t x s late told (Some u) e v f =
     let k = s.ended u e in
     let g : u ≡ v = cc (k.0, f) in
@@ -144,8 +145,8 @@ closed_stamp r t c d u l p e =
     ∙ ap (λ (x : Call). x.closed) (get_or-set_same r.calls c (record (call_in r c) { closed = Some t }) never l) in
     cc
 
-pub table_closed : (r : Rows) (now t c : ℕ) → IsTable r now → c < length r.calls → is_some (call_in r c).opened ≡ true → (call_in r c).gone ≡ None → now ≤ t →
-    ((d : ℕ) → IfSome (call_in r d).gone (λ u. u < t + 1)) →
+pub table_closed : (r : Rows) (now t c : ℕ) → IsTable r now → c < length r.calls → is_some (call_in r c).opened ≡ true → gone_from_in r c ≡ None → now ≤ t →
+    ((d : ℕ) → IfSome (gone_from_in r d) (λ u. u < t + 1)) →
     ((j : ℕ) → j < length r.bridges → joins c (bridge_at_place r j) ≡ true → bridge_end_in r (bridge_at_place r j) ≡ None → ⊥) → IsTable (closed_in r t c) now
 table_closed r now t c s lc opened here late told none =
     table_kept r now _ (keeps_calls r c (record (call_in r c) { closed = Some t }) refl refl) s
@@ -162,8 +163,8 @@ table_closed r now t c s lc opened here late told none =
       | inr n ↦ s.shut d u j (sym (ap (λ (x : Call). x.closed) (get_or-set_other r.calls c d (record (call_in r c) { closed = Some t }) never n)) ∙ e) m q
     ])
     (λ d h. ap is_some (field_kept (λ x. x.opened) r.calls c (record (call_in r c) { closed = Some t }) refl d) ∙ h)
-    (λ d u e. field_kept (λ x. x.gone) r.calls c (record (call_in r c) { closed = Some t }) refl d ∙ elim (cases_eq d c) [
-      | inl p ↦ ap (λ (d : ℕ). (call_in r d).gone) p ∙ here
+    (λ d u e. field_kept gone_from r.calls c (record (call_in r c) { closed = Some t }) refl d ∙ elim (cases_eq d c) [
+      | inl p ↦ ap (λ (d : ℕ). gone_from_in r d) p ∙ here
       | inr n ↦ s.untold d u (sym (ap (λ (x : Call). x.closed) (get_or-set_other r.calls c d (record (call_in r c) { closed = Some t }) never n)) ∙ e)
     ])
     (unused_set r now c (record (call_in r c) { closed = Some t }) s lc (some_not_none _ opened))

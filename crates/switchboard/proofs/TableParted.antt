@@ -7,7 +7,7 @@ use Rattle.std.proofs.lemmas.List.{length-map, length-set, get_or-set_same, get_
 use Rattle.switchboard.specs.declared.act.Span.{Span}
 use Rattle.switchboard.specs.declared.table.Bridge.{Bridge}
 use Rattle.switchboard.specs.Bridges.{joins, no_bridge}
-use Rattle.switchboard.specs.Rows.{Rows, call_in, bridge_at_place, is_live_in, bridge_end_in, span_in, position_in, parted_at}
+use Rattle.switchboard.specs.Rows.{Rows, bridge_at_place, is_live_in, bridge_end_in, span_in, position_in, parted_at, gone_from_in}
 use Rattle.switchboard.specs.Ends.{least, span_to}
 use Rattle.switchboard.specs.Stands.{IsLatest, IsSound, IsTable}
 use Rattle.switchboard.proofs.Lists.{somes, filter_map-somes, somes-insert, not_both}
@@ -37,7 +37,7 @@ table_parted r t k s lk live =
     let parts = live_parts r x live in
     let ga = open_parts _ _ _ parts.1 in
     let gb = open_parts _ _ _ parts.2 in
-    let end : bridge_end_in r y ≡ Some t = ap (λ o. least (Some t) (least o (call_in r x.b).gone)) ga.2 ∙ ap (λ o. least (Some t) o) gb.2 in
+    let end : bridge_end_in r y ≡ Some t = ap (λ o. least (Some t) (least o (gone_from_in r x.b))) ga.2 ∙ ap (λ o. least (Some t) o) gb.2 in
     let os : List (Option Span) = map (span_in r) r.bridges in
     record {
       latest = λ c h. latest_parted r.bridges k t c _ (s.latest c h);

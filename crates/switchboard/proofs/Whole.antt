@@ -11,8 +11,8 @@ use Rattle.switchboard.specs.declared.act.Reply.{Reply}
 use Rattle.switchboard.specs.declared.table.Bridge.{Bridge}
 use Rattle.switchboard.specs.Calls.{Done, is_open, opened_at, closed_at}
 use Rattle.switchboard.specs.Bridges.{bridges, joins, no_bridge, OneLasts, lasts}
-use Rattle.switchboard.specs.Rows.{Rows, gone_of, is_open_in, is_live_in, IsSized, call_in, bridge_at_place, bridge_end_in, span_in}
-use Rattle.switchboard.specs.Runs.{AllEnded}
+use Rattle.switchboard.specs.Rows.{Rows, gone_of, is_open_in, is_live_in, IsSized, call_in, bridge_at_place, bridge_end_in, span_in, gone_from_in}
+use Rattle.switchboard.specs.Runs.{AllEnded, AllEndedAt}
 use Rattle.switchboard.specs.Ends.{Given, whole_of, lack_of, start_of, ends_at, span_of, spans_of, least, span_to}
 use Rattle.switchboard.specs.State.{State, gone_in}
 use Rattle.switchboard.specs.Stands.{Stands, IsBoard, dones, board_state}
@@ -58,13 +58,13 @@ filter_map_map f g (x ∷ xs) d h = cons_same (f x) (Some (g x)) (filter_map f x
 
 -- what is known of the end of a call of a bridge
 record Known (r : Rows) (x : Bridge) (c end : ℕ) : Type 0 where
-  told : (w : ℕ) → (call_in r c).gone ≡ Some w → w ≡ end
-  over : (call_in r c).gone ≡ None → (v : ℕ) → bridge_end_in r x ≡ Some v → v ≤ end
-  some : (call_in r c).gone ≡ None → bridge_end_in r x ≡ None → ⊥
+  told : (w : ℕ) → gone_from_in r c ≡ Some w → w ≡ end
+  over : gone_from_in r c ≡ None → (v : ℕ) → bridge_end_in r x ≡ Some v → v ≤ end
+  some : gone_from_in r c ≡ None → bridge_end_in r x ≡ None → ⊥
 
 -- once each call has ended, the table knows each end
 known : (given : ℕ → Given) (P : ℕ) (r : Rows) (ds : List Done) → Stands r ds → ((c : ℕ) → is_some (opened_at c ds) ≡ true → closed_at c ds ≡ None →
-    (call_in r c).gone ≡ Some (ends_at given P ds c)) →
+    gone_from_in r c ≡ Some (ends_at given P ds c)) →
     (c j : ℕ) → c < 4097 → j < length r.bridges → joins c (bridge_at_place r j) ≡ true → is_some (call_in r c).opened ≡ true → (o : Option ℕ) → closed_at c ds
     ≡ o → Known r (bridge_at_place r j) c (ends_at given P ds c)
 known given P r ds s all c j h l q opened None e =
@@ -83,7 +83,7 @@ known given P r ds s all c j h l q opened (Some t) e =
 
 -- and the end of each bridge is that of the whole list
 bridge_end : (given : ℕ → Given) (P : ℕ) (r : Rows) (ds : List Done) → Stands r ds → IsSized r.calls r.bridges →
-    ((c : ℕ) → is_some (opened_at c ds) ≡ true → closed_at c ds ≡ None → (call_in r c).gone ≡ Some (ends_at given P ds c)) →
+    ((c : ℕ) → is_some (opened_at c ds) ≡ true → closed_at c ds ≡ None → gone_from_in r c ≡ Some (ends_at given P ds c)) →
     (j : ℕ) → j < length r.bridges → span_in r (bridge_at_place r j) ≡ Some (span_of given P ds (bridge_at_place r j))
 bridge_end given P r ds s z all j l =
     let x = bridge_at_place r j in
@@ -91,16 +91,16 @@ bridge_end given P r ds s z all j l =
     let y = s.table.sound j l in
     let a = known given P r ds s all x.a j n.0 l (joins_left x.a x refl) y.known.0 (closed_at x.a ds) refl in
     let b = known given P r ds s all x.b j n.1 l (joins_right x.b x refl) y.known.1 (closed_at x.b ds) refl in
-    ap (option_map (span_to x)) (end_math x.ended (call_in r x.a).gone (call_in r x.b).gone (ends_at given P ds x.a) (ends_at given P ds x.b) a.told b.told
+    ap (option_map (span_to x)) (end_math x.ended (gone_from_in r x.a) (gone_from_in r x.b) (ends_at given P ds x.a) (ends_at given P ds x.b) a.told b.told
     a.over b.over a.some)
 
 -- so are the spans
 pub spans_whole : (os : List Order) (xs : List Reply) (r : Rows) (s : State) → IsBoard os xs r → IsSized r.calls r.bridges → board_state os xs r ≡ s →
-    (given : ℕ → Given) (P : ℕ) → AllEnded given P s → r.spans ≡ spans_of given P s.done
+    (given : ℕ → Given) (P : ℕ) → AllEndedAt given P s → r.spans ≡ spans_of given P s.done
 spans_whole os xs r s b z e given P all =
     let ds = dones os xs in
     let told = λ (c : ℕ) (p : is_some (opened_at c ds) ≡ true) (q : closed_at c ds ≡ None).
-    sym (ap (λ f. f c) (told_is os xs r)) ∙ subst (λ (s : State). AllEnded given P s) (sym e) all c p q in
+    sym (ap (λ f. f c) (told_is os xs r)) ∙ subst (λ (s : State). AllEndedAt given P s) (sym e) all c p q in
     b.stands.table.spans ∙ filter_map_map (span_in r) (span_of given P ds) r.bridges no_bridge (bridge_end given P r ds b.stands z told)
     ∙ ap (map (span_of given P ds)) b.stands.bridges ∙ ap (λ (s : State). spans_of given P s.done) e
 
@@ -122,3 +122,9 @@ one_lasts os xs r s b z e =
         let n = z.named j l in
         ap (λ t. is_none x.ended && t && is_open_in r x.b) (open_agrees r ds x.a s n.0) ∙ ap (λ t. is_none x.ended && is_open (gone_of r) ds x.a && t)
         (open_agrees r ds x.b s n.1) ∙ v
+
+-- ---- the ends, once each call has ended
+
+-- ends that are told with their causes are told at their periods
+pub all_ended_at : (given : ℕ → Given) (P : ℕ) (s : State) → AllEnded given P s → AllEndedAt given P s
+all_ended_at given P s all c o l = ap (option_map (λ (e : CallEnd). e.at)) (all c o l)

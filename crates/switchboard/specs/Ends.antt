@@ -41,6 +41,10 @@ end_of given P ds c s = elim (closed_at c ds) [
 abbrev pub start_of : List Done → ℕ → ℕ
 start_of ds c = unwrap_or (opened_at c ds) 0
 
+-- a call's end in the whole run
+abbrev pub whole_end : (ℕ → Given) → ℕ → List Done → ℕ → CallEnd
+whole_end given P ds c = end_of given P ds c (start_of ds c)
+
 -- the first period after a call
 abbrev pub ends_at : (ℕ → Given) → ℕ → List Done → ℕ → ℕ
 ends_at given P ds c = let end = end_of given P ds c (start_of ds c) in end.at

@@ -8,9 +8,9 @@ use Rattle.switchboard.specs.declared.act.Act.TheVariants as act
 use Rattle.switchboard.specs.declared.act.Reply.{Reply}
 use Rattle.switchboard.specs.declared.table.Bridge.{Bridge}
 use Rattle.switchboard.specs.Calls.{is_this, opened_at, law_at, is_open}
-use Rattle.switchboard.specs.Bridges.{joins, other, bridge_of}
+use Rattle.switchboard.specs.Bridges.{bridges, joins, other, bridge_of}
 use Rattle.switchboard.specs.Ends.{end_now}
-use Rattle.switchboard.specs.State.{State, gone_in}
+use Rattle.switchboard.specs.State.{State, gone_in, told_in}
 
 -- the numbers that were ever opened
 abbrev pub opened_now : State → ℕ → Bool
@@ -99,6 +99,16 @@ HasRested told xs t c = All (λ x. joins c x ≡ true → HasEnded told t x) xs
 abbrev pub Rests : Act → (ℕ → Option ℕ) → List Bridge → ℕ → Type 0
 Rests (act.Bridged a b) told xs t = HasRested told xs t a × HasRested told xs t b
 Rests _ told xs t = Unit {0}
+
+-- What an accepted order of period t finds, and how it changes which numbers were opened, which calls are open, their laws and their
+-- partners.
+pub record IsExecuted (old new : State) (t : ℕ) (a : Act) : Type 0 where
+  pub finds : Finds a (opened_now old) (open_now old) (partner_now old)
+  pub rests : Rests a (told_in old) (bridges old.done) t
+  pub opened : (c : ℕ) → opened_now new c ≡ opened_after a (opened_now old) c
+  pub is_open : (c : ℕ) → open_now new c ≡ open_after a (open_now old) c
+  pub law : (c : ℕ) → law_now new c ≡ law_after a (law_now old) c
+  pub partner : (c : ℕ) → partner_now new c ≡ partner_after a (partner_now old) c
 
 -- ---- no change
 

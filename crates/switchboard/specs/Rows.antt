@@ -4,6 +4,7 @@ use Rattle.std.specs.Prelude.{List, [], ◌∷◌, ◌++◌, length, take}
 use Rattle.std.proofs.Common.{get_or, set}
 use Rattle.std.specs.List.{filter_map, insert}
 use Rattle.call_number.specs.declared.TheConstants.{NUMBERS}
+use Rattle.trau_io.specs.declared.ends.CallEnd.{CallEnd}
 use Rattle.switchboard.specs.declared.act.Act.{Act}
 use Rattle.switchboard.specs.declared.act.Act.TheVariants as act
 use Rattle.switchboard.specs.declared.act.Refusal.{Refusal}
@@ -38,8 +39,15 @@ call_in r c = get_or r.calls c never
 abbrev pub bridge_at_place : Rows → ℕ → Bridge
 bridge_at_place r k = get_or r.bridges k no_bridge
 
+-- the first period after a call, if its lines or the run's end ended it
+abbrev pub gone_from : Call → Option ℕ
+gone_from e = option_map (λ end. end.at) e.gone
+
+abbrev pub gone_from_in : Rows → ℕ → Option ℕ
+gone_from_in r c = gone_from (call_in r c)
+
 abbrev pub is_open_in : Rows → ℕ → Bool
-is_open_in r c = is_some (call_in r c).opened && not (is_some (call_in r c).closed) && not (is_some (call_in r c).gone)
+is_open_in r c = is_some (call_in r c).opened && not (is_some (call_in r c).closed) && not (is_some (gone_from_in r c))
 
 abbrev pub has_ended_in : Rows → ℕ → Bool
 has_ended_in r c = is_some (call_in r c).opened && not (is_open_in r c)
@@ -67,7 +75,7 @@ known_in r t = record {
 }
 
 abbrev pub bridge_end_in : Rows → Bridge → Option ℕ
-bridge_end_in r x = least x.ended (least (call_in r x.a).gone (call_in r x.b).gone)
+bridge_end_in r x = least x.ended (least (gone_from_in r x.a) (gone_from_in r x.b))
 
 abbrev pub span_in : Rows → Bridge → Option Span
 span_in r x = option_map (span_to x) (bridge_end_in r x)
@@ -113,12 +121,12 @@ spans_after r at k = elim (bridge_end_in r (bridge_at_place r k)) [
 abbrev pub spans_ended_in : Rows → ℕ → ℕ → Rows
 spans_ended_in r at c = record r { spans = elim (call_in r c).bridge [ None ↦ r.spans | Some k ↦ spans_after r at k ] }
 
-abbrev pub gone_in_rows : Rows → ℕ → ℕ → Rows
-gone_in_rows r at c = record r { calls = set r.calls c (record (call_in r c) { gone = Some at }) }
+abbrev pub gone_in_rows : Rows → CallEnd → Rows
+gone_in_rows r e = record r { calls = set r.calls e.call (record (call_in r e.call) { gone = Some e }) }
 
--- a call ends at this period without an order
-abbrev pub call_ended_in : Rows → ℕ → ℕ → Rows
-call_ended_in r at c = gone_in_rows (spans_ended_in r at c) at c
+-- a call ends without an order
+abbrev pub call_ended_in : Rows → CallEnd → Rows
+call_ended_in r e = gone_in_rows (spans_ended_in r e.at e.call) e
 
 abbrev pub closes_bridge : Option ℕ → Rows → ℕ → ℕ → Rows
 closes_bridge None r t c = r
@@ -142,4 +150,4 @@ rows cs bs ss most = record { calls = cs; bridges = bs; spans = ss; most = most 
 
 -- the calls whose end was reported
 abbrev pub gone_of : Rows → ℕ → Bool
-gone_of r c = is_some (call_in r c).gone
+gone_of r c = is_some (gone_from_in r c)

@@ -3,8 +3,8 @@ use Rattle.std.specs.Prelude.{◌≡◌, ℕ, true, not, nat_lt, None, Some, is_
 use Rattle.trau_orders.specs.declared.order.Order.{Order}
 use Rattle.switchboard.specs.Calls.{Done, opened_at, closed_at, law_at, gone_at}
 use Rattle.switchboard.specs.Replies.{known_of, reply_to}
-use Rattle.switchboard.specs.State.{State, gone_in, told_in}
-use Rattle.switchboard.specs.Ends.{Given, ends_at, spans_now}
+use Rattle.switchboard.specs.State.{State, gone_in, end_told, told_in}
+use Rattle.switchboard.specs.Ends.{Given, whole_end, ends_at, spans_now}
 
 -- Orders are executed one after another; `whole` is the number of whole periods that each call's lines give.
 abbrev pub executed : (ℕ → ℕ) → List Done → List Order → List Done
@@ -29,8 +29,13 @@ abbrev pub TellsEnds : (ℕ → ℕ) → ℕ → State → Type 0
 TellsEnds whole t s = (c : ℕ) → is_some (opened_at c s.done) ≡ true → closed_at c s.done ≡ None → gone_in s c ≡ gone_at whole t s.done c
 
 -- Each call that was opened was closed, or was reported as ended where its lines and the run's P periods end it.
+abbrev pub AllEndedAt : (ℕ → Given) → ℕ → State → Type 0
+AllEndedAt given P s = (c : ℕ) → is_some (opened_at c s.done) ≡ true → closed_at c s.done ≡ None → told_in s c ≡ Some (ends_at given P s.done c)
+
+-- The same with the causes of the ends.
 abbrev pub AllEnded : (ℕ → Given) → ℕ → State → Type 0
-AllEnded given P s = (c : ℕ) → is_some (opened_at c s.done) ≡ true → closed_at c s.done ≡ None → told_in s c ≡ Some (ends_at given P s.done c)
+AllEnded given P s = (c : ℕ) → is_some (opened_at c s.done) ≡ true → closed_at c s.done ≡ None →
+    end_told s c ≡ Some (whole_end given P s.done c)
 
 -- Nothing changes: later orders find the same, no end is added, each call has the same law, and the spans are the same.
 pub record IsUnchanged (old new : State) : Type 0 where

@@ -12,7 +12,7 @@ use Rattle.switchboard.specs.declared.act.Reply.{Reply}
 use Rattle.switchboard.specs.declared.table.Bridge.{Bridge}
 use Rattle.switchboard.specs.Calls.{Done, opened_at, closed_at}
 use Rattle.switchboard.specs.Bridges.{bridges, joins, no_bridge}
-use Rattle.switchboard.specs.Rows.{Rows, call_in, bridge_at_place, is_open_in, bridge_end_in, span_in}
+use Rattle.switchboard.specs.Rows.{Rows, call_in, gone_from_in, bridge_at_place, is_open_in, bridge_end_in, span_in}
 use Rattle.switchboard.specs.State.{State, last_stamp, numbered}
 
 -- a bridge had ended before period t
@@ -43,8 +43,8 @@ pub record IsTable (r : Rows) (now : ℕ) : Type 0 where
   pub over : (c i j : ℕ) → i < j → j < length r.bridges → joins c (bridge_at_place r i) ≡ true → joins c (bridge_at_place r j) ≡ true →
       IsOver r (bridge_at_place r j).from (bridge_at_place r i)
   pub shut : (c s j : ℕ) → (call_in r c).closed ≡ Some s → j < length r.bridges → joins c (bridge_at_place r j) ≡ true → IsOver r (s + 1) (bridge_at_place r j)
-  pub untold : (c s : ℕ) → (call_in r c).closed ≡ Some s → (call_in r c).gone ≡ None
-  pub unused : (c : ℕ) → (call_in r c).opened ≡ None → ((call_in r c).closed ≡ None) × ((call_in r c).gone ≡ None)
+  pub untold : (c s : ℕ) → (call_in r c).closed ≡ Some s → gone_from_in r c ≡ None
+  pub unused : (c : ℕ) → (call_in r c).opened ≡ None → ((call_in r c).closed ≡ None) × (gone_from_in r c ≡ None)
   pub spans : r.spans ≡ filter_map (span_in r) r.bridges
 
 -- the table is that of a list of executed orders

@@ -1,22 +1,27 @@
 -- The board as contracts see it, and its steps.
-use Rattle.std.specs.Prelude.{◌+◌, ◌<◌, ℕ, Bool, if◌then◌else◌, ◌==◌, Option, Some, None, is_some, IfSome, List, [], ◌∷◌, ◌++◌, length, map, drop, replicate}
+use Rattle.std.specs.Prelude.{◌+◌, ◌<◌, ℕ, Bool, if◌then◌else◌, ◌==◌, Option, Some, None, is_some, option_map, IfSome, List, [], ◌∷◌, ◌++◌, length, map, drop, replicate}
 use Rattle.std.proofs.Common.{get_or, set}
+use Rattle.trau_io.specs.declared.ends.Cause.TheVariants.{Closed}
+use Rattle.trau_io.specs.declared.ends.CallEnd.{CallEnd}
 use Rattle.trau_orders.specs.declared.order.Order.{Order}
 use Rattle.call_number.specs.declared.TheConstants.{NUMBERS}
 use Rattle.switchboard.specs.declared.act.Reply.{Reply}
-use Rattle.switchboard.specs.Calls.{Done}
+use Rattle.switchboard.specs.Calls.{Done, opened_at, closed_at}
 use Rattle.switchboard.specs.Replies.{reply_to}
 
--- The remaining orders; the executed orders with their replies, the oldest first; and by call number the reported end: the first period
--- after the call.
+-- The remaining orders; the executed orders with their replies, the oldest first; and by call number the reported end.
 pub record State : Type 0 where
   pub left : List Order
   pub done : List Done
-  pub told : List (Option ℕ)
+  pub told : List (Option CallEnd)
 
 -- the reported end of a call
+abbrev pub end_told : State → ℕ → Option CallEnd
+end_told s c = get_or s.told c None
+
+-- the first period after a call whose end was reported
 abbrev pub told_in : State → ℕ → Option ℕ
-told_in s c = get_or s.told c None
+told_in s c = option_map (λ e. e.at) (end_told s c)
 
 -- the calls with a reported end
 abbrev pub gone_in : State → ℕ → Bool
@@ -77,6 +82,15 @@ numbered n (d ∷ ds) = record { order = n + 1; result = d.result } ∷ numbered
 
 -- ---- an end
 
--- the state after a call's end at this period was reported
-abbrev pub told_more : State → ℕ → ℕ → State
-told_more s call at = record s { told = set s.told call (Some at) }
+-- the state after a call's end was reported
+abbrev pub told_more : State → CallEnd → State
+told_more s e = record s { told = set s.told e.call (Some e) }
+
+-- the end of a call that an order closed, or else the reported one
+abbrev pub end_or_told : State → ℕ → Option ℕ → Option CallEnd
+end_or_told s c None = end_told s c
+end_or_told s c (Some t) = Some (record { call = c; at = t; cause = Closed })
+
+-- The end of a call so far. A call that no order has opened has none.
+abbrev pub end_so_far : State → ℕ → Option CallEnd
+end_so_far s c = if is_some (opened_at c s.done) then end_or_told s c (closed_at c s.done) else None

@@ -1,26 +1,26 @@
 //! The board: it executes the orders one after another, and callers report to it which calls have ended.
 
-ghost use Rattle.std.specs.Prelude.{◌≡◌, ◌<◌, ◌≤◌, ◌≢◌, ◌↔◌, ℕ, [], true, false, None, IsNone, IsSome, IfOk, IfSome, OnErr};
+ghost use Rattle.std.specs.Prelude.{◌≡◌, ◌<◌, ◌≤◌, ◌≢◌, ◌↔◌, ℕ, [], true, false, Some, None, is_some, IsNone, IsSome, IfOk, IfSome, OnErr};
 ghost use Rattle.std.specs.List.{All};
 ghost use Rattle.trau_alaw.specs.declared.Law.TheVariants.{A};
 ghost use Rattle.trau_orders.specs.Lists.{NamesCalls, HasLevel};
-ghost use Rattle.switchboard.specs.Calls.{is_open};
+ghost use Rattle.switchboard.specs.Calls.{opened_at, is_open};
 ghost use Rattle.switchboard.specs.Bridges.{OneLasts, bridges};
 ghost use Rattle.switchboard.specs.Replies.{IsInRange};
 ghost use Rattle.switchboard.specs.State.{new_board, orders_of, first_order, first_stamp, last_stamp, due, after_turn, reply_of, EndBefore, told_in, gone_in};
-ghost use Rattle.switchboard.specs.State.{told_more, numbered};
-ghost use Rattle.switchboard.specs.Runs.{IsRun, TellsEnds, AllEnded, IsUnchanged};
+ghost use Rattle.switchboard.specs.State.{told_more, end_so_far, numbered};
+ghost use Rattle.switchboard.specs.Runs.{IsRun, TellsEnds, AllEnded, AllEndedAt, IsUnchanged};
 ghost use Rattle.switchboard.specs.Stands.{AreRising};
-ghost use Rattle.switchboard.specs.Ends.{Given, spans_now, spans_of};
-ghost use Rattle.switchboard.specs.Open.{opened_now, open_now, law_now, partner_now, opened_after, open_after, law_after, partner_after, open_without};
-ghost use Rattle.switchboard.specs.Open.{partner_without, ArePairs, IfAccepted, Finds, Rests, IsAsBefore};
+ghost use Rattle.switchboard.specs.Ends.{Given, start_of, whole_end, spans_now, spans_of};
+ghost use Rattle.switchboard.specs.Open.{opened_now, open_now, law_now, partner_now, open_without, partner_without};
+ghost use Rattle.switchboard.specs.Open.{ArePairs, IfAccepted, IsExecuted, IsAsBefore};
 
 use crate::table::Table;
 use crate::{Reply, Span};
 use call_number::NUMBERS;
 use std::alloc::{AllocError, Global};
 use std::marker::Model;
-use trau_io::CallEnd;
+use trau_io::{CallEnd, Cause};
 use trau_orders::{Order, Orders};
 
 /// The state of a run's orders. Contracts see the remaining orders, the executed ones with their replies, and the
@@ -102,19 +102,15 @@ impl Board {
 
         // What an accepted order finds, and how it changes which numbers were opened, which calls are open, their
         // laws and their partners.
-        ensures finds { IfAccepted result (λ act. Finds act (opened_now self.old) (open_now self.old) (partner_now self.old)) }
-        ensures rests { IfAccepted result (λ act. Rests act (told_in self.old) (bridges self.old.done) period) }
-        ensures opened { IfAccepted result (λ act. (c : ℕ) → opened_now self.new c ≡ opened_after act (opened_now self.old) c) }
-        ensures open { IfAccepted result (λ act. (c : ℕ) → open_now self.new c ≡ open_after act (open_now self.old) c) }
-        ensures law { IfAccepted result (λ act. (c : ℕ) → law_now self.new c ≡ law_after act (law_now self.old) c) }
-        ensures partner { IfAccepted result (λ act. (c : ℕ) → partner_now self.new c ≡ partner_after act (partner_now self.old) c) }
+        ensures accepted { IfAccepted result (IsExecuted self.old self.new period) }
 
         // If no order is due, or it is refused, these stay.
         ensures nothing { IsNone result → self.new ≡ self.old }
         ensures stays { IfSome result (λ reply. OnErr reply.result (IsAsBefore self.old self.new)) }
 
         // If the ends of the calls are reported in time, all replies are those to the whole list of orders.
-        ensures run { (whole : ℕ → ℕ) → IsRun whole self.old.done → TellsEnds whole period self.old → IsRun whole self.new.done }
+        ensures run { (whole : ℕ → ℕ) → IsRun whole self.old.done → TellsEnds whole period self.old →
+            IsRun whole self.new.done }
 
         // For callers: no order is lost, no end is added, the last executed order is of this period, and what an
         // act names is in its range.
@@ -138,12 +134,7 @@ impl Board {
         ensures state { self.new ≡ after_turn self.old (Some order.now) }
         ensures answer { Some result ≡ reply_of self.old (Some order.now) }
         ensures range { IfOk result.result IsInRange }
-        ensures finds { IfOk result.result (λ act. Finds act (opened_now self.old) (open_now self.old) (partner_now self.old)) }
-        ensures rests { IfOk result.result (λ act. Rests act (told_in self.old) (bridges self.old.done) order.now.stamp) }
-        ensures opened { IfOk result.result (λ act. (c : ℕ) → opened_now self.new c ≡ opened_after act (opened_now self.old) c) }
-        ensures open { IfOk result.result (λ act. (c : ℕ) → open_now self.new c ≡ open_after act (open_now self.old) c) }
-        ensures law { IfOk result.result (λ act. (c : ℕ) → law_now self.new c ≡ law_after act (law_now self.old) c) }
-        ensures partner { IfOk result.result (λ act. (c : ℕ) → partner_now self.new c ≡ partner_after act (partner_now self.old) c) }
+        ensures accepted { IfOk result.result (IsExecuted self.old self.new order.now.stamp) }
     {
         let result = self.table.reply_to(order);
         self.table.apply(order.stamp, &result);
@@ -167,16 +158,43 @@ impl Board {
     pub fn ended(&mut self, end: CallEnd)
         requires open { is_open (gone_in self.old) self.old.done end.call ≡ true }
         requires late { last_stamp self.old.done ≤ end.at }
-        ensures state { self.new ≡ told_more self.old end.call end.at }
+        ensures state { self.new ≡ told_more self.old end }
         ensures told { (t : ℕ) → end.at < t → EndBefore t self.old → EndBefore t self.new }
 
         // The call is no longer open, and neither it nor the call that was its partner has a partner now. Laws stay.
         ensures opened { (c : ℕ) → opened_now self.new c ≡ opened_now self.old c }
         ensures open { (c : ℕ) → open_now self.new c ≡ open_without end.call (open_now self.old) c }
         ensures law { (c : ℕ) → law_now self.new c ≡ law_now self.old c }
-        ensures partner { (c : ℕ) → partner_now self.new c ≡ partner_without end.call (partner_now self.old) c }
+        ensures partner { (c : ℕ) →
+            partner_now self.new c ≡ partner_without end.call (partner_now self.old) c }
     {
-        self.table.end_call(end.call, end.at);
+        self.table.end_call(end);
+    }
+
+    /// The period at which a call was opened; 0 if no order has opened it.
+    pub fn from(&self, call: u32) -> u32
+        ensures { result ≡ start_of self.now.done call }
+    {
+        self.table.call(call).opened.unwrap_or(0)
+    }
+
+    /// Where and why a call has ended. None if it is open, or if no order has opened it.
+    pub fn end(&self, call: u32) -> Option<CallEnd>
+        ensures now { result ≡ end_so_far self.now call }
+
+        // Once each call has ended, it is the call's end in the whole run.
+        ensures whole { (given : ℕ → Given) (periods : ℕ) → AllEnded given periods self.now →
+            is_some (opened_at call self.now.done) ≡ true → result ≡ Some (whole_end given periods self.now.done call) }
+    {
+        let known = self.table.call(call);
+        match known.closed {
+            Some(at) => Some(CallEnd {
+                call,
+                at,
+                cause: Cause::Closed,
+            }),
+            None => known.gone,
+        }
     }
 
     /// The replies so far, in the order of the orders' numbers.
@@ -194,7 +212,8 @@ impl Board {
         ensures numbers { All (λ x. (x.a < NUMBERS) × (x.b < NUMBERS)) result.now }
 
         // Once each call has ended, they are the spans of the whole run.
-        ensures whole { (given : ℕ → Given) (periods : ℕ) → AllEnded given periods self.now → result.now ≡ spans_of given periods self.now.done }
+        ensures whole { (given : ℕ → Given) (periods : ℕ) → AllEndedAt given periods self.now →
+            result.now ≡ spans_of given periods self.now.done }
     {
         self.table.spans()
     }

@@ -3,13 +3,14 @@
 ghost use Rattle.std.specs.Prelude.{◌≡◌, ◌<◌, ◌≤◌, [], length, IfOk, IfSome, replicate, slice_set};
 ghost use Rattle.std.specs.List.{filter_map, insert};
 ghost use Rattle.switchboard.specs.Rows.{never, call_in, bridge_at_place, ended_at_place, is_open_in, has_ended_in, bridge_in, bridge_ended_in, bridge_end_in};
-ghost use Rattle.switchboard.specs.Rows.{span_in, position_in, opened_in, closed_in, bridged_in, parted_in, spans_ended_in, gone_in_rows, call_ended_in};
+ghost use Rattle.switchboard.specs.Rows.{span_in, position_in, opened_in, closed_in, bridged_in, parted_in, spans_ended_in, gone_from_in, gone_in_rows, call_ended_in};
 ghost use Rattle.switchboard.specs.Ends.{least, span_to};
 
 use crate::Span;
 use call_number::NUMBERS;
 use std::alloc::{AllocError, Global};
 use std::marker::Model;
+use trau_io::CallEnd;
 
 /// What is known of a call number.
 #[derive(Clone, Copy)]
@@ -17,8 +18,8 @@ pub struct Call {
     /// The stamps of the orders that opened and closed it.
     pub opened: Option<u32>,
     pub closed: Option<u32>,
-    /// The first period after its end, if its lines or the run's end ended it.
-    pub gone: Option<u32>,
+    /// Its end, if its lines or the run's end ended it.
+    pub gone: Option<CallEnd>,
     /// The index of its latest bridge in the table.
     pub bridge: Option<usize>,
 }
@@ -56,15 +57,22 @@ impl Model for Table {
 
     ghost Value = { Rows };
 
-    ghost view = { λ t. record { calls = t.calls.items; bridges = t.bridges.items; spans = t.spans.items; most = t.most } };
+    ghost view = { λ t. record {
+      calls = t.calls.items;
+      bridges = t.bridges.items;
+      spans = t.spans.items;
+      most = t.most;
+    } };
 
-    ghost invariant = { λ t. IsSized t.calls.items t.bridges.items × (t.most ≤ vec_capacity t.bridges) × (t.most ≤ vec_capacity t.spans) };
+    ghost invariant = { λ t. IsSized t.calls.items t.bridges.items ×
+        (t.most ≤ vec_capacity t.bridges) × (t.most ≤ vec_capacity t.spans) };
 }
 
 impl Table {
     /// A table with no call opened, and with room for `most` bridges.
     pub fn new(alloc: Global, most: usize) -> Result<Table, AllocError>
-        ensures { IfOk result (λ t. t ≡ record { calls = replicate NUMBERS never; bridges = []; spans = []; most = most }) }
+        ensures { IfOk result (λ t.
+            t ≡ record { calls = replicate NUMBERS never; bridges = []; spans = []; most = most }) }
     {
         Ok(Table {
             calls: vec![in alloc; NEVER_OPENED; NUMBERS]?,
@@ -82,6 +90,17 @@ impl Table {
     }
 
     // ---- reading
+
+    /// What is known of a call number.
+    pub fn call(&self, call: u32) -> Call
+        ensures { result ≡ call_in self.now call }
+    {
+        self.calls
+            .as_slice()
+            .get(call as usize)
+            .copied()
+            .unwrap_or(NEVER_OPENED)
+    }
 
     /// Whether a call was opened, and neither closed nor ended by its lines or the run's end.
     pub fn is_open(&self, call: u32) -> bool
@@ -133,11 +152,16 @@ impl Table {
         requires b { bridge.now.b < NUMBERS }
         ensures { result ≡ bridge_end_in self.now bridge.now }
     {
-        let calls = least(
-            self.calls[bridge.a as usize].gone,
-            self.calls[bridge.b as usize].gone,
-        );
+        let calls = least(self.gone_from(bridge.a), self.gone_from(bridge.b));
         least(bridge.ended, calls)
+    }
+
+    // The first period after a call, if its lines or the run's end ended it.
+    fn gone_from(&self, call: u32) -> Option<u32>
+        requires { call < NUMBERS }
+        ensures { result ≡ gone_from_in self.now call }
+    {
+        self.calls[call as usize].gone.map(|end| end.at)
     }
 
     // The number of bridges before index `place` that have ended, which is the index of its span.
@@ -224,16 +248,16 @@ impl Table {
         self.add_span(position, span_to(&bridge, stamp));
     }
 
-    /// Marks a call as ended by its lines or by the run's end: `at` is the first period after it. Its latest bridge
-    /// ends with it; if that bridge has a later end, `at` replaces it.
-    pub fn end_call(&mut self, call: u32, at: u32)
-        requires call { call < NUMBERS }
+    /// Marks a call as ended by its lines or by the run's end. Its latest bridge ends with it; if that bridge has a
+    /// later end, this one replaces it.
+    pub fn end_call(&mut self, end: CallEnd)
+        requires call { end.call < NUMBERS }
         requires spans { self.old.spans ≡ filter_map (span_in self.old) self.old.bridges }
         requires few { length self.old.bridges ≤ self.old.most }
-        ensures { self.new ≡ call_ended_in self.old at call }
+        ensures { self.new ≡ call_ended_in self.old end }
     {
-        self.end_span(call, at);
-        self.mark_gone(call, at);
+        self.end_span(end.call, end.at);
+        self.mark_gone(end);
     }
 
     fn end_span(&mut self, call: u32, at: u32)
@@ -256,11 +280,11 @@ impl Table {
         }
     }
 
-    fn mark_gone(&mut self, call: u32, at: u32)
-        requires { call < NUMBERS }
-        ensures { self.new ≡ gone_in_rows self.old at call }
+    fn mark_gone(&mut self, end: CallEnd)
+        requires { end.call < NUMBERS }
+        ensures { self.new ≡ gone_in_rows self.old end }
     {
-        self.calls[call as usize].gone = Some(at);
+        self.calls[end.call as usize].gone = Some(end);
     }
 
     fn set_ended(&mut self, place: usize, stamp: u32)

@@ -18,7 +18,7 @@ use Rattle.farm_rounds.specs.Failed.{NoneListed}
 use Rattle.farm_run.specs.Going.{told_after}
 use Rattle.farm_run.specs.Runs.{is_listed}
 use Rattle.farm_run.specs.Standing.{is_over, KnowsListed}
-use Rattle.farm_run.proofs.Told.Boards.{told_done}
+use Rattle.farm_run.proofs.Told.Boards.{told_done, is_told_end}
 use Rattle.farm_run.proofs.Listed.Tests.{or_cases, or_first, or_second, is_false}
 
 -- ---- a call that is open, and one that is over
@@ -63,26 +63,26 @@ open_opened b c o = by (opened_now b c) (is_some (closed_at c b.done)) (gone_in 
 -- ---- ends are told
 
 -- a call that is gone stays so when an end is told
-gone_one : (s : State) (call at c : ℕ) → gone_in s c ≡ true → gone_in (told_more s call at) c ≡ true
-gone_one s call at c e = elim (cases_Bool (c == call)) [
+gone_one : (s : State) (e : CallEnd) (c : ℕ) → gone_in s c ≡ true → gone_in (told_more s e) c ≡ true
+gone_one s e c g = elim (cases_Bool (c == e.call)) [
   | inl q ↦
-      let same = eqb-true c call q in
-      elim (cases_lt call (length s.told)) [
-        | inl l ↦ ap (λ (d : ℕ). is_some (get_or (set s.told call (Some at)) d None)) same ∙ ap is_some (get_or-set_same s.told call (Some at) None l)
-        | inr l ↦ ap (λ (xs : List (Option ℕ)). is_some (get_or xs c None)) (set_past s.told call l) ∙ e
+      let same = eqb-true c e.call q in
+      elim (cases_lt e.call (length s.told)) [
+        | inl l ↦ ap (λ (d : ℕ). gone_in (told_more s e) d) same ∙ ap is_told_end (get_or-set_same s.told e.call (Some e) None l)
+        | inr l ↦ ap (λ (xs : List (Option CallEnd)). is_told_end (get_or xs c None)) (set_past s.told e.call l) ∙ g
       ]
-  | inr q ↦ ap is_some (get_or-set_other s.told call c (Some at) None (λ f. true≢false (sym (eq-eqb c call f) ∙ q))) ∙ e
+  | inr q ↦ ap is_told_end (get_or-set_other s.told e.call c (Some e) None (λ f. true≢false (sym (eq-eqb c e.call f) ∙ q))) ∙ g
 ]
   where
-    set_past : (xs : List (Option ℕ)) (i : ℕ) → length xs ≤ i → set xs i (Some at) ≡ xs
+    set_past : (xs : List (Option CallEnd)) (i : ℕ) → length xs ≤ i → set xs i (Some e) ≡ xs
     set_past [] i l = refl
     set_past (x ∷ xs) zero l = absurd (omega arith)
-    set_past (x ∷ xs) (suc i) l = ap (λ (ys : List (Option ℕ)). x ∷ ys) (set_past xs i (omega arith))
+    set_past (x ∷ xs) (suc i) l = ap (λ (ys : List (Option CallEnd)). x ∷ ys) (set_past xs i (omega arith))
 
 -- and when several are
 pub gone_told : (s : State) (ends : List CallEnd) (c : ℕ) → gone_in s c ≡ true → gone_in (told_after s ends) c ≡ true
 gone_told s [] c e = e
-gone_told s (d ∷ ends) c e = gone_told (told_more s d.call d.at) ends c (gone_one s d.call d.at c e)
+gone_told s (d ∷ ends) c e = gone_told (told_more s d) ends c (gone_one s d c e)
 
 -- **A call that is over stays so when ends are told ..**
 pub over_told : (s : State) (ends : List CallEnd) (c : ℕ) → is_over s c ≡ true → is_over (told_after s ends) c ≡ true

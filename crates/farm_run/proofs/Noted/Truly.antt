@@ -1,6 +1,6 @@
 -- The ends that the board was told are those of the run.
 use Rattle.std.proofs.Common.{◌≡◌, sym, ap, ◌∙◌, ℕ, ◌+◌, ◌<◌, ◌≤◌, Option, Some, None, List, [], ◌∷◌, length, get_or, set, inl, inr, ◌⊎◌, arith}
-use Rattle.std.specs.Prelude.{IfSome}
+use Rattle.std.specs.Prelude.{IfSome, option_map}
 use Rattle.std.specs.List.{AllByRecursion, filter_map}
 use Rattle.std.proofs.lemmas.Bool.{cases_eq, cases_lt}
 use Rattle.std.proofs.lemmas.List.{length-set, get_or_past, get_or-set_same, get_or-set_other}
@@ -18,6 +18,12 @@ use Rattle.farm_run.proofs.Rounds.Taken.{IsRound, IsSeat}
 use Rattle.farm_run.specs.Noted.{TellsTruly}
 use Rattle.farm_run.proofs.Told.Seats.{ends_right}
 
+abbrev at_of : Option CallEnd → Option ℕ
+at_of = option_map (λ (e : CallEnd). e.at)
+
+abbrev at_in : List (Option CallEnd) → ℕ → Option ℕ
+at_in told c = at_of (get_or told c None)
+
 -- **A board that was told no end tells none that is wrong.**
 pub truly_start : (r : Run) (s : State) → EndBefore 0 s → TellsTruly r s
 truly_start r s h c at e = absurd (by (told_in s c) e (h c))
@@ -28,14 +34,15 @@ truly_start r s h c at e = absurd (by (told_in s c) e (h c))
 
 -- **Nor does one that was told the same ends,**
 pub truly_same : (r : Run) (s now : State) → now.told ≡ s.told → TellsTruly r s → TellsTruly r now
-truly_same r s now e h c at f = h c at (ap (λ (told : List (Option ℕ)). get_or told c None) (sym e) ∙ f)
+truly_same r s now e h c at f = h c at (ap (λ (told : List (Option CallEnd)). at_in told c) (sym e) ∙ f)
 
 -- one end more
-truly_more : (r : Run) (s : State) (call at : ℕ) → ends_at (given_in r) r.periods (done_in r) call ≡ at → TellsTruly r s → TellsTruly r (told_more s call at)
-truly_more r s call at right h c v e = elim (cases_eq c call) [
-  | inr n ↦ h c v (sym (get_or-set_other s.told call c (Some at) None n) ∙ e)
-  | inl q ↦ ap (ends_at (given_in r) r.periods (done_in r)) q ∙ right ∙ told (cases_lt call (length s.told))
-      (ap (λ (c : ℕ). told_in (told_more s call at) c) (sym q) ∙ e)
+truly_more : (r : Run) (s : State) (end : CallEnd) → ends_at (given_in r) r.periods (done_in r) end.call ≡ end.at → TellsTruly r s →
+    TellsTruly r (told_more s end)
+truly_more r s end right h c v e = elim (cases_eq c end.call) [
+  | inr n ↦ h c v (sym (ap at_of (get_or-set_other s.told end.call c (Some end) None n)) ∙ e)
+  | inl q ↦ ap (ends_at (given_in r) r.periods (done_in r)) q ∙ right ∙ told (cases_lt end.call (length s.told))
+      (ap (λ (c : ℕ). told_in (told_more s end) c) (sym q) ∙ e)
 ]
   where
     one : (a b : ℕ) → Some a ≡ Some b → a ≡ b
@@ -44,15 +51,15 @@ truly_more r s call at right h c v e = elim (cases_eq c call) [
     none : (o : Option ℕ) → o ≡ None → o ≡ Some v → ⊥
     none o e f = cc
 
-    told : (call < length s.told) ⊎ (length s.told ≤ call) → told_in (told_more s call at) call ≡ Some v → at ≡ v
-    told (inl l) f = one at v (sym (get_or-set_same s.told call (Some at) None l) ∙ f)
-    told (inr l) f = absurd (none _ (get_or_past (set s.told call (Some at)) call None (let k = length-set s.told call (Some at) in omega arith)) f)
+    told : (end.call < length s.told) ⊎ (length s.told ≤ end.call) → told_in (told_more s end) end.call ≡ Some v → end.at ≡ v
+    told (inl l) f = one end.at v (sym (ap at_of (get_or-set_same s.told end.call (Some end) None l)) ∙ f)
+    told (inr l) f = absurd (none _ (ap at_of (get_or_past (set s.told end.call (Some end)) end.call None (let k = length-set s.told end.call (Some end) in omega arith))) f)
 
 -- **nor one that was told further ends, those of the run.**
 pub truly_told : (r : Run) (s : State) (ends : List CallEnd) → AllByRecursion (λ e. e.at ≡ ends_at (given_in r) r.periods (done_in r) e.call) ends →
     TellsTruly r s → TellsTruly r (told_after s ends)
 truly_told r s [] a h = h
-truly_told r s (e ∷ ends) a h = truly_told r (told_more s e.call e.at) ends a.1 (truly_more r s e.call e.at (sym a.0) h)
+truly_told r s (e ∷ ends) a h = truly_told r (told_more s e) ends a.1 (truly_more r s e (sym a.0) h)
 
 -- **Those that the seats of a round tell are the run's.**
 pub truly_round : (r : Run) (t n : ℕ) (ds : List Done) (left : List Order) (seats : List SeatMemory) (s : State) → IsRound r t n ds left →

@@ -12,7 +12,7 @@ use Rattle.trau_io.specs.declared.ends.CallEnd.{CallEnd}
 use Rattle.switchboard.specs.declared.act.Reply.{Reply}
 use Rattle.switchboard.specs.Calls.{Done, opened_at, closed_at, is_open, gone_at}
 use Rattle.switchboard.specs.State.{State, told_in, numbered}
-use Rattle.switchboard.specs.Runs.{AllEnded}
+use Rattle.switchboard.specs.Runs.{AllEndedAt}
 use Rattle.switchboard.specs.Ends.{end_of, start_of, ends_at, spans_of}
 use Rattle.switchboard.specs.Open.{open_now}
 use Rattle.farm_report.specs.declared.report.CallLine.{CallLine}
@@ -122,7 +122,7 @@ module _ (r : Run) (t : ℕ) (b : State) (farm : FarmMemory) (j : JournalMemory)
       all false true h = sym (h refl)
 
   -- **The board was told all ends.**
-  all_told : (now : State) → now ≡ told_after b last → ((c : ℕ) → open_now now c ≡ false) → AllEnded (given_in r) r.periods now
+  all_told : (now : State) → now ≡ told_after b last → ((c : ℕ) → open_now now c ≡ false) → AllEndedAt (given_in r) r.periods now
   all_told now told none c o l = by (told_in now c) refl
     where
       done_is : now.done ≡ b.done

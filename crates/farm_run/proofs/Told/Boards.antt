@@ -1,7 +1,7 @@
 -- The board after a round: the ends of the calls that their lines ended within it are told.
-use Rattle.std.proofs.Common.{◌≡◌, refl, sym, ap, ◌∙◌, subst, ℕ, zero, suc, ◌+◌, ◌-◌, ◌<◌, ◌≤◌, Bool, true, false, Option, Some, None, List, [], ◌∷◌, ◌++◌}
-use Rattle.std.proofs.Common.{length, get_or, set, inl, inr, arith}
-use Rattle.std.specs.Prelude.{min, ◌&&◌, ◌||◌, is_some, nat_lt, ◌==◌, IfSome}
+use Rattle.std.proofs.Common.{◌≡◌, refl, sym, ap, ◌∙◌, ℕ, ◌+◌, ◌-◌, ◌<◌, ◌≤◌, Bool, true, false, Option, Some, None, List, [], ◌∷◌, ◌++◌}
+use Rattle.std.proofs.Common.{length, set, inl, inr, arith}
+use Rattle.std.specs.Prelude.{min, ◌&&◌, ◌||◌, is_some, option_map, nat_lt, ◌==◌, IfSome}
 use Rattle.std.specs.List.{AllByRecursion}
 use Rattle.std.proofs.lemmas.Bool.{lt-ltb, le-ltb, cases_lt, cases_Bool, eqb-true, eq-eqb, or_left}
 use Rattle.std.proofs.lemmas.List.{length-set, get_or-set_same, get_or-set_other}
@@ -65,37 +65,40 @@ gone_round r t n ds c o l = by (opened_at c ds) refl o
 -- no order is executed, and there is room for the ends of as many calls
 pub told_done : (s : State) (ends : List CallEnd) → (told_after s ends).done ≡ s.done
 told_done s [] = refl
-told_done s (e ∷ ends) = told_done (told_more s e.call e.at) ends
+told_done s (e ∷ ends) = told_done (told_more s e) ends
 
 -- the orders that are left stay
 pub told_left : (s : State) (ends : List CallEnd) → (told_after s ends).left ≡ s.left
 told_left s [] = refl
-told_left s (e ∷ ends) = told_left (told_more s e.call e.at) ends
+told_left s (e ∷ ends) = told_left (told_more s e) ends
 
 -- so do all orders
 pub told_orders : (s : State) (ends : List CallEnd) → orders_of (told_after s ends) ≡ orders_of s
 told_orders s [] = refl
-told_orders s (e ∷ ends) = told_orders (told_more s e.call e.at) ends
+told_orders s (e ∷ ends) = told_orders (told_more s e) ends
 
 -- and the room for ends
 pub told_room : (s : State) (ends : List CallEnd) → length (told_after s ends).told ≡ length s.told
 told_room s [] = refl
-told_room s (e ∷ ends) = told_room (told_more s e.call e.at) ends ∙ length-set s.told e.call (Some e.at)
+told_room s (e ∷ ends) = told_room (told_more s e) ends ∙ length-set s.told e.call (Some e)
 
 -- one end more, behind the others
-pub told_next : (s : State) (ends : List CallEnd) (e : CallEnd) → told_after s (ends ++ e ∷ []) ≡ told_more (told_after s ends) e.call e.at
+pub told_next : (s : State) (ends : List CallEnd) (e : CallEnd) → told_after s (ends ++ e ∷ []) ≡ told_more (told_after s ends) e
 told_next s [] e = refl
-told_next s (d ∷ ends) e = told_next (told_more s d.call d.at) ends e
+told_next s (d ∷ ends) e = told_next (told_more s d) ends e
+
+abbrev pub is_told_end : Option CallEnd → Bool
+is_told_end o = is_some (option_map (λ (e : CallEnd). e.at) o)
 
 -- an end that is told lets its call be gone, and no other
-gone_more : (s : State) (call at c : ℕ) → call < length s.told → gone_in (told_more s call at) c ≡ (gone_in s c || c == call)
-gone_more s call at c l = elim (cases_Bool (c == call)) [
-  | inl e ↦
-      ap (λ (d : ℕ). is_some (get_or (set s.told call (Some at)) d None)) (eqb-true c call e) ∙ ap is_some (get_or-set_same s.told call (Some at) None l)
-      ∙ sym (ap (λ (b : Bool). gone_in s c || b) e ∙ last (gone_in s c))
-  | inr e ↦
-      ap is_some (get_or-set_other s.told call c (Some at) None (λ f. other (c == call) (eq-eqb c call f) e))
-      ∙ sym (ap (λ (b : Bool). gone_in s c || b) e ∙ none (gone_in s c))
+gone_more : (s : State) (e : CallEnd) (c : ℕ) → e.call < length s.told → gone_in (told_more s e) c ≡ (gone_in s c || c == e.call)
+gone_more s e c l = elim (cases_Bool (c == e.call)) [
+  | inl q ↦
+      ap (λ (d : ℕ). gone_in (told_more s e) d) (eqb-true c e.call q) ∙ ap is_told_end (get_or-set_same s.told e.call (Some e) None l)
+      ∙ sym (ap (λ (b : Bool). gone_in s c || b) q ∙ last (gone_in s c))
+  | inr q ↦
+      ap is_told_end (get_or-set_other s.told e.call c (Some e) None (λ f. other (c == e.call) (eq-eqb c e.call f) q))
+      ∙ sym (ap (λ (b : Bool). gone_in s c || b) q ∙ none (gone_in s c))
 ]
   where
     last : (b : Bool) → (b || true) ≡ true
@@ -122,13 +125,13 @@ gone_told s [] c l = none (gone_in s c)
     none true = refl
     none false = refl
 gone_told s (e ∷ ends) c l =
-    gone_told (told_more s e.call e.at) ends c (room ends l.1)
-    ∙ ap (λ (b : Bool). b || is_told c ends) (gone_more s e.call e.at c l.0)
+    gone_told (told_more s e) ends c (room ends l.1)
+    ∙ ap (λ (b : Bool). b || is_told c ends) (gone_more s e c l.0)
     ∙ or_assoc (gone_in s c) (c == e.call) (is_told c ends)
   where
-    room : (es : List CallEnd) → AllByRecursion (λ e. e.call < length s.told) es → AllByRecursion (λ d. d.call < length (set s.told e.call (Some e.at))) es
+    room : (es : List CallEnd) → AllByRecursion (λ e. e.call < length s.told) es → AllByRecursion (λ d. d.call < length (set s.told e.call (Some e))) es
     room [] h = tt
-    room (d ∷ es) h = (let k = h.0 in omega (arith, length-set s.told e.call (Some e.at)), room es h.1)
+    room (d ∷ es) h = (let k = h.0 in omega (arith, length-set s.told e.call (Some e)), room es h.1)
 
 -- **The board tells the ends at the round's end, where it told them at the clock and was then told those of exactly the
 -- calls that their lines ended within the round.**
@@ -165,36 +168,4 @@ before_round t n s ends h l = go s ends (λ c. by (told_in s c) (h c)) l
 
     go : (s : State) (ends : List CallEnd) → EndBefore (t + n) s → AllByRecursion (λ e. e.at < t + n) ends → EndBefore (t + n) (told_after s ends)
     go s [] h l = h
-    go s (e ∷ ends) h l = go (told_more s e.call e.at) ends (before_more s (told_more s e.call e.at) e.call e.at refl (t + n) l.0 h) l.1
-
--- What holds of each end that was told and of these holds of all that are told then.
-pub each_told : (P : ℕ → ℕ → Type 0) (s : State) (ends : List CallEnd) → ((c at : ℕ) → told_in s c ≡ Some at → P c at) →
-    AllByRecursion (λ e. P e.call e.at) ends →
-    (c at : ℕ) → told_in (told_after s ends) c ≡ Some at → P c at
-each_told P s [] h l = h
-each_told P s (d ∷ ends) h l = each_told P (told_more s d.call d.at) ends (more s.told d.call d.at l.0 h) l.1
-  where
-    more : (xs : List (Option ℕ)) (i u : ℕ) → P i u → ((c at : ℕ) → get_or xs c None ≡ Some at → P c at) → (c at : ℕ) →
-        get_or (set xs i (Some u)) c None ≡ Some at → P c at
-    more xs i u p h c at e = elim (cases_Bool (c == i)) [
-      | inl q ↦
-          let same = eqb-true c i q in
-          elim (cases_lt i (length xs)) [
-            | inl m ↦
-                let f : Some u ≡ Some at = sym (get_or-set_same xs i (Some u) None m) ∙ ap (λ (k : ℕ). get_or (set xs i (Some u)) k None) (sym same) ∙ e in
-                subst (λ (k : ℕ). P k at) (sym same) (subst (P i) (some_same u at f) p)
-            | inr m ↦ h c at (ap (λ (ys : List (Option ℕ)). get_or ys c None) (sym (set_past xs i m)) ∙ e)
-          ]
-      | inr q ↦ h c at (sym (get_or-set_other xs i c (Some u) None (λ f. apart (c == i) (eq-eqb c i f) q)) ∙ e)
-    ]
-      where
-        some_same : (a b : ℕ) → Some a ≡ Some b → a ≡ b
-        some_same a b e = cc
-
-        apart : (b : Bool) → b ≡ true → b ≡ false → ⊥
-        apart b p q = cc
-
-        set_past : (xs : List (Option ℕ)) (i : ℕ) → length xs ≤ i → set xs i (Some u) ≡ xs
-        set_past [] i l = refl
-        set_past (x ∷ xs) zero l = absurd (omega arith)
-        set_past (x ∷ xs) (suc i) l = ap (λ (ys : List (Option ℕ)). x ∷ ys) (set_past xs i (omega arith))
+    go s (e ∷ ends) h l = go (told_more s e) ends (before_more s (told_more s e) e refl (t + n) l.0 h) l.1

@@ -24,10 +24,10 @@ pub record IsTold (was now : State) (ends : List CallEnd) : Type 0 where
   pub is_open : (c : ℕ) → open_now now c ≡ (open_now was c && not (is_told c ends))
 
 -- **One end more is told.**
-pub told_step : (was now new : State) (ends : List CallEnd) (i : ℕ) (e : CallEnd) → i < length ends → e ≡ get_or ends i e → new ≡ told_more now e.call e.at →
+pub told_step : (was now new : State) (ends : List CallEnd) (i : ℕ) (e : CallEnd) → i < length ends → e ≡ get_or ends i e → new ≡ told_more now e →
     ((c : ℕ) → open_now new c ≡ open_without e.call (open_now now) c) → IsTold was now (take i ends) → IsTold was new (take (i + 1) ends)
 told_step was now new ends i e l is n o h = subst (IsTold was new) (sym (front ends i e l is)) (record {
-  told = n ∙ ap (λ s. told_more s e.call e.at) h.told ∙ sym (told_next was (take i ends) e);
+  told = n ∙ ap (λ s. told_more s e) h.told ∙ sym (told_next was (take i ends) e);
   is_open = λ c.
       o c ∙ open_more (open_now was c) (is_told c (take i ends)) (open_now now c) (c == e.call) (h.is_open c)
       ∙ ap (λ s. open_now was c && not s) (sym (any_next (λ d. c == d.call) (take i ends) e));

@@ -1,8 +1,7 @@
-use Rattle.std.proofs.Common.{◌≡◌, ◌<◌, ℕ, refl, sym, ap, ◌∙◌, subst, arith, List, length}
+use Rattle.std.proofs.Common.{◌<◌, refl, sym, ap, ◌∙◌, subst, arith, List, length}
 use Rattle.std.specs.Prelude.{IfOk, OnErr, Err}
 use Rattle.trau_orders.specs.Lists.{AreOrders}
-use Rattle.switchboard.specs.declared.act.Act.{Act}
-use Rattle.switchboard.specs.Open.{opened_now, open_now, partner_now, opened_after, open_after, partner_after, Finds, IsAsBefore, law_now, law_after}
+use Rattle.switchboard.specs.Open.{IsExecuted, IsAsBefore}
 use Rattle.trau_io.specs.declared.line.Line.{Line}
 use Rattle.run_spec.specs.Run.{Run}
 use Rattle.farm_run.specs.Match.{histories_at, FollowsRun}
@@ -24,7 +23,8 @@ pub apply-requires-clause-fresh : goal.apply-requires-clause-fresh
 apply-requires-clause-fresh c =
     let b = c.loop-reply.board in
     new_unlisted b c.loop-reply.farm.failed c.in-Ok.act
-    (subst (λ x. IfOk x (λ (a : Act). Finds a (opened_now b) (open_now b) (partner_now b))) c.in-Ok.is c.in-Some.ensures.finds)
+    (let does : IsExecuted b c.turn.new.self c.args.clock c.in-Ok.act = subst (λ x. IfOk x (IsExecuted b c.turn.new.self c.args.clock)) c.in-Ok.is
+    c.in-Some.ensures.accepted in does.finds)
     c.loop-reply.invariant.ready.knows
 
 pub loop-reply-preserved : goal.loop-reply-preserved
@@ -39,13 +39,9 @@ loop-reply-preserved c =
     let ready = c.loop-reply.invariant.ready in
     let due = due_of b n t c.in-Some.reply (sym c.in-Some.is ∙ c.turn.ensures.answer) c.turn.ensures.state in
     let more = one_more b n (left_fewer _ _ _ _ due) c.turn.ensures.kept in
-    let finds = subst (λ x. IfOk x (λ (a : Act). Finds a (opened_now b) (open_now b) (partner_now b))) c.in-Ok.is e.finds in
-    let opened = subst (λ x. IfOk x (λ (a : Act). (c' : ℕ) → opened_now n c' ≡ opened_after a (opened_now b) c')) c.in-Ok.is e.opened in
-    let is_open = subst (λ x. IfOk x (λ (a : Act). (c' : ℕ) → open_now n c' ≡ open_after a (open_now b) c')) c.in-Ok.is e.open in
-    let law = subst (λ x. IfOk x (λ (a : Act). (c' : ℕ) → law_now n c' ≡ law_after a (law_now b) c')) c.in-Ok.is e.law in
-    let partner = subst (λ x. IfOk x (λ (a : Act). (c' : ℕ) → partner_now n c' ≡ partner_after a (partner_now b) c')) c.in-Ok.is e.partner in
+    let does : IsExecuted b n t c.in-Ok.act = subst (λ x. IfOk x (IsExecuted b n t)) c.in-Ok.is e.accepted in
     let follows : (r : Run) → t < r.periods → FollowsRun r t b farm.calls → FollowsRun r t n later.calls = λ r under f.
-    follows_more r t b n c.in-Some.reply farm.calls due under (c.turn.ensures.run _ f.so_far.replies f.tells) f c.in-Ok.act c.in-Ok.is finds is_open law
+    follows_more r t b n c.in-Some.reply farm.calls due under (c.turn.ensures.run _ f.so_far.replies f.tells) f c.in-Ok.act c.in-Ok.is does.finds does.is_open does.law
     later.calls c.in_ok-apply.ensures.history in
     done_then t _ _ _ b n farm later j c.note.new.journal c.loop-reply.invariant (record {
       ready = record {
@@ -54,10 +50,10 @@ loop-reply-preserved c =
           ahead = ahead_more b n t c.in-Some.reply ready.clock.orders due;
           past = omega (arith, e.last refl);
           ends = c.turn.ensures.told t ready.clock.ends;
-          matches = matches_more b n farm.calls later.calls c.in-Ok.act ready.clock.matches finds is_open partner c.in_ok-apply.ensures.calls
+          matches = matches_more b n farm.calls later.calls c.in-Ok.act ready.clock.matches does.finds does.is_open does.partner c.in_ok-apply.ensures.calls
               c.in_ok-apply.ensures.partners;
         };
-        shut = subst (AreShut n) (sym c.note.ensures.ends) (shut_ordered b n j.ends c.in-Ok.act t ready.shut finds opened is_open);
+        shut = subst (AreShut n) (sym c.note.ensures.ends) (shut_ordered b n j.ends c.in-Ok.act t ready.shut does.finds does.opened does.is_open);
         few = omega (arith, ap length c.turn.ensures.kept, ready.few);
         bridges = omega (arith, more.1, ready.bridges, c.note.ensures.bridges);
         knows = subst (λ (ls : List Line). KnowsListed n ls) (sym c.apply.ensures.failed) (knows_turned b n _ farm.failed c.turn.ensures.state ready.knows);
@@ -73,7 +69,7 @@ loop-reply-preserved c =
           let h = histories_at r b.done t in
           subst (λ (j : JournalMemory). Noted r n.done t j later.tallies) (sym (c.note.ensures.noted h f.stands))
           (noted_accepted r t b n c.in-Some.reply farm.calls later.calls due under f (follows r under f) j farm.tallies later.tallies noted c.in-Ok.act c.in-Ok.is
-          finds opened is_open (c.in_ok-apply.ensures.tallies h f.stands));
+          does.finds does.opened does.is_open (c.in_ok-apply.ensures.tallies h f.stands));
     })
 
 pub loop-reply-preserved-in_default-result : goal.loop-reply-preserved-in_default-result

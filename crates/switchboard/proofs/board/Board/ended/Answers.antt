@@ -23,7 +23,7 @@ invariant_of-self c =
     let o = told_call os xs i.table c.args.end.call c.self.invariant.0 (ap (λ (s : State). is_open (gone_in s) s.done c.args.end.call) c.self.view_is
     ∙ c.requires.open) in
     let late : last_stamp (dones os xs) ≤ c.args.end.at = subst (λ (s : State). last_stamp s.done ≤ c.args.end.at) (sym c.self.view_is) c.requires.late in (
-      subst (λ (n : Rows). IsBoard os xs n) (sym c.end_call.ensures) (board-told os xs i.table c.args.end.call c.args.end.at c.self.invariant.0
+      subst (λ (n : Rows). IsBoard os xs n) (sym c.end_call.ensures) (board-told os xs i.table c.args.end c.self.invariant.0
           (board_sized os xs i.table c.self.invariant.0) late o),
       c.self.invariant.1,
     )
@@ -31,11 +31,11 @@ invariant_of-self c =
 pub returns-clause-state : goal.returns-clause-state
 returns-clause-state c =
     let i = c.self.inside in
-    ap (board_state i.orders i.replies.items) c.end_call.ensures ∙ state-told i.orders i.replies.items i.table c.args.end.call c.args.end.at
-    ∙ ap (λ (s : State). told_more s c.args.end.call c.args.end.at) c.self.view_is
+    ap (board_state i.orders i.replies.items) c.end_call.ensures ∙ state-told i.orders i.replies.items i.table c.args.end
+    ∙ ap (λ (s : State). told_more s c.args.end) c.self.view_is
 
 pub returns-clause-told : goal.returns-clause-told
-returns-clause-told c = before_more c.args.self.now _ c.args.end.call c.args.end.at (returns-clause-state c)
+returns-clause-told c = before_more c.args.self.now _ c.args.end (returns-clause-state c)
 
 without : (c : goal.After-end_call) → Without c.args.self.now (board_state c.self.inside.orders c.self.inside.replies.items c.end_call.new.self) c.args.end.call
 without c =
@@ -44,7 +44,7 @@ without c =
     let xs = i.replies.items in
     let o = told_call os xs i.table c.args.end.call c.self.invariant.0 (ap (λ (s : State). is_open (gone_in s) s.done c.args.end.call) c.self.view_is
     ∙ c.requires.open) in
-    ended_changes os xs i.table _ c.args.self.now c.args.end.call c.args.end.at c.self.invariant.0 (board_sized os xs i.table c.self.invariant.0) c.self.view_is
+    ended_changes os xs i.table _ c.args.self.now c.args.end c.self.invariant.0 (board_sized os xs i.table c.self.invariant.0) c.self.view_is
     o.0 c.end_call.ensures (invariant_of-self c).0
 
 pub returns-clause-opened : goal.returns-clause-opened
