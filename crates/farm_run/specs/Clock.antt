@@ -17,7 +17,6 @@ use Rattle.farm_rounds.specs.declared.tally.Tally.{Tally}
 use Rattle.farm_rounds.specs.Memory.{tally_in}
 use Rattle.farm_rounds.specs.Histories.{tally_of}
 use Rattle.farm_run.specs.Going.{places_in, ends_within, is_told, told_after}
-use Rattle.farm_run.specs.Journal.{JournalMemory, with_ends}
 use Rattle.farm_run.specs.Ending.{AreApart}
 use Rattle.farm_run.specs.Match.{FollowsRun}
 use Rattle.farm_run.specs.Runs.{HasWritten, IsReadWhole, FailedIn}
@@ -60,12 +59,11 @@ pub record KeepsTallies (r : Run) (t n : ℕ) (ds : List Done) (before now : Lis
   -- the tallies of all others are unchanged
   pub others : (c : ℕ) → ends_within r ds t n c ≡ false → tally_in now c ≡ tally_in before c
 
--- What a round of n periods, from t on, reports to the board, notes and keeps of the calls that end in it because of their lines.
-pub record EndsRound (r : Run) (t n : ℕ) (was is : State) (old new : JournalMemory) (before now : List Tally) : Type 0 where
-  -- the ends that are reported to the board and noted
+-- What a round of n periods, from t on, reports to the board and keeps of the calls that end in it because of their lines.
+pub record EndsRound (r : Run) (t n : ℕ) (was is : State) (before now : List Tally) : Type 0 where
+  -- the ends that are reported to the board
   pub ends : List CallEnd
   pub board : is ≡ told_after was ends
-  pub noted : new ≡ with_ends ends old
   -- they are the run's ends of exactly these calls, one for each
   pub each : AllByRecursion (λ e. (ends_within r was.done t n e.call ≡ true)
       × (e ≡ end_of (given_in r) r.periods (done_in r) e.call (start_of was.done e.call))) ends

@@ -4,7 +4,7 @@ use Rattle.std.specs.List.{All}
 use Rattle.trau_io.specs.declared.ends.CallEnd.{CallEnd}
 use Rattle.trau_io.specs.declared.ends.Cause.TheVariants.{Limit}
 use Rattle.switchboard.specs.State.{State, last_stamp}
-use Rattle.switchboard.specs.Open.{opened_now, open_now}
+use Rattle.switchboard.specs.Open.{open_now}
 use Rattle.farm_run.specs.Going.{is_told}
 
 -- ends of calls that are open
@@ -15,14 +15,6 @@ AreOpen s ends = All (λ e. open_now s e.call ≡ true) ends
 abbrev pub AreApart : List CallEnd → Type 0
 AreApart [] = Unit {0}
 AreApart (e ∷ ends) = (is_told e.call ends ≡ false) × AreApart ends
-
--- the calls of these ends were opened and aren't open any more
-abbrev pub AreShut : State → List CallEnd → Type 0
-AreShut s ends = (c : ℕ) → is_told c ends ≡ true → (opened_now s c ≡ true) × (open_now s c ≡ false)
-
--- none of these ends is of a call whose end is noted already
-abbrev pub AreNew : List CallEnd → List CallEnd → Type 0
-AreNew noted ends = All (λ e. is_told e.call noted ≡ false) ends
 
 -- none of these ends is before the stamp of an executed order
 abbrev pub AreLate : State → List CallEnd → Type 0

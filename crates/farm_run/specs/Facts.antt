@@ -1,13 +1,12 @@
 -- What the report of a run says (this project's profile).
-use Rattle.std.specs.Prelude.{◌≡◌, ℕ, ◌-◌, ◌==◌, if◌then◌else◌, Option, List, [], ◌∷◌, length, map, IsPermutation}
+use Rattle.std.specs.Prelude.{◌≡◌, ℕ, ◌-◌, ◌==◌, if◌then◌else◌, Option, option_map, List, [], ◌∷◌, length}
 use Rattle.std.proofs.Common.{get_or}
-use Rattle.call_number.specs.CallNumber.{IsCallNumber}
-use Rattle.std.specs.List.Sorted.{IsNonDecreasingBy}
-use Rattle.trau_io.specs.declared.ends.CallEnd.{CallEnd}
+use Rattle.std.specs.List.{filter_map}
+use Rattle.call_number.specs.CallNumber.{IsCallNumber, call_numbers}
 use Rattle.switchboard.specs.declared.act.Span.{Span}
-use Rattle.switchboard.specs.Ends.{Given, spans_now, spans_of}
-use Rattle.switchboard.specs.Runs.{AllEndedAt}
-use Rattle.switchboard.specs.State.{State, told_in, numbered}
+use Rattle.switchboard.specs.Ends.{Given, start_of, spans_now, spans_of}
+use Rattle.switchboard.specs.Runs.{AllEnded}
+use Rattle.switchboard.specs.State.{State, told_in, end_so_far, numbered}
 use Rattle.farm_report.specs.declared.report.SpanLine.{SpanLine}
 use Rattle.farm_report.specs.declared.report.CallLine.{CallLine}
 use Rattle.farm_report.specs.View.{ReportView}
@@ -15,7 +14,6 @@ use Rattle.farm_rounds.specs.declared.tally.Tally.{Tally}
 use Rattle.farm_rounds.specs.Memory.{FarmMemory, tally_in}
 use Rattle.farm_rounds.specs.Histories.{CallHistory, CallsStand, kept_of}
 use Rattle.farm_run.specs.declared.notes.SentBefore.{SentBefore}
-use Rattle.farm_run.specs.Journal.{JournalMemory, opening_of}
 
 -- what a call has sent in its latest bridge before these ones: the note of the first of them that is its own, or what it has sent so far
 abbrev pub sent_until : (ℕ → ℕ) → List Span → List SentBefore → ℕ → ℕ
@@ -42,26 +40,24 @@ sent_in_table sent c = get_or sent c 0
 abbrev pub kept_in : List Tally → (ℕ → Option CallHistory) → ℕ → Tally
 kept_in tallies h c = kept_of (h c) (tally_in tallies c)
 
--- the report's line of a call that has ended
-abbrev pub call_line : List ℕ → (ℕ → Tally) → CallEnd → CallLine
-call_line calls kept e = record { end = e; from = opening_of calls e.call; counts = (kept e.call).counts }
+-- the report's line of a call, if it has ended
+abbrev pub call_line : State → (ℕ → Tally) → ℕ → Option CallLine
+call_line b kept c = option_map (λ e. record { end = e; from = start_of b.done c; counts = (kept c).counts }) (end_so_far b c)
 
--- The report of a run of so many orders, from board, farm and journal, after the end of each call was noted.
-pub record Reports (b : State) (farm : FarmMemory) (j : JournalMemory) (orders : ℕ) (report : ReportView) : Type 0 where
+-- The report of a run of so many orders, from board, farm and notes, after the end of each call was reported to the board.
+pub record Reports (b : State) (farm : FarmMemory) (notes : List SentBefore) (orders : ℕ) (report : ReportView) : Type 0 where
   pub replies : report.replies ≡ numbered 0 b.done
   pub failed : report.failed ≡ farm.failed
   pub left : report.left ≡ orders - length b.done
   -- one line for each call that has ended, in call-number order
-  pub sorted : IsNonDecreasingBy (λ l. l.end.call) report.calls
-  pub ends : IsPermutation j.ends (map (λ l. l.end) report.calls)
   pub calls : (h : ℕ → Option CallHistory) → CallsStand h farm.calls →
-      IsPermutation (map (call_line j.calls (kept_in farm.tallies h)) j.ends) report.calls
+      report.calls ≡ filter_map (call_line b (kept_in farm.tallies h)) call_numbers
   -- how many frames each call has sent in its latest bridge
   pub sent : List ℕ
   pub sent_is : (h : ℕ → Option CallHistory) → CallsStand h farm.calls → (c : ℕ) → IsCallNumber c →
       sent_in_table sent c ≡ (let kept = kept_in farm.tallies h c in kept.sent)
   -- the bridges that have ended, with the numbers of frames that their calls have sent in them
-  pub spans : report.spans ≡ span_lines (sent_in_table sent) (spans_now (told_in b) b.done) j.bridges
+  pub spans : report.spans ≡ span_lines (sent_in_table sent) (spans_now (told_in b) b.done) notes
   -- if each call has ended, these are all bridges
-  pub whole : (given : ℕ → Given) (periods : ℕ) → AllEndedAt given periods b →
-      report.spans ≡ span_lines (sent_in_table sent) (spans_of given periods b.done) j.bridges
+  pub whole : (given : ℕ → Given) (periods : ℕ) → AllEnded given periods b →
+      report.spans ≡ span_lines (sent_in_table sent) (spans_of given periods b.done) notes

@@ -1,5 +1,4 @@
 -- The run of a farm.
-pub mod Journal
 pub mod Match
 pub mod Pace
 pub mod Going

@@ -1,18 +1,18 @@
 -- What is noted so far for the report of a run (this project's profile). `ds` are the orders that were executed, the oldest
 -- first.
-use Rattle.std.specs.Prelude.{◌≡◌, ℕ, ◌==◌, if◌then◌else◌, ◌≤◌, true, Bool, Some, is_some, IfSome, List, [], ◌∷◌, ◌++◌, length}
-use Rattle.std.specs.List.{AllByRecursion}
+use Rattle.std.specs.Prelude.{◌≡◌, ℕ, ◌==◌, if◌then◌else◌, ◌≤◌, true, Bool, Some, is_some, IfSome, List, [], ◌∷◌, ◌++◌}
 use Rattle.std.proofs.Common.{get_or}
-use Rattle.call_number.specs.declared.TheConstants.{NUMBERS}
 use Rattle.trau_io.specs.declared.ends.CallEnd.{CallEnd}
+use Rattle.switchboard.specs.declared.act.Act.{Act}
+use Rattle.switchboard.specs.declared.act.Act.TheVariants as act
 use Rattle.switchboard.specs.declared.act.Span.{Span}
 use Rattle.switchboard.specs.declared.table.Bridge.{Bridge}
 use Rattle.switchboard.specs.Calls.{Done, opened_at, has_ended, gone_at}
 use Rattle.switchboard.specs.Bridges.{bridges, joins}
 use Rattle.switchboard.specs.Stands.{IsLatest}
-use Rattle.switchboard.specs.State.{State, told_in, first_stamp}
+use Rattle.switchboard.specs.State.{State, end_told, first_stamp}
 use Rattle.switchboard.specs.Open.{open_now}
-use Rattle.switchboard.specs.Ends.{end_of, start_of, ends_at}
+use Rattle.switchboard.specs.Ends.{end_of, start_of}
 use Rattle.call_leg.specs.Counted.{call_counts}
 use Rattle.farm_rounds.specs.Calls.{Kept}
 use Rattle.farm_rounds.specs.declared.tally.Tally.{Tally}
@@ -21,9 +21,6 @@ use Rattle.farm_rounds.specs.Memory.{tally_in}
 use Rattle.run_spec.specs.Run.{Run, given_in, whole_in, done_in, spans_in, periods_in}
 use Rattle.run_spec.specs.Facts.{sent_by}
 use Rattle.farm_run.specs.declared.notes.SentBefore.{SentBefore}
-use Rattle.farm_run.specs.Journal.{JournalMemory, opening_of}
-use Rattle.farm_run.specs.Going.{is_told}
-use Rattle.farm_run.specs.Ending.{AreApart}
 use Rattle.farm_run.specs.Match.{FollowsRun}
 
 -- ---- the run's facts
@@ -48,17 +45,11 @@ sent_in_bridge r k c = sent_by r (span_numbered r k) c
 
 -- ---- what is noted of it
 
--- Each end is the run's, no call has two, and these calls have one.
-pub record EndsNoted (r : Run) (ended : ℕ → Bool) (ends : List CallEnd) : Type 0 where
-  pub each : AllByRecursion (λ e. e ≡ call_end_in r e.call) ends
-  pub apart : AreApart ends
-  pub told : (c : ℕ) → is_told c ends ≡ ended c
-
--- The first period of each call that was opened is noted.
-pub record CallsNoted (ds : List Done) (calls : List ℕ) : Type 0 where
-  pub long : length calls ≡ NUMBERS
-  pub numbers : (c : ℕ) → is_opened ds c ≡ true → IsCallNumber c
-  pub from : (c : ℕ) → is_opened ds c ≡ true → opening_of calls c ≡ start_of ds c
+-- What is noted of an accepted order. `sent` is how many frames each call has sent in its latest bridge so far. When two calls
+-- are bridged, this number is final for their bridges before.
+abbrev pub noted_by : Act → (ℕ → ℕ) → List SentBefore → List SentBefore
+noted_by (act.Bridged a b) sent notes = notes ++ record { by_a = sent a; by_b = sent b } ∷ []
+noted_by _ sent notes = notes
 
 -- what a note says of one of a bridge's two calls
 abbrev pub sent_before : ℕ → Bridge → SentBefore → ℕ
@@ -77,35 +68,34 @@ pub record IsKept (r : Run) (ds : List Done) (c : ℕ) (kept : Tally) : Type 0 w
   pub counts : kept.counts ≡ call_counts (periods_in r c)
   pub sent : (k : ℕ) → IsLatest (bridges ds) c (Some k) → kept.sent ≡ sent_in_bridge r k c
 
--- The journal and the tallies of a run in which these calls have ended.
-pub record IsNoted (r : Run) (ds : List Done) (ended : ℕ → Bool) (j : JournalMemory) (tally : ℕ → Tally) : Type 0 where
-  pub ends : EndsNoted r ended j.ends
-  pub calls : CallsNoted ds j.calls
-  pub bridges : AreNotes (sent_in_bridge r) [] (bridges ds) j.bridges
+-- The notes and the tallies of a run in which these calls have ended.
+pub record IsNoted (r : Run) (ds : List Done) (ended : ℕ → Bool) (notes : List SentBefore) (tally : ℕ → Tally) : Type 0 where
+  pub numbers : (c : ℕ) → is_opened ds c ≡ true → IsCallNumber c
+  pub bridges : AreNotes (sent_in_bridge r) [] (bridges ds) notes
   pub kept : (c : ℕ) → ended c ≡ true → IsKept r ds c (tally c)
 
 -- the calls that have ended at the clock t
 abbrev pub ended_at : Run → List Done → ℕ → ℕ → Bool
 ended_at r ds t = has_ended (gone_at (whole_in r) t ds) ds
 
--- The journal and the farm's tallies at the clock t are right.
-abbrev pub Noted : Run → List Done → ℕ → JournalMemory → List Tally → Type 0
-Noted r ds t j tallies = IsNoted r ds (ended_at r ds t) j (tally_in tallies)
+-- The notes and the farm's tallies at the clock t are right.
+abbrev pub Noted : Run → List Done → ℕ → List SentBefore → List Tally → Type 0
+Noted r ds t notes tallies = IsNoted r ds (ended_at r ds t) notes (tally_in tallies)
 
 -- The ends that the board knows are the run's.
 abbrev pub TellsTruly : Run → State → Type 0
-TellsTruly r s = (c at : ℕ) → told_in s c ≡ Some at → ends_at (given_in r) r.periods (done_in r) c ≡ at
+TellsTruly r s = (c : ℕ) (e : CallEnd) → end_told s c ≡ Some e → e ≡ call_end_in r c
 
--- The ends that the board knows, the journal and the tallies are right at the clock t.
-pub record IsKnown (r : Run) (t : ℕ) (b : State) (tallies : List Tally) (j : JournalMemory) : Type 0 where
+-- The ends that the board knows, the notes and the tallies are right at the clock t.
+pub record IsKnown (r : Run) (t : ℕ) (b : State) (tallies : List Tally) (notes : List SentBefore) : Type 0 where
   pub truly : TellsTruly r b
-  pub noted : Noted r b.done t j tallies
+  pub noted : Noted r b.done t notes tallies
 
 -- A run that has come to its end at the clock t: no order before the run's end remains, and if a call is open, t is the run's
--- end. The board, the farm and the journal are right.
-pub record IsAtEnd (r : Run) (t : ℕ) (b : State) (calls : List Kept) (tallies : List Tally) (j : JournalMemory) : Type 0 where
+-- end. The board, the farm and the notes are right.
+pub record IsAtEnd (r : Run) (t : ℕ) (b : State) (calls : List Kept) (tallies : List Tally) (notes : List SentBefore) : Type 0 where
   pub follows : FollowsRun r t b calls
   pub none_left : IfSome (first_stamp b.left) (λ s. r.periods ≤ s)
   pub clock : (c : ℕ) → open_now b c ≡ true → t ≡ r.periods
   pub truly : TellsTruly r b
-  pub noted : Noted r b.done t j tallies
+  pub noted : Noted r b.done t notes tallies

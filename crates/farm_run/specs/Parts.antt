@@ -49,7 +49,7 @@ pub record RunsToEnd (batch : ℕ) (s : Stage) (count periods : ℕ) (before now
   pub clock : last.clock ≡ periods
   pub reaches : Reaches batch s last before now
   pub failed : report.failed ≡ last.farm.failed
-  pub reports : (r : Run) (t : ℕ) → IsAtEnd r t last.board last.farm.calls last.farm.tallies last.journal → r.periods ≡ periods →
+  pub reports : (r : Run) (t : ℕ) → IsAtEnd r t last.board last.farm.calls last.farm.tallies last.notes → r.periods ≡ periods →
       length r.orders ≡ count → report ≡ report_of r report.failed
 
 -- what is kept of a run that is marked at its last stage

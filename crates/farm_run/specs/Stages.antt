@@ -5,6 +5,8 @@ use Rattle.trau_io.specs.declared.line.Side.TheVariants.{Down, Out}
 use Rattle.trau_io.specs.Lines.{LineState}
 use Rattle.trau_orders.specs.declared.order.Order.{Order}
 use Rattle.round_lines.specs.Rounds.{IsOutgoing}
+use Rattle.switchboard.specs.Calls.{Done}
+use Rattle.switchboard.specs.Ends.{start_of}
 use Rattle.switchboard.specs.State.{EndBefore, orders_of}
 use Rattle.farm_report.specs.Sums.{sum_of}
 use Rattle.farm_rounds.specs.Histories.{CallsStand}
@@ -12,8 +14,6 @@ use Rattle.run_spec.specs.Run.{Run, periods_to, who_in, IsOpened, worked_to}
 use Rattle.run_spec.specs.Lines.{out_line, down_octets}
 use Rattle.farm_run.specs.declared.outgoing.Outgoing.{Outgoing}
 use Rattle.farm_run.specs.declared.stage.Stage.{Stage}
-use Rattle.farm_run.specs.Journal.{opening_of, new_journal}
-use Rattle.farm_run.specs.Ending.{AreShut}
 use Rattle.farm_run.specs.Match.{AtClock}
 use Rattle.farm_run.specs.Noted.{IsKnown}
 use Rattle.farm_run.specs.Outgoing.{is_held, is_summed, sum_to, IsSameWay}
@@ -26,8 +26,7 @@ use Rattle.farm_run.specs.Clock.{NeverFell, IsAtClock, WrittenFrom}
 -- what holds at each clock of a run, whatever its lines give
 pub record IsStage (s : Stage) : Type 0 where
   pub clock : AtClock s.clock s.board s.farm.calls
-  pub shut : AreShut s.board s.journal.ends
-  pub bridges : length s.journal.bridges ≤ length s.board.done
+  pub bridges : length s.notes ≤ length s.board.done
   pub ended : s.farm.ended ≤ s.clock
   pub knows : KnowsListed s.board s.farm.failed
   pub few : length (orders_of s.board) ≤ 65536
@@ -42,12 +41,12 @@ pub record IsFirstStage (listed : List Order) (outgoing : Outgoing) (s : Stage) 
   pub none_open : s.farm.calls ≡ []
   pub none_failed : s.farm.failed ≡ []
   pub histories : CallsStand (λ c. None) s.farm.calls
-  pub none_noted : s.journal ≡ new_journal
+  pub none_noted : s.notes ≡ []
   pub way : s.outgoing ≡ outgoing
 
--- each call that is noted as opened was opened before this period
-abbrev pub OpenedBefore : ℕ → List ℕ → Type 0
-OpenedBefore n calls = (c : ℕ) → opening_of calls c < n
+-- each call that an order opened was opened before this period
+abbrev pub OpenedBefore : ℕ → List Done → Type 0
+OpenedBefore n ds = (c : ℕ) → start_of ds c < n
 
 -- the sums of the outgoing lines of the run's calls are those of all octets that their periods before the clock t give
 pub record SumsAt (r : Run) (t : ℕ) (sums : ℕ → Side → ℕ) : Type 0 where
@@ -68,7 +67,7 @@ pub record Reaches (batch : ℕ) (s u : Stage) (before now : ℕ → Side → Li
   pub stage : IsStage u
   pub kept : orders_of u.board ≡ orders_of s.board
   pub way : IsSameWay s.outgoing u.outgoing
-  pub openings : (n : ℕ) → u.clock ≤ n → OpenedBefore n s.journal.calls → OpenedBefore n u.journal.calls
+  pub openings : (n : ℕ) → u.clock ≤ n → OpenedBefore n s.board.done → OpenedBefore n u.board.done
   -- the farm still lists exactly the lines whose fault counts rose; incoming lines are only read, and outgoing lines only written
   pub fell : NeverFell before now
   pub failed : (first : ℕ → Side → LineState) → NeverFell first before → TellsFailed first before s.farm.failed → TellsFailed first now u.farm.failed
@@ -82,8 +81,8 @@ pub record Reaches (batch : ℕ) (s u : Stage) (before now : ℕ → Side → Li
   -- what is noted and kept
   pub known : (r : Run) (first : ℕ → Side → LineState) (last : Standing) → HasFlags r last → u.clock ≤ r.periods →
       StandingGoesOn (standing u.board u.farm.failed now) last →
-      IsAtClock r s.clock s.board s.farm.calls last first before → IsKnown r s.clock s.board s.farm.tallies s.journal →
-      IsKnown r u.clock u.board u.farm.tallies u.journal
+      IsAtClock r s.clock s.board s.farm.calls last first before → IsKnown r s.clock s.board s.farm.tallies s.notes →
+      IsKnown r u.clock u.board u.farm.tallies u.notes
   -- what is written from any earlier period on
   pub wrote : is_held s.outgoing ≡ false → (from : ℕ) → from ≤ s.clock → (r : Run) (first : ℕ → Side → LineState) (last : Standing) → HasFlags r last →
       u.clock ≤ r.periods → StandingGoesOn (standing u.board u.farm.failed now) last →

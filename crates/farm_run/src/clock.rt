@@ -60,7 +60,7 @@ fn work_round<R: Threads + Wait + Sync, T: Trunk, G: Gate + Sync>(
     let Stage {
         mut board,
         farm,
-        mut journal,
+        notes,
         mut outgoing,
         clock,
     } = stage;
@@ -68,12 +68,12 @@ fn work_round<R: Threads + Wait + Sync, T: Trunk, G: Gate + Sync>(
     let mut round = Round::plan(alloc, farm, clock, periods, pace.workers)?;
     round.fill(trunk);
     let worked = round.work(rt, pace.slice, gate);
-    tell_ends(&mut board, &mut journal, worked.ends());
+    tell_ends(&mut board, worked.ends());
     let farm = outgoing.settle(worked, trunk);
     Ok(Stage {
         board,
         farm,
-        journal,
+        notes,
         outgoing,
         clock: clock + periods,
     })
@@ -120,7 +120,7 @@ fn step<R: Threads + Wait + Sync, T: Trunk, G: Gate + Sync>(
         alloc,
         &mut stage.board,
         &mut stage.farm,
-        &mut stage.journal,
+        &mut stage.notes,
         clock,
     )?;
     let next = stage.board.next_stamp();

@@ -4,60 +4,51 @@ ghost use Rattle.std.specs.Prelude.{◌≡◌, ◌≤◌, ◌&&◌, ℕ, not, tr
 ghost use Rattle.std.specs.List.{All};
 ghost use Rattle.switchboard.specs.State.{last_stamp};
 ghost use Rattle.switchboard.specs.Open.{open_now, partner_now};
-ghost use Rattle.call_number.specs.CallNumber.{IsCallNumber};
 ghost use Rattle.farm_rounds.specs.Numbers.{IsRising, is_among};
-ghost use Rattle.farm_run.specs.Journal.{HaveNumbers, with_ends};
 ghost use Rattle.farm_run.specs.Going.{told_after, is_told};
-ghost use Rattle.farm_run.specs.Ending.{AreOpen, AreApart, AreLate, AreNew, partner_past, limit_at};
+ghost use Rattle.farm_run.specs.Ending.{AreOpen, AreApart, AreLate, partner_past, limit_at};
 
-use crate::journal::Journal;
 use switchboard::Board;
 use trau_io::{CallEnd, Cause};
 
-/// Reports ends of calls to the board, and notes them. The calls are open, no two ends are of one call, and no end is before
-/// the stamp of an executed order. It takes no memory.
-pub(crate) fn tell_ends(board: &mut Board, journal: &mut Journal, ends: &[CallEnd])
-    requires numbers { HaveNumbers ends.now }
+/// Reports ends of calls to the board. The calls are open, no two ends are of one call, and no end is before the stamp of an
+/// executed order.
+pub(crate) fn tell_ends(board: &mut Board, ends: &[CallEnd])
     requires open { AreOpen board.old ends.now }
     requires apart { AreApart ends.now }
     requires late { AreLate board.old ends.now }
-    requires new { AreNew journal.old.ends ends.now }
     ensures told { board.new ≡ told_after board.old ends.now }
-    ensures noted { journal.new ≡ with_ends ends.now journal.old }
 
     // These calls aren't open any more, and neither they nor those that were their partners have a partner.
-    ensures open { (c : ℕ) → open_now board.new c ≡ (open_now board.old c && not (is_told c ends.now)) }
-    ensures partner { (c : ℕ) → partner_now board.new c ≡ partner_past ends.now (partner_now board.old) c }
+    ensures open { (c : ℕ) →
+        open_now board.new c ≡ (open_now board.old c && not (is_told c ends.now)) }
+    ensures partner { (c : ℕ) →
+        partner_now board.new c ≡ partner_past ends.now (partner_now board.old) c }
 {
     board.bridges_join_two();
     for end in ends {
         board.ended(*end);
-        journal.end(*end);
     }
 }
 
-/// Ends these calls at `at`, the end of the run: reports the ends to the board, and notes them. The calls are open, and their
-/// numbers rise. It takes no memory.
-pub(crate) fn end_all(board: &mut Board, journal: &mut Journal, calls: &[u32], at: u32)
+/// Ends these calls at `at`, the end of the run: reports the ends to the board. The calls are open, and their numbers rise.
+pub(crate) fn end_all(board: &mut Board, calls: &[u32], at: u32)
     requires rising { IsRising calls.now }
     requires open { All (λ c. open_now board.old c ≡ true) calls.now }
-    requires numbers { All IsCallNumber calls.now }
     requires late { last_stamp board.old.done ≤ at }
-    requires new { AreNew journal.old.ends (map (limit_at at) calls.now) }
     ensures told { board.new ≡ told_after board.old (map (limit_at at) calls.now) }
-    ensures noted { journal.new ≡ with_ends (map (limit_at at) calls.now) journal.old }
 
     // They aren't open any more. If they were all the open calls, no call is open.
-    ensures open { (c : ℕ) → open_now board.new c ≡ (open_now board.old c && not (is_among calls.now c)) }
-    ensures none { ((c : ℕ) → is_among calls.now c ≡ open_now board.old c) → (c : ℕ) → open_now board.new c ≡ false }
+    ensures open { (c : ℕ) →
+        open_now board.new c ≡ (open_now board.old c && not (is_among calls.now c)) }
+    ensures none { ((c : ℕ) → is_among calls.now c ≡ open_now board.old c) → (c : ℕ) →
+        open_now board.new c ≡ false }
 {
     for call in calls {
-        let end = CallEnd {
+        board.ended(CallEnd {
             call: *call,
             at,
             cause: Cause::Limit,
-        };
-        board.ended(end);
-        journal.end(end);
+        });
     }
 }

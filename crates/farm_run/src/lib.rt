@@ -4,8 +4,8 @@
 //! It keeps the board (`switchboard`) and the farm (`farm_rounds`) in step. The top function hands it the orders that were read,
 //! and prints the report. A `stage` is a run at one of its clocks. `clock` goes from the orders of a period to a round of
 //! periods, and on to a later clock: `orders` executes the orders of the clock, `ends` reports the calls that end to the board,
-//! `outgoing` writes the octets of a round, sums them, or holds them back, and `journal` (with `notes`) notes what the report
-//! needs to know of the past. `report` makes the report, `finish` ends a run with it, and `marking` makes the calls of a mark.
+//! `outgoing` writes the octets of a round, sums them, or holds them back, and `notes` keeps what the report needs to know
+//! of earlier bridges. `report` makes the report, `finish` ends a run with it, and `marking` makes the calls of a mark.
 //! `running`, `saving` and `resuming` are the three kinds of run, `parts` has what they share; `pace` has its workers, batch,
 //! slice and length.
 //!
@@ -17,8 +17,8 @@
 //! run), `specs/Standing.antt` (how a run goes on from clock to clock, and what a line gives in a round), `specs/Clock.antt`
 //! (what holds at a clock), `specs/Orders.antt` (its orders), `specs/Outgoing.antt` (where a round's octets go),
 //! `specs/Match.antt` (how board and farm agree with each other, and with the run that `run_spec` defines), `specs/Going.antt`
-//! (how far the calls come in a round), `specs/Ending.antt` (the ends that the board is given), `specs/Journal.antt` (what is
-//! noted), `specs/Noted.antt` (when the notes are right, so that at the run's end the report is the definition's),
+//! (how far the calls come in a round), `specs/Ending.antt` (the ends that the board is given), `specs/Noted.antt` (what is noted,
+//! and when the notes are right, so that at the run's end the report is the definition's),
 //! `specs/Facts.antt` (what the report says), `specs/Marking.antt` (what a mark says of a call), `specs/Pace.antt`. How
 //! orders, rounds and ends follow each other is this project's profile.
 #![tactic(auto)]
@@ -26,7 +26,6 @@
 mod clock;
 mod ends;
 mod finish;
-mod journal;
 pub mod laws;
 mod marking;
 mod notes;

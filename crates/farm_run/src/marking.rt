@@ -19,7 +19,7 @@ fn mark_call(stage: &Stage, call: u32) -> MarkCall
 {
     MarkCall {
         call,
-        from: stage.journal.from(call),
+        from: stage.board.from(call),
         out: stage.outgoing.sum(Line {
             call,
             side: Side::Out,

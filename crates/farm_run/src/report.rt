@@ -1,14 +1,12 @@
-//! The report of a run that has ended, from what the board, the farm and the journal know.
+//! The report of a run that has ended, from what the board and the farm know and what was noted of bridges.
 
-ghost use Rattle.std.specs.Prelude.{◌≡◌, ◌<◌, ◌≤◌, ℕ, Option, length, map, IfOk, IsPermutation};
-ghost use Rattle.std.specs.List.{All};
-ghost use Rattle.std.specs.List.Sorted.{IsNonDecreasingBy};
-ghost use Rattle.call_number.specs.CallNumber.{IsCallNumber};
+ghost use Rattle.std.specs.Prelude.{◌≡◌, ◌<◌, ◌≤◌, ℕ, Option, length, IfOk};
+ghost use Rattle.std.specs.List.{All, filter_map};
+ghost use Rattle.call_number.specs.CallNumber.{IsCallNumber, call_numbers};
 ghost use Rattle.farm_rounds.specs.Histories.{CallHistory, CallsStand};
 ghost use Rattle.farm_run.specs.Facts.{span_line, span_lines, sent_in_table, kept_in, call_line, Reports};
 
-use crate::journal::Journal;
-use crate::notes::SentBefore;
+use crate::notes::{Notes, SentBefore};
 use call_number::NUMBERS;
 use farm_report::{CallLine, Report, SpanLine};
 use farm_rounds::Farm;
@@ -53,7 +51,8 @@ fn span_lines(
 ) -> Result<Vec<SpanLine>, AllocError>
     requires numbers { All (λ x. (x.a < NUMBERS) × (x.b < NUMBERS)) spans.now }
     requires long { length sent.items ≡ NUMBERS }
-    ensures { IfOk result (λ lines. lines.items ≡ span_lines (sent_in_table sent.items) spans.now bridges.now) }
+    ensures { IfOk result (λ lines.
+        lines.items ≡ span_lines (sent_in_table sent.items) spans.now bridges.now) }
 {
     let most = spans.len().min(bridges.len());
     let mut lines = Vec::with_capacity(alloc, most)?;
@@ -68,50 +67,42 @@ fn span_lines(
     Ok(lines)
 }
 
-// The report's lines of the calls that have ended, in the order of their ends.
-fn ended_lines(alloc: Global, journal: &Journal, farm: &Farm) -> Result<Vec<CallLine>, AllocError>
-    ensures ends { IfOk result (λ lines. map (λ l. l.end) lines.items ≡ journal.now.ends) }
-    ensures lines { IfOk result (λ lines. (h : ℕ → Option CallHistory) → CallsStand h farm.now.calls →
-        lines.items ≡ map (call_line journal.now.calls (kept_in farm.now.tallies h)) journal.now.ends) }
+// The report's lines of the calls that have ended, in call-number order.
+fn call_lines(alloc: Global, board: &Board, farm: &Farm) -> Result<Vec<CallLine>, AllocError>
+    ensures { IfOk result (λ lines. (h : ℕ → Option CallHistory) → CallsStand h farm.now.calls →
+        lines.items ≡ filter_map (call_line board.now (kept_in farm.now.tallies h)) call_numbers) }
 {
-    let mut lines = Vec::with_capacity(alloc, journal.ends().len())?;
-    for end in journal.ends() {
+    let mut lines = Vec::new(alloc);
+    for call in 1..NUMBERS as u32 {
+        let Some(end) = board.end(call) else {
+            continue;
+        };
         lines.push(CallLine {
-            end: *end,
-            from: journal.from(end.call),
-            counts: farm.counts(end.call),
+            end,
+            from: board.from(call),
+            counts: farm.counts(call),
         })?;
     }
     Ok(lines)
 }
 
-// Sorts lines in call-number order.
-fn by_number(mut lines: Vec<CallLine>) -> Vec<CallLine>
-    ensures same { IsPermutation lines.items result.items }
-    ensures sorted { IsNonDecreasingBy (λ l. l.end.call) result.items }
-{
-    lines.sort_unstable_by_key(|line| line.end.call);
-    lines
-}
-
-/// The report of a run of `orders` orders, of which the board has executed some, after the end of each call was noted. An error
+/// The report of a run of `orders` orders, of which the board has executed some, after the end of each call was reported to it. An error
 /// says that memory ran out.
 pub(crate) fn report(
     alloc: Global,
     board: &Board,
     farm: &Farm,
-    journal: &Journal,
+    notes: &Notes,
     orders: usize,
 ) -> Result<Report, AllocError>
     requires { orders ≤ 65536 }
-    ensures { IfOk result (λ r. Reports board.now farm.now journal.now orders r) }
+    ensures { IfOk result (λ r. Reports board.now farm.now notes.now orders r) }
 {
     let sent = sent_by_all(alloc, farm)?;
-    let calls = ended_lines(alloc, journal, farm)?;
     Ok(Report {
         replies: board.replies().to_vec(alloc)?,
-        spans: span_lines(alloc, board.spans(), journal.bridges(), sent)?,
-        calls: by_number(calls),
+        spans: span_lines(alloc, board.spans(), notes.bridges(), sent)?,
+        calls: call_lines(alloc, board, farm)?,
         failed: farm.failed().to_vec(alloc)?,
         left: orders.saturating_sub(board.replies().len()) as u32,
     })

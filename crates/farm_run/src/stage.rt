@@ -3,7 +3,7 @@
 ghost use Rattle.std.specs.Prelude.{IfOk};
 ghost use Rattle.farm_run.specs.Stages.{IsFirstStage};
 
-use crate::journal::Journal;
+use crate::notes::Notes;
 use crate::outgoing::Outgoing;
 use farm_rounds::Farm;
 use std::alloc::{AllocError, Global};
@@ -15,7 +15,7 @@ use trau_orders::Orders;
 pub(crate) struct Stage {
     pub(crate) board: Board,
     pub(crate) farm: Farm,
-    pub(crate) journal: Journal,
+    pub(crate) notes: Notes,
     pub(crate) outgoing: Outgoing,
     /// The period that it has come to.
     pub(crate) clock: u32,
@@ -33,7 +33,7 @@ impl Stage {
         Ok(Stage {
             board: Board::new(alloc, orders)?,
             farm: Farm::new(alloc)?,
-            journal: Journal::new(alloc)?,
+            notes: Notes::new(alloc)?,
             outgoing,
             clock: 0,
         })

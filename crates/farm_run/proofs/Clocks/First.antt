@@ -30,8 +30,6 @@ use Rattle.trau_io.specs.declared.line.Line.{Line}
 use Rattle.farm_rounds.specs.Memory.{FarmMemory, home_memory}
 use Rattle.farm_run.specs.declared.outgoing.Outgoing.{Outgoing}
 use Rattle.farm_run.specs.declared.stage.Stage.{Stage}
-use Rattle.farm_run.specs.Ending.{AreShut}
-use Rattle.farm_run.specs.Journal.{JournalMemory, new_journal}
 use Rattle.farm_run.specs.Stages.{IsFirstStage}
 use Rattle.farm_run.specs.Match.{AtClock, histories_at}
 use Rattle.farm_run.specs.Clock.{LinesAt, WrittenFrom, IsAtClock, NeverFell}
@@ -100,16 +98,15 @@ clock_first b orders none untold shut alone = record {
     by [] = tt
     by (o ∷ os) = omega arith
 
--- **A board, a farm and a journal before the first order are the first stage of a run.**
+-- **A board, a farm and notes before the first order are the first stage of a run.**
 pub first_stage : (orders : List Order) (outgoing : Outgoing) (s : Stage) → AreOrders orders → s.board ≡ new_board orders → ((t : ℕ) → EndBefore t s.board) →
     ((c : ℕ) → open_now s.board c ≡ false) → ((c : ℕ) → partner_now s.board c ≡ None) → s.farm ≡ home_memory → CallsStand (λ c. None) s.farm.calls →
-    s.journal ≡ new_journal → s.outgoing ≡ outgoing → s.clock ≡ 0 → IsFirstStage orders outgoing s
-first_stage orders outgoing s are start untold shut alone farm history journal way clock = record {
+    s.notes ≡ [] → s.outgoing ≡ outgoing → s.clock ≡ 0 → IsFirstStage orders outgoing s
+first_stage orders outgoing s are start untold shut alone farm history noted way clock = record {
   stage = record {
     clock = subst (λ (t : ℕ). AtClock t s.board s.farm.calls) (sym clock) (subst (λ (ks : List Kept). AtClock 0 s.board ks) (sym none_open)
         (clock_first s.board (subst AreOrders (sym listed) are) none_done (untold 0) shut alone));
-    shut = subst (λ (j : JournalMemory). AreShut s.board j.ends) (sym journal) (λ c told. absurd (true≢false (sym told)));
-    bridges = omega (arith, ap (λ (j : JournalMemory). length j.bridges) journal);
+    bridges = omega (arith, ap length noted);
     ended = omega (arith, ap (λ (f : FarmMemory). f.ended) farm);
     knows = subst (λ (ls : List Line). KnowsListed s.board ls) (sym none_failed)
         (record { opened = λ c side fails. absurd (true≢false (sym fails)); ended = λ c side incoming fails. absurd (true≢false (sym fails)) });
@@ -122,7 +119,7 @@ first_stage orders outgoing s are start untold shut alone farm history journal w
   none_open = none_open;
   none_failed = none_failed;
   histories = history;
-  none_noted = journal;
+  none_noted = noted;
   way = way;
 }
   where

@@ -97,7 +97,7 @@ pub record GoneTo (orders : List Order) (batch : ℕ) (first now : ℕ → Side 
   pub at : (r : Run) (last : Standing) → IsRunOver orders r.periods last.listed first last.lines r → u.clock ≤ r.periods →
       StandingGoesOn (standing u.board u.farm.failed now) last → IsAtClock r u.clock u.board u.farm.calls last first now
   pub known : (r : Run) (last : Standing) → IsRunOver orders r.periods last.listed first last.lines r → u.clock ≤ r.periods →
-      StandingGoesOn (standing u.board u.farm.failed now) last → IsKnown r u.clock u.board u.farm.tallies u.journal
+      StandingGoesOn (standing u.board u.farm.failed now) last → IsKnown r u.clock u.board u.farm.tallies u.notes
   pub short : (r : Run) (last : Standing) → IsRunOver orders r.periods last.listed first last.lines r → u.clock ≤ r.periods →
       StandingGoesOn (standing u.board u.farm.failed now) last → FailedBy r batch u.clock (is_listed u.farm.failed)
   pub read_past : (r : Run) (last : Standing) → IsRunOver orders r.periods last.listed first last.lines r → u.clock ≤ r.periods →
@@ -124,8 +124,8 @@ gone_first orders batch o s lines f = record {
   reads = λ d side octets i e. (0, e);
   at = λ r last run within on. at_start orders o s lines r last f run;
   known = λ r last run within on.
-      subst (λ (t : ℕ). IsKnown r t s.board s.farm.tallies s.journal) (sym f.clock)
-      (known_start r s.board s.farm.tallies s.journal f.untold f.none_done f.none_noted);
+      subst (λ (t : ℕ). IsKnown r t s.board s.farm.tallies s.notes) (sym f.clock)
+      (known_start r s.board s.farm.tallies s.notes f.untold f.none_done f.none_noted);
   short = λ r last run within on. subst (λ (ls : List Line). FailedBy r batch s.clock (is_listed ls)) (sym f.none_failed) (short_none r batch s.clock);
   read_past = λ r last run within on c i ended not. absurd (omega (arith, ended, f.clock));
 }

@@ -10,7 +10,7 @@ use Rattle.farm_rounds.specs.Calls.{call_in}
 use Rattle.farm_rounds.specs.Memory.{FarmMemory}
 use Rattle.run_spec.specs.Run.{Run, whole_in}
 use Rattle.farm_run.specs.declared.stage.Stage.{Stage}
-use Rattle.farm_run.specs.Journal.{JournalMemory}
+use Rattle.farm_run.specs.declared.notes.SentBefore.{SentBefore}
 use Rattle.farm_run.specs.Orders.{OrdersDone}
 use Rattle.farm_run.specs.Runs.{TellsFailed, FailedBy, is_listed}
 use Rattle.farm_run.specs.Stages.{IsStage, Reaches}
@@ -20,6 +20,7 @@ use Rattle.farm_run.proofs.Worked.Short.{short_later}
 use Rattle.farm_run.proofs.Clocks.First.{fell_none}
 use Rattle.farm_run.proofs.Clocks.Idle.{clock_on, goes_on, written_on, read_on, none_alive}
 use Rattle.farm_run.proofs.Noted.Knowing.{known_idle}
+use Rattle.farm_run.proofs.Noted.Openings.{opened_by}
 use Rattle.farm_run.proofs.Clocks.Meeting.{stays, ordered}
 use Rattle.farm_run.proofs.Noted.Truly.{truly_same}
 use Rattle.farm_run.proofs.Lines.Sides.{sides_none}
@@ -35,18 +36,17 @@ pub ok_both : {T E : Type 0} (P Q R : T → Type 0) (o : Result T E) → ((x : T
 ok_both P Q R (Ok x) h p q = h x p q
 ok_both P Q R (Err e) h p q = tt
 
-module _ (s : Stage) (b : State) (farm : FarmMemory) (j : JournalMemory) (stage : IsStage s) (o : OrdersDone s.clock s.board s.farm s.journal b farm j) where
+module _ (s : Stage) (b : State) (farm : FarmMemory) (ns : List SentBefore) (stage : IsStage s) (o : OrdersDone s.clock s.board s.farm s.notes b farm ns) where
   -- the stage at the later clock
   abbrev behind : Stage
-  behind = record s { board = b; farm = farm; journal = j }
+  behind = record s { board = b; farm = farm; notes = ns }
 
   -- **What holds at a clock holds behind its orders.**
-  pub stage_behind : IsStage (record s { board = b; farm = farm; journal = j })
+  pub stage_behind : IsStage (record s { board = b; farm = farm; notes = ns })
   stage_behind =
       let ready = o.ready in
       record {
         clock = ready.clock;
-        shut = ready.shut;
         bridges = ready.bridges;
         ended = (let e = stage.ended in let same = o.ended in omega (arith, e, same));
         knows = ready.knows;
@@ -55,13 +55,13 @@ module _ (s : Stage) (b : State) (farm : FarmMemory) (j : JournalMemory) (stage 
 
   -- **They come in front of what comes next.**
   pub orders_more : (batch : ℕ) (u : Stage) (before now : ℕ → Side → LineState) → s.clock < u.clock →
-      Reaches batch (record s { board = b; farm = farm; journal = j }) u before now → Reaches batch s u before now
+      Reaches batch (record s { board = b; farm = farm; notes = ns }) u before now → Reaches batch s u before now
   orders_more batch u before now less h = record {
     later = omega (arith, less);
     stage = h.stage;
     kept = h.kept ∙ o.kept;
     way = h.way;
-    openings = λ n l openings. h.openings n l (o.openings n (omega (arith, less, l)) openings);
+    openings = λ n l openings. let ready = o.ready in h.openings n l (opened_by s.clock n b farm.calls ready.clock (omega (arith, less, l)));
     fell = h.fell;
     failed = λ first fell failed. h.failed first fell (subst (λ (ls : List Line). TellsFailed first before ls) (sym o.failed) failed);
     sides = h.sides;
@@ -100,7 +100,6 @@ idle_reaches batch s u lines stage later clear none = record {
   later = later;
   stage = record {
     clock = clock_on s.clock u s.board s.farm.calls stage.clock later clear;
-    shut = stage.shut;
     bridges = stage.bridges;
     ended = (let e = stage.ended in omega (arith, e, later));
     knows = stage.knows;
@@ -115,7 +114,7 @@ idle_reaches batch s u lines stage later clear none = record {
   goes = stays (standing s.board s.farm.failed lines);
   back = λ held. record { lines = λ c side o. refl; listed = λ c side o. refl };
   run = λ r first last flags within on at. goes_on r s.clock u s.board s.farm.calls last first lines at later within clear (shut r first last at);
-  known = λ r first last flags within on at known. known_idle r s.clock u s.board s.farm.tallies s.journal later (shut r first last at) known;
+  known = λ r first last flags within on at known. known_idle r s.clock u s.board s.farm.tallies s.notes later (shut r first last at) known;
   wrote = λ held from l r first last flags within on at wrote. written_on r s.clock u s.board s.farm.calls last first lines at later within clear
       (shut r first last at) from (is_listed s.farm.failed) wrote;
   sums = λ summed r first last flags within on at sums. sums_on r s.clock u s.board s.farm.calls last first lines at later within clear

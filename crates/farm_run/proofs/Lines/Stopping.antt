@@ -2,7 +2,7 @@
 -- A run that stops at a period, before its end or there.
 use Rattle.std.proofs.Common.{◌≡◌, refl, sym, ap, ◌∙◌, subst, ℕ, ◌+◌, ◌-◌, ◌*◌, ◌<◌, ◌≤◌, Bool, true, false, Option, Some, None, List, [], length, take, drop}
 use Rattle.std.proofs.Common.{inl, inr, arith}
-use Rattle.std.specs.Prelude.{min, is_some, nat_le, if◌then◌else◌, IfSome}
+use Rattle.std.specs.Prelude.{min, is_some, option_map, nat_le, if◌then◌else◌, IfSome}
 use Rattle.std.specs.Io.KnownBytes.{Appends}
 use Rattle.std.proofs.KnownBytes.{Appends-nil}
 use Rattle.std.proofs.lemmas.Bool.{leb-false, true≢false}
@@ -17,7 +17,7 @@ use Rattle.trau_orders.specs.Lists.{AreOrders}
 use Rattle.round_lines.specs.Rounds.{IsIncoming}
 use Rattle.switchboard.specs.Calls.{opened_at, closed_at}
 use Rattle.switchboard.specs.Ends.{start_of, lack_of}
-use Rattle.switchboard.specs.State.{State, EndBefore, gone_in, told_in}
+use Rattle.switchboard.specs.State.{State, EndBefore, gone_in, end_told}
 use Rattle.switchboard.proofs.Whole.{end_by}
 use Rattle.run_spec.specs.Run.{Run, given_in, whole_in, done_in, end_in, periods_to, IsOpened, cause_in, worked_to}
 use Rattle.run_spec.specs.Lines.{out_of_call, down_of_call}
@@ -60,14 +60,17 @@ by_lines r batch t fails c Out short i l = absurd i
 pub fail_before : (r : Run) (t batch : ℕ) (b : State) (failed : List Line) → EndBefore t b → TellsTruly r b → KnowsListed b failed →
     FailedBy r batch t (is_listed failed) → FailBefore r t (is_listed failed)
 fail_before r t batch b failed before truly knows short =
-    λ c side i l. (by c (told_in b c) refl (knows.ended c side i l), by_lines r batch t (is_listed failed) c side short i l)
+    λ c side i l. (by c (end_told b c) refl (knows.ended c side i l), by_lines r batch t (is_listed failed) c side short i l)
   where
-    by : (c : ℕ) (v : Option ℕ) → told_in b c ≡ v → gone_in b c ≡ true → end_in r c < t
-    by c (Some at) e g =
-        let is = truly c at e in
-        let l = subst (λ (o : Option ℕ). IfSome o (λ at. at < t)) e (before c) in
+    at_of : Option CallEnd → Option ℕ
+    at_of o = option_map (λ (e : CallEnd). e.at) o
+
+    by : (c : ℕ) (v : Option CallEnd) → end_told b c ≡ v → gone_in b c ≡ true → end_in r c < t
+    by c (Some e) q g =
+        let is = ap (λ (e : CallEnd). e.at) (truly c e q) in
+        let l = subst (λ (o : Option CallEnd). IfSome (at_of o) (λ at. at < t)) q (before c) in
         omega (arith, is, l)
-    by c None e g = absurd (true≢false (sym g ∙ ap is_some e))
+    by c None q g = absurd (true≢false (sym g ∙ ap (λ (o : Option CallEnd). is_some (at_of o)) q))
 
 -- a call has had no more periods than it has
 fewer : (r : Run) (t c : ℕ) → worked_to r t c ≤ end_in r c - start_of (done_in r) c

@@ -61,9 +61,9 @@ module _ (os : List Order) (batch : ℕ) (first now : ℕ → Side → LineState
       (g.at r last (own r run) (least r run) (stays last))
 
   -- **What is noted and kept there is the run's.**
-  pub known_end : (r : Run) → IsRunOver os u.clock (is_listed u.farm.failed) first now r → IsKnown r r.periods u.board u.farm.tallies u.journal
+  pub known_end : (r : Run) → IsRunOver os u.clock (is_listed u.farm.failed) first now r → IsKnown r r.periods u.board u.farm.tallies u.notes
   known_end r run =
-      subst (λ (p : ℕ). IsKnown r p u.board u.farm.tallies u.journal) (sym run.same_periods) (g.known r last (own r run) (least r run) (stays last))
+      subst (λ (p : ℕ). IsKnown r p u.board u.farm.tallies u.notes) (sym run.same_periods) (g.known r last (own r run) (least r run) (stays last))
 
   -- **Its lines that failed are those of calls that it opened.**
   pub opened_end : (r : Run) → IsRunOver os u.clock (is_listed u.farm.failed) first now r → OnlyOpenedFail r (is_listed u.farm.failed)
@@ -87,7 +87,7 @@ module _ (os : List Order) (batch : ℕ) (first now : ℕ → Side → LineState
 
   -- **So its report is the definition's.**
   pub report_end : (count : ℕ) (report : ReportView) → count ≡ length os →
-      ((r : Run) (t : ℕ) → IsAtEnd r t u.board u.farm.calls u.farm.tallies u.journal → r.periods ≡ u.clock → length r.orders ≡ count →
+      ((r : Run) (t : ℕ) → IsAtEnd r t u.board u.farm.calls u.farm.tallies u.notes → r.periods ≡ u.clock → length r.orders ≡ count →
       report ≡ report_of r report.failed) →
       (r : Run) → IsRunOver os u.clock (is_listed u.farm.failed) first now r → report ≡ report_of r report.failed
   report_end count report number h r run =
@@ -110,7 +110,7 @@ module _ (os : List Order) (batch : ℕ) (first now : ℕ → Side → LineState
       (r : Run) → IsRunOver os u.clock (is_listed u.farm.failed) first now r → map (entry_of u) u.farm.live ≡ marked_calls r
   marked_end live rising sums r run =
       entries_are u live rising g.stage r last first now (g.at r last (own r run) (least r run) (stays last)) (sym run.same_periods)
-      (g.known r last (own r run) (least r run) (stays last)) (sums r last (own r run) (least r run) (stays last))
+      (sums r last (own r run) (least r run) (stays last))
 
 -- a run to this number of periods, over these failed lines, is one to the clock
 pub over_here : (os : List Order) (periods : ℕ) (failed : List Line) (first now : ℕ → Side → LineState) (u : Stage) → u.clock ≡ periods →
@@ -126,7 +126,7 @@ pub runs_told : (os : List Order) (pace : Pace) (first now : ℕ → Side → Li
     ((r : Run) (z : Standing) → IsRunOver os r.periods z.listed first z.lines r → u.clock ≤ r.periods → StandingGoesOn (standing u.board u.farm.failed now) z →
     WrittenFrom r 0 u.clock (is_listed u.farm.failed) first now) →
     report.failed ≡ u.farm.failed → count ≡ length os →
-    ((r : Run) (t : ℕ) → IsAtEnd r t u.board u.farm.calls u.farm.tallies u.journal → r.periods ≡ pace.periods → length r.orders ≡ count →
+    ((r : Run) (t : ℕ) → IsAtEnd r t u.board u.farm.calls u.farm.tallies u.notes → r.periods ≡ pace.periods → length r.orders ≡ count →
     report ≡ report_of r report.failed) → Runs os pace first now report
 runs_told os pace first now u count report g e wrote f number h = record {
   failed = subst (λ (ls : List Line). TellsFailed first now ls) (sym f) g.tells;
@@ -156,7 +156,7 @@ pub saves_told : (os : List Order) (pace : Pace) (first now : ℕ → Side → L
     ((r : Run) (z : Standing) → IsRunOver os r.periods z.listed first z.lines r → u.clock ≤ r.periods → StandingGoesOn (standing u.board u.farm.failed now) z →
     SumsAt r u.clock (sum_to u.outgoing)) →
     saved.failed ≡ u.farm.failed → saved.mark.period ≡ pace.periods → saved.mark.calls ≡ map (entry_of u) u.farm.live →
-    ((c : ℕ) → is_among u.farm.live c ≡ is_some (call_in u.farm.calls c)) → IsRising u.farm.live → OpenedBefore pace.periods u.journal.calls →
+    ((c : ℕ) → is_among u.farm.live c ≡ is_some (call_in u.farm.calls c)) → IsRising u.farm.live → OpenedBefore pace.periods u.board.done →
     Saves os pace first now saved
 saves_told os pace first now u saved g e wrote sums f p calls live rising openings = record {
   failed = subst (λ (ls : List Line). TellsFailed first now ls) (sym f) g.tells;

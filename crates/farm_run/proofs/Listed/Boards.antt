@@ -84,7 +84,7 @@ pub gone_told : (s : State) (ends : List CallEnd) (c : ℕ) → gone_in s c ≡ 
 gone_told s [] c e = e
 gone_told s (d ∷ ends) c e = gone_told (told_more s d) ends c (gone_one s d c e)
 
--- **A call that is over stays so when ends are told ..**
+-- **A call that is over stays so when ends are told.**
 pub over_told : (s : State) (ends : List CallEnd) (c : ℕ) → is_over s c ≡ true → is_over (told_after s ends) c ≡ true
 over_told s ends c e = elim (or_cases (gone_in s c) (is_some (closed_at c s.done)) e) [
   | inl g ↦ or_first (gone_in (told_after s ends) c) (is_some (closed_at c (told_after s ends).done)) (gone_told s ends c g)
@@ -99,7 +99,7 @@ some_more : (o p : Option ℕ) → is_some o ≡ true → is_some (or_else o p) 
 some_more (Some x) p e = refl
 some_more None p e = cc
 
--- **.. and when an order is executed.**
+-- **A call that is over stays so when an order is executed.**
 pub over_turned : (s n : State) (o : Option Order) → n ≡ after_turn s o → (c : ℕ) → is_over s c ≡ true → is_over n c ≡ true
 over_turned s n o e c h = subst (λ (m : State). is_over m c ≡ true) (sym e) (by o)
   where

@@ -32,7 +32,7 @@ use Rattle.run_spec.proofs.OpenCalls.{shut_cases, gone_is}
 use Rattle.run_spec.proofs.Ending.{all_done, end_closed, end_lacks, end_limit}
 use Rattle.farm_run.specs.declared.stage.Stage.{Stage}
 use Rattle.farm_run.specs.Marking.{entry_of}
-use Rattle.farm_run.specs.Noted.{IsKnown, is_opened}
+use Rattle.farm_run.specs.Noted.{is_opened}
 use Rattle.farm_run.specs.Outgoing.{sum_to}
 use Rattle.farm_run.specs.Stages.{IsStage, OpenedBefore, SumsAt}
 use Rattle.farm_run.specs.Standing.{Standing}
@@ -79,7 +79,7 @@ module _ (s : Stage) (live : (c : ℕ) → is_among s.farm.live c ≡ is_some (c
       omega (arith, ap (λ (x : MarkCall). x.call) e, ap (λ (x : MarkCall). x.call) f, up)
 
   -- **So they may be live at the run's last period.**
-  pub entries_live : (n : ℕ) → OpenedBefore n s.journal.calls → AreOpenAtMark n (map (entry_of s) s.farm.live)
+  pub entries_live : (n : ℕ) → OpenedBefore n s.board.done → AreOpenAtMark n (map (entry_of s) s.farm.live)
   entries_live n openings = record {
     each = λ i d within.
         let long : length (map (entry_of s) s.farm.live) ≡ length s.farm.live = length-map s.farm.live (entry_of s) in
@@ -171,8 +171,8 @@ module _ (s : Stage) (live : (c : ℕ) → is_among s.farm.live c ≡ is_some (c
             ]
 
     -- **The live calls are those that only the run's end cuts off.**
-    live_is : (known : IsKnown r s.clock s.board s.farm.tallies s.journal) → s.farm.live ≡ filter (λ c. is_limit (cause_in r c)) (calls_in r)
-    live_is known =
+    live_is : s.farm.live ≡ filter (λ c. is_limit (cause_in r c)) (calls_in r)
+    live_is =
         rising_same 0 1 s.farm.live (filter (λ c. is_opened (done_in r) c && is_limit (cause_in r c)) (range_with_len 1 4096))
         (rises_of 0 s.farm.live (λ i l. omega arith) rising)
         (range_rises (λ c. is_opened (done_in r) c && is_limit (cause_in r c)) 1 4096) members
@@ -195,19 +195,16 @@ module _ (s : Stage) (live : (c : ℕ) → is_among s.farm.live c ≡ is_some (c
         members c = has_among c s.farm.live ∙ same c ∙ sym (range_has (λ c. is_opened (done_in r) c && is_limit (cause_in r c)) 1 4096 c (numbers c))
 
     -- **The entries are the mark's.**
-    pub entries_are : IsKnown r s.clock s.board s.farm.tallies s.journal → SumsAt r s.clock (sum_to s.outgoing) → map (entry_of s) s.farm.live ≡ marked_calls r
-    entries_are known sums =
+    pub entries_are : SumsAt r s.clock (sum_to s.outgoing) → map (entry_of s) s.farm.live ≡ marked_calls r
+    entries_are sums =
         map_each (entry_of s) (mark_call r) s.farm.live (each_among (λ c. entry_of s c ≡ mark_call r c) s.farm.live entry)
-        ∙ ap (map (mark_call r)) (live_is known)
+        ∙ ap (map (mark_call r)) live_is
       where
         entry : (c : ℕ) → is_among s.farm.live c ≡ true → entry_of s c ≡ mark_call r c
         entry c q =
             let here = open_at r s.clock ds c (standing_now r s.clock ds s.board.left at.follows.so_far) (sym (is_alive c) ∙ q) in
             let opened : IsOpened r c = ap (λ (xs : List Done). is_opened xs c) all ∙ ap is_some here.opened in
-            let noted = known.noted in
-            let calls = noted.calls in
-            let begins : (let j = s.journal in let x = entry_of s c in x.from) ≡ start_in r c = calls.from c (ap is_some here.opened)
-            ∙ sym (ap (λ (xs : List Done). start_of xs c) all) in
+            let begins : start_of ds c ≡ start_in r c = sym (ap (λ (xs : List Done). start_of xs c) all) in
             let whole : worked_to r s.clock c ≡ end_in r c - start_of (done_in r) c = ap (λ (t : ℕ). worked_to r t c) e
             ∙ worked_all r s.clock ds s.board.left c at.follows.so_far in
             let out = sums.out c opened ∙ ap (λ (k : ℕ). sum_of (out_line (who_in r c) (periods_to r c k))) whole in

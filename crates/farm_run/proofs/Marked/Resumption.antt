@@ -188,7 +188,7 @@ module _ (os : List Order) (pace : Pace) (mark : MarkView) (o : Outgoing) (s m :
 
   -- from there on octets are written
   pub stage_written : IsStage (record m { outgoing = Written })
-  stage_written = let s = g.stage in record { clock = s.clock; shut = s.shut; bridges = s.bridges; ended = s.ended; knows = s.knows; few = s.few }
+  stage_written = let s = g.stage in record { clock = s.clock; bridges = s.bridges; ended = s.ended; knows = s.knows; few = s.few }
 
   -- the run to there is the same
   gone_written : GoneTo os pace.batch first mid (record m { outgoing = Written })
@@ -242,7 +242,7 @@ module _ (os : List Order) (pace : Pace) (mark : MarkView) (o : Outgoing) (s m :
         subst (λ (n : ℕ). IsRunOver os n (is_listed u.farm.failed) first now r) (sym p) run in
         let clock : m.clock ≡ r.periods = e ∙ sym p in
         let within : m.clock ≤ r.periods = omega (arith, clock) in
-        entries_are m live rising g.stage r z first mid (g.at r z here within h.goes) clock (g.known r z here within h.goes) (sums r z here within h.goes)
+        entries_are m live rising g.stage r z first mid (g.at r z here within h.goes) clock (sums r z here within h.goes)
 
     -- **Where there is no memory, it is cut short behind the mark.**
     pub written_cut : mark.calls ≡ calls → u.clock ≤ max mark.period pace.periods → IsResumeCutShort os pace.batch (max mark.period pace.periods) mark first now
@@ -253,7 +253,7 @@ module _ (os : List Order) (pace : Pace) (mark : MarkView) (o : Outgoing) (s m :
     -- **A resumed run that came to its last period leaves and reports what the run of the definition gives behind the mark.**
     pub resumes_told : mark.calls ≡ calls → u.clock ≡ max mark.period pace.periods → (count : ℕ) → count ≡ length os → (report : ReportView) →
         report.failed ≡ u.farm.failed →
-        ((r : Run) (t : ℕ) → IsAtEnd r t u.board u.farm.calls u.farm.tallies u.journal → r.periods ≡ max mark.period pace.periods → length r.orders ≡ count →
+        ((r : Run) (t : ℕ) → IsAtEnd r t u.board u.farm.calls u.farm.tallies u.notes → r.periods ≡ max mark.period pace.periods → length r.orders ≡ count →
         report ≡ report_of r report.failed) →
         ResumesRun os pace mark first now report
     resumes_told same eu count number report f told = record {

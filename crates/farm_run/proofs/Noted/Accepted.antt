@@ -3,7 +3,7 @@ use Rattle.std.proofs.Common.{◌≡◌, ◌≢◌, refl, sym, ap, ◌∙◌, su
 use Rattle.std.proofs.Common.{map, inl, inr, ◌⊎◌}
 use Rattle.std.specs.Prelude.{option_map, ◌==◌, if◌then◌else◌, Result, Ok}
 use Rattle.std.proofs.Math.Bool.{or-false, or-true}
-use Rattle.std.proofs.lemmas.Bool.{cases_Bool, cases_eq, eqb-true, eq-eqb, ne_eqb, or_cases}
+use Rattle.std.proofs.lemmas.Bool.{cases_eq, eqb-true, eq-eqb, ne_eqb, or_cases}
 use Rattle.trau_io.specs.declared.ends.CallEnd.{CallEnd}
 use Rattle.trau_io.specs.declared.ends.Cause.TheVariants.{Closed}
 use Rattle.switchboard.specs.declared.act.Act.{Act}
@@ -32,13 +32,12 @@ use Rattle.run_spec.proofs.OpenCalls.{open_facts}
 use Rattle.run_spec.proofs.Ending.{end_closed}
 use Rattle.run_spec.proofs.Sent.{sent_at_bridge}
 use Rattle.farm_run.specs.Match.{histories_at, FollowsRun}
-use Rattle.farm_run.specs.Journal.{JournalMemory, with_opening, with_end, with_ends, with_bridge_noted, noted_by}
+use Rattle.farm_run.specs.declared.notes.SentBefore.{SentBefore}
 use Rattle.farm_run.specs.Facts.{kept_in}
-use Rattle.farm_run.specs.Going.{is_told}
-use Rattle.farm_run.specs.Noted.{call_end_in, sent_in_bridge, is_opened, ended_at, IsKept, Noted}
+use Rattle.farm_run.specs.Noted.{call_end_in, noted_by, sent_in_bridge, is_opened, ended_at, IsKept, Noted}
 use Rattle.farm_run.proofs.Ordered.Due.{Due}
-use Rattle.farm_run.proofs.Listed.Tests.{no}
-use Rattle.farm_run.proofs.Noted.Noting.{told_has, noted_ordered, noted_same, noted_ends}
+use Rattle.farm_run.proofs.Told.Next.{turn}
+use Rattle.farm_run.proofs.Noted.Noting.{noted_ordered, noted_same, noted_ends}
 use Rattle.farm_run.proofs.Noted.Bridging.{noted_bridged}
 use Rattle.farm_run.proofs.Noted.Rounds.{kept_at_end, open_not_ended}
 use Rattle.farm_run.proofs.Noted.Orders as ordered
@@ -64,9 +63,6 @@ module _ (r : Run) (t : ℕ) (s n : State) (reply : Reply) (calls calls' : List 
   bridges_are : bridges n.done ≡ map (after d) (bridges s.done) ++ bridge_by d.order.stamp d.result []
   bridges_are = ordered.bridges_are r t s n reply calls calls' due under f g
 
-  start_stays : (c : ℕ) → is_opened s.done c ≡ true → start_of n.done c ≡ start_of s.done c
-  start_stays = ordered.start_stays r t s n reply calls calls' due under f g
-
   no_more : (x : Result Act Refusal) → d.result ≡ x → bridge_by d.order.stamp x [] ≡ [] → bridges n.done ≡ map (after d) (bridges s.done)
   no_more = ordered.no_more r t s n reply calls calls' due under f g
 
@@ -84,31 +80,30 @@ module _ (r : Run) (t : ℕ) (s n : State) (reply : Reply) (calls calls' : List 
   history_is = ordered.history_is r t s n reply calls calls' due under f g
 
   -- an order that changes nothing
-  noted_quiet : (x : Result Act Refusal) (j : JournalMemory) (tallies tallies' : List Tally) → reply.result ≡ x → bridge_by due.order.stamp x [] ≡ [] →
+  noted_quiet : (x : Result Act Refusal) (ns : List SentBefore) (tallies tallies' : List Tally) → reply.result ≡ x → bridge_by due.order.stamp x [] ≡ [] →
       ((c : ℕ) → opened_now n c ≡ opened_now s c) → ((c : ℕ) → open_now n c ≡ open_now s c) →
-      ((c : ℕ) → tally_in tallies' c ≡ tally_in tallies c) → Noted r s.done t j tallies → Noted r n.done t j tallies'
+      ((c : ℕ) → tally_in tallies' c ≡ tally_in tallies c) → Noted r s.done t ns tallies → Noted r n.done t ns tallies'
   noted_quiet = ordered.noted_quiet r t s n reply calls calls' due under f g
 
-  module _ (j : JournalMemory) (tallies tallies' : List Tally) (noted : Noted r s.done t j tallies) where
+  module _ (ns : List SentBefore) (tallies tallies' : List Tally) (noted : Noted r s.done t ns tallies) where
     -- a call is opened
     opens_call : (m : ℕ) (law : Law) → d.result ≡ Ok (act.Opened m law) → Finds (act.Opened m law) (opened_now s) (open_now s) (partner_now s) →
         ((c : ℕ) → opened_now n c ≡ (c == m || opened_now s c)) → ((c : ℕ) → open_now n c ≡ (c == m || open_now s c)) →
-        ((c : ℕ) → tally_in tallies' c ≡ tally_in tallies c) → Noted r n.done t (with_opening m t j) tallies'
-    opens_call = ordered.opens_call r t s n reply calls calls' due under f g j tallies tallies' noted
+        ((c : ℕ) → tally_in tallies' c ≡ tally_in tallies c) → Noted r n.done t ns tallies'
+    opens_call = ordered.opens_call r t s n reply calls calls' due under f g ns tallies tallies' noted
 
     -- **A call is closed.**
     closes_call : (m : ℕ) (p : Option ℕ) → d.result ≡ Ok (act.Closed m p) → open_now s m ≡ true → ((c : ℕ) → opened_now n c ≡ opened_now s c) →
         ((c : ℕ) → open_now n c ≡ (if c == m then false else open_now s c)) →
         ((c : ℕ) → tally_in tallies' c ≡ (if m == c then kept_of (h c) (tally_in tallies c) else tally_in tallies c)) →
-        Noted r n.done t (with_end (closing m) j) tallies'
+        Noted r n.done t ns tallies'
     closes_call m p result o opened open_is kept =
-        noted_same r n.done (λ c. ended_at r s.done t c || is_told c (closing m ∷ [])) (ended_at r n.done t) (with_end (closing m) j)
-        (tally_in tallies') (tally_in tallies')
-        (noted_ordered r s.done n.done (λ c. ended_at r s.done t c || is_told c (closing m ∷ [])) (with_ends (closing m ∷ []) j) (tally_in tallies')
-        (record { opened = opened; start = start_stays; order = d; bridges = no_more (Ok (act.Closed m p)) result refl })
-        (noted_ends r s.done (ended_at r s.done t) j (tally_in tallies) (tally_in tallies') (closing m ∷ []) noted ((was.0, sym there), tt) (refl, tt) right
-        (λ c q. kept c ∙ ap (λ (b : Bool). if b then kept_of (h c) (tally_in tallies c) else tally_in tallies c) (other c q))))
-        (λ c. ended_is c ∙ tests c (cases_eq c m) ∙ ap (λ (b : Bool). b || is_told c (closing m ∷ [])) (sym (ended_was c))) (λ c. refl)
+        noted_same r n.done (λ c. ended_at r s.done t c || c == m) (ended_at r n.done t) ns (tally_in tallies') (tally_in tallies')
+        (noted_ordered r s.done n.done (λ c. ended_at r s.done t c || c == m) ns (tally_in tallies')
+        (record { opened = opened; order = d; bridges = no_more (Ok (act.Closed m p)) result refl })
+        (noted_ends r s.done (ended_at r s.done t) (λ c. c == m) ns (tally_in tallies) (tally_in tallies') noted right
+        (λ c q. kept c ∙ ap (λ (b : Bool). if b then kept_of (h c) (tally_in tallies c) else tally_in tallies c) (turn m c ∙ q))))
+        (λ c. ended_is c ∙ tests c (cases_eq c m) ∙ ap (λ (b : Bool). b || c == m) (sym (ended_was c))) (λ c. refl)
       where
         was : (ended_at r s.done t m ≡ false) × (is_opened s.done m ≡ true)
         was = open_not_ended r t s.done m (open_there m o)
@@ -130,41 +125,37 @@ module _ (r : Run) (t : ℕ) (s n : State) (reply : Reply) (calls calls' : List 
             ∙ history_is m (tally_in tallies m) o))
             (kept_at_end r t s.done s.left m (settings_now r s.done t m) f.so_far was.1 (ap (λ (e : CallEnd). e.at) there) refl)
 
-        right : (c : ℕ) → is_told c (closing m ∷ []) ≡ true → IsKept r s.done c (tally_in tallies' c)
-        right c q = subst (λ (c : ℕ). IsKept r s.done c (tally_in tallies' c)) (sym (told_has (λ c. c ≡ m) c (closing m ∷ []) (refl, tt) q)) here
+        right : (c : ℕ) → (c == m) ≡ true → IsKept r s.done c (tally_in tallies' c)
+        right c q = subst (λ (c : ℕ). IsKept r s.done c (tally_in tallies' c)) (sym (eqb-true c m q)) here
 
-        other : (c : ℕ) → is_told c (closing m ∷ []) ≡ false → (m == c) ≡ false
-        other c q = elim (cases_Bool (m == c)) [
-          | inl e ↦ absurd (no (is_told c (closing m ∷ [])) q (ap (λ (b : Bool). b || false) (eq-eqb c m (sym (eqb-true m c e)))))
-          | inr e ↦ e
-        ]
-
-        tests : (c : ℕ) → (c ≡ m) ⊎ (c ≢ m) → (opened_now n c && not (open_now n c)) ≡ ((opened_now s c && not (open_now s c)) || is_told c (closing m ∷ []))
+        tests : (c : ℕ) → (c ≡ m) ⊎ (c ≢ m) → (opened_now n c && not (open_now n c)) ≡ ((opened_now s c && not (open_now s c)) || c == m)
         tests c (inl q) =
             let e = eq-eqb c m q in
             ap (λ (b : Bool). opened_now n c && not b) (open_is c ∙ ap (λ (b : Bool). if b then false else open_now s c) e)
             ∙ ap (λ (b : Bool). b && true) (opened c ∙ ap (opened_now s) q ∙ was.1)
-            ∙ sym (ap (λ (b : Bool). (opened_now s c && not (open_now s c)) || (b || false)) e ∙ or-true (opened_now s c && not (open_now s c)))
+            ∙ sym (ap (λ (b : Bool). (opened_now s c && not (open_now s c)) || b) e ∙ or-true (opened_now s c && not (open_now s c)))
         tests c (inr q) =
             let e = ne_eqb c m q in
             ap (λ (b : Bool). opened_now n c && not b) (open_is c ∙ ap (λ (b : Bool). if b then false else open_now s c) e)
             ∙ ap (λ (b : Bool). b && not (open_now s c)) (opened c)
-            ∙ sym (ap (λ (b : Bool). (opened_now s c && not (open_now s c)) || (b || false)) e ∙ or-false (opened_now s c && not (open_now s c)))
+            ∙ sym (ap (λ (b : Bool). (opened_now s c && not (open_now s c)) || b) e ∙ or-false (opened_now s c && not (open_now s c)))
 
     -- how many frames a call has sent in its latest bridge so far
     abbrev sent_so_far : ℕ → ℕ
     sent_so_far c = let kept = kept_in tallies h c in kept.sent
 
+    -- what is noted of a bridge
+    abbrev note : ℕ → ℕ → SentBefore
+    note a b = record { by_a = sent_so_far a; by_b = sent_so_far b }
+
     -- **Two calls are bridged.**
     bridges_calls : (a b : ℕ) → d.result ≡ Ok (act.Bridged a b) → Finds (act.Bridged a b) (opened_now s) (open_now s) (partner_now s) →
         ((c : ℕ) → opened_now n c ≡ opened_now s c) → ((c : ℕ) → open_now n c ≡ open_now s c) →
-        ((c : ℕ) → tally_in tallies' c ≡ tally_in tallies c) → Noted r n.done t (with_bridge_noted (sent_so_far a) (sent_so_far b) j) tallies'
+        ((c : ℕ) → tally_in tallies' c ≡ tally_in tallies c) → Noted r n.done t (ns ++ note a b ∷ []) tallies'
     bridges_calls a b result finds opened open_is kept =
-        noted_same r n.done (ended_at r s.done t) (ended_at r n.done t) (with_bridge_noted (sent_so_far a) (sent_so_far b) j) (tally_in tallies)
-        (tally_in tallies')
-        (noted_bridged r s.done n.done (ended_at r s.done t) j (tally_in tallies) a b sent_so_far (record {
+        noted_same r n.done (ended_at r s.done t) (ended_at r n.done t) (ns ++ note a b ∷ []) (tally_in tallies) (tally_in tallies')
+        (noted_bridged r s.done n.done (ended_at r s.done t) ns (tally_in tallies) a b sent_so_far (record {
           opened = opened;
-          start = start_stays;
           order = d;
           last = record { a = a; b = b; from = due.order.stamp; ended = None };
           all = bridges_are ∙ ap (λ (x : Result Act Refusal). map (after d) (bridges s.done) ++ bridge_by d.order.stamp x []) result;
@@ -193,11 +184,11 @@ module _ (r : Run) (t : ℕ) (s n : State) (reply : Reply) (calls calls' : List 
     -- **What is noted of an accepted order keeps all that is noted right.**
     pub noted_accepted : (a : Act) → reply.result ≡ Ok a → Finds a (opened_now s) (open_now s) (partner_now s) →
         ((c : ℕ) → opened_now n c ≡ opened_after a (opened_now s) c) → ((c : ℕ) → open_now n c ≡ open_after a (open_now s) c) →
-        ((c : ℕ) → tally_in tallies' c ≡ tallies_after a h (tally_in tallies) c) → Noted r n.done t (noted_by a t (λ c. (kept_in tallies h c).sent) j) tallies'
+        ((c : ℕ) → tally_in tallies' c ≡ tallies_after a h (tally_in tallies) c) → Noted r n.done t (noted_by a (λ c. (kept_in tallies h c).sent) ns) tallies'
     noted_accepted (act.Opened m law) q finds opened open_is kept = opens_call m law (sym due.result ∙ q) finds opened open_is kept
     noted_accepted (act.Closed m p) q finds opened open_is kept = closes_call m p (sym due.result ∙ q) finds.0 opened open_is kept
     noted_accepted (act.Bridged a b) q finds opened open_is kept = bridges_calls a b (sym due.result ∙ q) finds opened open_is kept
-    noted_accepted (act.Unbridged a b) q finds opened open_is kept = noted_quiet (Ok (act.Unbridged a b)) j tallies tallies' q refl opened open_is kept noted
+    noted_accepted (act.Unbridged a b) q finds opened open_is kept = noted_quiet (Ok (act.Unbridged a b)) ns tallies tallies' q refl opened open_is kept noted
     noted_accepted (act.LevelSet c level) q finds opened open_is kept =
-        noted_quiet (Ok (act.LevelSet c level)) j tallies tallies' q refl opened open_is kept noted
-    noted_accepted (act.DtxSet c mode) q finds opened open_is kept = noted_quiet (Ok (act.DtxSet c mode)) j tallies tallies' q refl opened open_is kept noted
+        noted_quiet (Ok (act.LevelSet c level)) ns tallies tallies' q refl opened open_is kept noted
+    noted_accepted (act.DtxSet c mode) q finds opened open_is kept = noted_quiet (Ok (act.DtxSet c mode)) ns tallies tallies' q refl opened open_is kept noted

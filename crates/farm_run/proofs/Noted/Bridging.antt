@@ -5,13 +5,11 @@ use Rattle.std.proofs.lemmas.Bool.{eqb-true, ne_eqb, or_from}
 use Rattle.switchboard.specs.declared.table.Bridge.{Bridge}
 use Rattle.switchboard.specs.Calls.{Done}
 use Rattle.switchboard.specs.Bridges.{bridges, joins}
-use Rattle.switchboard.specs.Ends.{start_of}
 use Rattle.switchboard.specs.Stands.{IsLatest}
 use Rattle.switchboard.proofs.Appending.{after}
 use Rattle.farm_rounds.specs.declared.tally.Tally.{Tally}
 use Rattle.run_spec.specs.Run.{Run}
 use Rattle.farm_run.specs.declared.notes.SentBefore.{SentBefore}
-use Rattle.farm_run.specs.Journal.{JournalMemory, with_bridge_noted}
 use Rattle.farm_run.specs.Noted.{is_opened, sent_in_bridge, sent_before, AreNotes, IsKept, IsNoted}
 use Rattle.farm_run.proofs.Listed.Tests.{no}
 use Rattle.farm_run.proofs.Noted.Noting.{right_true}
@@ -21,15 +19,14 @@ use Rattle.farm_run.proofs.Noted.Bridges.{latest_before, notes_after, notes_push
 -- an order that made a bridge of a and b, the last one
 pub record IsBridging (ds now : List Done) (a b : ℕ) : Type 0 where
   pub opened : (c : ℕ) → is_opened now c ≡ is_opened ds c
-  pub start : (c : ℕ) → is_opened ds c ≡ true → start_of now c ≡ start_of ds c
   pub order : Done
   pub last : Bridge
   pub all : bridges now ≡ map (after order) (bridges ds) ++ last ∷ []
   pub calls : (last.a ≡ a) × (last.b ≡ b)
 
 -- **What its calls have sent in their bridges before it is noted.**
-module _ (r : Run) (ds now : List Done) (ended : ℕ → Bool) (j : JournalMemory) (tally : ℕ → Tally) (a b : ℕ) (sent : ℕ → ℕ) (h : IsBridging ds now a b)
-    (f : (ended a ≡ false) × (ended b ≡ false)) (n : IsNoted r ds ended j tally)
+module _ (r : Run) (ds now : List Done) (ended : ℕ → Bool) (ns : List SentBefore) (tally : ℕ → Tally) (a b : ℕ) (sent : ℕ → ℕ) (h : IsBridging ds now a b)
+    (f : (ended a ≡ false) × (ended b ≡ false)) (n : IsNoted r ds ended ns tally)
     (right : (c k : ℕ) → (c == a || c == b) ≡ true → IsLatest (bridges ds) c (Some k) → sent c ≡ sent_in_bridge r k c) where
   -- what is noted of it
   abbrev note : SentBefore
@@ -48,11 +45,11 @@ module _ (r : Run) (ds now : List Done) (ended : ℕ → Bool) (j : JournalMemor
       by false q = ap sent (sym (eqb-true c b (right_true (c == a) (c == b) q e)))
 
   -- so it is right
-  notes : AreNotes (sent_in_bridge r) [] (bridges now) (j.bridges ++ note ∷ [])
+  notes : AreNotes (sent_in_bridge r) [] (bridges now) (ns ++ note ∷ [])
   notes =
-      subst (λ (bs : List Bridge). AreNotes (sent_in_bridge r) [] bs (j.bridges ++ note ∷ [])) (sym h.all)
-      (notes_push (sent_in_bridge r) [] (map (after h.order) (bridges ds)) j.bridges h.last note
-      (notes_after (sent_in_bridge r) h.order [] (bridges ds) j.bridges n.bridges)
+      subst (λ (bs : List Bridge). AreNotes (sent_in_bridge r) [] bs (ns ++ note ∷ [])) (sym h.all)
+      (notes_push (sent_in_bridge r) [] (map (after h.order) (bridges ds)) ns h.last note
+      (notes_after (sent_in_bridge r) h.order [] (bridges ds) ns n.bridges)
       (λ c k m l. let e = sym (joins_last c) ∙ m in tells c e ∙ right c k e (latest_before h.order (bridges ds) c k l)))
 
   -- a call that has ended isn't in it
@@ -69,16 +66,5 @@ module _ (r : Run) (ds now : List Done) (ended : ℕ → Bool) (j : JournalMemor
       }
 
   -- **All that is to be noted of the bridge is.**
-  pub noted_bridged : IsNoted r now ended (with_bridge_noted (sent a) (sent b) j) tally
-  noted_bridged =
-      let p = n.calls in
-      record {
-        ends = n.ends;
-        calls = record {
-          long = p.long;
-          numbers = λ c o. p.numbers c (sym (h.opened c) ∙ o);
-          from = λ c o. p.from c (sym (h.opened c) ∙ o) ∙ sym (h.start c (sym (h.opened c) ∙ o));
-        };
-        bridges = notes;
-        kept = kept;
-      }
+  pub noted_bridged : IsNoted r now ended (ns ++ note ∷ []) tally
+  noted_bridged = record { numbers = λ c o. n.numbers c (sym (h.opened c) ∙ o); bridges = notes; kept = kept }

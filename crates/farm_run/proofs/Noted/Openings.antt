@@ -1,16 +1,40 @@
--- Before the first order no call is noted as opened.
-use Rattle.std.proofs.Common.{◌≡◌, refl, ap, ◌∙◌, ℕ, zero, suc, ◌≤◌, replicate, arith}
-use Rattle.call_number.specs.declared.TheConstants.{NUMBERS}
-use Rattle.farm_run.specs.Journal.{JournalMemory, opening_of, new_journal}
+-- When the calls were opened.
+use Rattle.std.proofs.Common.{◌≡◌, ap, ℕ, suc, ◌<◌, ◌≤◌, Option, Some, None, List, [], ◌∷◌, ◌++◌, length, map, get_or, arith}
+use Rattle.std.specs.Prelude.{unwrap_or, IfSome}
+use Rattle.std.specs.List.{AllByRecursion}
+use Rattle.trau_orders.specs.declared.order.Order.{Order}
+use Rattle.switchboard.specs.Calls.{Done, opened_at}
+use Rattle.switchboard.specs.Ends.{start_of}
+use Rattle.switchboard.specs.State.{State, last_stamp}
+use Rattle.farm_rounds.specs.Calls.{Kept}
+use Rattle.run_spec.proofs.Settling.{found_stamp}
+use Rattle.farm_run.specs.Match.{AtClock}
 use Rattle.farm_run.specs.Stages.{OpenedBefore}
 
--- of a list of calls that aren't opened each isn't
-all_none : (k c : ℕ) → opening_of (replicate k 0) c ≡ 0
-all_none zero c = refl
-all_none (suc k) zero = refl
-all_none (suc k) (suc c) = all_none k c
+-- before the first order no call was opened
+pub opened_none : (n : ℕ) (ds : List Done) → ds ≡ [] → 1 ≤ n → OpenedBefore n ds
+opened_none n ds e some c = let at : start_of ds c ≡ 0 = ap (λ (ds : List Done). start_of ds c) e in omega (arith, at, some)
 
-pub opened_none : (n : ℕ) (j : JournalMemory) → j ≡ new_journal → 1 ≤ n → OpenedBefore n j.calls
-opened_none n j new some c =
-    let at : opening_of j.calls c ≡ 0 = ap (λ (k : JournalMemory). opening_of k.calls c) new ∙ all_none NUMBERS c in
-    omega (arith, at, some)
+-- stamps that rise
+abbrev Rise : List Order → Type 0
+Rise os = (i j : ℕ) (d : Order) → i ≤ j → j < length os → (get_or os i d).stamp ≤ (get_or os j d).stamp
+
+-- of orders with rising stamps none is past the last
+stamps_past : (t : ℕ) (ds : List Done) (left : List Order) → Rise (map (λ d. d.order) ds ++ left) → last_stamp ds ≤ t →
+    AllByRecursion (λ d. d.order.stamp ≤ t) ds
+stamps_past t [] left rise h = tt
+stamps_past t (d ∷ []) left rise h = (h, tt)
+stamps_past t (d ∷ e ∷ ds) left rise h =
+    let rest = stamps_past t (e ∷ ds) left (λ i j o l m. rise (suc i) (suc j) o (omega arith) (omega arith)) h in
+    let first = rise 0 1 d.order (omega arith) (omega arith) in
+    let second = rest.0 in
+    (omega (arith, first, second), rest)
+
+-- **Each call that an order opened was opened before a period past the clock.**
+pub opened_by : (t n : ℕ) (b : State) (calls : List Kept) → AtClock t b calls → t < n → OpenedBefore n b.done
+opened_by t n b calls a less c =
+    by (opened_at c b.done) (found_stamp (λ s. s ≤ t) _ b.done (stamps_past t b.done b.left (let orders = a.orders in orders.rising) a.past))
+  where
+    by : (o : Option ℕ) → IfSome o (λ s. s ≤ t) → unwrap_or o 0 < n
+    by None h = omega (arith, less)
+    by (Some s) h = omega (arith, less, h)

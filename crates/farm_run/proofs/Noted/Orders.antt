@@ -1,18 +1,16 @@
 -- What is noted of a run where an order comes that changes nothing, or opens a call.
-use Rattle.std.proofs.Common.{◌≡◌, ◌≢◌, refl, sym, ap, ◌∙◌, ℕ, ◌-◌, ◌<◌, Bool, true, not, ◌&&◌, ◌||◌, Option, Some, None, List, [], ◌∷◌, ◌++◌}
+use Rattle.std.proofs.Common.{◌≡◌, ◌≢◌, refl, sym, ap, ◌∙◌, ℕ, ◌-◌, ◌<◌, Bool, true, not, ◌&&◌, ◌||◌, Option, List, [], ◌∷◌, ◌++◌}
 use Rattle.std.proofs.Common.{map, inl, inr, ◌⊎◌, arith}
-use Rattle.std.specs.Prelude.{is_some, ◌==◌, Result, Ok}
+use Rattle.std.specs.Prelude.{◌==◌, Result, Ok}
 use Rattle.std.proofs.Math.Bool.{and-false}
 use Rattle.std.proofs.lemmas.Bool.{cases_eq, eq-eqb, ne_eqb}
 use Rattle.std.proofs.lemmas.List.{append-nil}
-use Rattle.trau_io.specs.declared.ends.CallEnd.{CallEnd}
-use Rattle.trau_io.specs.declared.ends.Cause.TheVariants.{Closed}
 use Rattle.switchboard.specs.declared.act.Act.{Act}
 use Rattle.switchboard.specs.declared.act.Act.TheVariants as act
 use Rattle.switchboard.specs.declared.act.Refusal.{Refusal}
 use Rattle.switchboard.specs.declared.act.Reply.{Reply}
 use Rattle.switchboard.specs.declared.table.Bridge.{Bridge}
-use Rattle.switchboard.specs.Calls.{Done, opened_at, is_open, gone_at}
+use Rattle.switchboard.specs.Calls.{Done, is_open, gone_at}
 use Rattle.switchboard.specs.Bridges.{bridges, bridge_by}
 use Rattle.switchboard.specs.Ends.{start_of}
 use Rattle.switchboard.specs.State.{State, done_by}
@@ -25,14 +23,10 @@ use Rattle.farm_rounds.specs.Histories.{CallHistory, kept_of, tally_of}
 use Rattle.trau_alaw.specs.declared.Law.{Law}
 use Rattle.run_spec.specs.Run.{Run, whole_in, periods_to, law_in}
 use Rattle.run_spec.specs.Now.{settings_now}
-use Rattle.run_spec.proofs.Settling.{start_is}
-use Rattle.run_spec.proofs.OpenCalls.{opened_kept, opened_cases}
-use Rattle.run_spec.proofs.Showing.{opens}
 use Rattle.farm_run.specs.Match.{past_if, histories_at, FollowsRun}
-use Rattle.farm_run.specs.Journal.{JournalMemory, with_opening}
+use Rattle.farm_run.specs.declared.notes.SentBefore.{SentBefore}
 use Rattle.farm_run.specs.Noted.{is_opened, ended_at, Noted}
 use Rattle.farm_run.proofs.Ordered.Due.{Due, open_told}
-use Rattle.farm_run.proofs.Listed.Tests.{no}
 use Rattle.farm_run.proofs.Noted.Noting.{noted_ordered, noted_same}
 use Rattle.farm_run.proofs.Noted.Opened.{noted_opened}
 
@@ -41,10 +35,6 @@ module _ (r : Run) (t : ℕ) (s n : State) (reply : Reply) (calls calls' : List 
   -- the order, executed
   abbrev d : Done
   d = done_by s due.order
-
-  -- the end of a call that is closed
-  abbrev closing : ℕ → CallEnd
-  closing m = record { call = m; at = t; cause = Closed }
 
   -- what each call has had
   abbrev h : ℕ → Option CallHistory
@@ -57,14 +47,6 @@ module _ (r : Run) (t : ℕ) (s n : State) (reply : Reply) (calls calls' : List 
   -- the bridges behind it
   pub bridges_are : bridges n.done ≡ map (after d) (bridges s.done) ++ bridge_by d.order.stamp d.result []
   bridges_are = ap bridges done_is ∙ bridges-more s.done d
-
-  -- a call that was opened before begins where it did
-  pub start_stays : (c : ℕ) → is_opened s.done c ≡ true → start_of n.done c ≡ start_of s.done c
-  start_stays c o = by (opened_at c s.done) refl o
-    where
-      by : (v : Option ℕ) → opened_at c s.done ≡ v → is_some v ≡ true → start_of n.done c ≡ start_of s.done c
-      by None q k = cc
-      by (Some v) q k = start_is n.done c v (ap (opened_at c) done_is ∙ opened_kept s.done (d ∷ []) c v q) ∙ sym (start_is s.done c v q)
 
   -- an order that makes no bridge
   pub no_more : (x : Result Act Refusal) → d.result ≡ x → bridge_by d.order.stamp x [] ≡ [] → bridges n.done ≡ map (after d) (bridges s.done)
@@ -91,41 +73,32 @@ module _ (r : Run) (t : ℕ) (s n : State) (reply : Reply) (calls calls' : List 
       ap (λ (b : Bool). kept_of (past_if b (law_in r c) (periods_to r c (t - start_of s.done c)) (settings_now r s.done t c)) kept) (open_there c o)
 
   -- **An order that is refused, or that neither opens, ends nor bridges calls, changes nothing.**
-  pub noted_quiet : (x : Result Act Refusal) (j : JournalMemory) (tallies tallies' : List Tally) → reply.result ≡ x → bridge_by due.order.stamp x [] ≡ [] →
+  pub noted_quiet : (x : Result Act Refusal) (ns : List SentBefore) (tallies tallies' : List Tally) → reply.result ≡ x → bridge_by due.order.stamp x [] ≡ [] →
       ((c : ℕ) → opened_now n c ≡ opened_now s c) → ((c : ℕ) → open_now n c ≡ open_now s c) →
-      ((c : ℕ) → tally_in tallies' c ≡ tally_in tallies c) → Noted r s.done t j tallies → Noted r n.done t j tallies'
-  noted_quiet x j tallies tallies' q e opened open_same kept noted =
+      ((c : ℕ) → tally_in tallies' c ≡ tally_in tallies c) → Noted r s.done t ns tallies → Noted r n.done t ns tallies'
+  noted_quiet x ns tallies tallies' q e opened open_same kept noted =
       let result : d.result ≡ x = sym due.result ∙ q in
-      noted_same r n.done (ended_at r s.done t) (ended_at r n.done t) j (tally_in tallies) (tally_in tallies')
-      (noted_ordered r s.done n.done (ended_at r s.done t) j (tally_in tallies)
-      (record { opened = opened; start = start_stays; order = d; bridges = no_more x result e }) noted)
+      noted_same r n.done (ended_at r s.done t) (ended_at r n.done t) ns (tally_in tallies) (tally_in tallies')
+      (noted_ordered r s.done n.done (ended_at r s.done t) ns (tally_in tallies)
+      (record { opened = opened; order = d; bridges = no_more x result e }) noted)
       (λ c. ended_is c ∙ ap (λ (b : Bool). b && not (open_now n c)) (opened c) ∙ ap (λ (b : Bool). opened_now s c && not b) (open_same c)
       ∙ sym (ended_was c)) kept
 
-  module _ (j : JournalMemory) (tallies tallies' : List Tally) (noted : Noted r s.done t j tallies) where
+  module _ (ns : List SentBefore) (tallies tallies' : List Tally) (noted : Noted r s.done t ns tallies) where
     -- **A call is opened.**
     pub opens_call : (m : ℕ) (law : Law) → d.result ≡ Ok (act.Opened m law) → Finds (act.Opened m law) (opened_now s) (open_now s) (partner_now s) →
         ((c : ℕ) → opened_now n c ≡ (c == m || opened_now s c)) → ((c : ℕ) → open_now n c ≡ (c == m || open_now s c)) →
-        ((c : ℕ) → tally_in tallies' c ≡ tally_in tallies c) → Noted r n.done t (with_opening m t j) tallies'
+        ((c : ℕ) → tally_in tallies' c ≡ tally_in tallies c) → Noted r n.done t ns tallies'
     opens_call m law result finds opened open_is kept =
-        noted_same r n.done (ended_at r s.done t) (ended_at r n.done t) (with_opening m t j) (tally_in tallies) (tally_in tallies')
-        (noted_opened r s.done n.done (ended_at r s.done t) j (tally_in tallies) m t (record {
+        noted_same r n.done (ended_at r s.done t) (ended_at r n.done t) ns (tally_in tallies) (tally_in tallies')
+        (noted_opened r s.done n.done (ended_at r s.done t) ns (tally_in tallies) m (record {
           number = (omega (arith, finds.0.0), omega (arith, finds.0.1));
           opened = opened;
-          start = start_stays;
-          begins = begins (opened_at m n.done) refl (opened m ∙ ap (λ (b : Bool). b || opened_now s m) (eq-eqb m m refl));
           order = d;
           bridges = no_more (Ok (act.Opened m law)) result refl;
         }) noted)
         (λ c. ended_is c ∙ tests c (cases_eq c m) ∙ sym (ended_was c)) kept
       where
-        begins : (o : Option ℕ) → opened_at m n.done ≡ o → is_some (opened_at m n.done) ≡ true → start_of n.done m ≡ t
-        begins None q e = let k = ap is_some q in cc
-        begins (Some u) q e = elim (opened_cases s.done (d ∷ []) m u (sym (ap (opened_at m) done_is) ∙ q)) [
-          | inl k ↦ absurd (no (opened_now s m) finds.1 (ap is_some k))
-          | inr k ↦ start_is n.done m u q ∙ (opens m u due.order d.result k.1).1 ∙ due.stamp
-        ]
-
         tests : (c : ℕ) → (c ≡ m) ⊎ (c ≢ m) → (opened_now n c && not (open_now n c)) ≡ (opened_now s c && not (open_now s c))
         tests c (inl q) =
             let e = eq-eqb c m q in

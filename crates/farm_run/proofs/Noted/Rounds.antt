@@ -2,10 +2,8 @@
 use Rattle.std.proofs.Common.{◌≡◌, refl, sym, ap, ◌∙◌, subst, ℕ, suc, ◌+◌, ◌-◌, ◌≤◌, Bool, true, false, not, ◌&&◌, ◌||◌, Option, Some, None, List, [], ◌∷◌}
 use Rattle.std.proofs.Common.{arith}
 use Rattle.std.specs.Prelude.{min, nat_lt, is_some, IfSome, if◌then◌else◌}
-use Rattle.std.specs.List.{AllByRecursion, filter_map}
 use Rattle.std.proofs.Math.Bool.{and-false}
 use Rattle.std.proofs.lemmas.Bool.{and_parts, true≢false}
-use Rattle.std.proofs.lemmas.List.{length-replicate}
 use Rattle.trau_io.specs.declared.ends.CallEnd.{CallEnd}
 use Rattle.trau_orders.specs.declared.order.Order.{Order}
 use Rattle.switchboard.specs.Calls.{Done, opened_at, closed_at, is_open, gone_at}
@@ -16,40 +14,30 @@ use Rattle.call_leg.specs.Settings.{Settings}
 use Rattle.call_leg.specs.Counted.{call_counts}
 use Rattle.call_leg.specs.Down.{frames_of}
 use Rattle.call_leg.specs.Places.{carried, sent_now}
-use Rattle.round_lines.specs.Seats.{SeatMemory}
-use Rattle.round_lines.specs.Rounds.{seat_end}
 use Rattle.farm_rounds.specs.declared.tally.Tally.{Tally}
 use Rattle.farm_rounds.specs.Memory.{tally_in}
 use Rattle.farm_rounds.specs.Histories.{tally_of}
 use Rattle.run_spec.specs.Run.{Run, given_in, whole_in, done_in, periods_to}
 use Rattle.run_spec.specs.Now.{IsSoFar, settings_now}
-use Rattle.run_spec.proofs.Lists.{each_weaker}
 use Rattle.run_spec.proofs.SoFar.{so_far_later}
 use Rattle.run_spec.proofs.Settling.{start_is}
 use Rattle.run_spec.proofs.OpenCalls.{open_facts}
 use Rattle.run_spec.proofs.Going.{start_run}
 use Rattle.run_spec.proofs.Sent.{sent_at_end}
-use Rattle.farm_run.specs.Journal.{JournalMemory, new_journal, with_ends}
-use Rattle.farm_run.specs.Going.{places_in, ends_within, is_told}
-use Rattle.farm_run.proofs.Rounds.Taken.{IsRound, IsSeat}
-use Rattle.farm_run.specs.Ending.{AreApart}
+use Rattle.farm_run.specs.declared.notes.SentBefore.{SentBefore}
+use Rattle.farm_run.specs.Going.{places_in, ends_within}
+use Rattle.farm_run.proofs.Rounds.Taken.{IsRound}
 use Rattle.farm_run.specs.Noted.{is_opened, ended_at, IsKept, Noted}
 use Rattle.farm_run.proofs.Rounds.Open.{shut_after}
-use Rattle.farm_run.proofs.Rounds.Ends.{end_within, start_kept, ends_there}
-use Rattle.farm_run.proofs.Told.Seats.{each_end}
+use Rattle.farm_run.proofs.Rounds.Ends.{ends_there}
 use Rattle.farm_run.proofs.Told.Boards.{gone_round}
-use Rattle.farm_run.proofs.Noted.Noting.{IsNewEnd, noted_ends, noted_same}
+use Rattle.farm_run.proofs.Noted.Noting.{noted_ends, noted_same}
 
 -- ---- before the first order
 
 -- **Nothing is known, and nothing is noted.**
-pub noted_start : (r : Run) (t : ℕ) (tallies : List Tally) → Noted r [] t new_journal tallies
-noted_start r t tallies = record {
-  ends = record { each = tt; apart = tt; told = λ c. refl };
-  calls = record { long = length-replicate {A = ℕ} 4097 0; numbers = λ c o. cc; from = λ c o. cc };
-  bridges = tt;
-  kept = λ c h. cc;
-}
+pub noted_start : (r : Run) (t : ℕ) (tallies : List Tally) → Noted r [] t [] tallies
+noted_start r t tallies = record { numbers = λ c o. cc; bridges = tt; kept = λ c h. cc }
 
 -- ---- what is kept of a call at its end
 
@@ -79,9 +67,9 @@ kept_at_end r t ds left c now so o e starts = by (opened_at c ds) refl o
 -- ---- the clock goes on
 
 -- **While no call is open nothing comes to be known.**
-pub noted_jump : (r : Run) (t u : ℕ) (ds : List Done) (j : JournalMemory) (tallies : List Tally) → t ≤ u →
-    ((c : ℕ) → is_open (gone_at (whole_in r) t ds) ds c ≡ false) → Noted r ds t j tallies → Noted r ds u j tallies
-noted_jump r t u ds j tallies l none n = noted_same r ds (ended_at r ds t) (ended_at r ds u) j (tally_in tallies) (tally_in tallies) n
+pub noted_jump : (r : Run) (t u : ℕ) (ds : List Done) (ns : List SentBefore) (tallies : List Tally) → t ≤ u →
+    ((c : ℕ) → is_open (gone_at (whole_in r) t ds) ds c ≡ false) → Noted r ds t ns tallies → Noted r ds u ns tallies
+noted_jump r t u ds ns tallies l none n = noted_same r ds (ended_at r ds t) (ended_at r ds u) ns (tally_in tallies) (tally_in tallies) n
     (λ c. ap (λ (s : Bool). is_opened ds c && not s) (later c ∙ sym (none c))) (λ c. refl)
   where
     later : (c : ℕ) → is_open (gone_at (whole_in r) u ds) ds c ≡ false
@@ -93,14 +81,6 @@ noted_jump r t u ds j tallies l none n = noted_same r ds (ended_at r ds t) (ende
 -- an end that a round tells: its call's lines end it there
 abbrev pub IsRoundEnd : Run → List Done → ℕ → ℕ → CallEnd → Type 0
 IsRoundEnd r ds t n e = (ends_within r ds t n e.call ≡ true) × (e ≡ end_of (given_in r) r.periods (done_in r) e.call (start_of ds e.call))
-
--- **The ends that the seats of a round tell are such.**
-pub each_round_end : (r : Run) (t n : ℕ) (ds : List Done) (left : List Order) (seats : List SeatMemory) → IsRound r t n ds left →
-    AllByRecursion (IsSeat r ds t n) seats → AllByRecursion (IsRoundEnd r ds t n) (filter_map (seat_end t) seats)
-each_round_end r t n ds left seats h a = each_end (IsRoundEnd r ds t n) r t n ds left seats h a (λ c w.
-    subst (λ (d : ℕ). (ends_within r ds t n d ≡ true)
-    × (end_of (given_in r) r.periods (done_in r) c (start_of ds c) ≡ end_of (given_in r) r.periods (done_in r) d (start_of ds d)))
-    (sym (ap (λ (e : CallEnd). e.call) (end_within r t n ds left c h w))) (w, refl))
 
 -- who has ended after it
 module _ (r : Run) (t n : ℕ) (ds : List Done) (c : ℕ) where
@@ -148,29 +128,20 @@ sooner : (u v : ℕ) (left : List Order) → u ≤ v → IfSome (first_stamp lef
 sooner u v [] l h = tt
 sooner u v (o ∷ left) l h = omega arith
 
--- **After a round whose ends were noted, and whose tallies tell of the calls that it ended, what is noted is right again.**
-pub noted_round : (r : Run) (t n : ℕ) (ds : List Done) (left : List Order) (j : JournalMemory) (tallies tallies' : List Tally) (ends : List CallEnd) →
-    IsRound r t n ds left → Noted r ds t j tallies →
-    AllByRecursion (IsRoundEnd r ds t n) ends → AreApart ends → ((c : ℕ) → is_told c ends ≡ ends_within r ds t n c) →
+-- **After a round whose tallies tell of the calls that it ended, what is noted is right again.**
+pub noted_round : (r : Run) (t n : ℕ) (ds : List Done) (left : List Order) (ns : List SentBefore) (tallies tallies' : List Tally) →
+    IsRound r t n ds left → Noted r ds t ns tallies →
     ((c : ℕ) → ends_within r ds t n c ≡ true →
     (now : Settings) × (now.starts ≡ (settings_now r ds (t + places_in r ds t n c) c).starts)
     × (tally_in tallies' c ≡ tally_of (periods_to r c (t + places_in r ds t n c - start_of ds c)) now)) →
-    ((c : ℕ) → ends_within r ds t n c ≡ false → tally_in tallies' c ≡ tally_in tallies c) → Noted r ds (t + n) (with_ends ends j) tallies'
-noted_round r t n ds left j tallies tallies' ends h noted each apart told kept same =
-    noted_same r ds (λ c. ended_at r ds t c || is_told c ends) (ended_at r ds (t + n)) (with_ends ends j) (tally_in tallies') (tally_in tallies')
-    (noted_ends r ds (ended_at r ds t) j (tally_in tallies) (tally_in tallies') ends noted
-    (each_weaker (IsRoundEnd r ds t n) (IsNewEnd r (ended_at r ds t)) ends new each) apart (λ c q. right c (sym (told c) ∙ q))
-    (λ c q. same c (sym (told c) ∙ q)))
-    (λ c. ended_round r t n ds c ∙ ap (λ (s : Bool). ended_at r ds t c || s) (sym (told c))) (λ c. refl)
+    ((c : ℕ) → ends_within r ds t n c ≡ false → tally_in tallies' c ≡ tally_in tallies c) → Noted r ds (t + n) ns tallies'
+noted_round r t n ds left ns tallies tallies' h noted kept same =
+    noted_same r ds (λ c. ended_at r ds t c || ends_within r ds t n c) (ended_at r ds (t + n)) ns (tally_in tallies') (tally_in tallies')
+    (noted_ends r ds (ended_at r ds t) (ends_within r ds t n) ns (tally_in tallies) (tally_in tallies') noted right same)
+    (λ c. ended_round r t n ds c) (λ c. refl)
   where
     opened : (c : ℕ) → ends_within r ds t n c ≡ true → is_open (gone_at (whole_in r) t ds) ds c ≡ true
     opened c w = (and_parts (is_open (gone_at (whole_in r) t ds) ds c) (nat_lt (places_in r ds t n c) n) w).0
-
-    new : (e : CallEnd) → IsRoundEnd r ds t n e → IsNewEnd r (ended_at r ds t) e
-    new e k = (
-      (open_not_ended r t ds e.call (opened e.call k.0)).0,
-      k.1 ∙ ap (end_of (given_in r) r.periods (done_in r) e.call) (sym (start_kept r t n ds left e.call h (opened e.call k.0))),
-    )
 
     far : (m : ℕ) → m ≤ n → IsSoFar r (t + m) ds left
     far m l = so_far_later r t (t + m) ds left h.so_far (omega arith) (sooner (t + m) (t + n) left (omega arith) h.clear)

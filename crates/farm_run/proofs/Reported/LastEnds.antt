@@ -1,9 +1,8 @@
 -- The end of a run: the calls that are open end with it, and the report is the definition's.
-use Rattle.std.proofs.Common.{◌≡◌, refl, sym, ap, ◌∙◌, subst, ℕ, ◌+◌, ◌-◌, ◌<◌, ◌≤◌, Bool, true, false, not, ◌&&◌, ◌||◌, Option, Some, None, List, [], ◌∷◌}
+use Rattle.std.proofs.Common.{◌≡◌, refl, sym, ap, ◌∙◌, subst, ℕ, ◌+◌, ◌-◌, ◌≤◌, Bool, true, false, not, ◌&&◌, ◌||◌, Option, Some, None, List, [], ◌∷◌}
 use Rattle.std.proofs.Common.{length, map, arith}
 use Rattle.std.specs.Prelude.{◌==◌, is_some, IfOk, Result, Ok, Err}
 use Rattle.std.specs.List.{All, AllByRecursion}
-use Rattle.std.specs.List.Sorted.{IsPermutation}
 use Rattle.std.proofs.lemmas.Bool.{eq-eqb, or_left, or_right}
 use Rattle.std.proofs.lemmas.List.{length-map, length-append}
 use Rattle.std.proofs.lemmas.List.Elements.{All-from_recursion}
@@ -11,36 +10,35 @@ use Rattle.trau_io.specs.declared.line.Line.{Line}
 use Rattle.trau_io.specs.declared.ends.CallEnd.{CallEnd}
 use Rattle.switchboard.specs.declared.act.Reply.{Reply}
 use Rattle.switchboard.specs.Calls.{Done, opened_at, closed_at, is_open, gone_at}
-use Rattle.switchboard.specs.State.{State, told_in, numbered}
-use Rattle.switchboard.specs.Runs.{AllEndedAt}
-use Rattle.switchboard.specs.Ends.{end_of, start_of, ends_at, spans_of}
+use Rattle.switchboard.specs.State.{State, end_told, numbered}
+use Rattle.switchboard.specs.Runs.{AllEnded}
+use Rattle.switchboard.specs.Ends.{end_of, start_of, whole_end, spans_of}
 use Rattle.switchboard.specs.Open.{open_now}
 use Rattle.farm_report.specs.declared.report.CallLine.{CallLine}
 use Rattle.farm_report.specs.declared.report.SpanLine.{SpanLine}
 use Rattle.farm_report.specs.View.{ReportView}
 use Rattle.farm_rounds.specs.declared.tally.Tally.{Tally}
 use Rattle.farm_rounds.specs.Memory.{FarmMemory, tally_in}
-use Rattle.farm_rounds.specs.Numbers.{IsRising, is_among}
+use Rattle.farm_rounds.specs.Numbers.{is_among}
 use Rattle.farm_rounds.specs.Histories.{kept_of}
 use Rattle.run_spec.specs.Run.{Run, given_in, whole_in, done_in, periods_to, law_in}
-use Rattle.run_spec.specs.Facts.{report_of}
+use Rattle.run_spec.specs.Facts.{report_of, call_line, opened_calls}
 use Rattle.run_spec.specs.Now.{IsSoFar, settings_now}
-use Rattle.run_spec.proofs.Lists.{each_map, each_weaker}
+use Rattle.run_spec.proofs.Lists.{each_map}
 use Rattle.run_spec.proofs.SoFar.{standing_now}
 use Rattle.run_spec.proofs.Going.{start_run}
 use Rattle.run_spec.proofs.Ending.{end_limit, all_done, report_end}
 use Rattle.farm_run.specs.Match.{past_if, histories_at}
-use Rattle.farm_run.specs.Journal.{JournalMemory, with_ends}
-use Rattle.farm_run.specs.Facts.{span_lines, sent_in_table, kept_in, call_line, Reports}
-use Rattle.farm_run.specs.Going.{told_after, is_told}
+use Rattle.farm_run.specs.declared.notes.SentBefore.{SentBefore}
+use Rattle.farm_run.specs.Facts.{span_lines, sent_in_table, kept_in, Reports}
+use Rattle.farm_run.specs.Going.{told_after}
 use Rattle.farm_run.specs.Ending.{limit_at}
 use Rattle.farm_run.specs.Noted.{call_end_in, is_opened, ended_at, IsKept, IsNoted, TellsTruly, IsAtEnd}
 use Rattle.farm_run.proofs.Rounds.Open.{open_at}
-use Rattle.farm_run.proofs.Told.Boards.{told_done}
+use Rattle.farm_run.proofs.Told.Boards.{told_done, is_told_end}
 use Rattle.farm_run.proofs.Listed.Tests.{no}
 use Rattle.farm_run.proofs.Ordered.Due.{open_told}
-use Rattle.farm_run.proofs.Told.Ends.{limits_told, limits_apart}
-use Rattle.farm_run.proofs.Noted.Noting.{IsNewEnd, noted_ends, noted_same}
+use Rattle.farm_run.proofs.Noted.Noting.{noted_ends, noted_same}
 use Rattle.farm_run.proofs.Noted.Rounds.{kept_at_end, open_not_ended}
 use Rattle.farm_run.proofs.Noted.Truly.{truly_told}
 use Rattle.farm_run.proofs.Reported.Finishing.{calls_reported, spans_reported}
@@ -57,7 +55,7 @@ all_among P calls h = All-from_recursion P calls (each_among P calls h)
 
 -- ---- the calls that are open
 
-module _ (r : Run) (t : ℕ) (b : State) (farm : FarmMemory) (j : JournalMemory) (end : IsAtEnd r t b farm.calls farm.tallies j) (live : List ℕ)
+module _ (r : Run) (t : ℕ) (b : State) (farm : FarmMemory) (ns : List SentBefore) (end : IsAtEnd r t b farm.calls farm.tallies ns) (live : List ℕ)
     (among : (c : ℕ) → is_among live c ≡ open_now b c) where
   -- the run so far
   abbrev so : IsSoFar r t b.done b.left
@@ -84,16 +82,14 @@ module _ (r : Run) (t : ℕ) (b : State) (farm : FarmMemory) (j : JournalMemory)
       ap (end_of (given_in r) r.periods (done_in r) c) (start_run r t b.done b.left c (start_of b.done c) so at.opened)
       ∙ end_limit r t b.done b.left c (start_of b.done c) so end.none_left at.unclosed (subst (λ (v : ℕ). v ≤ start_of b.done c + whole_in r c) clock alive)
 
-  -- each is the run's end of a call that hasn't ended before
-  pub each_last : AllByRecursion (λ e. (ended_at r b.done t e.call ≡ false) × (e ≡ call_end_in r e.call)) last
-  each_last = each_map (IsNewEnd r (ended_at r b.done t)) (limit_at r.periods) live
-      (each_among (λ c. IsNewEnd r (ended_at r b.done t) (limit_at r.periods c)) live
-      (λ c q. ((open_not_ended r t b.done c (open_is c ∙ q)).0, sym (limit_is c q))))
+  -- each is the run's end
+  each_last : AllByRecursion (λ e. e ≡ call_end_in r e.call) last
+  each_last = each_map (λ e. e ≡ call_end_in r e.call) (limit_at r.periods) live
+      (each_among (λ c. limit_at r.periods c ≡ call_end_in r c) live (λ c q. sym (limit_is c q)))
 
   -- what is kept of them is what was counted so far
-  kept_is : (c : ℕ) → is_told c last ≡ true → IsKept r b.done c (kept_in farm.tallies (histories_at r b.done t) c)
-  kept_is c q =
-      let k = sym (limits_told r.periods c live) ∙ q in
+  kept_is : (c : ℕ) → is_among live c ≡ true → IsKept r b.done c (kept_in farm.tallies (histories_at r b.done t) c)
+  kept_is c k =
       let o = open_is c ∙ k in
       subst (IsKept r b.done c)
       (sym (ap (λ (s : Bool). kept_of (past_if s (law_in r c) (periods_to r c (t - start_of b.done c)) (settings_now r b.done t c)) (tally_in farm.tallies c)) o))
@@ -101,18 +97,18 @@ module _ (r : Run) (t : ℕ) (b : State) (farm : FarmMemory) (j : JournalMemory)
       (ap (λ (e : CallEnd). e.at) (limit_is c k) ∙ sym (end.clock c (sym (among c) ∙ k))) refl)
 
   -- of other calls what was kept stays
-  kept_same : (c : ℕ) → is_told c last ≡ false → kept_in farm.tallies (histories_at r b.done t) c ≡ tally_in farm.tallies c
+  kept_same : (c : ℕ) → is_among live c ≡ false → kept_in farm.tallies (histories_at r b.done t) c ≡ tally_in farm.tallies c
   kept_same c q = ap (λ (s : Bool). kept_of (past_if s (law_in r c) (periods_to r c (t - start_of b.done c)) (settings_now r b.done t c)) (tally_in farm.tallies c))
-      (open_is c ∙ sym (limits_told r.periods c live) ∙ q)
+      (open_is c ∙ q)
 
   -- **Then all calls that were opened have ended, and what is noted of them is right.**
-  noted_last : IsRising live → IsNoted r b.done (is_opened b.done) (with_ends last j) (kept_in farm.tallies (histories_at r b.done t))
-  noted_last rising =
-      noted_same r b.done (λ c. ended_at r b.done t c || is_told c last) (is_opened b.done) (with_ends last j) (kept_in farm.tallies (histories_at r b.done t))
+  noted_last : IsNoted r b.done (is_opened b.done) ns (kept_in farm.tallies (histories_at r b.done t))
+  noted_last =
+      noted_same r b.done (λ c. ended_at r b.done t c || is_among live c) (is_opened b.done) ns (kept_in farm.tallies (histories_at r b.done t))
       (kept_in farm.tallies (histories_at r b.done t))
-      (noted_ends r b.done (ended_at r b.done t) j (tally_in farm.tallies) (kept_in farm.tallies (histories_at r b.done t)) last end.noted each_last
-      (limits_apart r.periods live rising) kept_is kept_same)
-      (λ c. sym (ap (λ (s : Bool). ended_at r b.done t c || s) (limits_told r.periods c live ∙ sym (open_is c))
+      (noted_ends r b.done (ended_at r b.done t) (is_among live) ns (tally_in farm.tallies) (kept_in farm.tallies (histories_at r b.done t)) end.noted kept_is
+      kept_same)
+      (λ c. sym (ap (λ (s : Bool). ended_at r b.done t c || s) (sym (open_is c))
       ∙ all (is_opened b.done c) (is_open (gone_at (whole_in r) t b.done) b.done c) (λ o. (open_not_ended r t b.done c o).1))) (λ c. refl)
     where
       all : (o l : Bool) → (l ≡ true → o ≡ true) → ((o && not l) || l) ≡ o
@@ -122,27 +118,26 @@ module _ (r : Run) (t : ℕ) (b : State) (farm : FarmMemory) (j : JournalMemory)
       all false true h = sym (h refl)
 
   -- **The board was told all ends.**
-  all_told : (now : State) → now ≡ told_after b last → ((c : ℕ) → open_now now c ≡ false) → AllEndedAt (given_in r) r.periods now
-  all_told now told none c o l = by (told_in now c) refl
+  all_told : (now : State) → now ≡ told_after b last → ((c : ℕ) → open_now now c ≡ false) → AllEnded (given_in r) r.periods now
+  all_told now told none c o l = by (end_told now c) refl
     where
       done_is : now.done ≡ b.done
       done_is = ap (λ (s : State). s.done) told ∙ told_done b last
 
       truly : TellsTruly r now
-      truly = subst (TellsTruly r) (sym told) (truly_told r b last (each_weaker (IsNewEnd r (ended_at r b.done t))
-          (λ e. e.at ≡ ends_at (given_in r) r.periods (done_in r) e.call) last (λ e h. ap (λ (x : CallEnd). x.at) h.1) each_last) end.truly)
+      truly = subst (TellsTruly r) (sym told) (truly_told r b last each_last end.truly)
 
       all : done_in r ≡ now.done
       all = all_done r t b.done b.left so end.none_left ∙ sym done_is
 
-      untold : told_in now c ≡ None → open_now now c ≡ true
+      untold : end_told now c ≡ None → open_now now c ≡ true
       untold q =
-          ap (λ (g : Option ℕ). is_some (opened_at c now.done) && not (is_some (closed_at c now.done)) && not (is_some g)) q
+          ap (λ (e : Option CallEnd). is_some (opened_at c now.done) && not (is_some (closed_at c now.done)) && not (is_told_end e)) q
           ∙ ap (λ (l : Option ℕ). is_some (opened_at c now.done) && not (is_some l) && true) l ∙ ap (λ (s : Bool). s && true && true) o
 
-      by : (v : Option ℕ) → told_in now c ≡ v → told_in now c ≡ Some (ends_at (given_in r) r.periods now.done c)
+      by : (v : Option CallEnd) → end_told now c ≡ v → end_told now c ≡ Some (whole_end (given_in r) r.periods now.done c)
       by None q = absurd (no (open_now now c) (none c) (untold q))
-      by (Some at) q = q ∙ ap Some (sym (truly c at q) ∙ ap (λ (ds : List Done). ends_at (given_in r) r.periods ds c) all)
+      by (Some e) q = q ∙ ap Some (truly c e q ∙ ap (λ (ds : List Done). whole_end (given_in r) r.periods ds c) all)
 
   -- ---- the report
 
@@ -163,18 +158,20 @@ module _ (r : Run) (t : ℕ) (b : State) (farm : FarmMemory) (j : JournalMemory)
       ∙ ap {B = ReportView} (λ (x : ℕ). record { replies = replies'; spans = spans'; calls = lines'; failed = failed; left = x }) u
 
   -- **What is reported then is the definition's report.**
-  pub reported : (now : State) (j' : JournalMemory) (report : ReportView) → IsRising live → now ≡ told_after b last → ((c : ℕ) → open_now now c ≡ false) →
-      j' ≡ with_ends last j → Reports now farm j' (length r.orders) report → report ≡ report_of r report.failed
-  reported now j' report rising told none noted reports =
+  pub reported : (now : State) (report : ReportView) → now ≡ told_after b last → ((c : ℕ) → open_now now c ≡ false) →
+      Reports now farm ns (length r.orders) report → report ≡ report_of r report.failed
+  reported now report told none reports =
       let h = histories_at r b.done t in
       let follows = end.follows in
+      let ended = all_told now told none in
       same_report report.replies _ report.spans _ report.calls _ report.failed report.left _ (reports.replies ∙ ap (numbered 0) done_is)
-      (reports.whole (given_in r) r.periods (all_told now told none)
-      ∙ ap (λ (k : JournalMemory). span_lines (sent_in_table reports.sent) (spans_of (given_in r) r.periods now.done) k.bridges) noted
-      ∙ ap (λ (ds : List Done). span_lines (sent_in_table reports.sent) (spans_of (given_in r) r.periods ds) j.bridges) done_is
-      ∙ spans_reported r t b.done b.left (with_ends last j) tally so all (noted_last rising) (sent_in_table reports.sent) (reports.sent_is h follows.stands))
-      (calls_reported r b.done (with_ends last j) tally report.calls all (noted_last rising) reports.sorted
-      (subst (λ (k : JournalMemory). IsPermutation (map (call_line k.calls tally) k.ends) report.calls) noted (reports.calls h follows.stands)) 4096 numbers)
+      (reports.whole (given_in r) r.periods ended
+      ∙ ap (λ (ds : List Done). span_lines (sent_in_table reports.sent) (spans_of (given_in r) r.periods ds) ns) done_is
+      ∙ spans_reported r t b.done b.left ns tally so all noted_last (sent_in_table reports.sent) (reports.sent_is h follows.stands))
+      (reports.calls h follows.stands
+      ∙ calls_reported r now ns tally (all ∙ sym done_is) ended
+      (subst (λ (ds : List Done). IsNoted r ds (is_opened ds) ns tally) (sym done_is) noted_last)
+      ∙ ap (λ (ds : List Done). map (call_line r) (opened_calls ds)) done_is)
       (reports.left ∙ rest)
       ∙ sym (report_end r t b.done b.left report.failed so end.none_left)
     where
@@ -183,9 +180,6 @@ module _ (r : Run) (t : ℕ) (b : State) (farm : FarmMemory) (j : JournalMemory)
 
       all : done_in r ≡ b.done
       all = all_done r t b.done b.left so end.none_left
-
-      numbers : (c : ℕ) → is_opened b.done c ≡ true → (1 ≤ c) × (c < 1 + 4096)
-      numbers c o = let noted = end.noted in let calls = noted.calls in let k = calls.numbers c o in (k.0, let most = k.1 in omega arith)
 
       rest : length r.orders - length now.done ≡ length b.left
       rest =
@@ -196,11 +190,11 @@ module _ (r : Run) (t : ℕ) (b : State) (farm : FarmMemory) (j : JournalMemory)
           omega (arith, whole, mapped, same)
 
 -- **The same of whatever the report gives.**
-pub reported_ok : {E : Type 0} (b now : State) (farm : FarmMemory) (j j' : JournalMemory) (live : List ℕ) (orders periods : ℕ) (x : Result ReportView E) →
-    ((c : ℕ) → is_among live c ≡ open_now b c) → IsRising live → now ≡ told_after b (map (limit_at periods) live) → ((c : ℕ) → open_now now c ≡ false) →
-    j' ≡ with_ends (map (limit_at periods) live) j → IfOk x (Reports now farm j' orders) →
-    IfOk x (λ v. (r : Run) (t : ℕ) → IsAtEnd r t b farm.calls farm.tallies j → r.periods ≡ periods → length r.orders ≡ orders → v ≡ report_of r v.failed)
-reported_ok b now farm j j' live orders periods (Err e) among rising told none noted reports = tt
-reported_ok b now farm j j' live orders periods (Ok v) among rising told none noted reports = λ r t end p o.
-    reported r t b farm j end live among now j' v rising (told ∙ ap (λ (n : ℕ). told_after b (map (limit_at n) live)) (sym p)) none
-    (noted ∙ ap (λ (n : ℕ). with_ends (map (limit_at n) live) j) (sym p)) (subst (λ (n : ℕ). Reports now farm j' n v) (sym o) reports)
+pub reported_ok : {E : Type 0} (b now : State) (farm : FarmMemory) (ns : List SentBefore) (live : List ℕ) (orders periods : ℕ) (x : Result ReportView E) →
+    ((c : ℕ) → is_among live c ≡ open_now b c) → now ≡ told_after b (map (limit_at periods) live) → ((c : ℕ) → open_now now c ≡ false) →
+    IfOk x (Reports now farm ns orders) →
+    IfOk x (λ v. (r : Run) (t : ℕ) → IsAtEnd r t b farm.calls farm.tallies ns → r.periods ≡ periods → length r.orders ≡ orders → v ≡ report_of r v.failed)
+reported_ok b now farm ns live orders periods (Err e) among told none reports = tt
+reported_ok b now farm ns live orders periods (Ok v) among told none reports = λ r t end p o.
+    reported r t b farm ns end live among now v (told ∙ ap (λ (n : ℕ). told_after b (map (limit_at n) live)) (sym p)) none
+    (subst (λ (n : ℕ). Reports now farm ns n v) (sym o) reports)

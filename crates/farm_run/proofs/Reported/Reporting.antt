@@ -1,21 +1,23 @@
--- What the report tells of calls and bridges.
-use Rattle.std.proofs.Common.{◌≡◌, refl, sym, ap, ◌∙◌, subst, ℕ, suc, ◌+◌, ◌<◌, Option, Some, None, List, [], ◌∷◌, ◌++◌, length, map, take, get_or, inl}
+-- What the report says of calls and bridges.
+use Rattle.std.proofs.Common.{◌≡◌, refl, sym, ap, ◌∙◌, subst, ℕ, zero, suc, ◌+◌, ◌-◌, ◌<◌, ◌≤◌, Option, Some, None, List, [], ◌∷◌, ◌++◌, length, get_or, inl}
 use Rattle.std.proofs.Common.{inr, set, arith}
+use Rattle.std.specs.Prelude.{option_map}
+use Rattle.std.specs.List.{filter_map, cons_option, range_with_len}
 use Rattle.std.proofs.lemmas.Bool.{cases_eq}
-use Rattle.std.proofs.lemmas.List.{map_more, map-append, get_or-set_same, get_or-set_other}
+use Rattle.std.proofs.lemmas.List.{append-nil, get_or-set_same, get_or-set_other}
+use Rattle.std.proofs.lemmas.List.Elements.{filter_map-append}
 use Rattle.call_number.specs.CallNumber.{IsCallNumber}
 use Rattle.trau_io.specs.declared.ends.CallEnd.{CallEnd}
 use Rattle.trau_io.specs.declared.ends.Counts.{Counts}
 use Rattle.farm_report.specs.declared.report.CallLine.{CallLine}
 use Rattle.switchboard.specs.Calls.{Done}
-use Rattle.switchboard.specs.State.{numbered}
+use Rattle.switchboard.specs.Ends.{start_of}
+use Rattle.switchboard.specs.State.{State, end_so_far, numbered}
 use Rattle.farm_rounds.specs.declared.tally.Tally.{Tally}
 use Rattle.farm_rounds.specs.Calls.{Call, Kept, call_in, partner_in}
 use Rattle.farm_rounds.specs.Memory.{tally_in}
 use Rattle.farm_rounds.specs.Histories.{CallHistory, CallStands, CallsStand, kept_of, tally_of}
-use Rattle.farm_run.specs.Journal.{opening_of}
 use Rattle.farm_run.specs.Facts.{kept_in, call_line}
-use Rattle.farm_run.proofs.Told.Next.{front}
 
 -- **What a farm says of an open call and of an ended one is what is kept of it.**
 pub kept_value : {X : Type 0} (f : Tally → X) (h : ℕ → Option CallHistory) (calls : List Kept) (tallies : List Tally) (c : ℕ) (r : X) → CallsStand h calls →
@@ -30,27 +32,45 @@ kept_value f h calls tallies c r g live ended = by (h c) refl
     by (Some x) q = live x q
     by None q = ended (none_call (call_in calls c) (partner_in calls c) (subst (λ o. CallStands c o (call_in calls c) (partner_in calls c)) q (g c)))
 
--- **One call's line more.**
-pub line_more : (ends xs : List CallEnd) (calls : List ℕ) (kept : ℕ → Tally) (i : ℕ) (e : CallEnd) (from : ℕ) (counts : Counts)
-    (old new : List CallLine) → xs ≡ ends → i < length xs → e ≡ get_or xs i e →
-    from ≡ opening_of calls e.call → counts ≡ (kept e.call).counts → old ≡ map (call_line calls kept) (take i ends) →
-    new ≡ old ++ record { end = e; from = from; counts = counts } ∷ [] →
-    new ≡ map (call_line calls kept) (take (i + 1) ends)
-line_more ends xs calls kept i e from counts old new same l is f k h n =
-    n ∙ ap (λ ls. ls ++ record { end = e; from = from; counts = counts } ∷ []) (h ∙ ap (λ es. map (call_line calls kept) (take i es)) (sym same))
-    ∙ ap (λ m. map (call_line calls kept) (take i xs) ++ record { end = e; from = m; counts = counts } ∷ []) f
-    ∙ ap (λ m. map (call_line calls kept) (take i xs) ++ record { end = e; from = opening_of calls e.call; counts = m } ∷ []) k
-    ∙ ap (λ d. map (call_line calls kept) (take i xs) ++ call_line calls kept d ∷ []) is
-    ∙ sym (map_more (call_line calls kept) xs i e l)
-    ∙ ap (λ es. map (call_line calls kept) (take (i + 1) es)) same
+-- ---- the lines of calls, in call-number order
 
--- one line more
-pub ends_more : (ends xs : List CallEnd) (i : ℕ) (e : CallEnd) (from : ℕ) (counts : Counts) (old new : List CallLine) → xs ≡ ends → i < length xs →
-    e ≡ get_or xs i e → map (λ (l : CallLine). l.end) old ≡ take i ends →
-    new ≡ old ++ record { end = e; from = from; counts = counts } ∷ [] → map (λ (l : CallLine). l.end) new ≡ take (i + 1) ends
-ends_more ends xs i e from counts old new same l is h n =
-    ap (map (λ (x : CallLine). x.end)) n ∙ map-append (λ (x : CallLine). x.end) old (record { end = e; from = from; counts = counts } ∷ [])
-    ∙ ap (λ es. es ++ e ∷ []) (h ∙ ap (take i) (sym same)) ∙ sym (front xs i e l is) ∙ ap (take (i + 1)) same
+-- the line of a call with this end, if it has one
+abbrev line_of : State → (ℕ → Tally) → ℕ → Option CallEnd → Option CallLine
+line_of b kept c o = option_map (λ (e : CallEnd). record { end = e; from = start_of b.done c; counts = (kept c).counts }) o
+
+-- one number more
+range_more : (a n j : ℕ) → a + n ≡ j → range_with_len a (suc n) ≡ range_with_len a n ++ j ∷ []
+range_more a zero j e = let q : a ≡ j = omega arith in ap (λ (x : ℕ). x ∷ []) q
+range_more a (suc n) j e = ap (λ xs. a ∷ xs) (range_more (a + 1) n j (omega arith))
+
+-- the lines up to a number, and that of the next one
+lines_next : (f : ℕ → Option CallLine) (c : ℕ) → 1 ≤ c →
+    filter_map f (range_with_len 1 (c + 1 - 1)) ≡ filter_map f (range_with_len 1 (c - 1)) ++ cons_option (f c) []
+lines_next f c first =
+    ap (λ (n : ℕ). filter_map f (range_with_len 1 n)) (let e : c + 1 - 1 ≡ suc (c - 1) = omega arith in e)
+    ∙ ap (filter_map f) (range_more 1 (c - 1) c (omega arith)) ∙ filter_map-append f (range_with_len 1 (c - 1)) (c ∷ [])
+
+-- **A call that hasn't ended has no line,**
+pub line_none : (b : State) (kept : ℕ → Tally) (c : ℕ) (lines : List CallLine) → 1 ≤ c → end_so_far b c ≡ None →
+    lines ≡ filter_map (call_line b kept) (range_with_len 1 (c - 1)) → lines ≡ filter_map (call_line b kept) (range_with_len 1 (c + 1 - 1))
+line_none b kept c lines first none so_far =
+    so_far ∙ sym (lines_next (call_line b kept) c first
+    ∙ ap (λ (o : Option CallEnd). filter_map (call_line b kept) (range_with_len 1 (c - 1)) ++ cons_option (line_of b kept c o) []) none
+    ∙ append-nil (filter_map (call_line b kept) (range_with_len 1 (c - 1))))
+
+-- **and one that has ended has one.**
+pub line_more : (b : State) (kept : ℕ → Tally) (c : ℕ) (e : CallEnd) (from : ℕ) (counts : Counts) (old new : List CallLine) → 1 ≤ c →
+    end_so_far b c ≡ Some e → from ≡ start_of b.done c → counts ≡ (kept c).counts →
+    new ≡ old ++ record { end = e; from = from; counts = counts } ∷ [] → old ≡ filter_map (call_line b kept) (range_with_len 1 (c - 1)) →
+    new ≡ filter_map (call_line b kept) (range_with_len 1 (c + 1 - 1))
+line_more b kept c e from counts old new first ended begins counted is so_far =
+    is ∙ ap (λ (ls : List CallLine). ls ++ record { end = e; from = from; counts = counts } ∷ []) so_far
+    ∙ ap (λ (m : ℕ). before ++ record { end = e; from = m; counts = counts } ∷ []) begins
+    ∙ ap (λ (m : Counts). before ++ record { end = e; from = start_of b.done c; counts = m } ∷ []) counted
+    ∙ sym (lines_next (call_line b kept) c first ∙ ap (λ (o : Option CallEnd). before ++ cons_option (line_of b kept c o) []) ended)
+  where
+    before : List CallLine
+    before = filter_map (call_line b kept) (range_with_len 1 (c - 1))
 
 pub length-numbered : (n : ℕ) (ds : List Done) → length (numbered n ds) ≡ length ds
 length-numbered n [] = refl

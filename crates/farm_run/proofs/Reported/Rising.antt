@@ -1,11 +1,8 @@
--- Lists of numbers that rise, and lists that are sorted by a number.
-use Rattle.std.proofs.Common.{◌≡◌, ◌≢◌, refl, sym, ap, ◌∙◌, ℕ, zero, suc, ◌+◌, ◌<◌, ◌≤◌, Bool, true, false, ◌||◌, List, [], ◌∷◌, map, cond, inl, inr, arith}
-use Rattle.std.specs.Prelude.{◌==◌, nat_lt, filter}
-use Rattle.std.specs.List.{list_any, count_by, range_with_len}
-use Rattle.std.specs.List.Sorted.{IsNonDecreasingBy, IsPermutation}
-use Rattle.std.proofs.lemmas.Bool.{cases_lt, cases_eq, eq-eqb, ne_eqb, lt-ltb}
-use Rattle.std.proofs.lemmas.List.Sums.{sum_by-cons}
-use Rattle.std.proofs.lemmas.List.Sorted.{sum_by-IsPermutation}
+-- Lists of numbers that rise.
+use Rattle.std.proofs.Common.{◌≡◌, ◌≢◌, refl, sym, ap, ◌∙◌, ℕ, zero, suc, ◌+◌, ◌<◌, ◌≤◌, Bool, true, false, ◌||◌, List, [], ◌∷◌, cond, inl, inr, arith}
+use Rattle.std.specs.Prelude.{◌==◌, filter}
+use Rattle.std.specs.List.{list_any, range_with_len}
+use Rattle.std.proofs.lemmas.Bool.{cases_lt, cases_eq, eq-eqb, ne_eqb}
 use Rattle.farm_run.proofs.Listed.Tests.{no}
 
 -- each is above the one before, and the first is at least m
@@ -91,65 +88,3 @@ range_has p a (suc n) c h = elim (cases_eq c a) [
         ≡ has c (filter p (range_with_len (a + 1) n))
     skip true q = ap (λ (b : Bool). b || has c (filter p (range_with_len (a + 1) n))) (ne_eqb c a q)
     skip false q = refl
-
--- ---- how often a number comes
-
--- a test as a number
-abbrev pub one_if : Bool → ℕ
-one_if b = cond b 1 0
-
-pub count_map : {X Y : Type 0} (p : Y → Bool) (f : X → Y) (xs : List X) → count_by p (map f xs) ≡ count_by (λ x. p (f x)) xs
-count_map p f [] = refl
-count_map p f (x ∷ xs) =
-    sum_by-cons (λ y. one_if (p y)) (f x) (map f xs) ∙ ap (λ (n : ℕ). one_if (p (f x)) + n) (count_map p f xs) ∙ sym (sum_by-cons (λ x. one_if (p (f x))) x xs)
-
--- one that passes the test is there where some are counted
-pub any_count : {X : Type 0} (p : X → Bool) (xs : List X) → list_any p xs ≡ nat_lt 0 (count_by p xs)
-any_count p [] = refl
-any_count p (x ∷ xs) = by (p x) (any_count p xs) ∙ ap (nat_lt 0) (sym (sum_by-cons (λ x. one_if (p x)) x xs))
-  where
-    by : (b : Bool) → list_any p xs ≡ nat_lt 0 (count_by p xs) → (b || list_any p xs) ≡ nat_lt 0 (one_if b + count_by p xs)
-    by true h = sym (lt-ltb 0 (1 + count_by p xs) (omega arith))
-    by false h = h ∙ ap (nat_lt 0) (let e : count_by p xs ≡ 0 + count_by p xs = omega arith in e)
-
--- as many are counted in another order
-pub count_shuffled : {X : Type 0} (p : X → Bool) (xs ys : List X) → IsPermutation xs ys → count_by p ys ≡ count_by p xs
-count_shuffled p xs ys s = sum_by-IsPermutation (λ x. one_if (p x)) xs ys s
-
--- none of the numbers is lower
-abbrev AtLeast : ℕ → List ℕ → Type 0
-AtLeast m [] = Unit {0}
-AtLeast m (x ∷ xs) = m ≤ x
-
--- **A sorted list in which no number comes twice rises.**
-rises_by : {X : Type 0} (f : X → ℕ) (m : ℕ) (xs : List X) → AtLeast m (map f xs) → IsNonDecreasingBy f xs →
-    ((c : ℕ) → count_by (λ x. c == f x) xs ≤ 1) → Rises m (map f xs)
-rises_by f m [] l h k = tt
-rises_by {X} f m (x ∷ xs) l h k = (l, rises_by f (suc (f x)) xs (next xs h k) (λ i j d a b. h (suc i) (suc j) d (omega arith) (omega arith)) (λ c. fewer c))
-  where
-    fewer : (c : ℕ) → count_by (λ x. c == f x) xs ≤ 1
-    fewer c = let all = k c in let e = sum_by-cons (λ x. one_if (c == f x)) x xs in omega arith
-
-    next : (ys : List X) → IsNonDecreasingBy f (x ∷ ys) → ((c : ℕ) → count_by (λ x. c == f x) (x ∷ ys) ≤ 1) → AtLeast (suc (f x)) (map f ys)
-    next [] h k = tt
-    next (y ∷ ys) h k = elim (cases_eq (f x) (f y)) [
-      | inl q ↦ absurd (twice (count_by (λ z. f x == f z) ys)
-          (sum_by-cons (λ z. one_if (f x == f z)) x (y ∷ ys) ∙ ap (λ (n : ℕ). one_if (f x == f x) + n) (sum_by-cons (λ z. one_if (f x == f z)) y ys)
-          ∙ ap (λ (b : Bool). one_if b + (one_if (f x == f y) + count_by (λ z. f x == f z) ys)) (eq-eqb (f x) (f x) refl)
-          ∙ ap (λ (b : Bool). 1 + (one_if b + count_by (λ z. f x == f z) ys)) (eq-eqb (f x) (f y) q)) (k (f x)))
-      | inr q ↦ let l = h 0 1 x (omega arith) (omega arith) in above (f x) (f y) l q
-    ]
-      where
-        twice : (n : ℕ) {m : ℕ} → m ≡ 1 + (1 + n) → m ≤ 1 → ⊥
-        twice n e l = absurd (omega arith)
-
-        above : (a b : ℕ) → a ≤ b → a ≢ b → suc a ≤ b
-        above a b l n = omega arith
-
--- **What is sorted by a number, each number once, rises by it.**
-pub sorted_rises : {X : Type 0} (f : X → ℕ) (xs : List X) → IsNonDecreasingBy f xs → ((c : ℕ) → count_by (λ x. c == f x) xs ≤ 1) → Rises 0 (map f xs)
-sorted_rises f xs h k = rises_by f 0 xs (least xs) h k
-  where
-    least : (xs : List _) → AtLeast 0 (map f xs)
-    least [] = tt
-    least (x ∷ xs) = omega arith

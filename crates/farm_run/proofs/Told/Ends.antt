@@ -4,7 +4,7 @@ use Rattle.std.proofs.Common.{◌∷◌, length, map, take, get_or, arith}
 use Rattle.std.specs.Prelude.{◌==◌, if◌then◌else◌, is_some, IfSome, slice_index}
 use Rattle.std.specs.List.{AllByRecursion}
 use Rattle.std.proofs.lemmas.Bool.{eqb-true}
-use Rattle.std.proofs.lemmas.List.{take_all, append-nil}
+use Rattle.std.proofs.lemmas.List.{take_all}
 use Rattle.trau_io.specs.declared.ends.CallEnd.{CallEnd}
 use Rattle.trau_orders.specs.Lists.{AreOrders}
 use Rattle.switchboard.specs.State.{State, EndBefore, first_stamp, last_stamp, orders_of, told_more}
@@ -12,7 +12,6 @@ use Rattle.switchboard.specs.Open.{open_now, partner_now, open_without}
 use Rattle.farm_rounds.specs.Calls.{Kept, call_in, partner_in}
 use Rattle.farm_rounds.specs.Numbers.{IsRising, is_among}
 use Rattle.farm_run.specs.Going.{told_after, is_told}
-use Rattle.farm_run.specs.Journal.{JournalMemory, with_ends}
 use Rattle.farm_run.specs.Match.{AtClock}
 use Rattle.farm_run.specs.Ending.{AreApart, has_left, partner_past, limit_at}
 use Rattle.farm_run.proofs.Told.Boards.{told_done, told_left, told_orders, told_next, before_round}
@@ -58,10 +57,6 @@ none_told was = record { told = refl; is_open = λ c. kept (open_now was c) }
     kept true = refl
     kept false = refl
 
--- or noted,
-pub no_ends_noted : (j : JournalMemory) → j ≡ with_ends [] j
-no_ends_noted j = ap (λ es. record j { ends = es }) (sym (append-nil j.ends))
-
 -- and each call has its partner
 pub none_past : (partner : ℕ → Option ℕ) (c : ℕ) → partner c ≡ partner_past [] partner c
 none_past partner c = go (partner c)
@@ -70,11 +65,7 @@ none_past partner c = go (partner c)
     go None = refl
     go (Some p) = refl
 
--- all ends are noted
-pub all_noted : (ends : List CallEnd) (i : ℕ) (start now : JournalMemory) → length ends ≤ i → now ≡ with_ends (take i ends) start → now ≡ with_ends ends start
-all_noted ends i start now l h = h ∙ ap (λ es. with_ends es start) (take_all i ends l)
-
--- and told
+-- all ends are told
 pub told_all : (was now : State) (ends : List CallEnd) (i : ℕ) → length ends ≤ i → IsTold was now (take i ends) → IsTold was now ends
 told_all was now ends i l h = subst (IsTold was now) (take_all i ends l) h
 

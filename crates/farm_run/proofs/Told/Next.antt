@@ -4,13 +4,12 @@ use Rattle.std.proofs.Common.{length, take, get_or, inl, inr, arith}
 use Rattle.std.specs.Prelude.{◌==◌, if◌then◌else◌}
 use Rattle.std.specs.List.{list_any}
 use Rattle.std.proofs.lemmas.Bool.{cases_Bool, eqb-true, eq-eqb}
-use Rattle.std.proofs.lemmas.List.{take_more, append_assoc}
+use Rattle.std.proofs.lemmas.List.{take_more}
 use Rattle.trau_io.specs.declared.ends.CallEnd.{CallEnd}
 use Rattle.trau_io.specs.declared.ends.Cause.TheVariants.{Closed}
 use Rattle.switchboard.specs.Calls.{is_this}
 use Rattle.switchboard.specs.Open.{partner_without}
 use Rattle.farm_run.specs.Going.{is_told}
-use Rattle.farm_run.specs.Journal.{JournalMemory, with_end, with_ends}
 use Rattle.farm_run.specs.Ending.{AreApart, has_left, partner_past}
 
 -- stands in a list of ends where there is none
@@ -152,10 +151,3 @@ apart_front (d ∷ ends) (suc i) e a l is = by (e.call == d.call) refl (apart_fr
     by : (b : Bool) → (e.call == d.call) ≡ b → is_told e.call (take i ends) ≡ false → (b || is_told e.call (take i ends)) ≡ false
     by false q h = h
     by true q h = let g = eq-eqb d.call e.call (sym (eqb-true e.call d.call q)) in let f = among d.call ends i e (omega arith) is a.0 in cc
-
--- **One end more is noted.**
-pub noted_more : (ends : List CallEnd) (i : ℕ) (e : CallEnd) (start old new : JournalMemory) → i < length ends → e ≡ get_or ends i e → new ≡ with_end e old →
-    old ≡ with_ends (take i ends) start → new ≡ with_ends (take (i + 1) ends) start
-noted_more ends i e start old new l is n h =
-    n ∙ ap (with_end e) h ∙ ap (λ es. record start { ends = es }) (append_assoc start.ends (take i ends) (e ∷ []))
-    ∙ ap (λ es. with_ends es start) (sym (front ends i e l is))

@@ -23,7 +23,6 @@ use Rattle.farm_rounds.specs.Working.{goes_on_call, that_stays}
 use Rattle.run_spec.proofs.Lists.{each_weaker}
 use Rattle.farm_run.specs.Going.{told_after, is_told}
 use Rattle.farm_run.specs.Ending.{AreOpen, AreApart, AreLate, has_left, partner_past}
-use Rattle.farm_run.specs.Journal.{HaveNumbers}
 use Rattle.farm_run.specs.Match.{AtClock}
 use Rattle.farm_run.proofs.Told.Ends.{clock_round}
 use Rattle.farm_run.proofs.Told.Seats.{seats_apart}
@@ -91,11 +90,7 @@ module _ (t n : ℕ) (b : State) (farm : FarmMemory) (before between : ℕ → S
   pub ends_right : AllByRecursion (IsRight t n b) ends
   ends_right = subst (AllByRecursion (IsRight t n b)) (sym w.told) (each_told (IsRight t n b) t worked seat_right)
 
-  -- **So the board can be told of these ends.**
-  pub tells_numbers : HaveNumbers ends
-  tells_numbers = All-from_recursion (λ e. IsCallNumber e.call) ends (each_weaker (IsRight t n b) (λ e. IsCallNumber e.call) ends (λ e q. q.number) ends_right)
-
-  -- its call is open,
+  -- **So the board can be told of these ends: its call is open,**
   pub tells_open : AreOpen b ends
   tells_open =
       All-from_recursion (λ e. open_now b e.call ≡ true) ends (each_weaker (IsRight t n b) (λ e. open_now b e.call ≡ true) ends (λ e q. q.open_now) ends_right)

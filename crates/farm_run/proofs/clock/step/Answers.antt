@@ -15,7 +15,7 @@ use Rattle.farm_run.proofs.clock.step.Given.{Over}
 pub execute_orders-requires : goal.execute_orders-requires
 execute_orders-requires g c =
     let s = c.requires.stage in
-    record { clock = s.clock; shut = s.shut; few = s.few; bridges = s.bridges; knows = s.knows }
+    record { clock = s.clock; few = s.few; bridges = s.bridges; knows = s.knows }
 
 pub returns-then-is_empty-clause-reaches : goal.returns-then-is_empty-clause-reaches
 returns-then-is_empty-clause-reaches g c =
@@ -23,13 +23,13 @@ returns-then-is_empty-clause-reaches g c =
     let s = c.args.stage in
     let b = c.execute_orders.new.board in
     let farm = c.execute_orders.new.farm in
-    let j = c.execute_orders.new.journal in
+    let ns = c.execute_orders.new.notes in
     let o = c.in_ok-execute_orders.ensures.done in
     let to = goes_to c.args.stage.clock c.args.until c.idle_until.result c.next_stamp-next.result _ c.idle_until.ensures c.next_stamp-next.ensures.stamp
     c.requires.before c.in_ok-execute_orders.ensures.next in
-    orders_more s b farm j c.requires.stage o c.args.pace.now.batch _ lines lines to.0
-    (idle_reaches c.args.pace.now.batch (record s { board = b; farm = farm; journal = j }) c.idle_until.result lines
-    (stage_behind s b farm j c.requires.stage o) (omega (arith, to.0)) to.2
+    orders_more s b farm ns c.requires.stage o c.args.pace.now.batch _ lines lines to.0
+    (idle_reaches c.args.pace.now.batch (record s { board = b; farm = farm; notes = ns }) c.idle_until.result lines
+    (stage_behind s b farm ns c.requires.stage o) (omega (arith, to.0)) to.2
     (λ d. sym (c.live_calls.ensures.calls d) ∙ none_among c.live_calls.result.now d (sym c.is_empty.ensures ∙ c.if-is_empty.true)))
 
 -- how far the round goes
@@ -72,18 +72,17 @@ returns-clause-reaches g c =
     let s = c.args.stage in
     let b = c.execute_orders.new.board in
     let farm = c.execute_orders.new.farm in
-    let j = c.execute_orders.new.journal in
+    let ns = c.execute_orders.new.notes in
     let o = c.in_ok-execute_orders.ensures.done in
     let some = went g c in
     ok_both (λ after. after.clock ≡ c.args.stage.clock + c.round_periods-periods.result)
     (λ after. Reaches c.args.pace.now.batch (record c.args.stage {
       board = c.execute_orders.new.board;
       farm = c.execute_orders.new.farm;
-      journal =
-          c.execute_orders.new.journal;
+      notes = c.execute_orders.new.notes;
     }) after (g.T.Trunk.lines c.args.trunk.now) (g.T.Trunk.lines c.work_round.new.trunk))
     (λ after. Reaches c.args.pace.now.batch c.args.stage after (g.T.Trunk.lines c.args.trunk.now) (g.T.Trunk.lines c.work_round.new.trunk)) c.work_round.result
-    (λ after clock reaches. orders_more s b farm j c.requires.stage o c.args.pace.now.batch after before now
+    (λ after clock reaches. orders_more s b farm ns c.requires.stage o c.args.pace.now.batch after before now
     (omega (arith, clock, some.0)) reaches) c.work_round.ensures.clock c.work_round.ensures.reaches
 
 pub returns-in_err-execute_orders : goal.returns-in_err-execute_orders

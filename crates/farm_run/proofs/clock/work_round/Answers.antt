@@ -1,4 +1,4 @@
-use Rattle.std.proofs.Common.{rules, refl, sym, ap, ◌∙◌, subst, ℕ, ◌+◌, ◌<◌, ◌≤◌, Option, None, Some, length, slice_index, arith}
+use Rattle.std.proofs.Common.{rules, ◌≡◌, refl, sym, ap, ◌∙◌, subst, ℕ, ◌+◌, ◌<◌, ◌≤◌, Option, None, Some, length, slice_index, arith}
 use Rattle.round_lines.specs.Seats.{SeatMemory}
 use Rattle.farm_rounds.specs.Calls.{Call, call_in}
 use Rattle.farm_rounds.specs.RoundHistories.{seat_for}
@@ -14,10 +14,7 @@ use Rattle.farm_run.proofs.Rounds.Taken.{IsRound}
 use Rattle.farm_run.specs.Clock.{IsAtClock, EndsRound}
 use Rattle.farm_run.specs.Outgoing.{is_held}
 use Rattle.farm_run.specs.Stages.{OpenedBefore}
-use Rattle.farm_run.specs.Ending.{AreShut}
-use Rattle.farm_run.specs.Journal.{JournalMemory}
 use Rattle.farm_run.proofs.Lines.Cutting.{on_err}
-use Rattle.farm_run.proofs.Told.Few.{new_ends, shut_more}
 use Rattle.farm_run.specs.Standing.{Standing, standing, StandingGoesOn, HasFlags, MeetsRun}
 use Rattle.farm_run.proofs.Noted.Knowing.{known_round}
 use Rattle.farm_run.proofs.Listed.Round.{listed_back}
@@ -29,7 +26,7 @@ use Rattle.farm_run.proofs.Worked.Round.{FilledRound, WorkedRound}
 use Rattle.farm_run.proofs.Worked.Facts.{outgoing_between}
 use Rattle.farm_run.proofs.Listed.Counts.{fell_round, tells_round}
 use Rattle.farm_run.proofs.Lines.Sides.{sides_more, sides_filled}
-use Rattle.farm_run.proofs.Worked.Clock.{tells_numbers, tells_open, tells_apart, tells_late, clock_after}
+use Rattle.farm_run.proofs.Worked.Clock.{tells_open, tells_apart, tells_late, clock_after}
 use Rattle.farm_run.proofs.Worked.Lines.{clock_is}
 use Rattle.farm_run.proofs.Worked.Board.{ends_are, told_is}
 use Rattle.farm_run.proofs.Worked.Written.{written_after}
@@ -77,9 +74,6 @@ fill-requires g c =
     (unread c.args.periods (slice_index live k) (call_in calls (slice_index live k))) in
     search rules
 
-pub tell_ends-requires-clause-numbers : goal.tell_ends-requires-clause-numbers
-tell_ends-requires-clause-numbers g c = tells_numbers _ _ c.args.stage.board _ _ _ _ _ _ _ (front g c) c.requires.stage.clock
-
 pub tell_ends-requires-clause-open : goal.tell_ends-requires-clause-open
 tell_ends-requires-clause-open g c = tells_open _ _ c.args.stage.board _ _ _ _ _ _ _ (front g c) c.requires.stage.clock
 
@@ -88,10 +82,6 @@ tell_ends-requires-clause-apart g c = tells_apart _ _ c.args.stage.board _ _ _ _
 
 pub tell_ends-requires-clause-late : goal.tell_ends-requires-clause-late
 tell_ends-requires-clause-late g c = tells_late _ _ c.args.stage.board _ _ _ _ _ _ _ (front g c) c.requires.stage.clock
-
-pub tell_ends-requires-clause-new : goal.tell_ends-requires-clause-new
-tell_ends-requires-clause-new g c = new_ends c.args.stage.board c.args.stage.journal.ends c.ends.result.now c.requires.stage.shut
-    (tells_open _ _ c.args.stage.board _ _ _ _ _ _ _ (front g c) c.requires.stage.clock)
 
 -- the whole round
 round : (g : Over) (c : goal.After-settle-farm g) → WorkedRound c.args.stage.clock c.args.periods c.args.stage.farm c.settle-farm.result
@@ -173,12 +163,11 @@ meets g c r last flags on =
     meets_run _ _ c.args.stage.board _ _ _ _ _ (round g c) c.requires.stage.clock c.requires.stage.knows c.tell_ends.new.board told.told
     told.open r last flags on
 
--- what it tells, notes and keeps of the calls that end in it
+-- what it tells and keeps of the calls that end in it
 ends : (g : Over) (c : goal.After-settle-farm g) (r : Run) (first : _) (last : Standing) → HasFlags r last → c.args.stage.clock + c.args.periods ≤ r.periods →
     StandingGoesOn (standing c.tell_ends.new.board c.settle-farm.result.failed (g.T.Trunk.lines c.settle-farm.new.trunk)) last →
     IsAtClock r c.args.stage.clock c.args.stage.board c.args.stage.farm.calls last first (g.T.Trunk.lines c.args.trunk.now) →
-    EndsRound r c.args.stage.clock c.args.periods c.args.stage.board c.tell_ends.new.board c.args.stage.journal c.tell_ends.new.journal
-    c.args.stage.farm.tallies c.settle-farm.result.tallies
+    EndsRound r c.args.stage.clock c.args.periods c.args.stage.board c.tell_ends.new.board c.args.stage.farm.tallies c.settle-farm.result.tallies
 ends g c r first last flags l on at =
     let told = c.tell_ends.ensures in
     let w = round g c in
@@ -189,7 +178,6 @@ ends g c r first last flags l on at =
     record {
       ends = c.ends.result.now;
       board = told.told;
-      noted = told.noted;
       each = ends_are r _ _ c.args.stage.board _ _ first _ _ _ w h m b' last at met told.told told.open;
       apart = tells_apart _ _ c.args.stage.board _ _ _ _ _ _ _ (parts.front _ _ _ _ _ _ _ w) c.requires.stage.clock;
       told = told_is r _ _ c.args.stage.board _ _ first _ _ _ w h m b' last at met told.told told.open;
@@ -208,16 +196,12 @@ returns-clause-reaches g c =
     let knows = c.requires.stage.knows in
     let t = c.args.stage.clock in
     let n = c.args.periods in
+    let done : b'.done ≡ b.done = ap (λ (s : State). s.done) told.told ∙ told_done b c.ends.result.now in
     record {
       later = omega arith;
       stage = record {
         clock = clock_after _ _ b _ _ _ _ _ w a b' c.bridges_join_two.ensures c.requires.clear told.told told.open told.partner;
-        shut = subst (λ (j : JournalMemory). AreShut b' j.ends) (sym told.noted)
-            (shut_more b b' c.args.stage.journal.ends c.ends.result.now c.requires.stage.shut
-            (tells_open _ _ b _ _ _ _ _ _ _ (parts.front _ _ _ _ _ _ _ w) a) told.told told.open);
-        bridges = (let noted = ap (λ (j : JournalMemory). length j.bridges) told.noted in
-            let done = ap length (ap (λ (s : State). s.done) told.told ∙ told_done b c.ends.result.now) in
-            omega (arith, noted, done, c.requires.stage.bridges));
+        bridges = omega (arith, ap length done, c.requires.stage.bridges);
         ended = omega (
           arith,
           c.settle-farm.ensures.ended,
@@ -230,7 +214,7 @@ returns-clause-reaches g c =
       };
       kept = ap (λ (s : State). orders_of s) told.told ∙ told_orders b c.ends.result.now;
       way = c.settle-farm.ensures.same;
-      openings = λ z l openings. subst (λ (j : JournalMemory). OpenedBefore z j.calls) (sym told.noted) openings;
+      openings = λ z l openings. subst (OpenedBefore z) (sym done) openings;
       fell = fell_round _ _ _ _ _ _ _ w;
       failed = λ first later failed. tells_round _ _ _ _ _ _ _ w first later failed;
       sides = sides_more _ _ _ (sides_filled _ _ c.in_ok-round.round.seats c.fill.new.self.seats _ c.fill.ensures.fills c.fill.ensures.others)
@@ -243,7 +227,7 @@ returns-clause-reaches g c =
       run = λ r first last flags l on at. clock_is r _ _ b _ _ first _ _ _ w (in_run g c r first last l at) m b' last at
           (meets g c r last flags on) told.told told.open;
       known = λ r first last flags l on at known.
-          known_round r t n b b' c.args.stage.journal c.tell_ends.new.journal c.args.stage.farm.tallies c.settle-farm.result.tallies
+          known_round r t n b b' c.args.stage.notes c.args.stage.farm.tallies c.settle-farm.result.tallies
           (in_run g c r first last l at) (ends g c r first last flags l on at) known;
       wrote = λ held from before r first last flags l on at wrote.
           written_after r _ _ b _ _ first _ _ _ w (in_run g c r first last l at) m b' last at

@@ -1,16 +1,14 @@
-use Rattle.std.proofs.Common.{◌≡◌, sym, ap, ◌∙◌, get_or, take}
+use Rattle.std.proofs.Common.{◌≡◌, sym, ap, ◌∙◌, get_or}
 use Rattle.std.specs.Prelude.{slice_index_or}
 use Rattle.std.proofs.lemmas.List.{get_or_default, take_all}
 use Rattle.switchboard.specs.Open.{partner_now}
 use Rattle.farm_run.specs.Ending.{partner_past}
-use Rattle.farm_run.specs.Journal.{JournalMemory}
-use Rattle.farm_run.proofs.Told.Few.{not_noted}
-use Rattle.farm_run.proofs.Told.Next.{no_end, front, apart_front, partner_more, noted_more}
-use Rattle.farm_run.proofs.Told.Ends.{none_told, no_ends_noted, none_past, told_all, all_noted, told_step, told_open, told_late}
+use Rattle.farm_run.proofs.Told.Next.{no_end, front, apart_front, partner_more}
+use Rattle.farm_run.proofs.Told.Ends.{none_told, none_past, told_all, told_step, told_open, told_late}
 use Rattle.farm_run.proofs.ends.tell_ends.Goals as goal
 
 pub loop-end-init : goal.loop-end-init
-loop-end-init c = record { told = none_told c.args.board.now; noted = no_ends_noted c.args.journal.now; partner = none_past (partner_now c.args.board.now) }
+loop-end-init c = record { told = none_told c.args.board.now; partner = none_past (partner_now c.args.board.now) }
 
 pub ended-requires-clause-open : goal.ended-requires-clause-open
 ended-requires-clause-open c =
@@ -33,7 +31,6 @@ loop-end-preserved c =
     record {
       told = told_step c.args.board.now c.loop-end.board c.ended.new.self ends i e c.loop-end-test.true is c.ended.ensures.state c.ended.ensures.open
           c.loop-end.invariant.told;
-      noted = noted_more ends i e c.args.journal.now c.loop-end.journal c.end.new.self c.loop-end-test.true is c.end.ensures c.loop-end.invariant.noted;
       partner = λ d.
           c.ended.ensures.partner d
           ∙ partner_more (partner_now c.args.board.now) c.bridges_join_two.ensures.both_ways _ e (apart_front ends i e c.requires.apart c.loop-end-test.true is)
@@ -41,23 +38,8 @@ loop-end-preserved c =
           ∙ ap (λ xs. partner_past xs (partner_now c.args.board.now) d) (sym (front ends i e c.loop-end-test.true is));
     }
 
-pub end-requires-clause-number : goal.end-requires-clause-number
-end-requires-clause-number c = c.requires.numbers c.loop-end.end-index no_end c.loop-end-test.true
-
-pub end-requires-clause-new : goal.end-requires-clause-new
-end-requires-clause-new c =
-    let ends = c.args.ends.now in
-    let i = c.loop-end.end-index in
-    let e = slice_index_or ends i no_end in
-    not_noted c.args.journal.now.ends (take i ends) e _ (ap (λ (j : JournalMemory). j.ends) c.loop-end.invariant.noted)
-    (c.requires.new i no_end c.loop-end-test.true)
-    (apart_front ends i e c.requires.apart c.loop-end-test.true (sym (get_or_default ends i e no_end c.loop-end-test.true)))
-
 pub returns-clause-told : goal.returns-clause-told
 returns-clause-told c = (told_all c.args.board.now c.loop-end.board c.args.ends.now c.loop-end.end-index c.loop-end-test.false c.loop-end.invariant.told).told
-
-pub returns-clause-noted : goal.returns-clause-noted
-returns-clause-noted c = all_noted c.args.ends.now c.loop-end.end-index c.args.journal.now c.loop-end.journal c.loop-end-test.false c.loop-end.invariant.noted
 
 pub returns-clause-open : goal.returns-clause-open
 returns-clause-open c =

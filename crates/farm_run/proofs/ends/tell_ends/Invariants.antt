@@ -1,6 +1,5 @@
 use Rattle.std.proofs.Common.{◌≡◌, ℕ, take}
 use Rattle.switchboard.specs.Open.{partner_now}
-use Rattle.farm_run.specs.Journal.{with_ends}
 use Rattle.farm_run.specs.Ending.{partner_past}
 use Rattle.farm_run.proofs.Told.Ends.{IsTold}
 use Rattle.farm_run.proofs.ends.tell_ends.Given as goal
@@ -8,6 +7,5 @@ use Rattle.farm_run.proofs.ends.tell_ends.Given as goal
 abbrev pub invariant-loop-end : goal.invariant-loop-end
 invariant-loop-end l = record {
   told : IsTold l.initial.board l.board (take l.end-index l.ends);
-  noted : l.journal ≡ with_ends (take l.end-index l.ends) l.initial.journal;
   partner : (c : ℕ) → partner_now l.board c ≡ partner_past (take l.end-index l.ends) (partner_now l.initial.board) c;
 }

@@ -5,8 +5,7 @@ use Rattle.switchboard.specs.Open.{IsExecuted, IsAsBefore}
 use Rattle.trau_io.specs.declared.line.Line.{Line}
 use Rattle.run_spec.specs.Run.{Run}
 use Rattle.farm_run.specs.Match.{histories_at, FollowsRun}
-use Rattle.farm_run.specs.Journal.{JournalMemory}
-use Rattle.farm_run.specs.Ending.{AreShut}
+use Rattle.farm_run.specs.declared.notes.SentBefore.{SentBefore}
 use Rattle.farm_run.specs.Standing.{KnowsListed}
 use Rattle.farm_run.specs.Noted.{Noted}
 use Rattle.farm_run.proofs.Noted.Orders.{noted_quiet}
@@ -15,7 +14,7 @@ use Rattle.farm_run.proofs.Ordered.Doing.{done_then}
 use Rattle.farm_run.proofs.Ordered.Due.{due_of, told_kept, left_fewer, ahead_more}
 use Rattle.farm_run.proofs.Ordered.Following.{follows_more, follows_same}
 use Rattle.farm_run.proofs.Ordered.Matching.{matches_more, matches_same}
-use Rattle.farm_run.proofs.Told.Few.{one_more, shut_ordered, shut_same}
+use Rattle.farm_run.proofs.Told.Few.{one_more}
 use Rattle.farm_run.proofs.Listed.Boards.{over_turned, new_unlisted, knows_turned}
 use Rattle.farm_run.proofs.orders.execute_orders.Goals as goal
 
@@ -32,7 +31,7 @@ loop-reply-preserved c =
     let t = c.args.clock in
     let b = c.loop-reply.board in
     let farm = c.loop-reply.farm in
-    let j = c.loop-reply.journal in
+    let ns = c.loop-reply.notes in
     let n = c.turn.new.self in
     let later = c.apply.new.self in
     let e = c.in-Some.ensures in
@@ -43,7 +42,7 @@ loop-reply-preserved c =
     let follows : (r : Run) → t < r.periods → FollowsRun r t b farm.calls → FollowsRun r t n later.calls = λ r under f.
     follows_more r t b n c.in-Some.reply farm.calls due under (c.turn.ensures.run _ f.so_far.replies f.tells) f c.in-Ok.act c.in-Ok.is does.finds does.is_open does.law
     later.calls c.in_ok-apply.ensures.history in
-    done_then t _ _ _ b n farm later j c.note.new.journal c.loop-reply.invariant (record {
+    done_then t _ _ _ b n farm later ns c.note.new.notes c.loop-reply.invariant (record {
       ready = record {
         clock = record {
           orders = subst AreOrders (sym c.turn.ensures.kept) ready.clock.orders;
@@ -53,7 +52,6 @@ loop-reply-preserved c =
           matches = matches_more b n farm.calls later.calls c.in-Ok.act ready.clock.matches does.finds does.is_open does.partner c.in_ok-apply.ensures.calls
               c.in_ok-apply.ensures.partners;
         };
-        shut = subst (AreShut n) (sym c.note.ensures.ends) (shut_ordered b n j.ends c.in-Ok.act t ready.shut does.finds does.opened does.is_open);
         few = omega (arith, ap length c.turn.ensures.kept, ready.few);
         bridges = omega (arith, more.1, ready.bridges, c.note.ensures.bridges);
         knows = subst (λ (ls : List Line). KnowsListed n ls) (sym c.apply.ensures.failed) (knows_turned b n _ farm.failed c.turn.ensures.state ready.knows);
@@ -63,12 +61,11 @@ loop-reply-preserved c =
       ended = c.apply.ensures.ended;
       failed = c.apply.ensures.failed;
       over = over_turned b n _ c.turn.ensures.state;
-      openings = c.note.ensures.openings;
       follows = follows;
       noted = λ r under f noted.
           let h = histories_at r b.done t in
-          subst (λ (j : JournalMemory). Noted r n.done t j later.tallies) (sym (c.note.ensures.noted h f.stands))
-          (noted_accepted r t b n c.in-Some.reply farm.calls later.calls due under f (follows r under f) j farm.tallies later.tallies noted c.in-Ok.act c.in-Ok.is
+          subst (λ (k : List SentBefore). Noted r n.done t k later.tallies) (sym (c.note.ensures.noted h f.stands))
+          (noted_accepted r t b n c.in-Some.reply farm.calls later.calls due under f (follows r under f) ns farm.tallies later.tallies noted c.in-Ok.act c.in-Ok.is
           does.finds does.opened does.is_open (c.in_ok-apply.ensures.tallies h f.stands));
     })
 
@@ -77,7 +74,7 @@ loop-reply-preserved-in_default-result c =
     let t = c.args.clock in
     let b = c.loop-reply.board in
     let farm = c.loop-reply.farm in
-    let j = c.loop-reply.journal in
+    let ns = c.loop-reply.notes in
     let n = c.turn.new.self in
     let e = c.in-Some.ensures in
     let ready = c.loop-reply.invariant.ready in
@@ -87,7 +84,7 @@ loop-reply-preserved-in_default-result c =
     let follows : (r : Run) → t < r.periods → FollowsRun r t b farm.calls → FollowsRun r t n farm.calls = λ r under f.
     follows_same r t b n c.in-Some.reply farm.calls due under (c.turn.ensures.run _ f.so_far.replies f.tells) f c.in_default-result.field-0
     c.in_default-result.is same.is_open in
-    done_then t _ _ _ b n farm farm j j c.loop-reply.invariant (record {
+    done_then t _ _ _ b n farm farm ns ns c.loop-reply.invariant (record {
       ready = record {
         clock = record {
           orders = subst AreOrders (sym c.turn.ensures.kept) ready.clock.orders;
@@ -96,7 +93,6 @@ loop-reply-preserved-in_default-result c =
           ends = c.turn.ensures.told t ready.clock.ends;
           matches = matches_same b n farm.calls ready.clock.matches same.is_open same.partner;
         };
-        shut = shut_same b n j.ends ready.shut same.opened same.is_open;
         few = omega (arith, ap length c.turn.ensures.kept, ready.few);
         bridges = omega (arith, more.1, ready.bridges);
         knows = knows_turned b n _ farm.failed c.turn.ensures.state ready.knows;
@@ -106,9 +102,8 @@ loop-reply-preserved-in_default-result c =
       ended = refl;
       failed = refl;
       over = over_turned b n _ c.turn.ensures.state;
-      openings = λ m early openings. openings;
       follows = follows;
       noted = λ r under f noted.
-          noted_quiet r t b n c.in-Some.reply farm.calls farm.calls due under f (follows r under f) (Err c.in_default-result.field-0) j farm.tallies farm.tallies
+          noted_quiet r t b n c.in-Some.reply farm.calls farm.calls due under f (follows r under f) (Err c.in_default-result.field-0) ns farm.tallies farm.tallies
           c.in_default-result.is refl same.opened same.is_open (λ d. refl) noted;
     })

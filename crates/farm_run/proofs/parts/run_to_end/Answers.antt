@@ -32,7 +32,7 @@ returns-clause-ends g c =
     let u = c.in_ok-last.last in
     ok_both (λ (report : ReportView). report.failed ≡ c.in_ok-last.last.farm.failed)
     (λ (report : ReportView). (r : Run) (t : ℕ) → IsAtEnd r t c.in_ok-last.last.board c.in_ok-last.last.farm.calls c.in_ok-last.last.farm.tallies
-    c.in_ok-last.last.journal → r.periods ≡ c.in_ok-last.last.clock → length r.orders ≡ c.args.count → report ≡ report_of r report.failed)
+    c.in_ok-last.last.notes → r.periods ≡ c.in_ok-last.last.clock → length r.orders ≡ c.args.count → report ≡ report_of r report.failed)
     (λ (report : ReportView). RunsToEnd c.args.pace.now.batch c.args.stage c.args.count c.args.periods before now report) c.finish.result
     (λ report failed reports. record {
       last = u;

@@ -1,10 +1,8 @@
-use Rattle.std.proofs.Common.{arith, ap, ◌∙◌, subst, List, length, map, IsPermutation}
-use Rattle.std.proofs.lemmas.List.Sorted.{IsPermutation-map}
-use Rattle.trau_io.specs.declared.ends.CallEnd.{CallEnd}
-use Rattle.farm_report.specs.declared.report.CallLine.{CallLine}
+use Rattle.std.proofs.Common.{arith, ap, ◌∙◌, List, length}
 use Rattle.switchboard.specs.declared.act.Span.{Span}
 use Rattle.switchboard.specs.State.{told_in}
 use Rattle.switchboard.specs.Ends.{spans_now, spans_of}
+use Rattle.switchboard.proofs.Whole.{all_ended_at}
 use Rattle.farm_run.specs.declared.notes.SentBefore.{SentBefore}
 use Rattle.farm_run.specs.Facts.{span_lines, sent_in_table}
 use Rattle.farm_run.proofs.Reported.Reporting.{length-numbered}
@@ -19,25 +17,22 @@ returns c =
       replies = c.in_ok-to_vec.ensures.items_if_clones_equal (λ x y h. h) ∙ c.replies.ensures;
       failed = c.in_ok-to_vec-2.ensures.items_if_clones_equal (λ x y h. h) ∙ c.failed.ensures.value;
       left = omega (arith, c.saturating_sub.ensures, ap length c.replies-2.ensures, length-numbered 0 b.done);
-      sorted = c.by_number.ensures.sorted;
-      ends = subst (λ (es : List CallEnd). IsPermutation es (map (λ (l : CallLine). l.end) c.by_number.result.items)) c.in_ok-calls.ensures.ends
-          (IsPermutation-map (λ (l : CallLine). l.end) _ _ c.by_number.ensures.same);
-      calls = λ h g. subst (λ (ls : List CallLine). IsPermutation ls c.by_number.result.items) (c.in_ok-calls.ensures.lines h g) c.by_number.ensures.same;
+      calls = c.in_ok-call_lines.ensures;
       sent = c.in_ok-sent.sent.items;
       sent_is = c.in_ok-sent.ensures.sent;
       spans =
           c.in_ok-span_lines.ensures ∙ ap (λ (ss : List Span). span_lines sent ss c.bridges.result.now) c.spans.ensures.now
           ∙ ap (λ (ns : List SentBefore). span_lines sent (spans_now (told_in b) b.done) ns) c.bridges.ensures;
       whole = λ given periods all.
-          c.in_ok-span_lines.ensures ∙ ap (λ (ss : List Span). span_lines sent ss c.bridges.result.now) (c.spans.ensures.whole given periods all)
+          c.in_ok-span_lines.ensures ∙ ap (λ (ss : List Span). span_lines sent ss c.bridges.result.now) (c.spans.ensures.whole given periods (all_ended_at given periods b all))
           ∙ ap (λ (ns : List SentBefore). span_lines sent (spans_of given periods b.done) ns) c.bridges.ensures;
     }
 
 pub returns-in_err-sent : goal.returns-in_err-sent
 returns-in_err-sent c = IfOk-from_err _ _ c.from_residual.ensures.0
 
-pub returns-in_err-calls : goal.returns-in_err-calls
-returns-in_err-calls c = IfOk-from_err _ _ c.from_residual-in_err-calls.ensures.0
+pub returns-in_err-call_lines : goal.returns-in_err-call_lines
+returns-in_err-call_lines c = IfOk-from_err _ _ c.from_residual-in_err-call_lines.ensures.0
 
 pub returns-in_err-to_vec : goal.returns-in_err-to_vec
 returns-in_err-to_vec c = IfOk-from_err _ _ c.from_residual-in_err-to_vec.ensures.0

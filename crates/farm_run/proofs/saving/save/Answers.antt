@@ -38,7 +38,7 @@ returns-clause-saves g c =
     (summed_first os batch (Summed c.in_ok-new.field-0) s u first now f refl (λ d side. ap (λ (sums : ℕ → Side → ℕ). sums d side) c.in_ok-new.ensures) h)
     kept.failed kept.period kept.calls kept.live kept.rising
     (h.openings c.args.pace.now.periods (omega (arith, x.clock))
-    (opened_none c.args.pace.now.periods s.journal f.none_noted c.requires.periods)))
+    (opened_none c.args.pace.now.periods s.board.done f.none_done c.requires.periods)))
 
 pub returns-clause-cut : goal.returns-clause-cut
 returns-clause-cut g c =
