@@ -1,10 +1,10 @@
 -- What acts make of the calls and of their partners.
-use Rattle.std.proofs.Common.{◌≡◌, ◌≢◌, refl, sym, ap, ◌∙◌, subst, ℕ, ℤ, ◌<◌, true, false, Option, Some, None, List, [], ◌∷◌, length, map, arith, inl, inr, ◌⊎◌}
+use Rattle.std.proofs.Common.{◌≡◌, ◌≢◌, refl, sym, ap, ◌∙◌, subst, ℕ, ℤ, ◌<◌, Bool, true, false, ◌||◌, Option, Some, None, List, [], ◌∷◌, length, map, arith, inl, inr, ◌⊎◌}
 use Rattle.std.specs.Prelude.{◌==◌, if◌then◌else◌, slice_set, slice_index, is_some}
 use Rattle.std.specs.Option.{option_map, option_and_then}
 use Rattle.std.specs.List.{All}
 use Rattle.std.specs.Global.{Box}
-use Rattle.std.proofs.lemmas.Bool.{eqb-true, eq-eqb, ne_eqb, cases_Bool, false≢true}
+use Rattle.std.proofs.lemmas.Bool.{eqb-true, ne_eqb, cases_Bool, false≢true}
 use Rattle.std.proofs.lemmas.List.{length-map}
 use Rattle.std.proofs.lemmas.List.Elements.{All-get_or, All-weaker}
 use Rattle.trau_orders.specs.declared.order.DtxMode.{DtxMode}
@@ -14,7 +14,7 @@ use Rattle.call_pair.specs.declared.call_job.Phase.TheVariants.{First}
 use Rattle.farm_rounds.specs.declared.open.OpenCall.{OpenCall}
 use Rattle.farm_rounds.specs.Numbers.{IsRising, is_among}
 use Rattle.farm_rounds.specs.Calls.{Call, Kept, kept_in, call_in, partner_in}
-use Rattle.farm_rounds.specs.Acts.{changed, put_at, bridged_call, parted, set_by, ActFits, IsOpen, Applied}
+use Rattle.farm_rounds.specs.Acts.{change_at, put_at, bridged_call, parted_call, set_by, ActFits, IsOpen, Applied}
 use Rattle.farm_rounds.specs.Opens.{opens_in, kept_of, IsOpenCall}
 use Rattle.farm_rounds.specs.Opened.{open_at, no_open, AreListed, IsChanged}
 use Rattle.farm_rounds.proofs.Boxes.{opens_long}
@@ -42,7 +42,7 @@ pub listed_within : (bs : List (Box OpenCall)) (live : List ℕ) (k : ℕ) → A
 listed_within bs live k listed l =
     omega (arith, l, ap length listed.listed, length-map (opens_in bs) (λ (o : OpenCall). o.job.io.call), opens_long bs)
 
--- what holds of each holds of the one there: it is at rest, ..
+-- what holds of each call holds of the one at an index
 there_at : (P : OpenCall → Type 0) (bs : List (Box OpenCall)) (live : List ℕ) (k : ℕ) (o : OpenCall) → AreListed live (opens_in bs) → k < length live →
     o ≡ open_at bs k → All P (opens_in bs) → P o
 there_at P bs live k o listed l own all =
@@ -52,7 +52,7 @@ pub first_at : (bs : List (Box OpenCall)) (live : List ℕ) (k : ℕ) (o : OpenC
     o ≡ open_at bs k → o.job.phase ≡ First
 first_at bs live k o listed l own = there_at (λ x. x.job.phase ≡ First) bs live k o listed l own listed.first
 
--- .. and both halves of its leg are bridged where it has a partner
+-- both halves of its leg are bridged if it has a partner
 pub up_at : (bs : List (Box OpenCall)) (live : List ℕ) (k : ℕ) (o : OpenCall) → AreListed live (opens_in bs) → k < length live →
     o ≡ open_at bs k → is_some o.partner ≡ true → o.job.up.bridged ≡ true
 up_at bs live k o listed l own e = there_at (λ x. x.job.up.bridged ≡ is_some x.partner) bs live k o listed l own listed.up ∙ e
@@ -116,20 +116,19 @@ unpaired f e (Some k) = e k
 
 module _ (call : ℕ) (f : Kept → Kept) (before now : List OpenCall) (m : IsChanged call f before now) where
   pub calls_changed : (g : Call → Call) → ((k : Kept) → (f k).call ≡ g k.call) → (d : ℕ) →
-      call_in (map kept_of now) d ≡ changed call g (call_in (map kept_of before)) d
-  calls_changed g e d = ap (option_map (λ k. k.call)) (m.calls d) ∙ elim (cases_Bool (call == d)) [
-    | inl t ↦ let s : (d == call) ≡ true = eq-eqb d call (sym (eqb-true call d t)) in simp (s, t) (called f g e (kept_in (map kept_of before) d))
-    | inr n ↦ let s : (d == call) ≡ false = ne_eqb d call (λ q. false≢true (sym n ∙ eq-eqb call d (sym q))) in simp (s, n) refl
+      call_in (map kept_of now) d ≡ change_at call g (call_in (map kept_of before)) d
+  calls_changed g e d = ap (option_map (λ k. k.call)) (m.calls d) ∙ elim (cases_Bool (d == call)) [
+    | inl t ↦ simp t (called f g e (kept_in (map kept_of before) d))
+    | inr n ↦ simp n refl
   ]
 
   pub partners_put : (p : Option ℕ) → ((k : Kept) → (f k).partner ≡ p) → IsOpen (map kept_of before) call → (d : ℕ) →
       partner_in (map kept_of now) d ≡ put_at call p (partner_in (map kept_of before)) d
-  partners_put p e isopen d = ap (option_and_then (λ k. k.partner)) (m.calls d) ∙ elim (cases_Bool (call == d)) [
+  partners_put p e isopen d = ap (option_and_then (λ k. k.partner)) (m.calls d) ∙ elim (cases_Bool (d == call)) [
     | inl t ↦
-        let s : (d == call) ≡ true = eq-eqb d call (sym (eqb-true call d t)) in
-        let there : IsOpen (map kept_of before) d = subst (IsOpen (map kept_of before)) (eqb-true call d t) isopen in
-        simp (s, t) (paired f p e (kept_in (map kept_of before) d) there)
-    | inr n ↦ let s : (d == call) ≡ false = ne_eqb d call (λ q. false≢true (sym n ∙ eq-eqb call d (sym q))) in simp (s, n) refl
+        let there : IsOpen (map kept_of before) d = subst (IsOpen (map kept_of before)) (sym (eqb-true d call t)) isopen in
+        simp t (paired f p e (kept_in (map kept_of before) d) there)
+    | inr n ↦ simp n refl
   ]
 
   pub partners_kept : ((k : Kept) → (f k).partner ≡ k.partner) → (d : ℕ) → partner_in (map kept_of now) d ≡ partner_in (map kept_of before) d
@@ -139,8 +138,8 @@ module _ (call : ℕ) (f : Kept → Kept) (before now : List OpenCall) (m : IsCh
   ]
 
 -- an open call stays open
-opened_still : (call : ℕ) (g : Call → Call) (x : ℕ → Option Call) (d : ℕ) → is_some (x d) ≡ true → is_some (changed call g x d) ≡ true
-opened_still call g x d isopen = elim (cases_Bool (call == d)) [ inl t ↦ simp t (by (x d) isopen) | inr n ↦ simp n isopen ]
+opened_still : (call : ℕ) (g : Call → Call) (x : ℕ → Option Call) (d : ℕ) → is_some (x d) ≡ true → is_some (change_at call g x d) ≡ true
+opened_still call g x d isopen = elim (cases_Bool (d == call)) [ inl t ↦ simp t (by (x d) isopen) | inr n ↦ simp n isopen ]
   where
     by : (o : Option Call) → is_some o ≡ true → is_some (option_map g o) ≡ true
     by None e = e
@@ -149,24 +148,24 @@ opened_still call g x d isopen = elim (cases_Bool (call == d)) [ inl t ↦ simp 
 -- ---- two of them
 
 -- two that are apart may change in either order
-changed_apart : (a b : ℕ) (g : Call → Call) (x : ℕ → Option Call) (d : ℕ) → a ≢ b → changed b g (changed a g x) d ≡ changed a g (changed b g x) d
-changed_apart a b g x d apart = elim (cases_Bool (a == d)) [
-  | inl t ↦ let f : (b == d) ≡ false = ne_eqb b d (λ q. apart (eqb-true a d t ∙ sym q)) in simp (t, f) refl
+changed_apart : (a b : ℕ) (g : Call → Call) (x : ℕ → Option Call) (d : ℕ) → a ≢ b → change_at b g (change_at a g x) d ≡ change_at a g (change_at b g x) d
+changed_apart a b g x d apart = elim (cases_Bool (d == a)) [
+  | inl t ↦ let f : (d == b) ≡ false = ne_eqb d b (λ q. apart (sym (eqb-true d a t) ∙ q)) in simp (t, f) refl
   | inr n ↦ simp n refl
 ]
 
 put_apart : (a b : ℕ) (p q : Option ℕ) (x : ℕ → Option ℕ) (d : ℕ) → a ≢ b → put_at b q (put_at a p x) d ≡ put_at a p (put_at b q x) d
-put_apart a b p q x d apart = elim (cases_Bool (a == d)) [
-  | inl t ↦ let f : (b == d) ≡ false = ne_eqb b d (λ q. apart (eqb-true a d t ∙ sym q)) in simp (t, f) refl
+put_apart a b p q x d apart = elim (cases_Bool (d == a)) [
+  | inl t ↦ let f : (d == b) ≡ false = ne_eqb d b (λ q. apart (sym (eqb-true d a t) ∙ q)) in simp (t, f) refl
   | inr n ↦ simp n refl
 ]
 
 module _ (a b : ℕ) (apart : a ≢ b) (f h : Kept → Kept) (before mid now : List OpenCall) (m : IsChanged a f before mid) (n : IsChanged b h mid now) where
   pub two_calls : (g : Call → Call) → ((k : Kept) → (f k).call ≡ g k.call) → ((k : Kept) → (h k).call ≡ g k.call) → (d : ℕ) →
-      call_in (map kept_of now) d ≡ changed a g (changed b g (call_in (map kept_of before))) d
+      call_in (map kept_of now) d ≡ change_at a g (change_at b g (call_in (map kept_of before))) d
   two_calls g e q d =
       calls_changed b h mid now n g q d
-      ∙ ap (λ (x : Option Call). if b == d then option_map g x else x) (calls_changed a f before mid m g e d)
+      ∙ ap (λ (x : Option Call). if d == b then option_map g x else x) (calls_changed a f before mid m g e d)
       ∙ changed_apart a b g (call_in (map kept_of before)) d apart
 
   pub second_open : (g : Call → Call) → ((k : Kept) → (f k).call ≡ g k.call) → IsOpen (map kept_of before) b → IsOpen (map kept_of mid) b
@@ -176,12 +175,17 @@ module _ (a b : ℕ) (apart : a ≢ b) (f h : Kept → Kept) (before mid now : L
       IsOpen (map kept_of mid) b → (d : ℕ) → partner_in (map kept_of now) d ≡ put_at a p (put_at b q (partner_in (map kept_of before))) d
   two_partners p q e r isopen there d =
       partners_put b h mid now n q r there d
-      ∙ ap (λ (x : Option ℕ). if b == d then q else x) (partners_put a f before mid m p e isopen d)
+      ∙ ap (λ (x : Option ℕ). if d == b then q else x) (partners_put a f before mid m p e isopen d)
       ∙ put_apart a b p q (partner_in (map kept_of before)) d apart
 
 -- ---- what an act does
 
--- two calls are bridged, ..
+-- two tests are one
+one_test : {X : Type 0} (s t : Bool) (x y : X) → (if s then x else if t then x else y) ≡ (if s || t then x else y)
+one_test true t x y = refl
+one_test false t x y = refl
+
+-- two calls are bridged
 pub bridged_applied : (a b : ℕ) (before mid now : List OpenCall) → a ≢ b → IsOpen (map kept_of before) a → IsOpen (map kept_of before) b →
     IsChanged a (λ k. kept (bridged_call k.call) (Some b)) before mid → IsChanged b (λ k. kept (bridged_call k.call) (Some a)) mid now →
     Applied (act.Bridged a b) (map kept_of before) (map kept_of now)
@@ -191,17 +195,19 @@ bridged_applied a b before mid now apart oa ob m n = record {
       (second_open a b apart _ _ before mid now m n bridged_call (λ k. refl) ob);
 }
 
--- .. or their bridge is over, ..
+-- the bridge of two calls is over
 pub unbridged_applied : (a b : ℕ) (before mid now : List OpenCall) → a ≢ b → IsOpen (map kept_of before) a → IsOpen (map kept_of before) b →
-    IsChanged a (λ k. kept (parted k.call) None) before mid → IsChanged b (λ k. kept (parted k.call) None) mid now →
+    IsChanged a (λ k. kept (parted_call k.call) None) before mid → IsChanged b (λ k. kept (parted_call k.call) None) mid now →
     Applied (act.Unbridged a b) (map kept_of before) (map kept_of now)
 unbridged_applied a b before mid now apart oa ob m n = record {
-  calls = two_calls a b apart _ _ before mid now m n parted (λ k. refl) (λ k. refl);
-  partners = two_partners a b apart _ _ before mid now m n None None (λ k. refl) (λ k. refl) oa
-      (second_open a b apart _ _ before mid now m n parted (λ k. refl) ob);
+  calls = two_calls a b apart _ _ before mid now m n parted_call (λ k. refl) (λ k. refl);
+  partners = λ d.
+      two_partners a b apart _ _ before mid now m n None None (λ k. refl) (λ k. refl) oa
+      (second_open a b apart _ _ before mid now m n parted_call (λ k. refl) ob) d
+      ∙ one_test (d == a) (d == b) None (partner_in (map kept_of before) d);
 }
 
--- .. or the level of a call is set, ..
+-- the level of a call is set
 level_applied : (a : Act) (call : ℕ) (level : ℤ) (before now : List OpenCall) → a ≡ act.LevelSet call level →
     IsChanged call (λ k. kept (set_by a k.call) k.partner) before now → Applied a (map kept_of before) (map kept_of now)
 level_applied a call level before now e =
@@ -211,7 +217,7 @@ level_applied a call level before now e =
       partners = partners_kept call _ before now m (λ k. refl);
     })
 
--- .. or when DTX is on
+-- the DTX mode of a call is set
 mode_applied : (a : Act) (call : ℕ) (mode : DtxMode) (before now : List OpenCall) → a ≡ act.DtxSet call mode →
     IsChanged call (λ k. kept (set_by a k.call) k.partner) before now → Applied a (map kept_of before) (map kept_of now)
 mode_applied a call mode before now e =
@@ -221,7 +227,7 @@ mode_applied a call mode before now e =
       partners = partners_kept call _ before now m (λ k. refl);
     })
 
--- .. or whichever of the two an act sets
+-- an act that sets one of the two
 abbrev pub IsSetting : Act → ℕ → Type 0
 IsSetting a call = ((level : ℤ) × (a ≡ act.LevelSet call level)) ⊎ ((mode : DtxMode) × (a ≡ act.DtxSet call mode))
 
@@ -230,7 +236,7 @@ pub set_applied : (a : Act) (call : ℕ) (before now : List OpenCall) → IsSett
 set_applied a call before now (inl l) = level_applied a call l.0 before now l.1
 set_applied a call before now (inr m) = mode_applied a call m.0 before now m.1
 
--- .. of a call that is open
+-- the call that it names is open
 pub set_open : (ks : List Kept) (a : Act) (call : ℕ) → IsSetting a call → ActFits ks a → IsOpen ks call
 set_open ks a call (inl l) fits = (subst (ActFits ks) l.1 fits).0
-set_open ks a call (inr m) fits = subst (ActFits ks) m.1 fits
+set_open ks a call (inr m) fits = (subst (ActFits ks) m.1 fits).0

@@ -1,18 +1,21 @@
 -- A call that ends goes, and its partner goes on alone.
-use Rattle.std.proofs.Common.{◌≡◌, ◌≢◌, refl, sym, ap, ◌∙◌, subst, ℕ, ◌<◌, Option, Some, None, List, length, map, get_or, arith, inl, inr}
+use Rattle.std.proofs.Common.{◌≡◌, ◌≢◌, refl, sym, ap, ◌∙◌, subst, ℕ, ◌<◌, Bool, Option, Some, None, List, length, map, get_or, arith, inl, inr}
 use Rattle.std.specs.Prelude.{◌==◌, if◌then◌else◌}
 use Rattle.std.specs.Option.{option_map, option_and_then}
 use Rattle.std.specs.List.{All, remove}
 use Rattle.std.proofs.lemmas.Bool.{ne_eqb, cases_Bool, cases_order}
 use Rattle.std.proofs.lemmas.List.{length-map}
 use Rattle.switchboard.specs.declared.act.Act.TheVariants as act
+use Rattle.switchboard.specs.Calls.{is_this}
+use Rattle.switchboard.specs.Open.{partner_without_both}
 use Rattle.farm_rounds.specs.declared.open.OpenCall.{OpenCall}
 use Rattle.farm_rounds.specs.Numbers.{IsRising}
 use Rattle.farm_rounds.specs.Calls.{Kept, kept_in, call_in, partner_in}
-use Rattle.farm_rounds.specs.Acts.{put_at, released, parted, without_partner, IsOpen, Applied}
+use Rattle.farm_rounds.specs.Acts.{put_at, change_partner, parted_call, IsOpen, Applied}
 use Rattle.farm_rounds.specs.Opens.{kept_of, IsOpenCall, AreOpen, AreMutual}
 use Rattle.farm_rounds.specs.Opened.{IsReleased}
 use Rattle.farm_rounds.proofs.Rising.{rising-remove}
+use Rattle.farm_rounds.proofs.Keyed.{eqb-sym}
 use Rattle.farm_rounds.proofs.Changing.{numbers_of, calls_changed, partners_put}
 use Rattle.farm_rounds.proofs.Edited.{remove_map, remove_all, kept_remove, IsAlone}
 use Rattle.farm_rounds.proofs.Placed.{listed_long, listed_at}
@@ -21,12 +24,12 @@ use Rattle.farm_rounds.proofs.Mutual.{mutual_after, partner_open}
 -- ---- the partner goes on alone
 
 released_calls : (p : Option ℕ) (before now : List OpenCall) → IsReleased p before now → (d : ℕ) →
-    call_in (map kept_of now) d ≡ released p parted (call_in (map kept_of before)) d
+    call_in (map kept_of now) d ≡ change_partner p parted_call (call_in (map kept_of before)) d
 released_calls None before now e d = ap (λ (os : List OpenCall). call_in (map kept_of os) d) e
-released_calls (Some q) before now m d = calls_changed q _ before now m parted (λ k. refl) d
+released_calls (Some q) before now m d = calls_changed q _ before now m parted_call (λ k. refl) d
 
 released_partners : (p : Option ℕ) (before now : List OpenCall) → ((q : ℕ) → p ≡ Some q → IsOpen (map kept_of before) q) → IsReleased p before now → (d : ℕ) →
-    partner_in (map kept_of now) d ≡ without_partner p (partner_in (map kept_of before)) d
+    partner_in (map kept_of now) d ≡ (if is_this d p then None else partner_in (map kept_of before) d)
 released_partners None before now isopen e d = ap (λ (os : List OpenCall). partner_in (map kept_of os) d) e
 released_partners (Some q) before now isopen m d = partners_put q _ before now m None (λ k. refl) (isopen q refl) d
 
@@ -68,23 +71,24 @@ module _ (live : List ℕ) (k call : ℕ) (l : k < length live) (own : get_or li
   same : live ≡ numbers_of mid
   same = e ∙ sym (released_numbers p before mid free)
 
-  gone : (c : ℕ) → kept_in (map kept_of (remove mid k)) c ≡ (if call == c then None else kept_in (map kept_of mid) c)
+  gone : (c : ℕ) → kept_in (map kept_of (remove mid k)) c ≡ (if c == call then None else kept_in (map kept_of mid) c)
   gone c =
       ap (λ (ks : List Kept). kept_in ks c) (remove_map kept_of mid k)
       ∙ kept_remove (map kept_of mid) k c (omega (arith, l, listed_long live mid same, length-map mid kept_of)) (alone_at live mid k same rising l)
       ∙ ap (λ (n : ℕ). if n == c then None else kept_in (map kept_of mid) c) (listed_at live mid k same l ∙ own)
+      ∙ ap (λ (b : Bool). if b then None else kept_in (map kept_of mid) c) (eqb-sym call c)
 
   partner_there : (q : ℕ) → p ≡ Some q → IsOpen (map kept_of before) q
   partner_there q s = partner_open (map kept_of before) q call (both call q s).0
 
-  calls : (c : ℕ) → call_in (map kept_of (remove mid k)) c ≡ put_at call None (released p parted (call_in (map kept_of before))) c
-  calls c = ap (option_map (λ k. k.call)) (gone c) ∙ elim (cases_Bool (call == c)) [
+  calls : (c : ℕ) → call_in (map kept_of (remove mid k)) c ≡ put_at call None (change_partner p parted_call (call_in (map kept_of before))) c
+  calls c = ap (option_map (λ k. k.call)) (gone c) ∙ elim (cases_Bool (c == call)) [
     | inl t ↦ simp t refl
     | inr f ↦ simp f (released_calls p before mid free c)
   ]
 
-  partners : (c : ℕ) → partner_in (map kept_of (remove mid k)) c ≡ put_at call None (without_partner p (partner_in (map kept_of before))) c
-  partners c = ap (option_and_then (λ k. k.partner)) (gone c) ∙ elim (cases_Bool (call == c)) [
+  partners : (c : ℕ) → partner_in (map kept_of (remove mid k)) c ≡ partner_without_both call p (partner_in (map kept_of before)) c
+  partners c = ap (option_and_then (λ k. k.partner)) (gone c) ∙ elim (cases_Bool (c == call)) [
     | inl t ↦ simp t refl
     | inr f ↦ simp f (released_partners p before mid partner_there free c)
   ]
@@ -97,7 +101,7 @@ module _ (live : List ℕ) (k call : ℕ) (l : k < length live) (own : get_or li
     listed = ap (λ (ns : List ℕ). remove ns k) same ∙ sym (remove_map (λ (o : OpenCall). o.job.io.call) mid k);
     rising = rising-remove live k rising l;
     each = remove_all (IsOpenCall most) mid k (released_each p before mid free most s.each);
-    both = mutual_after (act.Closed call p) (map kept_of before) (map kept_of (remove mid k)) (isopen, refl) both ended_applied;
+    both = mutual_after (act.Closed call p) (map kept_of before) (map kept_of (remove mid k)) ((isopen, refl), tt) both ended_applied;
   }
 
   -- what is seen of the call that ended is what was seen before

@@ -80,7 +80,7 @@ past_bridged k others now true e on = ap (λ (x : Bool). (if x then without_brid
 past_bridged k others now false e on =
     ap (λ (x : Bool). (if x then without_bridge (settings_at k now) else settings_at k now).bridged) e ∙ still_bridged k now ∙ on
 
--- .. which is where it goes on
+-- the bridge lasts exactly if the partner goes on
 lasts : (stays : ℕ → Bool) (periods k others d : ℕ) (now : Settings) → k ≡ periods → others ≤ periods → stays d ≡ (others == periods) → now.bridged ≡ true →
     (settings_past k others now).bridged ≡ is_some (that_stays stays (Some d))
 lasts stays periods k others d now ek within full on = elim (cases_eq others periods) [

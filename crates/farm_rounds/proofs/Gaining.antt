@@ -5,7 +5,7 @@ use Rattle.std.proofs.Common.{◌≡◌, refl, sym, ap, ◌∙◌, subst, ℕ, �
 use Rattle.std.specs.Prelude.{min, ◌||◌}
 use Rattle.std.specs.List.{Contains}
 use Rattle.std.specs.List.Sorted.{IsNonDecreasingBy, IsPermutation, IsStrictlyIncreasing}
-use Rattle.std.proofs.lemmas.Bool.{cases_lt, eqb-true, true≢false, false≢true}
+use Rattle.std.proofs.lemmas.Bool.{cases_lt, eqb-true, true≢false, false≢true, or_cases, or_left, or_right, false_from_ne_true}
 use Rattle.std.proofs.lemmas.List.{length-map}
 use Rattle.std.proofs.lemmas.List.Elements.{All-get_or}
 use Rattle.trau_io.specs.declared.line.Line.{Line}
@@ -29,7 +29,7 @@ use Rattle.farm_rounds.proofs.Working.{seat_read_at}
 use Rattle.farm_rounds.proofs.Passing.{IsLeft, left_is, left_open, numbers_left, own}
 use Rattle.farm_rounds.proofs.Marked.{seats_rise}
 use Rattle.farm_rounds.proofs.Naming.{Name, names, Lists, seat_listed, listed_seat, listed_before, listed_after, listed_name, name_listed}
-use Rattle.farm_rounds.proofs.Naming.{or_cases, or_first, or_second, same_test, is_false}
+use Rattle.farm_rounds.proofs.Naming.{same_test}
 use Rattle.farm_rounds.proofs.Once.{line_place, listed_once}
 
 -- ---- the listed lines
@@ -61,10 +61,10 @@ module _ (before now : List Line) (seats : List SeatMemory) (g : GainsFailed bef
     where
       front : is_listed now (call_at seats k) side ≡ true → (is_listed before (call_at seats k) side || fails_in (seat_at seats k).lines side) ≡ true
       front q = elim (gained_cases (call_at seats k) side q) [
-        | inl m ↦ or_first (is_listed before (call_at seats k) side) (fails_in (seat_at seats k).lines side) m
+        | inl m ↦ or_left (is_listed before (call_at seats k) side) (fails_in (seat_at seats k).lines side) m
         | inr m ↦
             let same : m.k ≡ k = one_place seats m.k k r m.within l (sym (ap (λ (y : Name). y.0) m.name)) in
-            or_second (is_listed before (call_at seats k) side) (fails_in (seat_at seats k).lines side)
+            or_right (is_listed before (call_at seats k) side) (fails_in (seat_at seats k).lines side)
             (subst (λ (i : ℕ). fails_in (seat_at seats i).lines side ≡ true) same
             (ap (fails_in (seat_at seats m.k).lines) (ap (λ (y : Name). y.1) m.name) ∙ m.fails))
       ]
@@ -110,10 +110,10 @@ fewer_pcm p n l = by p.up.count p.pcm.count l
 
 -- so of a call with all periods no incoming line failed in the round
 sound_up : (p : LinesMemory) → EndsShort p → whole_in p ≡ p.periods → p.up.failed ≡ false
-sound_up p short full = is_false p.up.failed (λ f. let less = fewer_up p p.periods (short.0 f) in absurd (omega (arith, less, full)))
+sound_up p short full = false_from_ne_true p.up.failed (λ f. let less = fewer_up p p.periods (short.0 f) in absurd (omega (arith, less, full)))
 
 sound_pcm : (p : LinesMemory) → EndsShort p → whole_in p ≡ p.periods → p.pcm.failed ≡ false
-sound_pcm p short full = is_false p.pcm.failed (λ f. let less = fewer_pcm p p.periods (short.1 f) in absurd (omega (arith, less, full)))
+sound_pcm p short full = false_from_ne_true p.pcm.failed (λ f. let less = fewer_pcm p p.periods (short.1 f) in absurd (omega (arith, less, full)))
 
 neither : (p q : Bool) → p ≡ false → q ≡ false → (p || q) ≡ false
 neither true q e f = absurd (true≢false e)

@@ -1,9 +1,16 @@
 -- The calls of a farm by their numbers, where one has changed, or has gone.
 use Rattle.std.proofs.Common.{◌≡◌, ◌≢◌, refl, sym, ◌∙◌, ℕ, zero, suc, ◌<◌, Bool, true, false, Option, Some, List, [], ◌∷◌, length, get_or, arith, inl, inr}
 use Rattle.std.specs.Prelude.{◌==◌, if◌then◌else◌, slice_set}
-use Rattle.std.proofs.lemmas.Bool.{eqb-true, eq-eqb, ne_eqb, cases_Bool}
+use Rattle.std.proofs.lemmas.Bool.{eqb-true, eq-eqb, ne_eqb, cases_Bool, false≢true}
 use Rattle.farm_rounds.specs.Calls.{Kept, kept_in}
 use Rattle.farm_rounds.specs.Acts.{no_kept}
+
+-- Two numbers are compared in either order.
+pub eqb-sym : (m n : ℕ) → (m == n) ≡ (n == m)
+eqb-sym m n = elim (cases_Bool (m == n)) [
+  | inl t ↦ t ∙ sym (eq-eqb n m (sym (eqb-true m n t)))
+  | inr f ↦ f ∙ sym (ne_eqb n m (λ q. false≢true (sym f ∙ eq-eqb m n (sym q))))
+]
 
 -- no earlier call has this number
 abbrev pub IsFirst : List Kept → ℕ → ℕ → Type 0

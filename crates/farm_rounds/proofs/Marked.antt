@@ -73,7 +73,7 @@ module _ (opens now : List OpenCall) (same : map same_call now ≡ map same_call
       sym (found_map (λ (o : OpenCall). number_of o == c) same_call now) ∙ ap (λ (os : List OpenCall). open_in os c) same
       ∙ found_map (λ (o : OpenCall). number_of o == c) same_call opens
 
-  -- the calls that go on ..
+  -- the same calls go on
   pub same_going : goes_on_call (map seat_of_open now) ≡ goes_on_call (map seat_of_open opens)
   same_going = λ i. λ c. at c i where
     at : (c : ℕ) → goes_on_call (map seat_of_open now) c ≡ goes_on_call (map seat_of_open opens) c
@@ -83,7 +83,7 @@ module _ (opens now : List OpenCall) (same : map same_call now ≡ map same_call
         ∙ ap (λ (os : List OpenCall). list_any (λ (o : OpenCall). test (seat_of_open o)) os) same
         ∙ any_map (λ (o : OpenCall). test (seat_of_open o)) same_call opens ∙ sym (any_map test seat_of_open opens)
 
-  -- .. and their partners
+  -- and have the same partners
   pub same_partners : partner_in (map kept_of now) ≡ partner_in (map kept_of opens)
   same_partners = λ i. λ c. at c i where
     at : (c : ℕ) → partner_in (map kept_of now) c ≡ partner_in (map kept_of opens) c
@@ -92,7 +92,7 @@ module _ (opens now : List OpenCall) (same : map same_call now ≡ map same_call
         ∙ partner_marked (open_in now c) (open_in opens c) (same_found c)
         ∙ sym (ap partner (kept_by opens c))
 
-  -- the round is still worked ..
+  -- the round is still a processed one
   pub still_worked : (most : ℕ) (live : List ℕ) → IsWorkedRound most live opens → IsWorkedRound most live now
   still_worked most live w = record {
     listed = w.listed ∙ sym (same_map number_of);
@@ -108,7 +108,7 @@ module _ (opens now : List OpenCall) (same : map same_call now ≡ map same_call
         subst (λ (stays : ℕ → Bool). All (StaysBridged stays) now) (sym same_going) (same_all (StaysBridged (goes_on_call (map seat_of_open opens))) w.bridged);
   }
 
-  -- .. and its calls stand for the same periods
+  -- its calls stand for the same periods
   pub still_stand : (h : ℕ → Option CallHistory) →
       ((c : ℕ) → WorkedCall (goes_on_call (map seat_of_open opens)) c (h c) (call_in (map kept_of opens) c) (partner_in (map kept_of opens) c)) →
       (c : ℕ) → WorkedCall (goes_on_call (map seat_of_open now)) c (h c) (call_in (map kept_of now) c) (partner_in (map kept_of now) c)
@@ -121,10 +121,10 @@ module _ (opens now : List OpenCall) (same : map same_call now ≡ map same_call
       (subst (λ (k : Option Kept). WorkedCall (goes_on_call (map seat_of_open opens)) c (h c) (called k) (partner_in (map kept_of opens) c))
       (kept_by opens c) (stand c)))))
 
--- the calls' buffers have the round's length ..
+-- the calls' buffers have the round's length
 pub buffered : (most : ℕ) (live : List ℕ) (opens : List OpenCall) → IsWorkedRound most live opens → All HasBuffers opens
 buffered most live opens w k d l = (w.each k d l).fits
 
--- .. and their seats rise
+-- the calls' seats rise
 pub seats_rise : (most : ℕ) (live : List ℕ) (opens : List OpenCall) → IsWorkedRound most live opens → Rising (map seat_of_open opens)
 seats_rise most live opens w = seats_rising opens (subst IsRising w.listed w.rising) (own most live opens w)

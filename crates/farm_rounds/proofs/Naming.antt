@@ -1,9 +1,9 @@
 -- For crates above: a line is listed exactly if its name is among those of failed lines (`listed_name`, `name_listed`), and how such tests combine.
 -- The lines that are listed as failed, as a test and by their names, and those that failed in a round.
 use Rattle.std.proofs.Common.{◌≡◌, refl, sym, ap, ◌∙◌, subst, ℕ, zero, suc, ◌<◌, Bool, true, false, Some, None, List, [], ◌∷◌, length, map, get_or, inl, inr, ◌⊎◌, arith}
-use Rattle.std.specs.Prelude.{◌==◌, ◌||◌, if◌then◌else◌}
+use Rattle.std.specs.Prelude.{◌==◌, if◌then◌else◌}
 use Rattle.std.specs.List.{Contains, filter_map, flat_map, cons_option}
-use Rattle.std.proofs.lemmas.Bool.{eq-eqb, eqb-true}
+use Rattle.std.proofs.lemmas.Bool.{eq-eqb, eqb-true, or_cases, or_left, or_right}
 use Rattle.std.proofs.lemmas.List.Elements.{Contains-append_left, Contains-append_right, Contains-append_cases}
 use Rattle.std.proofs.lemmas.List.Sorted.{Contains-permutation, IsPermutation-map, IsPermutation-sym}
 use Rattle.trau_io.specs.declared.line.Line.{Line}
@@ -30,29 +30,11 @@ cons_cases y xs x h = elim (Contains-append_cases (y ∷ []) xs x h) [ inl a ↦
 pub none_in : {X : Type 0} (x : X) → Contains [] x → ⊥
 none_in x h = let l = h.1 in absurd (omega arith)
 
--- ---- tests
-
-pub or_cases : (p q : Bool) → (p || q) ≡ true → (p ≡ true) ⊎ (q ≡ true)
-or_cases true q e = inl refl
-or_cases false q e = inr e
-
-pub or_first : (p q : Bool) → p ≡ true → (p || q) ≡ true
-or_first true q e = refl
-or_first false q e = cc
-
-pub or_second : (p q : Bool) → q ≡ true → (p || q) ≡ true
-or_second true q e = refl
-or_second false q e = e
-
 -- tests that follow from each other are the same
 pub same_test : (p q : Bool) → (p ≡ true → q ≡ true) → (q ≡ true → p ≡ true) → p ≡ q
 same_test true q f g = sym (f refl)
 same_test false true f g = g refl
 same_test false false f g = refl
-
-pub is_false : (p : Bool) → (p ≡ true → ⊥) → p ≡ false
-is_false true h = absurd (h refl)
-is_false false h = refl
 
 -- ---- places of lines
 
@@ -88,19 +70,15 @@ listed_name (l ∷ lines) c s e = elim (or_cases (index_of_line l.call l.side ==
 pub name_listed : (lines : List Line) (c : ℕ) (s : Side) → Contains (map line_name lines) (c, s) → is_listed lines c s ≡ true
 name_listed [] c s h = absurd (none_in (c, s) h)
 name_listed (l ∷ lines) c s h = elim (cons_cases (line_name l) (map line_name lines) (c, s) h) [
-  | inl q ↦ or_first (index_of_line l.call l.side == index_of_line c s) (is_listed lines c s)
+  | inl q ↦ or_left (index_of_line l.call l.side == index_of_line c s) (is_listed lines c s)
       (eq-eqb (index_of_line l.call l.side) (index_of_line c s) (ap (λ (y : ℕ × Side). index_of_line y.0 y.1) q))
-  | inr m ↦ or_second (index_of_line l.call l.side == index_of_line c s) (is_listed lines c s) (name_listed lines c s m)
+  | inr m ↦ or_right (index_of_line l.call l.side == index_of_line c s) (is_listed lines c s) (name_listed lines c s m)
 ]
 
 -- the first line of a list is listed
 pub listed_head : (l : Line) (lines : List Line) → is_listed (l ∷ lines) l.call l.side ≡ true
 listed_head l lines =
-    or_first (index_of_line l.call l.side == index_of_line l.call l.side) (is_listed lines l.call l.side) (eq-eqb (index_of_line l.call l.side) (index_of_line l.call l.side) refl)
-
--- a test doesn't come out both ways
-pub no : (b : Bool) → b ≡ false → b ≡ true → ⊥
-no b p q = cc
+    or_left (index_of_line l.call l.side == index_of_line l.call l.side) (is_listed lines l.call l.side) (eq-eqb (index_of_line l.call l.side) (index_of_line l.call l.side) refl)
 
 -- ---- the lines that failed in a round
 

@@ -55,7 +55,7 @@ done_long items run e = sym (opens_long run) ∙ ap length e ∙ length-map (ope
 -- ---- what the round tells
 
 module _ (start ended : ℕ) (live : List ℕ) (items run : List (Box OpenCall)) (i : IsRound start ended live (opens_in items))
-    (is : opens_in run ≡ all_done (opens_in items)) (r : RoundMemory) (calls : r.calls ≡ calls_of items) (seats : r.seats ≡ seats_of items) where
+    (is : opens_in run ≡ all_done (opens_in items)) (r : RoundMemory) (calls : r.farm.calls ≡ calls_of items) (seats : r.seats ≡ seats_of items) where
   pub number_after : length (seats_of run) ≡ length r.seats
   number_after = ap (λ (xs : List OpenCall). length (map seat_of_open xs)) is ∙ seats_number start ended live (opens_in items) i
       ∙ ap (λ (ss : List SeatMemory). length ss) (sym seats)
@@ -72,7 +72,7 @@ module _ (start ended : ℕ) (live : List ℕ) (items run : List (Box OpenCall))
   pub rising_after : Rising (seats_of run)
   rising_after = subst (λ (xs : List OpenCall). Rising (map seat_of_open xs)) (sym is) (seats_done_rising start ended live (opens_in items) i)
 
-  pub partners_after : (c : ℕ) → partner_in (calls_of run) c ≡ partner_in r.calls c
+  pub partners_after : (c : ℕ) → partner_in (calls_of run) c ≡ partner_in r.farm.calls c
   partners_after c =
       ap (λ (xs : List OpenCall). partner_in (map kept_of xs) c) is ∙ same_partner start ended live (opens_in items) i c
       ∙ ap (λ (ks : List Kept). partner_in ks c) (sym calls)
@@ -98,25 +98,25 @@ module _ (start ended : ℕ) (live : List ℕ) (items run : List (Box OpenCall))
   pub sound_after : All OctetsFit (opens_in run) → All OctetsFit (all_done (opens_in items))
   sound_after s = subst (λ (xs : List OpenCall). All OctetsFit xs) is s
 
-  pub stands_after : All OctetsFit (opens_in run) → (h : ℕ → Option CallHistory) → CallsStand h r.calls → (c : ℕ) →
-      WorkedCall (goes_on_call (seats_of run)) c (worked_histories r.seats (partner_in r.calls) h c) (call_in (calls_of run) c) (partner_in (calls_of run) c)
+  pub stands_after : All OctetsFit (opens_in run) → (h : ℕ → Option CallHistory) → CallsStand h r.farm.calls → (c : ℕ) →
+      WorkedCall (goes_on_call (seats_of run)) c (worked_histories r.seats (partner_in r.farm.calls) h c) (call_in (calls_of run) c) (partner_in (calls_of run) c)
   stands_after sound h stand c =
       let within = came start ended live (opens_in items) i (sound_after sound) in
-      subst (λ (xs : List OpenCall). WorkedCall (goes_on_call (map seat_of_open xs)) c (worked_histories r.seats (partner_in r.calls) h c)
+      subst (λ (xs : List OpenCall). WorkedCall (goes_on_call (map seat_of_open xs)) c (worked_histories r.seats (partner_in r.farm.calls) h c)
       (call_in (map kept_of xs) c) (partner_in (map kept_of xs) c)) (sym is)
-      (subst (λ (ss : List SeatMemory). WorkedCall (goes_on_call (map seat_of_open (all_done (opens_in items)))) c (worked_histories ss (partner_in r.calls) h c)
+      (subst (λ (ss : List SeatMemory). WorkedCall (goes_on_call (map seat_of_open (all_done (opens_in items)))) c (worked_histories ss (partner_in r.farm.calls) h c)
       (call_in (map kept_of (all_done (opens_in items))) c) (partner_in (map kept_of (all_done (opens_in items))) c)) (sym seats)
       (subst (λ (ks : List Kept). WorkedCall (goes_on_call (map seat_of_open (all_done (opens_in items)))) c
       (worked_histories (seats_of items) (partner_in ks) h c)
       (call_in (map kept_of (all_done (opens_in items))) c) (partner_in (map kept_of (all_done (opens_in items))) c)) (sym calls)
       (worked_call start ended live (opens_in items) i r calls seats within h (subst (CallsStand h) calls stand) c)))
 
-  pub octets_after : All OctetsFit (opens_in run) → (h : ℕ → Option CallHistory) → CallsStand h r.calls →
-      AreWorked r.seats (worked_histories r.seats (partner_in r.calls) h) (seats_of run)
+  pub octets_after : All OctetsFit (opens_in run) → (h : ℕ → Option CallHistory) → CallsStand h r.farm.calls →
+      AreWorked r.seats (worked_histories r.seats (partner_in r.farm.calls) h) (seats_of run)
   octets_after sound h stand =
       let within = came start ended live (opens_in items) i (sound_after sound) in
-      subst (λ (xs : List OpenCall). AreWorked r.seats (worked_histories r.seats (partner_in r.calls) h) (map seat_of_open xs)) (sym is)
-      (subst (λ (ss : List SeatMemory). AreWorked ss (worked_histories ss (partner_in r.calls) h) (map seat_of_open (all_done (opens_in items)))) (sym seats)
+      subst (λ (xs : List OpenCall). AreWorked r.seats (worked_histories r.seats (partner_in r.farm.calls) h) (map seat_of_open xs)) (sym is)
+      (subst (λ (ss : List SeatMemory). AreWorked ss (worked_histories ss (partner_in r.farm.calls) h) (map seat_of_open (all_done (opens_in items)))) (sym seats)
       (subst (λ (ks : List Kept). AreWorked (seats_of items) (worked_histories (seats_of items) (partner_in ks) h)
       (map seat_of_open (all_done (opens_in items)))) (sym calls)
       (worked_octets start ended live (opens_in items) i r calls seats within h (subst (CallsStand h) calls stand))))

@@ -16,14 +16,14 @@ use Rattle.farm_rounds.specs.declared.open.OpenCall.{OpenCall}
 use Rattle.farm_rounds.specs.declared.tally.Tally.{Tally}
 use Rattle.farm_rounds.specs.Calls.{Call, Kept, kept_in, call_in, partner_in}
 use Rattle.farm_rounds.specs.Numbers.{IsRising, is_among}
-use Rattle.farm_rounds.specs.Memory.{tally_in}
+use Rattle.farm_rounds.specs.Memory.{FarmMemory, tally_in}
 use Rattle.farm_rounds.specs.Opens.{kept_of, seat_of_open, goes_on_open, open_rested, still_among, IsOpenCall, AreOpen}
 use Rattle.farm_rounds.specs.Opened.{TallyAfter, TallyKept, that_ends}
 use Rattle.farm_rounds.specs.Histories as had
 use Rattle.farm_rounds.specs.Histories.{CallHistory, whose, CallStands, CallsStand}
 use Rattle.farm_rounds.specs.Settling.{goes_on_in}
 use Rattle.farm_rounds.specs.Working.{WorkedMemory, IsWorkedCall, IsWorkedRound, StaysBridged, goes_on_call, that_stays, partner_past}
-use Rattle.farm_rounds.specs.RoundHistories.{seat_of, WorkedCall, WorkedStand, KnowFailed, those_that}
+use Rattle.farm_rounds.specs.RoundHistories.{seat_of, WorkedCall, KnowFailed, IsPassed, those_that}
 use Rattle.farm_rounds.proofs.Found.{number_of, open_in, kept_by}
 use Rattle.farm_rounds.proofs.Numbered.{found, found_map, any_map, map_same, Rise, rise, rising_filter, found_filter, any_found, among_found, found_same}
 
@@ -272,36 +272,35 @@ module _ (most : ℕ) (live : List ℕ) (opens : List OpenCall) (w : IsWorkedRou
 
 -- ---- the farm after a round
 
--- what is known of a farm, with these calls, numbers and counts, behind a worked round
-pub record IsPassed (r : WorkedMemory) (calls : List Kept) (numbers : List ℕ) (keeps : List Tally) : Type 0 where
-  pub live : (c : ℕ) → is_among numbers c ≡ (is_among r.live c && goes_on_call r.seats c)
-  pub opened : (c : ℕ) → is_some (call_in calls c) ≡ is_among numbers c
-  pub partners : (c : ℕ) → partner_in calls c ≡ partner_past (goes_on_call r.seats) (partner_in r.calls) c
-  pub failed : KnowFailed r.seats calls
-  pub history : (h : ℕ → Option CallHistory) → WorkedStand h r → CallsStand (those_that (goes_on_call r.seats) h) calls
-  pub tallies : (h : ℕ → Option CallHistory) → WorkedStand h r → (c : ℕ) →
-      tally_in keeps c ≡ (if goes_on_call r.seats c then tally_in r.tallies c else had.kept_of (h c) (tally_in r.tallies c))
+-- what is seen of a farm, or of the calls in a round
+abbrev farm_with : List OpenCall → List ℕ → List Tally → List Line → ℕ → FarmMemory
+farm_with opens live keeps failed ended = record { calls = map kept_of opens; live = live; tallies = keeps; failed = failed; ended = ended }
 
-pub passed : (most : ℕ) (live : List ℕ) (opens : List OpenCall) (kept keeps : List Tally) (failed : List Line) (ends : List CallEnd) (numbers : List ℕ)
-    (left : List OpenCall) → IsWorkedRound most live opens → numbers ≡ numbers_left opens → left ≡ left_open numbers opens →
+pub passed : (most : ℕ) (live : List ℕ) (opens : List OpenCall) (kept keeps : List Tally) (failed now : List Line) (ends : List CallEnd)
+    (numbers : List ℕ) (left : List OpenCall) → IsWorkedRound most live opens → numbers ≡ numbers_left opens → left ≡ left_open numbers opens →
     ((c : ℕ) → TallyKept opens c (tally_in kept c) (tally_in keeps c)) →
-    IsPassed (record { ended = most; live = live; tallies = kept; failed = failed; calls = map kept_of opens; seats = map seat_of_open opens; ends = ends })
-    (map kept_of left) numbers keeps
-passed most live opens kept keeps failed ends numbers left w en el keep =
-    let r : WorkedMemory =
-    record { ended = most; live = live; tallies = kept; failed = failed; calls = map kept_of opens; seats = map seat_of_open opens; ends = ends } in
-    subst (λ (os : List OpenCall). IsPassed r (map kept_of os) numbers keeps) (sym el)
-    (subst (λ (ns : List ℕ). IsPassed r (map kept_of (left_open ns opens)) ns keeps) (sym en)
+    IsPassed (record { farm = farm_with opens live kept failed most; seats = map seat_of_open opens; ends = ends }) (farm_with left numbers keeps now most)
+passed most live opens kept keeps failed now ends numbers left w en el keep =
+    let r : WorkedMemory = record { farm = farm_with opens live kept failed most; seats = map seat_of_open opens; ends = ends } in
+    subst (λ (os : List OpenCall). IsPassed r (farm_with os numbers keeps now most)) (sym el)
+    (subst (λ (ns : List ℕ). IsPassed r (farm_with (left_open ns opens) ns keeps now most)) (sym en)
     (record {
+      ended = refl;
       live = live_left most live opens w;
-      opened = open_left most live opens w;
+      is_open = open_left most live opens w;
       partners = partners_left most live opens w;
-      failed = failed_known most live opens w;
       history = history_left most live opens w;
       tallies = λ h k. tallies_left most live opens w h kept keeps k keep;
     }))
 
--- .. whose invariant holds
+-- Its calls know which of their lines have failed.
+pub knowing : (most : ℕ) (live : List ℕ) (opens : List OpenCall) (numbers : List ℕ) (left : List OpenCall) → IsWorkedRound most live opens →
+    numbers ≡ numbers_left opens → left ≡ left_open numbers opens → KnowFailed (map seat_of_open opens) (map kept_of left)
+knowing most live opens numbers left w en el =
+    subst (λ (os : List OpenCall). KnowFailed (map seat_of_open opens) (map kept_of os)) (sym el)
+    (subst (λ (ns : List ℕ). KnowFailed (map seat_of_open opens) (map kept_of (left_open ns opens))) (sym en) (failed_known most live opens w))
+
+-- Its invariant holds.
 pub still_left : (most : ℕ) (live : List ℕ) (opens : List OpenCall) (numbers : List ℕ) (left : List OpenCall) → IsWorkedRound most live opens →
     numbers ≡ numbers_left opens → left ≡ left_open numbers opens → AreOpen most numbers left
 still_left most live opens numbers left w en el =

@@ -47,7 +47,7 @@ live_long most live os a = ap length a.listed ∙ length-map os number_of
 -- ---- a call
 
 -- whether an outgoing line has failed stays known
-marks : (b : Bool) → has_failed (outlet_before b) ≡ b
+pub marks : (b : Bool) → has_failed (outlet_before b) ≡ b
 marks true = refl
 marks false = refl
 

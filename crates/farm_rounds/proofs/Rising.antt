@@ -78,7 +78,7 @@ gone xs i y rising l e =
           (let less : get_or xs i 0 < get_or xs (k + 1) 0 = rising i (k + 1) (omega arith) (omega arith) in ne_eqb _ _ (λ q. absurd (omega arith)))
     ]))
 
--- .. and no longer
+-- a number that is removed isn't in the list any more, and all others are as before
 pub among-remove : (xs : List ℕ) (i y c : ℕ) → IsRising xs → i < length xs → get_or xs i 0 ≡ y → is_among (remove xs i) c ≡ (not (y == c) && is_among xs c)
 among-remove xs i y c rising l e =
     let parts : is_among xs c ≡ ((get_or xs i 0 == c) || is_among (remove xs i) c) =

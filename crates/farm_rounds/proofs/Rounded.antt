@@ -54,7 +54,7 @@ done_all os =
     map-map open_finished (λ (o : OpenCall). met_beside (all_told os) o o.partner) (all_told os)
     ∙ map-map (λ (o : OpenCall). open_finished (met_beside (all_told os) o o.partner)) (told os) os
 
--- .. in their boxes
+-- the same of calls in boxes
 pub after_first : (os : List OpenCall) (begun run : List (Box OpenCall)) → opens_in begun ≡ all_begun (map standing os) os →
     opens_in run ≡ map (λ b. open_finished b.value) begun → opens_in run ≡ all_told os
 after_first os begun run e f = f ∙ sym (map-map open_finished (λ (b : Box OpenCall). b.value) begun) ∙ ap (map open_finished) e ∙ told_all os
@@ -141,7 +141,7 @@ module _ (start ended : ℕ) (live : List ℕ) (os : List OpenCall) (i : IsRound
   pub kept_found : (c : ℕ) (o : OpenCall) → open_in os c ≡ Some o → kept_in (map kept_of os) c ≡ Some (kept_of o)
   kept_found c o e = kept_by os c ∙ ap (λ (x : Option OpenCall). option_map kept_of x) e
 
-  module _ (r : RoundMemory) (calls : r.calls ≡ map kept_of os) (seats : r.seats ≡ map seat_of_open os) where
+  module _ (r : RoundMemory) (calls : r.farm.calls ≡ map kept_of os) (seats : r.seats ≡ map seat_of_open os) where
     filled : (c : ℕ) (o : OpenCall) → open_in os c ≡ Some o → half_filled r c ≡ half_open o
     filled c o e =
         ap (λ (ks : List Kept). record { leg = (unwrap_or (kept_in ks c) no_kept).call.leg; io = io_of (seat_of r.seats c) }) calls
@@ -149,7 +149,7 @@ module _ (start ended : ℕ) (live : List ℕ) (os : List OpenCall) (i : IsRound
         ∙ ap (λ (k : Option Kept). record { leg = (unwrap_or k no_kept).call.leg; io = io_of (seat_of (map seat_of_open os) c) }) (kept_found c o e)
         ∙ ap (λ (s : SeatMemory). record { leg = (kept_of o).call.leg; io = io_of s }) (seat_found c o e)
 
-    partner_is : (c : ℕ) (o : OpenCall) → open_in os c ≡ Some o → partner_in r.calls c ≡ o.partner
+    partner_is : (c : ℕ) (o : OpenCall) → open_in os c ≡ Some o → partner_in r.farm.calls c ≡ o.partner
     partner_is c o e = ap (λ (ks : List Kept). partner_in ks c) calls ∙ partner_found os c o e
 
     -- the job of a call alone, and of one with its partner

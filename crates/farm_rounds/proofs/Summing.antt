@@ -12,17 +12,17 @@ use Rattle.round_lines.specs.Seats.{SeatMemory, down_given, out_given}
 use Rattle.round_lines.specs.Rounds.{Rising, IsOutgoing, seat_at, call_at}
 use Rattle.farm_rounds.specs.Sums.{AddsSeat, Adds, no_sums, sum_in}
 
--- a table of zeros
+-- a table of zeros has zeros
 zeros : (n i : ℕ) → ◌≡◌ {A = ℕ} (slice_index_or (replicate n 0) i 0) 0
 zeros zero i = refl
 zeros (suc n) zero = refl
 zeros (suc n) (suc i) = zeros n i
 
--- .. has no sum
+-- a table of zeros has no sum
 pub no_sum : (n : ℕ) (sums : List ℕ) → sums ≡ replicate n 0 → sum_in sums ≡ no_sums
 no_sum n sums made = λ i. λ c side. (ap (λ (xs : List ℕ). sum_in xs c side) made ∙ zeros n (index_of_line c side)) i
 
--- octets are added at the place of their line ..
+-- octets are added at the index of their line
 pub added_here : (sums old octets : List ℕ) (call at n a b : ℕ) (side : Side) → sums ≡ old → at ≡ index_of_line call side → at < length sums →
     n ≡ sum octets % 2 ^ 32 → a ≡ get_or sums at a → b ≡ (a + n) % 2 ^ 32 → sum_in (set sums at b) call side ≡ (sum_in old call side + sum octets) % 2 ^ 32
 added_here sums old octets call at n a b side same here within of before new =
@@ -51,7 +51,7 @@ numbered_back Pcm = refl
 numbered_back Down = refl
 numbered_back Out = refl
 
--- .. and at no other line's
+-- and at no other line's
 pub added_elsewhere : (sums old : List ℕ) (call at b : ℕ) (side : Side) → sums ≡ old → at ≡ index_of_line call side →
     (c : ℕ) (s : Side) → (c ≡ call → s ≡ side → ⊥) → sum_in (set sums at b) c s ≡ sum_in old c s
 added_elsewhere sums old call at b side same here c s other =

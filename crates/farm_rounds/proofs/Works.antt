@@ -150,7 +150,7 @@ module _ (start ended : ℕ) (live : List ℕ) (os : List OpenCall) (i : IsRound
   call_after c o e =
       ap (option_map (λ (k : Kept). k.call)) (kept_by (all_done os) c ∙ ap (option_map kept_of) (done_found os c ∙ ap (option_map (done os)) e))
 
-  module _ (r : RoundMemory) (calls : r.calls ≡ map kept_of os) (seats : r.seats ≡ map seat_of_open os) where
+  module _ (r : RoundMemory) (calls : r.farm.calls ≡ map kept_of os) (seats : r.seats ≡ map seat_of_open os) where
     half_is : (c : ℕ) (o : OpenCall) → open_in os c ≡ Some o → half_worked r c ≡ half_in (done os o).job
     half_is c o e = worked_half start ended live os i r calls seats c o e
 

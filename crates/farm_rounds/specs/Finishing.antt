@@ -11,7 +11,7 @@ use Rattle.farm_rounds.specs.Acts.{no_kept}
 
 -- a call with the octets of its seat
 abbrev pub half_filled : RoundMemory → ℕ → HalfMemory
-half_filled r c = record { leg = (unwrap_or (kept_in r.calls c) no_kept).call.leg; io = io_of (seat_of r.seats c) }
+half_filled r c = record { leg = (unwrap_or (kept_in r.farm.calls c) no_kept).call.leg; io = io_of (seat_of r.seats c) }
 
 -- its job
 abbrev pub job_beside : RoundMemory → ℕ → Option ℕ → Job
@@ -19,7 +19,7 @@ job_beside r c None = One (half_filled r c)
 job_beside r c (Some d) = Two (half_filled r c) (half_filled r d)
 
 abbrev pub job_in : RoundMemory → ℕ → Job
-job_in r c = job_beside r c (partner_in r.calls c)
+job_in r c = job_beside r c (partner_in r.farm.calls c)
 
 -- the call's half of the finished job
 abbrev pub half_worked : RoundMemory → ℕ → HalfMemory

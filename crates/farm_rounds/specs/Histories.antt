@@ -13,7 +13,7 @@ use Rattle.call_leg.specs.Stands.{Stands}
 use Rattle.down_framer.specs.Made.{handed_due}
 use Rattle.farm_rounds.specs.declared.tally.Tally.{Tally}
 use Rattle.farm_rounds.specs.Calls.{Call, Kept, call_in, partner_in}
-use Rattle.farm_rounds.specs.Acts.{put_at, changed, released}
+use Rattle.farm_rounds.specs.Acts.{put_at, change_at, change_partner}
 
 -- the law of a call's octets, its periods so far, and what is set for the next one
 pub record CallHistory : Type 0 where
@@ -47,11 +47,11 @@ set_now f h = record { law = h.law; periods = h.periods; now = f h.now }
 
 abbrev pub histories_after : Act → (ℕ → Option CallHistory) → ℕ → Option CallHistory
 histories_after (Opened c law) h = put_at c (Some (record { law = law; periods = []; now = new_settings })) h
-histories_after (Closed c p) h = put_at c None (released p (set_now without_bridge) h)
-histories_after (Bridged a b) h = changed a (set_now with_bridge) (changed b (set_now with_bridge) h)
-histories_after (Unbridged a b) h = changed a (set_now without_bridge) (changed b (set_now without_bridge) h)
-histories_after (LevelSet c level) h = changed c (set_now (with_level level)) h
-histories_after (DtxSet c mode) h = changed c (set_now (with_mode mode)) h
+histories_after (Closed c p) h = put_at c None (change_partner p (set_now without_bridge) h)
+histories_after (Bridged a b) h = change_at a (set_now with_bridge) (change_at b (set_now with_bridge) h)
+histories_after (Unbridged a b) h = change_at a (set_now without_bridge) (change_at b (set_now without_bridge) h)
+histories_after (LevelSet c level) h = change_at c (set_now (with_level level)) h
+histories_after (DtxSet c mode) h = change_at c (set_now (with_mode mode)) h
 
 -- no handed frame waits
 abbrev pub NoneWaits : Option CallHistory → Type 0
@@ -59,9 +59,9 @@ NoneWaits None = Unit {0}
 NoneWaits (Some h) = handed_due (down_periods h.periods) (frames_of h.periods) ≡ None
 
 -- if the act starts a bridge, no handed frame waits in its calls
-abbrev pub NoneDrains : Act → (ℕ → Option CallHistory) → Type 0
-NoneDrains (Bridged a b) h = NoneWaits (h a) × NoneWaits (h b)
-NoneDrains _ h = Unit {0}
+abbrev pub NoneWaitsIn : Act → (ℕ → Option CallHistory) → Type 0
+NoneWaitsIn (Bridged a b) h = NoneWaits (h a) × NoneWaits (h b)
+NoneWaitsIn _ h = Unit {0}
 
 -- the tallies that are kept of ended calls
 abbrev pub kept_of : Option CallHistory → Tally → Tally

@@ -16,7 +16,7 @@ use Rattle.round_lines.specs.Seats.{Fits}
 use Rattle.farm_rounds.specs.declared.open.OpenCall.{OpenCall}
 use Rattle.std.specs.Option.{option_map}
 use Rattle.farm_rounds.specs.Calls.{Kept, kept_in}
-use Rattle.farm_rounds.specs.Acts.{parted}
+use Rattle.farm_rounds.specs.Acts.{parted_call}
 use Rattle.farm_rounds.specs.declared.tally.Tally.{Tally}
 use Rattle.farm_rounds.specs.Histories.{tally_of}
 use Rattle.farm_rounds.specs.Opens.{IsOpenCall, kept_of, opens_in, new_open, with_job, open_begun, goes_on_open, same_seat, same_call}
@@ -136,4 +136,4 @@ pub record IsChanged (call : ℕ) (f : Kept → Kept) (before now : List OpenCal
 -- the partner of a call that ends, if there is one, goes on alone
 abbrev pub IsReleased : Option ℕ → List OpenCall → List OpenCall → Type 0
 IsReleased None before now = now ≡ before
-IsReleased (Some p) before now = IsChanged p (λ k. record { call = parted k.call; partner = None }) before now
+IsReleased (Some p) before now = IsChanged p (λ k. record { call = parted_call k.call; partner = None }) before now

@@ -12,8 +12,10 @@ use Rattle.round_lines.specs.Transfer.{has_failed}
 use Rattle.round_lines.specs.declared.transfer.Outlet.TheVariants.{Sound}
 use Rattle.round_lines.specs.Memory.{LinesMemory, fresh_lines, nothing_taken, whole_in}
 use Rattle.round_lines.specs.Seats.{SeatMemory}
+use Rattle.farm_rounds.specs.declared.calls.Calls.{Calls}
 use Rattle.farm_rounds.specs.declared.open.OpenCall.{OpenCall}
 use Rattle.farm_rounds.specs.Calls.{Kept, partner_in}
+use Rattle.farm_rounds.specs.Memory.{FarmMemory}
 use Rattle.farm_rounds.specs.Numbers.{IsRising, is_among}
 
 -- what is in the boxes
@@ -38,6 +40,10 @@ seat_of_open o = seat_with o.lines o.job.io
 
 abbrev pub seats_of : List (Box OpenCall) → List SeatMemory
 seats_of boxes = map seat_of_open (opens_in boxes)
+
+-- what is seen of the calls of a farm
+abbrev pub farm_of : Calls → FarmMemory
+farm_of x = record { calls = calls_of x.open.items; live = x.live.items; tallies = x.tallies.items; failed = x.failed.items; ended = x.ended }
 
 -- ---- the steps of one call
 

@@ -1,6 +1,6 @@
 -- What a round adds to the periods that each call has had. `seats` are the seats of the round after its lines were read: a
 -- call's seat has the octets of its whole periods.
-use Rattle.std.specs.Prelude.{◌≡◌, ℕ, ◌<◌, Bool, true, if◌then◌else◌, ◌==◌, Option, Some, None, is_some, unwrap_or, find, List, length}
+use Rattle.std.specs.Prelude.{◌≡◌, ℕ, ◌<◌, Bool, true, if◌then◌else◌, ◌==◌, ◌&&◌, Option, Some, None, is_some, unwrap_or, find, List, length}
 use Rattle.std.specs.Option.{option_map}
 use Rattle.call_leg.specs.Stands.{Stands}
 use Rattle.call_leg.specs.Settings.{settings_at}
@@ -10,10 +10,12 @@ use Rattle.round_lines.specs.Memory.{whole_in}
 use Rattle.round_lines.specs.Seats.{SeatMemory, new_seat}
 use Rattle.round_lines.specs.Rounds.{no_seat, seat_at, call_at}
 use Rattle.farm_rounds.specs.Calls.{Call, Kept, call_in, partner_in}
-use Rattle.farm_rounds.specs.Histories.{CallHistory, whose}
+use Rattle.farm_rounds.specs.Memory.{FarmMemory, tally_in}
+use Rattle.farm_rounds.specs.Numbers.{is_among}
+use Rattle.farm_rounds.specs.Histories.{CallHistory, CallsStand, whose, kept_of}
 use Rattle.farm_rounds.specs.Rounds.{io_of}
 use Rattle.farm_rounds.specs.Opens.{seat_with}
-use Rattle.farm_rounds.specs.Working.{WorkedMemory, goes_on_call, that_stays}
+use Rattle.farm_rounds.specs.Working.{WorkedMemory, goes_on_call, that_stays, partner_past}
 
 -- ---- before the round
 
@@ -71,7 +73,7 @@ WorkedCall stays c (Some h) (Some x) partner =
 WorkedCall stays c _ _ partner = ⊥
 
 abbrev pub WorkedStand : (ℕ → Option CallHistory) → WorkedMemory → Type 0
-WorkedStand h r = (c : ℕ) → WorkedCall (goes_on_call r.seats) c (h c) (call_in r.calls c) (partner_in r.calls c)
+WorkedStand h r = (c : ℕ) → WorkedCall (goes_on_call r.seats) c (h c) (call_in r.farm.calls c) (partner_in r.farm.calls c)
 
 -- The seats after the work: the buffers of Out and Down begin with the octets of the round's periods; the rest is unchanged.
 abbrev pub AreWorked : List SeatMemory → (ℕ → Option CallHistory) → List SeatMemory → Type 0
@@ -83,6 +85,19 @@ AreWorked seats worked now = (k : ℕ) (x : CallHistory) → k < length seats �
 -- the values of the calls that go on
 abbrev pub those_that : {A : Type 0} → (ℕ → Bool) → (ℕ → Option A) → ℕ → Option A
 those_that stays h c = if stays c then h c else None
+
+-- What a farm has after a processed round. Exactly the calls whose lines gave all periods of the round are open. Partners stay
+-- partners if both go on; a call whose partner has ended goes on alone.
+pub record IsPassed (r : WorkedMemory) (f : FarmMemory) : Type 0 where
+  pub ended : f.ended ≡ r.farm.ended
+  pub live : (c : ℕ) → is_among f.live c ≡ (is_among r.farm.live c && goes_on_call r.seats c)
+  pub is_open : (c : ℕ) → is_some (call_in f.calls c) ≡ is_among f.live c
+  pub partners : (c : ℕ) → partner_in f.calls c ≡ partner_past (goes_on_call r.seats) (partner_in r.farm.calls) c
+  -- For every history `h` that is possible for these calls (`WorkedStand h`): the calls that go on have the history that `h` gives
+  -- them, and the tallies of the calls that end are kept.
+  pub history : (h : ℕ → Option CallHistory) → WorkedStand h r → CallsStand (those_that (goes_on_call r.seats) h) f.calls
+  pub tallies : (h : ℕ → Option CallHistory) → WorkedStand h r → (c : ℕ) →
+      tally_in f.tallies c ≡ (if goes_on_call r.seats c then tally_in r.farm.tallies c else kept_of (h c) (tally_in r.farm.tallies c))
 
 -- each of these calls knows which of its outgoing lines have failed so far, as its seat says
 abbrev pub KnowFailed : List SeatMemory → List Kept → Type 0

@@ -7,23 +7,17 @@ use Rattle.trau_io.specs.Indices.{index_of_line}
 use Rattle.std.specs.List.Sorted.{IsPermutation, IsStrictlyIncreasing}
 use Rattle.round_lines.specs.Memory.{line_name, failed_in_round}
 use Rattle.round_lines.specs.Seats.{SeatMemory, Fits}
-use Rattle.farm_rounds.specs.declared.tally.Tally.{Tally}
 use Rattle.call_number.specs.CallNumber.{IsCallNumber}
 use Rattle.farm_rounds.specs.declared.open.OpenCall.{OpenCall}
-use Rattle.farm_rounds.specs.Calls.{Kept}
+use Rattle.farm_rounds.specs.Memory.{FarmMemory}
 use Rattle.farm_rounds.specs.Numbers.{IsRising}
 use Rattle.farm_rounds.specs.Opens.{IsOpenCall, AreOpen, AreMutual, kept_of, seat_of_open, goes_on_open}
 use Rattle.farm_rounds.specs.Settling.{goes_on_in}
 
--- what is seen of a round: its first period and the first one after it, the open calls' numbers, the tallies of ended calls,
--- the lines that failed before, the calls with their partners, and their seats
+-- what is seen of a round: its first period, the farm, which ends with the round, and the seats of its calls
 pub record RoundMemory : Type 0 where
   pub start : ℕ
-  pub ended : ℕ
-  pub live : List ℕ
-  pub tallies : List Tally
-  pub failed : List Line
-  pub calls : List Kept
+  pub farm : FarmMemory
   pub seats : List SeatMemory
 
 -- a call in a round: it and its bridge were planned for all periods of the round
@@ -43,11 +37,7 @@ pub record IsRound (start ended : ℕ) (live : List ℕ) (opens : List OpenCall)
 
 -- what is seen of a processed round
 pub record WorkedMemory : Type 0 where
-  pub ended : ℕ
-  pub live : List ℕ
-  pub tallies : List Tally
-  pub failed : List Line
-  pub calls : List Kept
+  pub farm : FarmMemory
   pub seats : List SeatMemory
   pub ends : List CallEnd
 

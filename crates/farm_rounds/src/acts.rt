@@ -1,19 +1,19 @@
 //! What orders do to the open calls. A bridge is started, or ended, in one phone call after the other. In between only one
 //! of the two has a partner, which the farm's invariant forbids. So these functions take the lists and not the farm.
 
-ghost use Rattle.std.specs.Prelude.{◌≡◌, ◌≢◌, ℕ, List, Some, None, true, is_some, length, slice_index, IfOk, IfErr, IfSome};
-ghost use Rattle.std.specs.List.{All};
+ghost use Rattle.std.specs.Prelude.{◌≡◌, ℕ, List, Some, None, true, is_some, IfOk, IfErr, IfSome};
 ghost use Rattle.switchboard.specs.declared.act.Act.TheVariants.{Opened, Closed};
+ghost use Rattle.switchboard.specs.Replies.{IsInRange};
 ghost use Rattle.call_leg.specs.Periods.{CallPeriod};
 ghost use Rattle.call_leg.specs.Settings.{Settings};
 ghost use Rattle.call_leg.specs.Stands.{Stands};
 ghost use Rattle.call_leg.specs.Who.{Who};
-ghost use Rattle.farm_rounds.specs.Numbers.{IsRising, is_among};
+ghost use Rattle.farm_rounds.specs.Numbers.{is_among};
 ghost use Rattle.farm_rounds.specs.Calls.{Call, call_in, partner_in};
-ghost use Rattle.farm_rounds.specs.Acts.{HasLevel, IsOpen, ActFits, Stays, Applied, bridged_call, parted, set_by};
+ghost use Rattle.farm_rounds.specs.Acts.{IsOpen, ActFits, Stays, Applied, bridged_call, parted_call, set_by};
 ghost use Rattle.farm_rounds.specs.Histories.{tally_of};
-ghost use Rattle.farm_rounds.specs.Opens.{opens_in, calls_of, kept_of, AreOpen};
-ghost use Rattle.farm_rounds.specs.Opened.{open_at, AreListed, IsChanged, IsReleased};
+ghost use Rattle.farm_rounds.specs.Opens.{opens_in, calls_of, AreOpen};
+ghost use Rattle.farm_rounds.specs.Opened.{AreListed, IsChanged, IsReleased};
 
 use crate::live::{index_of, insertion_index};
 use crate::open::OpenCall;
@@ -32,7 +32,8 @@ pub(crate) fn open(
 ) -> Result<(), AllocError>
     requires sound { (most : ℕ) × AreOpen most live.old.items (opens_in calls.old.items) }
     requires fits { ActFits (calls_of calls.old.items) (Opened call law) }
-    ensures applied { IfOk result (λ u. Applied (Opened call law) (calls_of calls.old.items) (calls_of calls.new.items)) }
+    ensures applied { IfOk result
+        (λ u. Applied (Opened call law) (calls_of calls.old.items) (calls_of calls.new.items)) }
     ensures sound { (most : ℕ) → AreOpen most live.old.items (opens_in calls.old.items) →
         AreOpen most live.new.items (opens_in calls.new.items) }
     ensures calls { IfErr result (λ e. calls.new.items ≡ calls.old.items) }
@@ -48,30 +49,33 @@ pub(crate) fn open(
 }
 
 // Starts a call's bridge.
-fn join(calls: &mut [Box<OpenCall>], live: &[u32], call: u32, partner: u32)
+fn start_bridge(calls: &mut [Box<OpenCall>], live: &[u32], call: u32, partner: u32)
     requires listed { AreListed live.now (opens_in calls.old) }
     requires there { is_among live.now call ≡ true }
-    ensures { IsChanged call (λ k. record { call = bridged_call k.call; partner = Some partner }) (opens_in calls.old) (opens_in calls.new) }
+    ensures { IsChanged call (λ k. record { call = bridged_call k.call; partner = Some partner })
+        (opens_in calls.old) (opens_in calls.new) }
 {
-    calls[index_of(live, call)].join(partner);
+    calls[index_of(live, call)].start_bridge(partner);
 }
 
 // Ends the bridge of a call that has a partner.
-fn part(calls: &mut [Box<OpenCall>], live: &[u32], call: u32)
+fn end_bridge(calls: &mut [Box<OpenCall>], live: &[u32], call: u32)
     requires listed { AreListed live.now (opens_in calls.old) }
     requires there { is_among live.now call ≡ true }
     requires partner { is_some (partner_in (calls_of calls.old) call) ≡ true }
-    ensures { IsChanged call (λ k. record { call = parted k.call; partner = None }) (opens_in calls.old) (opens_in calls.new) }
+    ensures { IsChanged call (λ k. record { call = parted_call k.call; partner = None })
+        (opens_in calls.old) (opens_in calls.new) }
 {
-    calls[index_of(live, call)].part();
+    calls[index_of(live, call)].end_bridge();
 }
 
 // Sets a call's level or its DTX mode, whichever the act names.
 fn set(calls: &mut [Box<OpenCall>], live: &[u32], call: u32, act: &Act)
     requires listed { AreListed live.now (opens_in calls.old) }
     requires there { is_among live.now call ≡ true }
-    requires level { HasLevel act.now }
-    ensures { IsChanged call (λ k. record { call = set_by act.now k.call; partner = k.partner }) (opens_in calls.old) (opens_in calls.new) }
+    requires range { IsInRange act.now }
+    ensures { IsChanged call (λ k. record { call = set_by act.now k.call; partner = k.partner })
+        (opens_in calls.old) (opens_in calls.new) }
 {
     calls[index_of(live, call)].set(act);
 }
@@ -82,18 +86,19 @@ pub(crate) fn change(calls: &mut [Box<OpenCall>], live: &[u32], act: &Act)
     requires fits { ActFits (calls_of calls.old) act.now }
     requires stays { Stays act.now }
     ensures applied { Applied act.now (calls_of calls.old) (calls_of calls.new) }
-    ensures sound { (most : ℕ) → AreOpen most live.now (opens_in calls.old) → AreOpen most live.now (opens_in calls.new) }
+    ensures sound { (most : ℕ) → AreOpen most live.now (opens_in calls.old) →
+        AreOpen most live.now (opens_in calls.new) }
 {
     match *act {
         // `stays` excludes these.
         Act::Opened { .. } | Act::Closed { .. } => {}
         Act::Bridged { a, b } => {
-            join(calls, live, a, b);
-            join(calls, live, b, a);
+            start_bridge(calls, live, a, b);
+            start_bridge(calls, live, b, a);
         }
         Act::Unbridged { a, b } => {
-            part(calls, live, a);
-            part(calls, live, b);
+            end_bridge(calls, live, a);
+            end_bridge(calls, live, b);
         }
         Act::LevelSet { call, .. } | Act::DtxSet { call, .. } => set(calls, live, call, act),
     }
@@ -107,7 +112,7 @@ fn release_partner(calls: &mut [Box<OpenCall>], live: &[u32], partner: Option<u3
     ensures { IsReleased partner (opens_in calls.old) (opens_in calls.new) }
 {
     if let Some(partner) = partner {
-        part(calls, live, partner);
+        end_bridge(calls, live, partner);
     }
 }
 
@@ -115,12 +120,13 @@ fn release_partner(calls: &mut [Box<OpenCall>], live: &[u32], partner: Option<u3
 pub(crate) fn close(calls: &mut Vec<Box<OpenCall>>, live: &mut Vec<u32>, call: u32) -> Tally
     requires sound { (most : ℕ) × AreOpen most live.old.items (opens_in calls.old.items) }
     requires fits { IsOpen (calls_of calls.old.items) call }
-    ensures applied { Applied (Closed call (partner_in (calls_of calls.old.items) call)) (calls_of calls.old.items)
-        (calls_of calls.new.items) }
+    ensures applied { Applied (Closed call (partner_in (calls_of calls.old.items) call))
+        (calls_of calls.old.items) (calls_of calls.new.items) }
     ensures sound { (most : ℕ) → AreOpen most live.old.items (opens_in calls.old.items) →
         AreOpen most live.new.items (opens_in calls.new.items) }
-    ensures tally { (x : Call) (who : Who) (ts : List CallPeriod) (now : Settings) → call_in (calls_of calls.old.items) call ≡ Some x →
-        Stands who ts now x.leg → result ≡ tally_of ts now }
+    ensures tally { (x : Call) (who : Who) (ts : List CallPeriod) (now : Settings) →
+        call_in (calls_of calls.old.items) call ≡ Some x → Stands who ts now x.leg →
+        result ≡ tally_of ts now }
 {
     let at = index_of(live, call);
     let partner = calls[at].partner;

@@ -1,16 +1,14 @@
 //! What a round does to all open calls of a farm. The calls are in rising order of their numbers.
 
-ghost use Rattle.std.specs.Prelude.{◌≡◌, ◌≢◌, ◌+◌, ◌-◌, ◌*◌, ◌<◌, ◌≤◌, ◌++◌, ℕ, Option, Some, None, [], length, map, flat_map, filter, IfOk, IfSome, vec_len, vec_capacity, if◌then◌else◌, is_some, min};
+ghost use Rattle.std.specs.Prelude.{◌≡◌, ◌≢◌, ◌+◌, ◌-◌, ◌*◌, ◌<◌, ◌≤◌, ◌++◌, ℕ, Some, None, [], length, map, flat_map, filter, IfOk, vec_len, vec_capacity, min};
 ghost use Rattle.std.specs.List.{All, filter_map};
-ghost use Rattle.call_leg.specs.Stands.{Stands};
 ghost use Rattle.call_number.specs.declared.TheConstants.{NUMBERS};
-ghost use Rattle.round_lines.specs.Memory.{failed_in_round, line_name, whole_in};
+ghost use Rattle.round_lines.specs.Memory.{failed_in_round, line_name};
 ghost use Rattle.round_lines.specs.Seats.{Fills, Drains};
 ghost use Rattle.round_lines.specs.Rounds.{Rising, Each, KeepsButEach, IsIncoming, IsOutgoing, EndsWithin, seat_end};
 ghost use Rattle.farm_rounds.specs.Memory.{tally_in};
 ghost use Rattle.farm_rounds.specs.Numbers.{IsRising};
-ghost use Rattle.farm_rounds.specs.Opens.{opens_in, seats_of, calls_of, AreOpen, IsOpenCall, with_job, open_planned, goes_on_open, open_rested};
-ghost use Rattle.farm_rounds.specs.Working.{IsRound, IsWorkedRound};
+ghost use Rattle.farm_rounds.specs.Opens.{opens_in, seats_of, IsOpenCall, with_job, open_planned, goes_on_open, open_rested};
 ghost use Rattle.farm_rounds.specs.Opened.{open_at, same_seats, same_calls, standings, end_beside, all_begun, all_met, TallyKept, HasBuffers, ArePaired, IsReady, OctetsFit, IsTold};
 ghost use Rattle.call_pair.specs.Phases.{heard_from, periods_left};
 ghost use Rattle.call_pair.specs.declared.call_job.Phase.TheVariants.{First};
@@ -21,12 +19,28 @@ use crate::tally::Tally;
 use std::alloc::AllocError;
 use trau_io::{CallEnd, Line, Trunk};
 
+/// The open calls, what was counted of each ended call, and the lines that have failed. `Farm`, `Round` and `Worked` each
+/// have one. What holds of the calls in it differs, so it has no invariant of its own.
+#[derive(Drop)]
+pub(crate) struct Calls {
+    /// In rising order of their numbers, which `live` lists.
+    pub(crate) open: Vec<Box<OpenCall>>,
+    pub(crate) live: Vec<u32>,
+    /// At the index of each call's number.
+    pub(crate) tallies: Vec<Tally>,
+    /// Each once, in rising order of their indices.
+    pub(crate) failed: Vec<Line>,
+    /// The first period after the last round; of a round, the first one after it.
+    pub(crate) ended: u32,
+}
+
 /// Takes the memory of each call for a round of `periods` periods.
 pub(crate) fn plan_all(calls: &mut [Box<OpenCall>], periods: u32) -> Result<(), AllocError>
     requires some { 1 ≤ periods }
     requires few { periods ≤ 250 }
     requires time { All (IsOpenCall (4294967295 - periods)) (opens_in calls.old) }
-    ensures planned { IfOk result (λ u. opens_in calls.new ≡ map (open_planned periods) (opens_in calls.old)) }
+    ensures planned { IfOk result (λ u. opens_in calls.new
+        ≡ map (open_planned periods) (opens_in calls.old)) }
 {
     for call in calls.iter_mut() {
         call.plan(periods)?;
@@ -38,8 +52,10 @@ pub(crate) fn plan_all(calls: &mut [Box<OpenCall>], periods: u32) -> Result<(), 
 pub(crate) fn fill_all<T: Trunk>(trunk: &mut T, calls: &mut [Box<OpenCall>])
     requires rising { Rising (seats_of calls.old) }
     requires fits { All HasBuffers (opens_in calls.old) }
-    ensures fills { Each Fills (T.lines trunk.old) (T.lines trunk.new) (seats_of calls.old) (seats_of calls.new) (length calls.old) }
-    ensures others { KeepsButEach IsIncoming (T.lines trunk.old) (T.lines trunk.new) (seats_of calls.old) (length calls.old) }
+    ensures fills { Each Fills (T.lines trunk.old) (T.lines trunk.new) (seats_of calls.old)
+        (seats_of calls.new) (length calls.old) }
+    ensures others { KeepsButEach IsIncoming (T.lines trunk.old) (T.lines trunk.new)
+        (seats_of calls.old) (length calls.old) }
     ensures kept { same_seats calls.new ≡ same_seats calls.old }
     ensures rising { Rising (seats_of calls.new) }
 {
@@ -83,9 +99,11 @@ fn meet(calls: &mut [Box<OpenCall>], at: usize, from: usize)
     requires apart { at ≢ from }
     requires first { (open_at calls.old at).job.phase ≡ First }
     requires finished { periods_left (open_at calls.old at).job ≡ 0 }
-    requires told { (open_at calls.old at).job.bridge_end ≤ length (open_at calls.old from).job.notes }
+    requires told { (open_at calls.old at).job.bridge_end
+        ≤ length (open_at calls.old from).job.notes }
     requires none { (open_at calls.old at).job.partner ≡ [] }
-    ensures heard { open_at calls.new at ≡ with_job (open_at calls.old at) (heard_from (open_at calls.old from).job (open_at calls.old at).job) }
+    ensures heard { open_at calls.new at ≡ with_job (open_at calls.old at)
+        (heard_from (open_at calls.old from).job (open_at calls.old at).job) }
     ensures others { (k : ℕ) → k ≢ at → open_at calls.new k ≡ open_at calls.old k }
     ensures length { length calls.new ≡ length calls.old }
 {
@@ -116,8 +134,10 @@ pub(crate) fn meet_all(calls: &mut [Box<OpenCall>], live: &[u32])
 pub(crate) fn drain_all<T: Trunk>(trunk: &mut T, calls: &mut [Box<OpenCall>])
     requires rising { Rising (seats_of calls.old) }
     requires fits { All HasBuffers (opens_in calls.old) }
-    ensures drains { Each Drains (T.lines trunk.old) (T.lines trunk.new) (seats_of calls.old) (seats_of calls.new) (length calls.old) }
-    ensures others { KeepsButEach IsOutgoing (T.lines trunk.old) (T.lines trunk.new) (seats_of calls.old) (length calls.old) }
+    ensures drains { Each Drains (T.lines trunk.old) (T.lines trunk.new) (seats_of calls.old)
+        (seats_of calls.new) (length calls.old) }
+    ensures others { KeepsButEach IsOutgoing (T.lines trunk.old) (T.lines trunk.new)
+        (seats_of calls.old) (length calls.old) }
     ensures kept { same_calls calls.new ≡ same_calls calls.old }
 {
     for call in calls.iter_mut() {
@@ -129,7 +149,8 @@ pub(crate) fn drain_all<T: Trunk>(trunk: &mut T, calls: &mut [Box<OpenCall>])
 pub(crate) fn list_ends(calls: &[Box<OpenCall>], start: u32, ends: &mut Vec<CallEnd>)
     requires within { EndsWithin start (seats_of calls.now) }
     requires room { vec_len ends.old + length calls.now ≤ vec_capacity ends.old }
-    ensures listed { ends.new.items ≡ ends.old.items ++ filter_map (seat_end start) (seats_of calls.now) }
+    ensures listed { ends.new.items ≡ ends.old.items
+        ++ filter_map (seat_end start) (seats_of calls.now) }
 
     // For the prover: what the types of each call's octets and lines keep true.
     ensures sound { All OctetsFit (opens_in calls.now) }
@@ -146,7 +167,8 @@ pub(crate) fn list_ends(calls: &[Box<OpenCall>], start: u32, ends: &mut Vec<Call
 /// lines per call.
 pub(crate) fn list_failed(calls: &[Box<OpenCall>], failed: &mut Vec<Line>)
     requires room { vec_len failed.old + 4 * length calls.now ≤ vec_capacity failed.old }
-    ensures { map line_name failed.new.items ≡ map line_name failed.old.items ++ flat_map (λ s. failed_in_round s.lines) (seats_of calls.now) }
+    ensures { map line_name failed.new.items ≡ map line_name failed.old.items
+        ++ flat_map (λ s. failed_in_round s.lines) (seats_of calls.now) }
 {
     for call in calls {
         call.lines.list_failed(failed);
@@ -158,7 +180,8 @@ pub(crate) fn keep_tallies(calls: &[Box<OpenCall>], tallies: &mut [Tally])
     requires rising { IsRising (map (λ o. o.job.io.call) (opens_in calls.now)) }
     requires places { All (λ o. o.lines.call ≡ o.job.io.call) (opens_in calls.now) }
     requires number { length tallies.old ≡ NUMBERS }
-    ensures kept { (c : ℕ) → TallyKept (opens_in calls.now) c (tally_in tallies.old c) (tally_in tallies.new c) }
+    ensures kept { (c : ℕ) →
+        TallyKept (opens_in calls.now) c (tally_in tallies.old c) (tally_in tallies.new c) }
     ensures number { length tallies.new ≡ NUMBERS }
 {
     for call in calls {
@@ -199,8 +222,10 @@ fn rest_all(calls: &mut [Box<OpenCall>], live: &[u32])
 /// Removes the calls that end, lists the numbers of the others in `live`, and resets these after the round.
 pub(crate) fn keep_open(calls: &mut Vec<Box<OpenCall>>, live: &mut Vec<u32>)
     requires room { vec_len calls.old ≤ vec_capacity live.old }
-    ensures live { live.new.items ≡ map (λ o. o.lines.call) (filter goes_on_open (opens_in calls.old.items)) }
-    ensures calls { opens_in calls.new.items ≡ map (open_rested live.new.items) (filter goes_on_open (opens_in calls.old.items)) }
+    ensures live { live.new.items
+        ≡ map (λ o. o.lines.call) (filter goes_on_open (opens_in calls.old.items)) }
+    ensures calls { opens_in calls.new.items
+        ≡ map (open_rested live.new.items) (filter goes_on_open (opens_in calls.old.items)) }
 {
     keep(calls);
     list_numbers(calls, live);

@@ -5,6 +5,7 @@ ghost use Rattle.std.specs.List.Sorted.{IsStrictlyIncreasing};
 ghost use Rattle.trau_io.specs.declared.line.Side.{Side};
 ghost use Rattle.trau_io.specs.Indices.{index_of_line};
 ghost use Rattle.switchboard.specs.declared.act.Act.TheVariants.{Opened, Closed};
+ghost use Rattle.switchboard.specs.Open.{partner_after};
 ghost use Rattle.call_leg.specs.Periods.{CallPeriod};
 ghost use Rattle.call_leg.specs.Settings.{Settings};
 ghost use Rattle.call_leg.specs.Counted.{call_counts};
@@ -15,13 +16,13 @@ ghost use Rattle.call_number.specs.CallNumber.{IsCallNumber};
 ghost use Rattle.farm_rounds.specs.Calls.{Call, call_in, partner_in};
 ghost use Rattle.farm_rounds.specs.Numbers.{IsRising, is_among};
 ghost use Rattle.farm_rounds.specs.Memory.{FarmMemory, home_memory, tally_in};
-ghost use Rattle.farm_rounds.specs.Acts.{IsOpen, IsOpening, ActFits, Stays, Applied, calls_after, partners_after};
+ghost use Rattle.farm_rounds.specs.Acts.{IsOpen, IsOpening, ActFits, Stays, Applied, calls_after};
 ghost use Rattle.farm_rounds.specs.Failed.{is_listed, NoneListed};
 ghost use Rattle.farm_rounds.specs.Opens.{AreMutual};
-ghost use Rattle.farm_rounds.specs.Histories.{CallHistory, CallsStand, NoneDrains, histories_after, tallies_after, tally_of};
+ghost use Rattle.farm_rounds.specs.Histories.{CallHistory, CallsStand, NoneWaitsIn, histories_after, tallies_after, tally_of};
 
 use crate::acts;
-use crate::open::OpenCall;
+use crate::calls::Calls;
 use crate::tally::{NO_TALLY, Tally};
 use call_number::NUMBERS;
 use std::alloc::{AllocError, Global};
@@ -33,29 +34,23 @@ use trau_io::{Counts, Line};
 /// All open calls, what was counted of each ended call, and the lines that have failed.
 #[derive(Drop)]
 pub struct Farm {
-    // In rising order of their numbers, which `live` lists.
-    pub(crate) calls: Vec<Box<OpenCall>>,
-    pub(crate) live: Vec<u32>,
-    pub(crate) tallies: Vec<Tally>,
-    // Each once, in rising order of their indices.
-    pub(crate) failed: Vec<Line>,
-    // The first period after the last round.
-    pub(crate) ended: u32,
+    pub(crate) calls: Calls,
 }
 
 impl Model for Farm {
     ghost use Rattle.std.specs.Prelude.{◌≡◌, length};
     ghost use Rattle.call_number.specs.declared.TheConstants.{NUMBERS};
-    ghost use Rattle.farm_rounds.specs.Opens.{opens_in, calls_of, AreOpen};
+    ghost use Rattle.farm_rounds.specs.Opens.{opens_in, calls_of, farm_of, AreOpen};
     ghost use Rattle.farm_rounds.specs.Memory.{FarmMemory};
     ghost use Rattle.farm_rounds.specs.Failed.{AreFailed};
 
     ghost Value = { FarmMemory };
 
-    ghost view = { λ f. record { calls = calls_of f.calls.items; live = f.live.items; tallies = f.tallies.items; failed = f.failed.items; ended = f.ended } };
+    ghost view = { λ f. farm_of f.calls };
 
-    ghost invariant = { λ f. AreOpen f.ended f.live.items (opens_in f.calls.items) × (length f.tallies.items ≡ NUMBERS)
-        × AreFailed f.failed.items (calls_of f.calls.items) };
+    ghost invariant = { λ f. AreOpen f.calls.ended f.calls.live.items (opens_in f.calls.open.items)
+        × (length f.calls.tallies.items ≡ NUMBERS)
+        × AreFailed f.calls.failed.items (calls_of f.calls.open.items) };
 }
 
 impl Farm {
@@ -65,11 +60,13 @@ impl Farm {
         ensures history { IfOk result (λ f. CallsStand (λ c. None) f.calls) }
     {
         Ok(Farm {
-            calls: Vec::new(alloc),
-            live: Vec::new(alloc),
-            tallies: vec![in alloc; NO_TALLY; NUMBERS]?,
-            failed: Vec::new(alloc),
-            ended: 0,
+            calls: Calls {
+                open: Vec::new(alloc),
+                live: Vec::new(alloc),
+                tallies: vec![in alloc; NO_TALLY; NUMBERS]?,
+                failed: Vec::new(alloc),
+                ended: 0,
+            },
         })
     }
 
@@ -81,19 +78,22 @@ impl Farm {
         requires fresh { NoneListed act.now self.old.failed }
 
         // Each call afterwards, and its partner.
-        ensures calls { IfOk result (λ u. (c : ℕ) → call_in self.new.calls c ≡ calls_after act.now (call_in self.old.calls) c) }
-        ensures partners { IfOk result (λ u. (c : ℕ) → partner_in self.new.calls c ≡ partners_after act.now (partner_in self.old.calls) c) }
+        ensures calls { IfOk result (λ u. (c : ℕ) →
+            call_in self.new.calls c ≡ calls_after act.now (call_in self.old.calls) c) }
+        ensures partners { IfOk result (λ u. (c : ℕ) →
+            partner_in self.new.calls c ≡ partner_after act.now (partner_in self.old.calls) c) }
         ensures failed { self.new.failed ≡ self.old.failed }
         ensures ended { self.new.ended ≡ self.old.ended }
         ensures refused { IfErr result (λ e. self.new ≡ self.old) }
         ensures memory { IfErr result (λ e. IsOpening act.now) }
 
         // For every history `h` that is possible for these calls (`CallsStand h`): afterwards they have the histories after
-        // the act, and the tally of a call that it ends is kept. The premise `NoneDrains`: if the act starts a bridge, no
+        // the act, and the tally of a call that it ends is kept. The premise `NoneWaitsIn`: if the act starts a bridge, no
         // handed frame waits in its two calls.
-        ensures history { IfOk result (λ u. (h : ℕ → Option CallHistory) → NoneDrains act.now h → CallsStand h self.old.calls →
-            CallsStand (histories_after act.now h) self.new.calls) }
-        ensures tallies { IfOk result (λ u. (h : ℕ → Option CallHistory) → CallsStand h self.old.calls → (c : ℕ) →
+        ensures history { IfOk result (λ u. (h : ℕ → Option CallHistory) → NoneWaitsIn act.now h →
+            CallsStand h self.old.calls → CallsStand (histories_after act.now h) self.new.calls) }
+        ensures tallies { IfOk result (λ u. (h : ℕ → Option CallHistory) →
+            CallsStand h self.old.calls → (c : ℕ) →
             tally_in self.new.tallies c ≡ tallies_after act.now h (tally_in self.old.tallies) c) }
     {
         match *act {
@@ -114,25 +114,31 @@ impl Farm {
         requires fits { ActFits self.old.calls (Opened call law) }
         requires fresh { (s : Side) → is_listed self.old.failed call s ≡ false }
         ensures before { AreMutual self.old.calls }
-        ensures applied { IfOk result (λ u. Applied (Opened call law) self.old.calls self.new.calls) }
+        ensures applied { IfOk result
+            (λ u. Applied (Opened call law) self.old.calls self.new.calls) }
         ensures refused { IfErr result (λ e. self.new ≡ self.old) }
-        ensures others { self.new ≡ record self.old { calls = self.new.calls; live = self.new.live } }
+        ensures others { self.new ≡ record self.old
+            { calls = self.new.calls; live = self.new.live } }
     {
-        acts::open(alloc, &mut self.calls, &mut self.live, call, law)
+        acts::open(alloc, &mut self.calls.open, &mut self.calls.live, call, law)
     }
 
     // Ends a call and its bridge. Its partner goes on alone.
     fn close(&mut self, call: u32)
         requires { IsOpen self.old.calls call }
         ensures before { AreMutual self.old.calls }
-        ensures applied { Applied (Closed call (partner_in self.old.calls call)) self.old.calls self.new.calls }
-        ensures others { self.new ≡ record self.old { calls = self.new.calls; live = self.new.live; tallies = self.new.tallies } }
-        ensures tallies { (c : ℕ) → c ≢ call → tally_in self.new.tallies c ≡ tally_in self.old.tallies c }
-        ensures tally { (x : Call) (who : Who) (ts : List CallPeriod) (now : Settings) → call_in self.old.calls call ≡ Some x → Stands who ts now x.leg →
+        ensures applied { Applied (Closed call (partner_in self.old.calls call)) self.old.calls
+            self.new.calls }
+        ensures others { self.new ≡ record self.old
+            { calls = self.new.calls; live = self.new.live; tallies = self.new.tallies } }
+        ensures tallies { (c : ℕ) → c ≢ call →
+            tally_in self.new.tallies c ≡ tally_in self.old.tallies c }
+        ensures tally { (x : Call) (who : Who) (ts : List CallPeriod) (now : Settings) →
+            call_in self.old.calls call ≡ Some x → Stands who ts now x.leg →
             tally_in self.new.tallies call ≡ tally_of ts now }
     {
-        let tally = acts::close(&mut self.calls, &mut self.live, call);
-        self.tallies[call as usize] = tally;
+        let tally = acts::close(&mut self.calls.open, &mut self.calls.live, call);
+        self.calls.tallies[call as usize] = tally;
     }
 
     // Applies an act that neither opens nor ends a call.
@@ -143,27 +149,31 @@ impl Farm {
         ensures applied { Applied act.now self.old.calls self.new.calls }
         ensures others { self.new ≡ record self.old { calls = self.new.calls } }
     {
-        acts::change(&mut self.calls, &self.live, act);
+        acts::change(&mut self.calls.open, &self.calls.live, act);
     }
 
     // The tally of an open call so far. Of any other call, the tally that is kept.
     fn tally(&self, call: u32) -> Tally
         requires { call < NUMBERS }
-        ensures live { (x : Call) (who : Who) (ts : List CallPeriod) (now : Settings) → call_in self.now.calls call ≡ Some x →
-            Stands who ts now x.leg → result ≡ tally_of ts now }
-        ensures ended { call_in self.now.calls call ≡ None → result ≡ tally_in self.now.tallies call }
+        ensures live { (x : Call) (who : Who) (ts : List CallPeriod) (now : Settings) →
+            call_in self.now.calls call ≡ Some x → Stands who ts now x.leg →
+            result ≡ tally_of ts now }
+        ensures ended { call_in self.now.calls call ≡ None →
+            result ≡ tally_in self.now.tallies call }
     {
-        match self.live.binary_search(&call) {
-            Ok(at) => self.calls[at].tally(),
-            Err(_) => self.tallies[call as usize],
+        match self.calls.live.binary_search(&call) {
+            Ok(at) => self.calls.open[at].tally(),
+            Err(_) => self.calls.tallies[call as usize],
         }
     }
 
     /// What was counted of a call so far, or until it ended.
     pub fn counts(&self, call: u32) -> Counts
         requires { IsCallNumber call }
-        ensures live { (h : ℕ → Option CallHistory) (x : CallHistory) → CallsStand h self.now.calls → h call ≡ Some x → result ≡ call_counts x.periods }
-        ensures ended { call_in self.now.calls call ≡ None → result ≡ (tally_in self.now.tallies call).counts }
+        ensures live { (h : ℕ → Option CallHistory) (x : CallHistory) →
+            CallsStand h self.now.calls → h call ≡ Some x → result ≡ call_counts x.periods }
+        ensures ended { call_in self.now.calls call ≡ None →
+            result ≡ (tally_in self.now.tallies call).counts }
     {
         self.tally(call).counts
     }
@@ -171,8 +181,10 @@ impl Farm {
     /// How many handed frames of its latest bridge a call sent, so far or until the call ended; 0 before its first bridge.
     pub fn sent(&self, call: u32) -> u32
         requires { IsCallNumber call }
-        ensures live { (h : ℕ → Option CallHistory) (x : CallHistory) → CallsStand h self.now.calls → h call ≡ Some x → result ≡ sent_now x.periods x.now }
-        ensures ended { call_in self.now.calls call ≡ None → result ≡ (tally_in self.now.tallies call).sent }
+        ensures live { (h : ℕ → Option CallHistory) (x : CallHistory) →
+            CallsStand h self.now.calls → h call ≡ Some x → result ≡ sent_now x.periods x.now }
+        ensures ended { call_in self.now.calls call ≡ None →
+            result ≡ (tally_in self.now.tallies call).sent }
     {
         self.tally(call).sent
     }
@@ -182,7 +194,7 @@ impl Farm {
         ensures value { result.now ≡ self.now.failed }
         ensures once { IsStrictlyIncreasing (map (λ l. index_of_line l.call l.side) result.now) }
     {
-        self.failed.as_slice()
+        self.calls.failed.as_slice()
     }
 
     /// The numbers of the open calls, in rising order.
@@ -191,6 +203,6 @@ impl Farm {
         ensures calls { (c : ℕ) → is_among result.now c ≡ is_some (call_in self.now.calls c) }
         ensures rising { IsRising result.now }
     {
-        self.live.as_slice()
+        self.calls.live.as_slice()
     }
 }

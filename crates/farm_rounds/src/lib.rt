@@ -6,9 +6,9 @@
 //! partner. A round takes all its memory when it is planned. Then, all in place, the incoming lines are read, the pool
 //! (`pool_run`) processes the calls in two phases, and the outgoing lines are written or passed over.
 //!
-//! `farm` has the farm, `open` an open call, `acts` what orders do to open calls, `calls` what a round does to all of them,
-//! `live` the list of their numbers, `tally` what is kept of an ended call, `round` a round up to its processing, `worked`
-//! what follows, and `sums` the sums of the octets that go out.
+//! `farm` has the farm, `open` an open call, `acts` what orders do to open calls, `calls` what farm and rounds have of all calls, and
+//! what a round does to the open ones, `live` the list of their numbers, `tally` what is kept of an ended call, `round` a round up
+//! to its processing, `worked` what follows, and `sums` the sums of the octets that go out.
 //!
 //! Definitions: `specs/Calls.antt` (the calls of a farm by their numbers), `specs/Acts.antt` (what an order does),
 //! `specs/Histories.antt` (the periods that the calls have had), `specs/Memory.antt` and `specs/Numbers.antt` (what a farm

@@ -16,7 +16,8 @@ pub(crate) fn insertion_index(numbers: &[u32], number: u32) -> usize
     requires absent { is_among numbers.now number ≡ false }
     ensures within { result ≤ length numbers.now }
     ensures below { (k : ℕ) → k < result → slice_index numbers.now k < number }
-    ensures above { (k : ℕ) → result ≤ k → k < length numbers.now → number < slice_index numbers.now k }
+    ensures above { (k : ℕ) → result ≤ k → k < length numbers.now →
+        number < slice_index numbers.now k }
 {
     match numbers.binary_search(&number) {
         // `absent` excludes `Ok`.

@@ -2,7 +2,6 @@
 
 ghost use Rattle.std.specs.Prelude.{◌≡◌, ◌≤◌, ◌+◌, ℕ, List, [], Some, None, true, IfOk, length};
 ghost use Rattle.call_number.specs.CallNumber.{IsCallNumber};
-ghost use Rattle.call_leg.specs.Memory.{periods_of_leg};
 ghost use Rattle.call_leg.specs.Who.{Who};
 ghost use Rattle.call_leg.specs.Periods.{CallPeriod};
 ghost use Rattle.call_leg.specs.Settings.{Settings};
@@ -14,10 +13,12 @@ ghost use Rattle.round_lines.specs.Transfer.{has_failed};
 ghost use Rattle.round_lines.specs.Memory.{whole_in};
 ghost use Rattle.round_lines.specs.Seats.{Fits, Fills, Drains, down_given, out_given};
 ghost use Rattle.round_lines.specs.Rounds.{KeepsBut, IsIncoming, IsOutgoing};
-ghost use Rattle.farm_rounds.specs.Acts.{HasLevel, bridged_call, parted, set_by};
+ghost use Rattle.switchboard.specs.Replies.{IsInRange};
+ghost use Rattle.farm_rounds.specs.Acts.{bridged_call, parted_call, set_by};
 ghost use Rattle.farm_rounds.specs.Histories.{tally_of};
 ghost use Rattle.farm_rounds.specs.Opens.{IsOpenCall, kept_of, seat_with, seat_of_open, new_open, with_job, open_planned, open_begun, goes_on_open, open_rested};
 ghost use Rattle.farm_rounds.specs.Opens.{same_seat};
+ghost use Rattle.farm_rounds.specs.Opened.{HasBuffers};
 
 use crate::live::contains;
 use crate::tally::Tally;
@@ -82,7 +83,8 @@ fn has_failed(outlet: Outlet) -> bool
 // Reads the incoming lines into the buffers.
 fn fill_io<T: Trunk>(trunk: &mut T, lines: &mut CallLines, io: &mut LegIo)
     requires { Fits lines.old.periods io.old.up io.old.pcm io.old.down io.old.out }
-    ensures fills { Fills (T.lines trunk.old lines.old.call) (T.lines trunk.new lines.old.call) (seat_with lines.old io.old) (seat_with lines.new io.new) }
+    ensures fills { Fills (T.lines trunk.old lines.old.call) (T.lines trunk.new lines.old.call)
+        (seat_with lines.old io.old) (seat_with lines.new io.new) }
     ensures others { KeepsBut IsIncoming (T.lines trunk.old) (T.lines trunk.new) lines.old.call }
     ensures kept { io.new ≡ record io.old { up = io.new.up; pcm = io.new.pcm } }
 {
@@ -92,7 +94,8 @@ fn fill_io<T: Trunk>(trunk: &mut T, lines: &mut CallLines, io: &mut LegIo)
 // Writes the outgoing lines from the buffers.
 fn drain_io<T: Trunk>(trunk: &mut T, lines: &mut CallLines, io: &LegIo)
     requires { Fits lines.old.periods io.now.up io.now.pcm io.now.down io.now.out }
-    ensures drains { Drains (T.lines trunk.old lines.old.call) (T.lines trunk.new lines.old.call) (seat_with lines.old io.now) (seat_with lines.new io.now) }
+    ensures drains { Drains (T.lines trunk.old lines.old.call) (T.lines trunk.new lines.old.call)
+        (seat_with lines.old io.now) (seat_with lines.new io.now) }
     ensures others { KeepsBut IsOutgoing (T.lines trunk.old) (T.lines trunk.new) lines.old.call }
 {
     lines.drain(trunk, &io.down, &io.out);
@@ -124,7 +127,7 @@ impl OpenCall {
     // ---- between the rounds
 
     /// Starts its bridge with `partner`.
-    pub(crate) fn join(&mut self, partner: u32)
+    pub(crate) fn start_bridge(&mut self, partner: u32)
         requires { self.old.job.phase ≡ First }
         ensures call { (kept_of self.new).call ≡ bridged_call (kept_of self.old).call }
         ensures partner { self.new.partner ≡ Some partner }
@@ -135,11 +138,11 @@ impl OpenCall {
     }
 
     /// Ends its bridge. Both halves of its leg must be bridged.
-    pub(crate) fn part(&mut self)
+    pub(crate) fn end_bridge(&mut self)
         requires first { self.old.job.phase ≡ First }
         requires up { self.old.job.up.bridged ≡ true }
         requires down { self.old.job.down.bridged ≡ true }
-        ensures call { (kept_of self.new).call ≡ parted (kept_of self.old).call }
+        ensures call { (kept_of self.new).call ≡ parted_call (kept_of self.old).call }
         ensures partner { self.new.partner ≡ None }
         ensures kept { (most : ℕ) → IsOpenCall most self.old → IsOpenCall most self.new }
     {
@@ -147,9 +150,9 @@ impl OpenCall {
         self.partner = None;
     }
 
-    /// Sets its level or its DTX mode, whichever the act names. Any other act changes nothing; `HasLevel` doesn't exclude it.
+    /// Sets its level or its DTX mode, whichever the act names. Any other act changes nothing; `IsInRange` doesn't exclude it.
     pub(crate) fn set(&mut self, act: &Act)
-        requires { HasLevel act.now }
+        requires { IsInRange act.now }
         ensures call { (kept_of self.new).call ≡ set_by act.now (kept_of self.old).call }
         ensures partner { self.new.partner ≡ self.old.partner }
         ensures kept { (most : ℕ) → IsOpenCall most self.old → IsOpenCall most self.new }
@@ -163,7 +166,8 @@ impl OpenCall {
 
     /// Its tally so far.
     pub(crate) fn tally(&self) -> Tally
-        ensures { (who : Who) (ts : List CallPeriod) (now : Settings) → Stands who ts now (leg_in self.now.job) → result ≡ tally_of ts now }
+        ensures { (who : Who) (ts : List CallPeriod) (now : Settings) →
+            Stands who ts now (leg_in self.now.job) → result ≡ tally_of ts now }
     {
         Tally {
             counts: self.job.counts(),
@@ -191,9 +195,12 @@ impl OpenCall {
 
     /// Reads its incoming lines into its buffers.
     pub(crate) fn fill<T: Trunk>(&mut self, trunk: &mut T)
-        requires { Fits self.old.lines.periods self.old.job.io.up self.old.job.io.pcm self.old.job.io.down self.old.job.io.out }
-        ensures fills { Fills (T.lines trunk.old self.old.lines.call) (T.lines trunk.new self.old.lines.call) (seat_of_open self.old) (seat_of_open self.new) }
-        ensures others { KeepsBut IsIncoming (T.lines trunk.old) (T.lines trunk.new) self.old.lines.call }
+        requires { HasBuffers self.old }
+        ensures fills { Fills (T.lines trunk.old self.old.lines.call)
+            (T.lines trunk.new self.old.lines.call) (seat_of_open self.old)
+            (seat_of_open self.new) }
+        ensures others { KeepsBut IsIncoming (T.lines trunk.old) (T.lines trunk.new)
+            self.old.lines.call }
         ensures kept { same_seat self.new ≡ same_seat self.old }
     {
         fill_io(trunk, &mut self.lines, &mut self.job.io);
@@ -241,7 +248,7 @@ impl OpenCall {
 
     /// The octets that go out on Down and on Out: 40 and 160 for each whole period.
     pub(crate) fn outgoing(&self) -> (&[u8], &[u8])
-        requires { Fits self.now.lines.periods self.now.job.io.up self.now.job.io.pcm self.now.job.io.down self.now.job.io.out }
+        requires { HasBuffers self.now }
         ensures down { result.0.now ≡ down_given (seat_of_open self.now) }
         ensures out { result.1.now ≡ out_given (seat_of_open self.now) }
     {
@@ -252,9 +259,12 @@ impl OpenCall {
 
     /// Writes its outgoing lines.
     pub(crate) fn drain<T: Trunk>(&mut self, trunk: &mut T)
-        requires { Fits self.old.lines.periods self.old.job.io.up self.old.job.io.pcm self.old.job.io.down self.old.job.io.out }
-        ensures drains { Drains (T.lines trunk.old self.old.lines.call) (T.lines trunk.new self.old.lines.call) (seat_of_open self.old) (seat_of_open self.new) }
-        ensures others { KeepsBut IsOutgoing (T.lines trunk.old) (T.lines trunk.new) self.old.lines.call }
+        requires { HasBuffers self.old }
+        ensures drains { Drains (T.lines trunk.old self.old.lines.call)
+            (T.lines trunk.new self.old.lines.call) (seat_of_open self.old)
+            (seat_of_open self.new) }
+        ensures others { KeepsBut IsOutgoing (T.lines trunk.old) (T.lines trunk.new)
+            self.old.lines.call }
         ensures job { self.new.job ≡ self.old.job }
         ensures partner { self.new.partner ≡ self.old.partner }
     {

@@ -14,10 +14,9 @@ ghost use Rattle.farm_rounds.specs.Rounds.{EndsShort, IsUnread};
 ghost use Rattle.farm_rounds.specs.Finishing.{half_worked};
 ghost use Rattle.farm_rounds.specs.RoundHistories.{seat_for, worked_histories, WorkedStand, AreWorked};
 
-use crate::calls::{begin_all, fill_all, list_ends, meet_all, plan_all};
+use crate::calls::{Calls, begin_all, fill_all, list_ends, meet_all, plan_all};
 use crate::farm::Farm;
 use crate::open::OpenCall;
-use crate::tally::Tally;
 use crate::worked::Worked;
 use pool_run::{Gate, PoolRoom, run_pool};
 use std::alloc::{AllocError, Global};
@@ -30,11 +29,7 @@ use trau_io::{CallEnd, Line, Trunk};
 #[derive(Drop)]
 pub struct Round {
     start: u32,
-    ended: u32,
-    calls: Vec<Box<OpenCall>>,
-    live: Vec<u32>,
-    tallies: Vec<Tally>,
-    failed: Vec<Line>,
+    calls: Calls,
     ends: Vec<CallEnd>,
     // The memory of the pools of both phases.
     first: PoolRoom<OpenCall>,
@@ -44,25 +39,20 @@ pub struct Round {
 impl Model for Round {
     ghost use Rattle.std.specs.Prelude.{◌≡◌, ◌+◌, ◌*◌, ◌≤◌, [], length, vec_capacity};
     ghost use Rattle.call_number.specs.declared.TheConstants.{NUMBERS};
-    ghost use Rattle.farm_rounds.specs.Opens.{opens_in, calls_of, seats_of};
+    ghost use Rattle.farm_rounds.specs.Opens.{opens_in, farm_of, seats_of};
     ghost use Rattle.farm_rounds.specs.Working.{RoundMemory, IsRound};
     ghost use Rattle.farm_rounds.specs.Failed.{AreFailedBefore};
 
     ghost Value = { RoundMemory };
 
-    ghost view = { λ r. record {
-      start = r.start;
-      ended = r.ended;
-      live = r.live.items;
-      tallies = r.tallies.items;
-      failed = r.failed.items;
-      calls = calls_of r.calls.items;
-      seats = seats_of r.calls.items;
-    } };
+    ghost view = { λ r. record { start = r.start; farm = farm_of r.calls; seats = seats_of r.calls.open.items } };
 
-    ghost invariant = { λ r. IsRound r.start r.ended r.live.items (opens_in r.calls.items) × (r.ends.items ≡ []) × (length r.live.items ≤ vec_capacity r.ends)
-        × (length r.live.items ≤ r.first) × (length r.live.items ≤ r.second) × (length r.tallies.items ≡ NUMBERS)
-        × (length r.failed.items + 4 * length r.live.items ≤ vec_capacity r.failed) × AreFailedBefore r.failed.items (opens_in r.calls.items) };
+    ghost invariant = { λ r. IsRound r.start r.calls.ended r.calls.live.items (opens_in r.calls.open.items)
+        × (r.ends.items ≡ []) × (length r.calls.live.items ≤ vec_capacity r.ends)
+        × (length r.calls.live.items ≤ r.first) × (length r.calls.live.items ≤ r.second)
+        × (length r.calls.tallies.items ≡ NUMBERS)
+        × (length r.calls.failed.items + 4 * length r.calls.live.items ≤ vec_capacity r.calls.failed)
+        × AreFailedBefore r.calls.failed.items (opens_in r.calls.open.items) };
 }
 
 // Takes the memory of a round of `calls` calls: in `failed` for four lines per call, then for an end per call and for the pools of
@@ -77,7 +67,8 @@ fn take_memory(
     requires some_workers { 1 ≤ workers }
     requires few_workers { workers ≤ 64 }
     ensures kept { failed.new.items ≡ failed.old.items }
-    ensures failed { IfOk result (λ r. length failed.new.items + 4 * calls ≤ vec_capacity failed.new) }
+    ensures failed { IfOk result (λ r. length failed.new.items + 4 * calls
+        ≤ vec_capacity failed.new) }
     ensures none { IfOk result (λ r. r.0.items ≡ []) }
     ensures ends { IfOk result (λ r. calls ≤ vec_capacity r.0) }
     ensures first { IfOk result (λ r. r.1 ≡ calls) }
@@ -108,39 +99,32 @@ impl Round {
         requires last { start + periods ≤ 4294967295 }
         requires later { farm.ended ≤ start }
 
-        // The round's periods, a seat for each open call, and what is kept of the farm.
+        // The round's periods, the farm, and a seat for each open call.
         ensures start { IfOk result (λ r. r.start ≡ start) }
-        ensures ended { IfOk result (λ r. r.ended ≡ start + periods) }
-        ensures live { IfOk result (λ r. r.live ≡ farm.live) }
-        ensures failed { IfOk result (λ r. r.failed ≡ farm.failed) }
-        ensures tallies { IfOk result (λ r. r.tallies ≡ farm.tallies) }
+        ensures farm { IfOk result (λ r. r.farm ≡ record farm { ended = start + periods }) }
         ensures number { IfOk result (λ r. length r.seats ≡ length farm.live) }
         ensures seats { IfOk result (λ r. (k : ℕ) → k < length farm.live →
-            let c = slice_index farm.live k in seat_at r.seats k ≡ seat_for periods c (call_in farm.calls c)) }
+            let c = slice_index farm.live k in
+            seat_at r.seats k ≡ seat_for periods c (call_in farm.calls c)) }
 
-        // It has the calls of the farm, in rising order of their numbers.
-        ensures order { IfOk result (λ r. IsRising (map (λ k. k.call.number) r.calls)) }
-        ensures calls { IfOk result (λ r. r.calls ≡ farm.calls) }
+        // The calls are in rising order of their numbers.
+        ensures order { IfOk result (λ r. IsRising (map (λ k. k.call.number) r.farm.calls)) }
 
         // Each line that failed before is listed once, and each open call knows which of its lines are.
         ensures known { IfOk result (λ r. AreFailed farm.failed farm.calls) }
     {
-        let Farm {
-            mut calls,
-            live,
-            tallies,
-            mut failed,
-            ended: _,
-        } = farm;
-        plan_all(&mut calls, periods)?;
-        let (ends, first, second) = take_memory(alloc, &mut failed, live.len(), workers)?;
+        let Farm { mut calls } = farm;
+        plan_all(&mut calls.open, periods)?;
+        let (ends, first, second) = take_memory(
+            alloc,
+            &mut calls.failed,
+            calls.live.len(),
+            workers,
+        )?;
+        calls.ended = start + periods;
         Ok(Round {
             start,
-            ended: start + periods,
             calls,
-            live,
-            tallies,
-            failed,
             ends,
             first,
             second,
@@ -150,17 +134,21 @@ impl Round {
     /// Reads the incoming lines of each call. Call it once in a round: a second time it would overwrite the octets with the
     /// line's next ones.
     pub fn fill<T: Trunk>(&mut self, trunk: &mut T)
-        requires once { (k : ℕ) → k < length self.old.seats → IsUnread (seat_at self.old.seats k).lines }
-        ensures fills { Each Fills (T.lines trunk.old) (T.lines trunk.new) self.old.seats self.new.seats (length self.old.seats) }
-        ensures others { KeepsButEach IsIncoming (T.lines trunk.old) (T.lines trunk.new) self.old.seats (length self.old.seats) }
+        requires once { (k : ℕ) → k < length self.old.seats →
+            IsUnread (seat_at self.old.seats k).lines }
+        ensures fills { Each Fills (T.lines trunk.old) (T.lines trunk.new) self.old.seats
+            self.new.seats (length self.old.seats) }
+        ensures others { KeepsButEach IsIncoming (T.lines trunk.old) (T.lines trunk.new)
+            self.old.seats (length self.old.seats) }
         ensures kept { self.new ≡ record self.old { seats = self.new.seats } }
         ensures number { length self.new.seats ≡ length self.old.seats }
         ensures rising { Rising self.new.seats }
 
         // A line that failed gave fewer octets than the round takes of it.
-        ensures short { (k : ℕ) → k < length self.new.seats → EndsShort (seat_at self.new.seats k).lines }
+        ensures short { (k : ℕ) → k < length self.new.seats →
+            EndsShort (seat_at self.new.seats k).lines }
     {
-        fill_all(trunk, &mut self.calls);
+        fill_all(trunk, &mut self.calls.open);
     }
 
     /// Processes the round: the workers of its pool process its calls in slices of `slice` periods, at least 1. Each slice
@@ -174,55 +162,60 @@ impl Round {
     ) -> Worked
         requires { 1 ≤ slice }
 
-        // The calls keep the state of their lines and their partners. The ends of those that end in the round are listed in
-        // call-number order.
-        ensures ended { result.ended ≡ self.ended }
-        ensures live { result.live ≡ self.live }
-        ensures failed { result.failed ≡ self.failed }
-        ensures tallies { result.tallies ≡ self.tallies }
+        // Of the farm only the calls change. They keep the state of their lines and their partners. The ends of those that end
+        // in the round are listed in call-number order.
+        ensures farm { result.farm ≡ record self.farm { calls = result.farm.calls } }
         ensures number { length result.seats ≡ length self.seats }
-        ensures places { (k : ℕ) → k < length self.seats → (seat_at result.seats k).lines ≡ (seat_at self.seats k).lines }
-        ensures calls { (k : ℕ) → k < length self.seats → call_at result.seats k ≡ call_at self.seats k }
+        ensures places { (k : ℕ) → k < length self.seats → (seat_at result.seats k).lines
+            ≡ (seat_at self.seats k).lines }
+        ensures calls { (k : ℕ) → k < length self.seats →
+            call_at result.seats k ≡ call_at self.seats k }
         ensures rising { Rising result.seats }
-        ensures partners { (c : ℕ) → partner_in result.calls c ≡ partner_in self.calls c }
+        ensures partners { (c : ℕ) → partner_in result.farm.calls c ≡ partner_in self.farm.calls c }
         ensures ends { result.ends ≡ filter_map (seat_end self.start) result.seats }
 
         // `half_worked` runs a `Job` of call_pair to its end: that of the call alone, or of the call and its partner. Each
         // has the octets of its seat. The call then has the leg and the buffers of its half.
         ensures legs { (k : ℕ) → k < length self.seats → let c = call_at self.seats k in
-            option_map (λ x. x.leg) (call_in result.calls c) ≡ Some (half_worked self c).leg }
+            option_map (λ x. x.leg) (call_in result.farm.calls c) ≡ Some (half_worked self c).leg }
         ensures buffers { (k : ℕ) → k < length self.seats → let s = seat_at self.seats k in
             seat_at result.seats k ≡ seat_with s.lines (half_worked self s.lines.call).io }
 
         // For every history `h` that is possible for these calls (`CallsStand h`): after the round they have `h` and the
         // round's periods, and their outgoing buffers begin with the octets of these periods.
-        ensures stands { (h : ℕ → Option CallHistory) → CallsStand h self.calls →
-            WorkedStand (worked_histories self.seats (partner_in self.calls) h) result }
-        ensures octets { (h : ℕ → Option CallHistory) → CallsStand h self.calls →
-            AreWorked self.seats (worked_histories self.seats (partner_in self.calls) h) result.seats }
+        ensures stands { (h : ℕ → Option CallHistory) → CallsStand h self.farm.calls →
+            WorkedStand (worked_histories self.seats (partner_in self.farm.calls) h) result }
+        ensures octets { (h : ℕ → Option CallHistory) → CallsStand h self.farm.calls →
+            AreWorked self.seats (worked_histories self.seats (partner_in self.farm.calls) h)
+            result.seats }
     {
         let Round {
             start,
-            ended,
-            mut calls,
-            live,
-            tallies,
-            failed,
+            calls,
             mut ends,
             first,
             second,
         } = self;
-        begin_all(&mut calls, &live);
-        let mut halfway = run_pool(rt, first, calls, slice, gate);
-        meet_all(&mut halfway, &live);
-        let calls = run_pool(rt, second, halfway, slice, gate);
-        list_ends(&calls, start, &mut ends);
-        Worked {
-            ended,
-            calls,
+        let Calls {
+            mut open,
             live,
             tallies,
             failed,
+            ended,
+        } = calls;
+        begin_all(&mut open, &live);
+        let mut halfway = run_pool(rt, first, open, slice, gate);
+        meet_all(&mut halfway, &live);
+        let open = run_pool(rt, second, halfway, slice, gate);
+        list_ends(&open, start, &mut ends);
+        Worked {
+            calls: Calls {
+                open,
+                live,
+                tallies,
+                failed,
+                ended,
+            },
             ends,
         }
     }

@@ -3,8 +3,8 @@
 ghost use Rattle.std.specs.Prelude.{◌≡◌, ℕ, ◌+◌, ◌^◌, ◌%◌, IfOk};
 ghost use Rattle.std.specs.List.{sum};
 ghost use Rattle.trau_io.specs.declared.line.Side.{Side};
-ghost use Rattle.round_lines.specs.Seats.{Fits};
 ghost use Rattle.farm_rounds.specs.Opens.{seat_of_open};
+ghost use Rattle.farm_rounds.specs.Opened.{HasBuffers};
 ghost use Rattle.farm_rounds.specs.Sums.{AddsSeat, no_sums, sum_in};
 
 use crate::open::OpenCall;
@@ -49,8 +49,10 @@ impl Sums {
 
     // Adds octets of a line to its sum.
     fn add(&mut self, line: Line, octets: &[u8])
-        ensures this { sum_in self.new line.call line.side ≡ (sum_in self.old line.call line.side + sum octets.now) % 2 ^ 32 }
-        ensures others { (c : ℕ) (s : Side) → (c ≡ line.call → s ≡ line.side → ⊥) → sum_in self.new c s ≡ sum_in self.old c s }
+        ensures this { sum_in self.new line.call line.side
+            ≡ (sum_in self.old line.call line.side + sum octets.now) % 2 ^ 32 }
+        ensures others { (c : ℕ) (s : Side) → (c ≡ line.call → s ≡ line.side → ⊥) →
+            sum_in self.new c s ≡ sum_in self.old c s }
     {
         let at = line_index(line);
         self.sums[at] = self.sums[at].wrapping_add(sum(octets));
@@ -58,7 +60,7 @@ impl Sums {
 
     /// Adds the octets that a call gives to its outgoing lines in a round to the sums of these lines.
     pub(crate) fn add_call(&mut self, call: &OpenCall)
-        requires { Fits call.now.lines.periods call.now.job.io.up call.now.job.io.pcm call.now.job.io.down call.now.job.io.out }
+        requires { HasBuffers call.now }
         ensures { AddsSeat (seat_of_open call.now) (sum_in self.old) (sum_in self.new) }
     {
         let (down, out) = call.outgoing();

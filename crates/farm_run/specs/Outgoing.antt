@@ -56,7 +56,7 @@ pub record IsSettled (held : Bool) (before now : ℕ → Side → LineState) (wo
   pub number : length seats ≡ length worked.seats
   pub settles : Each Settles before now worked.seats seats (length worked.seats)
   pub others : KeepsButEach IsOutgoing before now worked.seats (length worked.seats)
-  pub gains : GainsFailed worked.failed after.failed seats
+  pub gains : GainsFailed worked.farm.failed after.failed seats
   -- if they are written, each call's lines were given what goes out; if they are held back, lines and seats are unchanged
   pub written : held ≡ false → Each Drains before now worked.seats seats (length worked.seats)
   pub back : held ≡ true → (now ≡ before) × (seats ≡ worked.seats)

@@ -1,8 +1,7 @@
 -- What a run leaves on the lines of its calls, and what it reports, whatever fails (this project's profile). `before` are
 -- the lines before it, `now` those after it.
-use Rattle.std.specs.Prelude.{◌≡◌, ◌⊎◌, ◌<◌, ◌≤◌, ℕ, ◌+◌, ◌-◌, ◌*◌, Bool, true, false, Some, List, ◌++◌, length, map, take, drop}
+use Rattle.std.specs.Prelude.{◌≡◌, ◌⊎◌, ◌<◌, ◌≤◌, ℕ, ◌+◌, ◌-◌, ◌*◌, Bool, true, false, Some, List, ◌++◌, length, map, drop}
 use Rattle.std.specs.List.Sorted.{IsStrictlyIncreasing}
-use Rattle.std.specs.Io.KnownBytes.{Appends}
 use Rattle.trau_io.specs.declared.line.Line.{Line}
 use Rattle.trau_io.specs.declared.line.Side.{Side}
 use Rattle.trau_io.specs.declared.line.Side.TheVariants.{Up, Pcm, Down, Out}
@@ -21,6 +20,8 @@ use Rattle.run_spec.specs.Facts.{report_of}
 use Rattle.farm_run.specs.declared.pace.Pace.{Pace}
 -- `is_listed lines c s`: whether `lines` has the line of call c on side s
 pub use Rattle.farm_rounds.specs.Failed.{is_listed}
+-- `HasWritten failed before now octets`: an outgoing line has gained all these octets; if it failed, a proper prefix of them
+pub use Rattle.round_lines.specs.Transfer.{HasWritten}
 
 -- ---- the lines that failed
 
@@ -90,11 +91,6 @@ IsReadWhole r t c = (t ≤ end_in r c) ⊎ IsCutOff (cause_in r c)
 -- the line's contents were these octets, and exactly the first n were read
 abbrev pub IsReadTo : LineState → ℕ → List ℕ → Type 0
 IsReadTo now n octets = now.to_come ≡ Some (drop n octets)
-
--- An outgoing line has gained all these octets; if it failed, a proper prefix of them.
-abbrev pub HasWritten : Bool → LineState → LineState → List ℕ → Type 0
-HasWritten false before now octets = Appends before.written now.written octets
-HasWritten true before now octets = (n : ℕ) × (n < length octets) × Appends before.written now.written (take n octets)
 
 -- What a run leaves on the lines.
 pub record Leaves (r : Run) (fails : ℕ → Side → Bool) (before now : ℕ → Side → LineState) : Type 0 where

@@ -29,12 +29,17 @@ fails_now Sound = false
 fails_now FailedBefore = false
 fails_now FailedNow = true
 
+-- An outgoing line has gained all these octets; if it failed, a proper prefix of them.
+abbrev pub HasWritten : Bool → LineState → LineState → List ℕ → Type 0
+HasWritten false before now octets = Appends before.written now.written octets
+HasWritten true before now octets = (n : ℕ) × (n < length octets) × Appends before.written now.written (take n octets)
+
 -- A line that failed before is skipped. Any other line gained all the octets, or it failed after a proper prefix of them and its count rose.
 pub record LineGives (before now : LineState) (was stands : Outlet) (octets : List ℕ) : Type 0 where
   pub passed : has_failed was ≡ true → (now ≡ before) × (stands ≡ was)
   pub all : has_failed stands ≡ false → Appends before.written now.written octets
   pub calm : has_failed stands ≡ false → now.faults ≡ before.faults
-  pub front : has_failed was ≡ false → has_failed stands ≡ true → (n : ℕ) × (n < length octets) × Appends before.written now.written (take n octets)
+  pub front : has_failed was ≡ false → has_failed stands ≡ true → HasWritten true before now octets
   pub fault : has_failed was ≡ false → has_failed stands ≡ true → (stands ≡ FailedNow) × Rose before.faults now.faults
   pub later : before.faults ≤ now.faults
   pub to_come : now.to_come ≡ before.to_come

@@ -27,7 +27,7 @@ use Rattle.call_leg.specs.Counted.{call_counts}
 use Rattle.run_spec.specs.Facts.{call_line}
 use Rattle.run_spec.specs.Now.{IsSoFar, NoOrderTo, has_period, bridge_now, handed_now, period_now, settings_now, settings_in}
 use Rattle.switchboard.proofs.GivenLaws.{law_stays}
-use Rattle.run_spec.proofs.Lists.{any_map, found}
+use Rattle.run_spec.proofs.Lists.{some_mapped, any_map, found}
 use Rattle.run_spec.proofs.Executing.{after_all, bridges-append}
 use Rattle.run_spec.proofs.Standing.{IsSoundBridge}
 use Rattle.run_spec.proofs.OpenCalls.{gone_is, opened_kept}
@@ -59,11 +59,7 @@ is_bridged now = now.bridged
 -- **Something is handed over exactly in a bridge.**
 pub handed_bridged : (r : Run) (t u : ℕ) (ds : List Done) (left : List Order) (c : ℕ) → IsSoFar r t ds left → t ≤ u →
     is_some (handed_now r ds u c) ≡ is_bridged (settings_in r ds u c)
-handed_bridged r t u ds left c s l = mapped _ (bridge_now r ds u c) ∙ sym (ap is_bridged (settings_bridged r t u ds c (standing_now r t ds left s) l))
-  where
-    mapped : {X Y : Type 0} (f : X → Y) (o : Option X) → is_some (option_map f o) ≡ is_some o
-    mapped f None = refl
-    mapped f (Some x) = refl
+handed_bridged r t u ds left c s l = some_mapped _ (bridge_now r ds u c) ∙ sym (ap is_bridged (settings_bridged r t u ds c (standing_now r t ds left s) l))
 
 -- one period more
 pub periods_more : (r : Run) (t u : ℕ) (ds : List Done) (left : List Order) (c s : ℕ) → IsSoFar r t ds left → t ≤ u → u < r.periods → NoOrderTo u left →

@@ -12,7 +12,7 @@ use Rattle.call_leg.specs.Down.{down_periods}
 use Rattle.down_framer.specs.Bridges.{IsHistory, LeavePeriodsBetween}
 use Rattle.down_framer.proofs.FrameLaws.{apart}
 use Rattle.run_spec.specs.Run.{Run, given_in, whole_in, done_in, span_at, handed_to, period_of, periods_to}
-use Rattle.run_spec.proofs.Lists.{find_none, find_map, found, none_each, none_any}
+use Rattle.run_spec.proofs.Lists.{some_mapped, find_none, find_map, found, none_each, none_any}
 use Rattle.run_spec.proofs.Standing.{IsSoundBridge}
 use Rattle.run_spec.proofs.Settling.{to_of, start_is, covers}
 use Rattle.run_spec.proofs.SoFar.{run_rises, standing_end}
@@ -28,12 +28,8 @@ span_is r c t = find_map (covers c t) (span_of (given_in r) r.periods (done_in r
 handed_some : (r : Run) (c t : ℕ) →
     is_some (handed_to r c t) ≡ is_some (find (λ x. covers c t (span_of (given_in r) r.periods (done_in r) x)) (bridges (done_in r)))
 handed_some r c t =
-    mapped _ (span_at r c t) ∙ ap is_some (span_is r c t)
-    ∙ mapped (span_of (given_in r) r.periods (done_in r)) (find (λ x. covers c t (span_of (given_in r) r.periods (done_in r) x)) (bridges (done_in r)))
-  where
-    mapped : {X Y : Type 0} (f : X → Y) (o : Option X) → is_some (option_map f o) ≡ is_some o
-    mapped f None = refl
-    mapped f (Some x) = refl
+    some_mapped _ (span_at r c t) ∙ ap is_some (span_is r c t)
+    ∙ some_mapped (span_of (given_in r) r.periods (done_in r)) (find (λ x. covers c t (span_of (given_in r) r.periods (done_in r) x)) (bridges (done_in r)))
 
 -- before a bridge begins nothing is handed over
 apart_before : (r : Run) (c v : ℕ) → AreOrders r.orders → begins r c (v + 1) ≡ true → is_some (handed_to r c v) ≡ false

@@ -1,6 +1,6 @@
 -- What one more order changes of what is set for a call.
 use Rattle.std.proofs.Common.{◌≡◌, refl, sym, ap, ◌∙◌, subst, ℕ, Bool, true, false, Option, Some, None, List, [], ◌∷◌, ◌++◌, map}
-use Rattle.std.specs.Prelude.{ℤ, not, ◌&&◌, ◌||◌, is_some, is_none, option_map, find, Result, Ok, Err, ◌==◌, if◌then◌else◌}
+use Rattle.std.specs.Prelude.{ℤ, not, ◌&&◌, ◌||◌, is_some, is_none, find, Result, Ok, Err, ◌==◌, if◌then◌else◌}
 use Rattle.std.specs.List.{AllByRecursion, list_any}
 use Rattle.std.proofs.lemmas.Bool.{and_parts, ne_eqb}
 use Rattle.std.proofs.lemmas.List.{append_assoc}
@@ -16,7 +16,7 @@ use Rattle.switchboard.specs.Replies.{known_of}
 use Rattle.switchboard.proofs.Appending.{or_else, after, bridges-more}
 use Rattle.switchboard.proofs.Steps.{after_kept}
 use Rattle.run_spec.specs.Run.{level_by, mode_by, level_after, dtx_mode_after}
-use Rattle.run_spec.proofs.Lists.{each_weaker, find_same, find_map, find_none, find_front, any_map}
+use Rattle.run_spec.proofs.Lists.{some_mapped, each_weaker, find_same, find_map, find_none, find_front, any_map}
 use Rattle.run_spec.proofs.Executing.{AreReplies, opened-append, closed-append}
 use Rattle.run_spec.proofs.Showing.{ShownBy, shown}
 use Rattle.run_spec.proofs.Standing.{IsSoundBridge, Standing, lasts_parts, lasts_from}
@@ -137,10 +137,6 @@ lasts_same whole t u ds d x y e a b =
 -- whether a call is bridged after one more order
 abbrev pub bridged_more : (ℕ → ℕ) → ℕ → List Done → Done → ℕ → Bool
 bridged_more whole t ds d c = is_some (bridge_of (gone_at whole t (ds ++ d ∷ [])) (ds ++ d ∷ []) c)
-
-some_mapped : {X Y : Type 0} (f : X → Y) (o : Option X) → is_some (option_map f o) ≡ is_some o
-some_mapped f None = refl
-some_mapped f (Some x) = refl
 
 -- where it begins no bridge of the call, by its bridges so far
 bridged_old : (whole : ℕ → ℕ) (t : ℕ) (ds : List Done) (d : Done) (c : ℕ) → AllByRecursion (λ x. joins c x ≡ false) (bridge_by d.order.stamp d.result []) →

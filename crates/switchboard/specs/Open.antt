@@ -84,6 +84,15 @@ Finds (act.Unbridged a b) opened is_open partner = ((is_open a ≡ true) × (is_
 Finds (act.LevelSet n v) opened is_open partner = is_open n ≡ true
 Finds (act.DtxSet n m) opened is_open partner = is_open n ≡ true
 
+-- What an accepted order finds, but for which numbers were ever opened: what is known of a board by its open calls alone.
+abbrev pub FindsOpen : Act → (ℕ → Bool) → (ℕ → Option ℕ) → Type 0
+FindsOpen (act.Opened n law) is_open partner = is_open n ≡ false
+FindsOpen (act.Closed n p) is_open partner = (is_open n ≡ true) × (partner n ≡ p)
+FindsOpen (act.Bridged a b) is_open partner = (a ≢ b) × ((is_open a ≡ true) × (is_open b ≡ true)) × ((partner a ≡ None) × (partner b ≡ None))
+FindsOpen (act.Unbridged a b) is_open partner = partner a ≡ Some b
+FindsOpen (act.LevelSet n v) is_open partner = is_open n ≡ true
+FindsOpen (act.DtxSet n m) is_open partner = is_open n ≡ true
+
 -- A bridge ended before period t, by an order or a reported end, and no order of stamp t ended it.
 pub record HasEnded (told : ℕ → Option ℕ) (t : ℕ) (x : Bridge) : Type 0 where
   pub at : ℕ

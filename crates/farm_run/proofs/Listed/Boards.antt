@@ -19,7 +19,7 @@ use Rattle.farm_run.specs.Going.{told_after}
 use Rattle.farm_run.specs.Runs.{is_listed}
 use Rattle.farm_run.specs.Standing.{is_over, KnowsListed}
 use Rattle.farm_run.proofs.Told.Boards.{told_done, is_told_end}
-use Rattle.farm_run.proofs.Listed.Tests.{or_cases, or_first, or_second, is_false}
+use Rattle.farm_run.proofs.Listed.Tests.{or_cases, or_left, or_right, is_false}
 
 -- ---- a call that is open, and one that is over
 
@@ -87,8 +87,8 @@ gone_told s (d ∷ ends) c e = gone_told (told_more s d) ends c (gone_one s d c 
 -- **A call that is over stays so when ends are told.**
 pub over_told : (s : State) (ends : List CallEnd) (c : ℕ) → is_over s c ≡ true → is_over (told_after s ends) c ≡ true
 over_told s ends c e = elim (or_cases (gone_in s c) (is_some (closed_at c s.done)) e) [
-  | inl g ↦ or_first (gone_in (told_after s ends) c) (is_some (closed_at c (told_after s ends).done)) (gone_told s ends c g)
-  | inr q ↦ or_second (gone_in (told_after s ends) c) (is_some (closed_at c (told_after s ends).done))
+  | inl g ↦ or_left (gone_in (told_after s ends) c) (is_some (closed_at c (told_after s ends).done)) (gone_told s ends c g)
+  | inr q ↦ or_right (gone_in (told_after s ends) c) (is_some (closed_at c (told_after s ends).done))
       (ap (λ (ds : List Done). is_some (closed_at c ds)) (told_done s ends) ∙ q)
 ]
 
@@ -106,8 +106,8 @@ over_turned s n o e c h = subst (λ (m : State). is_over m c ≡ true) (sym e) (
     by : (o : Option Order) → is_over (after_turn s o) c ≡ true
     by None = h
     by (Some x) = elim (or_cases (gone_in s c) (is_some (closed_at c s.done)) h) [
-      | inl g ↦ or_first (gone_in s c) (is_some (closed_at c (after_turn s (Some x)).done)) g
-      | inr q ↦ or_second (gone_in s c) (is_some (closed_at c (after_turn s (Some x)).done))
+      | inl g ↦ or_left (gone_in s c) (is_some (closed_at c (after_turn s (Some x)).done)) g
+      | inr q ↦ or_right (gone_in s c) (is_some (closed_at c (after_turn s (Some x)).done))
           (ap is_some (closed-append c s.done _) ∙ some_more (closed_at c s.done) _ q)
     ]
 

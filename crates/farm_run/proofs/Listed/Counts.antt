@@ -14,7 +14,8 @@ use Rattle.round_lines.specs.Rounds.{seat_at}
 use Rattle.farm_rounds.specs.Calls.{call_in}
 use Rattle.farm_rounds.specs.Numbers.{is_among}
 use Rattle.farm_rounds.specs.Memory.{FarmMemory}
-use Rattle.farm_rounds.proofs.Naming.{Name, Lists, names, seat_listed, listed_seat, listed_before, listed_after, listed_name, name_listed, is_false}
+use Rattle.farm_rounds.proofs.Naming.{Name, Lists, names, seat_listed, listed_seat, listed_before, listed_after, listed_name, name_listed}
+use Rattle.farm_run.proofs.Listed.Tests.{is_false}
 use Rattle.farm_run.proofs.Worked.Round.{WorkedRound, among_place, drained_call, tells_seat}
 use Rattle.farm_run.proofs.Worked.Facts.{seat_facts, lines_kept, down_between, out_between, up_after, pcm_after}
 use Rattle.farm_run.specs.Outgoing.{PassesOn}

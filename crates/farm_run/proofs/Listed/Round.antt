@@ -18,6 +18,7 @@ use Rattle.farm_rounds.specs.Failed.{KnowsLines}
 use Rattle.farm_rounds.specs.Memory.{FarmMemory}
 use Rattle.farm_rounds.proofs.Naming.{Lists, same_test}
 use Rattle.farm_rounds.proofs.Gaining.{gained_cases, gained_still, gained_at}
+use Rattle.farm_rounds.proofs.Planning.{marks}
 use Rattle.farm_run.specs.Outgoing.{PassesOn}
 use Rattle.farm_run.specs.Runs.{is_listed}
 use Rattle.farm_run.proofs.Listed.Counts.{long, seat_cases}
@@ -39,11 +40,6 @@ stands_is false before now was stands octets q (inl g) = elim (cases_Bool (has_f
     calm FailedNow e = cc
 stands_is true before now was stands octets q (inr g) = ap has_failed (g.1 ∙ q)
 stands_is false before now was stands octets q (inr g) = ap has_failed (g.1 ∙ q) ∙ sym (ap fails_now (g.1 ∙ q))
-
--- and before it
-marks : (x : Bool) → has_failed (outlet_before x) ≡ x
-marks true = refl
-marks false = refl
 
 module _ (t n : ℕ) (farm after : FarmMemory) (before now : ℕ → Side → LineState) (ends : List CallEnd) (w : WorkedRound t n farm after before now ends) where
   -- what is known of an open call's seat, and what the call knows of its lines

@@ -3,7 +3,7 @@ use Rattle.std.proofs.Common.{◌≡◌, refl, sym, ap, ◌∙◌, subst, ℕ, �
 use Rattle.std.proofs.Common.{length, map, take, get_or, inl, inr, arith}
 use Rattle.std.specs.Prelude.{is_some, filter, nat_lt, if◌then◌else◌, IfSome}
 use Rattle.std.specs.List.{range_with_len, All}
-use Rattle.std.proofs.lemmas.Bool.{cases_Bool, ltb-true}
+use Rattle.std.proofs.lemmas.Bool.{cases_Bool, ltb-true, and_right}
 use Rattle.std.proofs.lemmas.List.{length-map, map-append, take_more, get_or-map}
 use Rattle.trau_io.specs.declared.ends.CallEnd.{CallEnd}
 use Rattle.trau_io.specs.declared.ends.Cause.{Cause}
@@ -137,11 +137,7 @@ module _ (s : Stage) (live : (c : ℕ) → is_among s.farm.live c ≡ is_some (c
         opens = ap (λ (xs : List Done). is_opened xs c) all
 
         no_limit : is_limit (cause_in r c) ≡ false → (is_opened (done_in r) c && is_limit (cause_in r c)) ≡ false
-        no_limit q = ap (λ (b : Bool). is_opened (done_in r) c && b) q ∙ neither (is_opened (done_in r) c)
-          where
-            neither : (b : Bool) → (b && false) ≡ false
-            neither true = refl
-            neither false = refl
+        no_limit q = and_right (is_opened (done_in r) c) (is_limit (cause_in r c)) q
 
         closed : (at_end : ℕ) → closed_at c ds ≡ Some at_end → is_limit (cause_in r c) ≡ false
         closed at_end q = ap (λ (x : CallEnd). is_limit x.cause) (end_closed r s.clock ds s.board.left c (start_of (done_in r) c) at_end at.follows.so_far q)

@@ -2,7 +2,7 @@
 use Rattle.std.proofs.Common.{◌≡◌, refl, sym, ap, ◌∙◌, subst, ℕ, ◌-◌, ◌<◌, Bool, true, false, ◌||◌, Option, Some, List, [], ◌∷◌, ◌++◌, arith, inl, inr}
 use Rattle.std.proofs.Common.{◌⊎◌}
 use Rattle.std.specs.Prelude.{if◌then◌else◌, ◌==◌, is_some, Result, Ok, Err}
-use Rattle.std.proofs.lemmas.Bool.{eq-eqb}
+use Rattle.std.proofs.lemmas.Bool.{cases_eq, eq-eqb}
 use Rattle.trau_alaw.specs.declared.Law.{Law}
 use Rattle.switchboard.specs.declared.act.Act.{Act}
 use Rattle.switchboard.specs.declared.act.Act.TheVariants as act
@@ -13,7 +13,7 @@ use Rattle.switchboard.specs.Runs.{IsRun, TellsEnds}
 use Rattle.switchboard.specs.Ends.{start_of}
 use Rattle.switchboard.specs.State.{State, gone_in, done_by}
 use Rattle.switchboard.specs.Open.{opened_now, open_now, partner_now, open_after, Finds, law_now, law_after}
-use Rattle.farm_rounds.specs.Histories.{CallHistory, CallStands, CallsStand, histories_after, NoneWaits, NoneDrains}
+use Rattle.farm_rounds.specs.Histories.{CallHistory, CallStands, CallsStand, histories_after, NoneWaits, NoneWaitsIn}
 use Rattle.farm_rounds.specs.Calls.{Kept, call_in, partner_in}
 use Rattle.call_leg.specs.Periods.{CallPeriod}
 use Rattle.call_leg.specs.Settings.{Settings, new_settings}
@@ -26,7 +26,6 @@ use Rattle.run_spec.proofs.SoFar.{so_far_more}
 use Rattle.run_spec.proofs.Acting.{settings_ordered}
 use Rattle.run_spec.proofs.Going.{none_waits, law_run}
 use Rattle.farm_run.specs.Match.{past_if, histories_at, FollowsRun}
-use Rattle.farm_run.proofs.Ordered.Matching.{cases_eq, open_same}
 use Rattle.farm_run.proofs.Ordered.Due.{Due, open_told, tells_more}
 use Rattle.farm_run.proofs.Ordered.Changing.{history_by}
 use Rattle.farm_run.proofs.Listed.Tests.{no}
@@ -40,14 +39,14 @@ past_same true false l ts ts' now now' q e f = cc
 past_same false true l ts ts' now now' q e f = cc
 
 -- the calls stand for histories that are the same for each call
-stand_same : (h k : ℕ → Option CallHistory) (calls : List Kept) → ((c : ℕ) → h c ≡ k c) → CallsStand h calls → CallsStand k calls
+pub stand_same : (h k : ℕ → Option CallHistory) (calls : List Kept) → ((c : ℕ) → h c ≡ k c) → CallsStand h calls → CallsStand k calls
 stand_same h k calls e g = λ c. subst (λ x. CallStands c x (call_in calls c) (partner_in calls c)) (e c) (g c)
 
 -- the act that opens a call, or another one
 cases_act : (a : Act) (c : ℕ) → ((law : Law) × (a ≡ act.Opened c law)) ⊎ ((n : ℕ) (law : Law) → a ≡ act.Opened n law → n ≡ c → ⊥)
 cases_act (act.Opened n law) c = elim (cases_eq n c) [
   | inl e ↦ inl (law, ap (λ n. act.Opened n law) e)
-  | inr q ↦ inr (λ m other e f. let g : (n == c) ≡ true = eq-eqb n c (number n m law other e ∙ f) in cc)
+  | inr q ↦ inr (λ m other e f. q (number n m law other e ∙ f))
 ]
   where
     number : (n m : ℕ) (l k : Law) → act.Opened n l ≡ act.Opened m k → n ≡ m
@@ -142,7 +141,7 @@ module _ (r : Run) (t : ℕ) (s n : State) (reply : Reply) (calls : List Kept) (
 
     -- the calls that the act leaves open are those that are open behind it
     open_is : (c : ℕ) → open_after a (λ c. is_open (gone_at (whole_in r) t s.done) s.done c) c ≡ is_open (gone_at (whole_in r) t n.done) n.done c
-    open_is c = sym (open_same a (open_now s) (λ c. is_open (gone_at (whole_in r) t s.done) s.done c) (open_told (whole_in r) t s f.tells) c) ∙ sym (changes c)
+    open_is c = sym (ap (λ g. open_after a g c) (λ i. λ c. open_told (whole_in r) t s f.tells c i)) ∙ sym (changes c)
         ∙ open_told (whole_in r) t n tells c
 
     -- the call that it opens
@@ -180,8 +179,8 @@ module _ (r : Run) (t : ℕ) (s n : State) (reply : Reply) (calls : List Kept) (
     ]
 
     -- where a bridge begins, no handed frame waits
-    none_drains : NoneDrains a (histories_at r s.done t)
-    none_drains = by a refl finds
+    none_waits_in : NoneWaitsIn a (histories_at r s.done t)
+    none_waits_in = by a refl finds
       where
         waits : (c u v : ℕ) → a ≡ act.Bridged u v → (c == u || c == v) ≡ true → open_now s c ≡ true → NoneWaits (histories_at r s.done t c)
         waits c u v q j o =
@@ -199,7 +198,7 @@ module _ (r : Run) (t : ℕ) (s n : State) (reply : Reply) (calls : List Kept) (
         right_or true = refl
         right_or false = refl
 
-        by : (x : Act) → a ≡ x → Finds x (opened_now s) (open_now s) (partner_now s) → NoneDrains x (histories_at r s.done t)
+        by : (x : Act) → a ≡ x → Finds x (opened_now s) (open_now s) (partner_now s) → NoneWaitsIn x (histories_at r s.done t)
         by (act.Bridged u v) q g = (waits u u v q (left_or u v) g.1.0, waits v u v q (ap (λ b. v == u || b) (eq-eqb v v refl) ∙ right_or (v == u)) g.1.1)
         by (act.Opened c law) q g = tt
         by (act.Closed c p) q g = tt
@@ -209,10 +208,10 @@ module _ (r : Run) (t : ℕ) (s n : State) (reply : Reply) (calls : List Kept) (
 
     -- **So farm and board follow the run behind the order, if the act carries histories over.**
     pub follows_more : (calls' : List Kept) →
-        ((h : ℕ → Option CallHistory) → NoneDrains a h → CallsStand h calls → CallsStand (histories_after a h) calls') → FollowsRun r t n calls'
+        ((h : ℕ → Option CallHistory) → NoneWaitsIn a h → CallsStand h calls → CallsStand (histories_after a h) calls') → FollowsRun r t n calls'
     follows_more calls' carries = record {
       so_far = far;
       tells = tells;
       stands = stand_same (histories_after a (histories_at r s.done t)) (histories_at r n.done t) calls' same_history
-          (carries (histories_at r s.done t) none_drains f.stands);
+          (carries (histories_at r s.done t) none_waits_in f.stands);
     }

@@ -20,6 +20,7 @@ use Rattle.run_spec.proofs.SoFar.{standing_now}
 use Rattle.run_spec.proofs.Ending.{end_lacks, end_limit}
 use Rattle.run_spec.proofs.Going.{start_run}
 use Rattle.farm_run.specs.Going.{places_in, ends_within}
+use Rattle.farm_run.specs.Runs.{IsCutOff}
 use Rattle.farm_run.proofs.Rounds.Taken.{IsRound, IsTaken}
 use Rattle.farm_run.proofs.Rounds.Open.{IsOpenAt, open_at, no_order}
 
@@ -49,6 +50,16 @@ end_within r t n ds left c h e =
 
     below : (last t n P : ℕ) → t ≤ last → min n (last - t) < n → t + n ≤ P → last < P
     below last t n P l f w = omega arith
+
+-- a call that its lines end isn't cut off
+pub not_by_lines : (k : ℕ) (g : Given) → IsCutOff (lack_of k g) → ⊥
+not_by_lines k g = by (nat_lt g.up (40 * (k + 1))) g.up_failed g.pcm_failed
+  where
+    by : (a u p : Bool) → IsCutOff (if a then (if u then Fault Up else End Up (g.up - 40 * k)) else if p then Fault Pcm else End Pcm (g.pcm - 160 * k)) → ⊥
+    by true true p h = h
+    by true false p h = h
+    by false u true h = h
+    by false u false h = h
 
 -- it was opened in the run where it was so far
 pub start_kept : (r : Run) (t n : ℕ) (ds : List Done) (left : List Order) (c : ℕ) → IsRound r t n ds left → is_open (gone_at (whole_in r) t ds) ds c ≡ true →

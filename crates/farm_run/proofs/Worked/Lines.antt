@@ -1,22 +1,21 @@
 -- A round leaves the lines as the run has them behind it, and so all that stands at a clock.
 use Rattle.std.proofs.Common.{◌≡◌, sym, ap, ◌∙◌, subst, ℕ, ◌+◌, ◌-◌, ◌*◌, ◌≤◌, Bool, true, false, not, ◌&&◌, Option, Some, List, ◌++◌, drop, inl, inr, arith}
 use Rattle.std.proofs.Common.{mul-add}
-use Rattle.std.specs.Prelude.{min, if◌then◌else◌, nat_lt}
+use Rattle.std.specs.Prelude.{min, nat_lt}
 use Rattle.std.proofs.lemmas.Bool.{cases_Bool, cases_lt, lt-ltb}
 use Rattle.trau_io.specs.declared.ends.CallEnd.{CallEnd}
 use Rattle.trau_io.specs.declared.ends.Cause.{Cause}
-use Rattle.trau_io.specs.declared.ends.Cause.TheVariants.{End, Fault}
 use Rattle.trau_io.specs.declared.line.Side.{Side}
 use Rattle.trau_io.specs.declared.line.Side.TheVariants.{Up, Pcm}
 use Rattle.trau_io.specs.Lines.{LineState}
 use Rattle.switchboard.specs.Calls.{Done, is_open, gone_at}
-use Rattle.switchboard.specs.Ends.{Given, lack_of, end_of, start_of}
+use Rattle.switchboard.specs.Ends.{lack_of, end_of, start_of}
 use Rattle.switchboard.specs.State.{State}
 use Rattle.switchboard.specs.Open.{open_now}
 use Rattle.switchboard.specs.Runs.{TellsEnds}
-use Rattle.farm_rounds.specs.Calls.{Kept, call_in, partner_in}
+use Rattle.farm_rounds.specs.Calls.{partner_in}
 use Rattle.farm_rounds.specs.Memory.{FarmMemory}
-use Rattle.farm_rounds.specs.Histories.{CallHistory, CallStands, CallsStand}
+use Rattle.farm_rounds.specs.Histories.{CallHistory}
 use Rattle.farm_rounds.specs.Working.{goes_on_call}
 use Rattle.farm_rounds.specs.RoundHistories.{worked_histories, those_that}
 use Rattle.run_spec.specs.Run.{Run, given_in, whole_in, done_in, end_in, IsOpened, cause_in, worked_to}
@@ -29,7 +28,8 @@ use Rattle.farm_run.specs.Match.{Matches, histories_at}
 use Rattle.farm_run.specs.Standing.{Standing, standing, MeetsRun, IsToCome, never_given}
 use Rattle.farm_run.specs.Clock.{LinesAt, IsAtClock}
 use Rattle.farm_run.proofs.Rounds.Open.{open_at}
-use Rattle.farm_run.proofs.Rounds.Ends.{end_within, start_kept}
+use Rattle.farm_run.proofs.Ordered.Following.{stand_same}
+use Rattle.farm_run.proofs.Rounds.Ends.{end_within, start_kept, not_by_lines}
 use Rattle.farm_run.proofs.Told.Boards.{told_done, told_left, round_over}
 use Rattle.farm_run.proofs.Clocks.Reach.{end_after, worked_then}
 use Rattle.farm_run.proofs.Worked.Round.{WorkedRound}
@@ -37,23 +37,9 @@ use Rattle.farm_run.proofs.Worked.Calls.{OpenSeat, open_seat, opened_is}
 use Rattle.farm_run.proofs.Worked.Board as worked_board
 use Rattle.farm_run.proofs.Worked.Written as worked_written
 
--- a call that its lines end isn't cut off
-not_by_lines : (k : ℕ) (g : Given) → IsCutOff (lack_of k g) → ⊥
-not_by_lines k g = by (nat_lt g.up (40 * (k + 1))) g.up_failed g.pcm_failed
-  where
-    by : (a u p : Bool) → IsCutOff (if a then (if u then Fault Up else End Up (g.up - 40 * k)) else if p then Fault Pcm else End Pcm (g.pcm - 160 * k)) → ⊥
-    by true true p h = h
-    by true false p h = h
-    by false u true h = h
-    by false u false h = h
-
 -- the cause of an end
 abbrev cause_of : CallEnd → Cause
 cause_of e = e.cause
-
--- the calls stand for histories that are the same for each call
-stand_same : (h k : ℕ → Option CallHistory) (calls : List Kept) → ((c : ℕ) → h c ≡ k c) → CallsStand h calls → CallsStand k calls
-stand_same h k calls e g = λ c. subst (λ x. CallStands c x (call_in calls c) (partner_in calls c)) (e c) (g c)
 
 module _ (r : Run) (t n : ℕ) (b : State) (farm after : FarmMemory) (first before now : ℕ → Side → LineState) (ends : List CallEnd)
     (w : WorkedRound t n farm after before now ends) (h : IsRound r t n b.done b.left) (m : Matches b farm.calls) (b' : State) (last : Standing)

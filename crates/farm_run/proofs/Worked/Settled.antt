@@ -11,7 +11,7 @@ use Rattle.farm_run.specs.Outgoing.{IsSettled}
 
 -- **They were written.**
 pub drained : (before now : ℕ → Side → LineState) (worked : WorkedMemory) (after : FarmMemory) →
-    ((seats : List SeatMemory) × Each Drains before now worked.seats seats (length worked.seats) × GainsFailed worked.failed after.failed seats
+    ((seats : List SeatMemory) × Each Drains before now worked.seats seats (length worked.seats) × GainsFailed worked.farm.failed after.failed seats
     × KnowFailed seats after.calls × (length seats ≡ length worked.seats)) →
     KeepsButEach IsOutgoing before now worked.seats (length worked.seats) → IsSettled false before now worked after
 drained before now worked after drains others = record {
@@ -26,7 +26,7 @@ drained before now worked after drains others = record {
 
 -- **They were held back.**
 pub passed : (lines : ℕ → Side → LineState) (worked : WorkedMemory) (after : FarmMemory) →
-    (GainsFailed worked.failed after.failed worked.seats × KnowFailed worked.seats after.calls) → IsSettled true lines lines worked after
+    (GainsFailed worked.farm.failed after.failed worked.seats × KnowFailed worked.seats after.calls) → IsSettled true lines lines worked after
 passed lines worked after passes = record {
   seats = worked.seats;
   number = refl;

@@ -1,17 +1,16 @@
 -- What was read of the incoming lines of a call that its lines end: of one that failed fewer octets than the round takes of it.
 use Rattle.std.proofs.Common.{◌≡◌, sym, ap, ◌∙◌, subst, ℕ, ◌+◌, ◌-◌, ◌*◌, ◌<◌, ◌≤◌, Bool, true, false, ◌&&◌, List, [], length, inl, inr, arith, mul-add}
-use Rattle.std.specs.Prelude.{min, nat_lt, if◌then◌else◌}
+use Rattle.std.specs.Prelude.{min, nat_lt}
 use Rattle.std.proofs.lemmas.Bool.{cases_Bool, true≢false, lt-ltb}
 use Rattle.trau_io.specs.declared.ends.CallEnd.{CallEnd}
 use Rattle.trau_io.specs.declared.ends.Cause.{Cause}
-use Rattle.trau_io.specs.declared.ends.Cause.TheVariants.{End, Fault}
 use Rattle.trau_io.specs.declared.line.Line.{Line}
 use Rattle.trau_io.specs.declared.line.Side.{Side}
 use Rattle.trau_io.specs.declared.line.Side.TheVariants.{Up, Pcm}
 use Rattle.trau_io.specs.Lines.{LineState}
 use Rattle.round_lines.specs.Rounds.{seat_at}
 use Rattle.switchboard.specs.Calls.{is_open, gone_at}
-use Rattle.switchboard.specs.Ends.{Given, start_of, end_of, lack_of}
+use Rattle.switchboard.specs.Ends.{start_of, end_of, lack_of}
 use Rattle.switchboard.specs.State.{State}
 use Rattle.farm_rounds.specs.Memory.{FarmMemory}
 use Rattle.run_spec.specs.Run.{Run, given_in, whole_in, done_in, start_in, end_in, cause_in}
@@ -23,7 +22,7 @@ use Rattle.farm_run.specs.Standing.{Standing, standing, MeetsRun}
 use Rattle.farm_run.specs.Clock.{IsAtClock, FailedInRound}
 use Rattle.farm_run.proofs.Rounds.Taken.{IsRound}
 use Rattle.farm_run.proofs.Rounds.Open.{open_at}
-use Rattle.farm_run.proofs.Rounds.Ends.{end_within, start_kept}
+use Rattle.farm_run.proofs.Rounds.Ends.{end_within, start_kept, not_by_lines}
 use Rattle.farm_run.proofs.Clocks.Last.{rest_of}
 use Rattle.farm_run.proofs.Clocks.Reach.{end_after, open_before_end, ended_before}
 use Rattle.farm_run.proofs.Worked.Round.{WorkedRound, up_long, pcm_long}
@@ -31,17 +30,6 @@ use Rattle.farm_run.proofs.Worked.Written as worked_written
 use Rattle.farm_run.proofs.Listed.Round.{listed_kept, listed_incoming}
 use Rattle.farm_rounds.proofs.Gaining.{fewer_up, fewer_pcm}
 use Rattle.farm_run.proofs.Worked.Calls.{OpenSeat, open_seat, open_is}
-
--- a call that lacks a period isn't ended by an order, nor by the run's end
-lines_end : (n : ℕ) (g : Given) → IsCutOff (lack_of n g) → ⊥
-lines_end n g = by (nat_lt g.up (40 * (n + 1))) g.up_failed g.pcm_failed
-  where
-    by : (up up_failed pcm_failed : Bool) →
-        IsCutOff (if up then (if up_failed then Fault Up else End Up (g.up - 40 * n)) else if pcm_failed then Fault Pcm else End Pcm (g.pcm - 160 * n)) → ⊥
-    by true true f q = q
-    by true false f q = q
-    by false u true q = q
-    by false u false q = q
 
 module _ (r : Run) (t n : ℕ) (b : State) (farm after : FarmMemory) (first before now : ℕ → Side → LineState) (ends : List CallEnd)
     (w : WorkedRound t n farm after before now ends) (h : IsRound r t n b.done b.left) (m : Matches b farm.calls) (b' : State) (last : Standing)
@@ -64,7 +52,7 @@ module _ (r : Run) (t n : ℕ) (b : State) (farm after : FarmMemory) (first befo
   ends_here c octets line o less few = record {
     begun = open_before_end r t n b.done b.left c h o;
     over = over (end_in r c) (places_in r b.done t n c) less (end_after r t n b.done b.left c h o);
-    by_lines = subst (λ (e : Cause). IsCutOff e → ⊥) (sym cause) (lines_end (whole_in r c) (given_in r c));
+    by_lines = subst (λ (e : Cause). IsCutOff e → ⊥) (sym cause) (not_by_lines (whole_in r c) (given_in r c));
     short = (let e : t + n - start_in r c ≡ t + n - start_of b.done c = ap (λ (s : ℕ). t + n - s) (start_kept r t n b.done b.left c h o) in
         omega (arith, few, ap (λ (k : ℕ). octets * k) e));
   }

@@ -10,62 +10,62 @@ use Rattle.farm_rounds.proofs.acts.change.Goals as goal
 
 -- ---- two calls are bridged
 
-pub join-requires-clause-there : goal.join-requires-clause-there
-join-requires-clause-there c =
+pub start_bridge-requires-clause-there : goal.start_bridge-requires-clause-there
+start_bridge-requires-clause-there c =
     let fits = subst (ActFits (calls_of c.args.calls.now)) c.in-Bridged.is c.requires.fits in
-    listed_open c.args.live.now (opens_in c.args.calls.now) c.in-Bridged.a c.requires.sound.1.listed fits.1
+    listed_open c.args.live.now (opens_in c.args.calls.now) c.in-Bridged.a c.requires.sound.1.listed fits.0.1.0
 
-pub join-requires-in-Bridged-clause-listed : goal.join-requires-in-Bridged-clause-listed
-join-requires-in-Bridged-clause-listed c =
+pub start_bridge-requires-in-Bridged-clause-listed : goal.start_bridge-requires-in-Bridged-clause-listed
+start_bridge-requires-in-Bridged-clause-listed c =
     let s = c.requires.sound.1 in
-    listed_from c.requires.sound.0 c.args.live.now (opens_in c.join.new.calls) (s.listed ∙ sym c.join.ensures.numbers) s.rising
-    (c.join.ensures.each c.requires.sound.0 s.each)
+    listed_from c.requires.sound.0 c.args.live.now (opens_in c.start_bridge.new.calls) (s.listed ∙ sym c.start_bridge.ensures.numbers) s.rising
+    (c.start_bridge.ensures.each c.requires.sound.0 s.each)
 
-pub join-requires-in-Bridged-clause-there : goal.join-requires-in-Bridged-clause-there
-join-requires-in-Bridged-clause-there c =
+pub start_bridge-requires-in-Bridged-clause-there : goal.start_bridge-requires-in-Bridged-clause-there
+start_bridge-requires-in-Bridged-clause-there c =
     let fits = subst (ActFits (calls_of c.args.calls.now)) c.in-Bridged.is c.requires.fits in
-    listed_open c.args.live.now (opens_in c.args.calls.now) c.in-Bridged.b c.requires.sound.1.listed fits.2
+    listed_open c.args.live.now (opens_in c.args.calls.now) c.in-Bridged.b c.requires.sound.1.listed fits.0.1.1
 
 pub returns-in-Bridged-clause-sound : goal.returns-in-Bridged-clause-sound
 returns-in-Bridged-clause-sound c most s =
     let fits = subst (ActFits (calls_of c.args.calls.now)) c.in-Bridged.is c.requires.fits in
     let before = opens_in c.args.calls.now in
-    let mid = opens_in c.join.new.calls in
-    let now = opens_in c.join-in-Bridged.new.calls in
+    let mid = opens_in c.start_bridge.new.calls in
+    let now = opens_in c.start_bridge-in-Bridged.new.calls in
     sound_after most c.args.live.now (act.Bridged c.in-Bridged.a c.in-Bridged.b) before now fits s
-    (bridged_applied c.in-Bridged.a c.in-Bridged.b before mid now fits.0 fits.1 fits.2 c.join.ensures c.join-in-Bridged.ensures)
-    (c.join-in-Bridged.ensures.numbers ∙ c.join.ensures.numbers) (c.join-in-Bridged.ensures.each most (c.join.ensures.each most s.each))
+    (bridged_applied c.in-Bridged.a c.in-Bridged.b before mid now fits.0.0 fits.0.1.0 fits.0.1.1 c.start_bridge.ensures c.start_bridge-in-Bridged.ensures)
+    (c.start_bridge-in-Bridged.ensures.numbers ∙ c.start_bridge.ensures.numbers) (c.start_bridge-in-Bridged.ensures.each most (c.start_bridge.ensures.each most s.each))
 
 -- ---- their bridge is over
 
-pub part-requires-clause-there : goal.part-requires-clause-there
-part-requires-clause-there c =
+pub end_bridge-requires-clause-there : goal.end_bridge-requires-clause-there
+end_bridge-requires-clause-there c =
     let fits = subst (ActFits (calls_of c.args.calls.now)) c.in-Unbridged.is c.requires.fits in
     listed_open c.args.live.now (opens_in c.args.calls.now) c.in-Unbridged.a c.requires.sound.1.listed
-    (partner_open (calls_of c.args.calls.now) c.in-Unbridged.a c.in-Unbridged.b fits)
+    (partner_open (calls_of c.args.calls.now) c.in-Unbridged.a c.in-Unbridged.b fits.0)
 
-pub part-requires-clause-partner : goal.part-requires-clause-partner
-part-requires-clause-partner c = ap is_some (subst (ActFits (calls_of c.args.calls.now)) c.in-Unbridged.is c.requires.fits)
+pub end_bridge-requires-clause-partner : goal.end_bridge-requires-clause-partner
+end_bridge-requires-clause-partner c = ap is_some (subst (ActFits (calls_of c.args.calls.now)) c.in-Unbridged.is c.requires.fits).0
 
-pub part-requires-in-Unbridged-clause-listed : goal.part-requires-in-Unbridged-clause-listed
-part-requires-in-Unbridged-clause-listed c =
+pub end_bridge-requires-in-Unbridged-clause-listed : goal.end_bridge-requires-in-Unbridged-clause-listed
+end_bridge-requires-in-Unbridged-clause-listed c =
     let s = c.requires.sound.1 in
-    listed_from c.requires.sound.0 c.args.live.now (opens_in c.part.new.calls) (s.listed ∙ sym c.part.ensures.numbers) s.rising
-    (c.part.ensures.each c.requires.sound.0 s.each)
+    listed_from c.requires.sound.0 c.args.live.now (opens_in c.end_bridge.new.calls) (s.listed ∙ sym c.end_bridge.ensures.numbers) s.rising
+    (c.end_bridge.ensures.each c.requires.sound.0 s.each)
 
-pub part-requires-in-Unbridged-clause-there : goal.part-requires-in-Unbridged-clause-there
-part-requires-in-Unbridged-clause-there c =
+pub end_bridge-requires-in-Unbridged-clause-there : goal.end_bridge-requires-in-Unbridged-clause-there
+end_bridge-requires-in-Unbridged-clause-there c =
     let fits = subst (ActFits (calls_of c.args.calls.now)) c.in-Unbridged.is c.requires.fits in
-    let back = c.requires.sound.1.both c.in-Unbridged.a c.in-Unbridged.b fits in
+    let back = c.requires.sound.1.both c.in-Unbridged.a c.in-Unbridged.b fits.0 in
     listed_open c.args.live.now (opens_in c.args.calls.now) c.in-Unbridged.b c.requires.sound.1.listed
     (partner_open (calls_of c.args.calls.now) c.in-Unbridged.b c.in-Unbridged.a back.0)
 
-pub part-requires-in-Unbridged-clause-partner : goal.part-requires-in-Unbridged-clause-partner
-part-requires-in-Unbridged-clause-partner c =
+pub end_bridge-requires-in-Unbridged-clause-partner : goal.end_bridge-requires-in-Unbridged-clause-partner
+end_bridge-requires-in-Unbridged-clause-partner c =
     let a = c.in-Unbridged.a in
     let b = c.in-Unbridged.b in
     let fits = subst (ActFits (calls_of c.args.calls.now)) c.in-Unbridged.is c.requires.fits in
-    still_paired a b (opens_in c.args.calls.now) (opens_in c.part.new.calls) fits (c.requires.sound.1.both a b fits) c.part.ensures
+    still_paired a b (opens_in c.args.calls.now) (opens_in c.end_bridge.new.calls) fits.0 (c.requires.sound.1.both a b fits.0) c.end_bridge.ensures
 
 pub returns-in-Unbridged-clause-sound : goal.returns-in-Unbridged-clause-sound
 returns-in-Unbridged-clause-sound c most s =
@@ -73,13 +73,13 @@ returns-in-Unbridged-clause-sound c most s =
     let a = c.in-Unbridged.a in
     let b = c.in-Unbridged.b in
     let fits = subst (ActFits ks) c.in-Unbridged.is c.requires.fits in
-    let back = s.both a b fits in
+    let back = s.both a b fits.0 in
     let before = opens_in c.args.calls.now in
-    let mid = opens_in c.part.new.calls in
-    let now = opens_in c.part-in-Unbridged.new.calls in
+    let mid = opens_in c.end_bridge.new.calls in
+    let now = opens_in c.end_bridge-in-Unbridged.new.calls in
     sound_after most c.args.live.now (act.Unbridged a b) before now fits s
-    (unbridged_applied a b before mid now back.1 (partner_open ks a b fits) (partner_open ks b a back.0) c.part.ensures c.part-in-Unbridged.ensures)
-    (c.part-in-Unbridged.ensures.numbers ∙ c.part.ensures.numbers) (c.part-in-Unbridged.ensures.each most (c.part.ensures.each most s.each))
+    (unbridged_applied a b before mid now back.1 (partner_open ks a b fits.0) (partner_open ks b a back.0) c.end_bridge.ensures c.end_bridge-in-Unbridged.ensures)
+    (c.end_bridge-in-Unbridged.ensures.numbers ∙ c.end_bridge.ensures.numbers) (c.end_bridge-in-Unbridged.ensures.each most (c.end_bridge.ensures.each most s.each))
 
 pub returns-in-Unbridged-clause-applied : goal.returns-in-Unbridged-clause-applied
 returns-in-Unbridged-clause-applied c =
@@ -87,18 +87,18 @@ returns-in-Unbridged-clause-applied c =
     let a = c.in-Unbridged.a in
     let b = c.in-Unbridged.b in
     let fits = subst (ActFits ks) c.in-Unbridged.is c.requires.fits in
-    let back = c.requires.sound.1.both a b fits in
-    subst (λ (x : Act). Applied x ks (calls_of c.part-in-Unbridged.new.calls)) (sym c.in-Unbridged.is)
-    (unbridged_applied a b (opens_in c.args.calls.now) (opens_in c.part.new.calls) (opens_in c.part-in-Unbridged.new.calls) back.1 (partner_open ks a b fits)
-    (partner_open ks b a back.0) c.part.ensures c.part-in-Unbridged.ensures)
+    let back = c.requires.sound.1.both a b fits.0 in
+    subst (λ (x : Act). Applied x ks (calls_of c.end_bridge-in-Unbridged.new.calls)) (sym c.in-Unbridged.is)
+    (unbridged_applied a b (opens_in c.args.calls.now) (opens_in c.end_bridge.new.calls) (opens_in c.end_bridge-in-Unbridged.new.calls) back.1 (partner_open ks a b fits.0)
+    (partner_open ks b a back.0) c.end_bridge.ensures c.end_bridge-in-Unbridged.ensures)
 
 pub returns-in-Bridged-clause-applied : goal.returns-in-Bridged-clause-applied
 returns-in-Bridged-clause-applied c =
     let ks = calls_of c.args.calls.now in
     let fits = subst (ActFits ks) c.in-Bridged.is c.requires.fits in
-    subst (λ (x : Act). Applied x ks (calls_of c.join-in-Bridged.new.calls)) (sym c.in-Bridged.is)
-    (bridged_applied c.in-Bridged.a c.in-Bridged.b (opens_in c.args.calls.now) (opens_in c.join.new.calls) (opens_in c.join-in-Bridged.new.calls) fits.0 fits.1
-    fits.2 c.join.ensures c.join-in-Bridged.ensures)
+    subst (λ (x : Act). Applied x ks (calls_of c.start_bridge-in-Bridged.new.calls)) (sym c.in-Bridged.is)
+    (bridged_applied c.in-Bridged.a c.in-Bridged.b (opens_in c.args.calls.now) (opens_in c.start_bridge.new.calls) (opens_in c.start_bridge-in-Bridged.new.calls) fits.0.0
+    fits.0.1.0 fits.0.1.1 c.start_bridge.ensures c.start_bridge-in-Bridged.ensures)
 
 -- ---- a call is set
 

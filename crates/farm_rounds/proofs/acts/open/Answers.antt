@@ -1,5 +1,4 @@
 use Rattle.std.proofs.Common.{rules, ◌≡◌, ◌<◌, ◌≤◌, sym, ap, ◌∙◌, subst, ℕ, List, length, map, slice_index}
-use Rattle.std.specs.Prelude.{is_some}
 use Rattle.std.specs.List.{insert}
 use Rattle.std.specs.Global.{Box}
 use Rattle.switchboard.specs.declared.act.Act.TheVariants as act
@@ -15,7 +14,7 @@ use Rattle.farm_rounds.proofs.acts.open.Goals as goal
 pub insertion_index-at-requires-clause-absent : goal.insertion_index-at-requires-clause-absent
 insertion_index-at-requires-clause-absent c =
     ap (λ (ns : List ℕ). is_among ns c.args.call) (c.deref.ensures.value ∙ c.reserve.ensures.items ∙ c.requires.sound.1.listed)
-    ∙ among_open (opens_in c.args.calls.now.items) c.args.call ∙ ap is_some c.requires.fits.1
+    ∙ among_open (opens_in c.args.calls.now.items) c.args.call ∙ c.requires.fits.0
 
 pub insertion_index-at-requires-clause-rising : goal.insertion_index-at-requires-clause-rising
 insertion_index-at-requires-clause-rising c = subst IsRising (sym (c.deref.ensures.value ∙ c.reserve.ensures.items)) c.requires.sound.1.rising

@@ -1,6 +1,7 @@
 use Rattle.std.proofs.Common.{rules, ◌≡◌, refl, sym, ap, ◌∙◌, subst, ℕ, ◌+◌, ◌<◌, ◌≤◌, Option, None, Some, length, slice_index, arith}
 use Rattle.round_lines.specs.Seats.{SeatMemory}
 use Rattle.farm_rounds.specs.Calls.{Call, call_in}
+use Rattle.farm_rounds.specs.Memory.{FarmMemory}
 use Rattle.farm_rounds.specs.RoundHistories.{seat_for}
 use Rattle.farm_rounds.specs.Rounds.{IsUnread}
 use Rattle.std.specs.List.{filter_map}
@@ -20,7 +21,7 @@ use Rattle.farm_run.proofs.Noted.Knowing.{known_round}
 use Rattle.farm_run.proofs.Listed.Round.{listed_back}
 use Rattle.farm_run.proofs.Listed.Behind.{knows_after, goes_after, meets_run}
 use Rattle.farm_run.proofs.Told.Boards.{told_done, told_left, told_orders}
-use Rattle.farm_run.proofs.Worked.Making.{IsMade, made_octets, made_open, made_partners, made_stands, made_tallies}
+use Rattle.farm_run.proofs.Worked.Making.{IsMade, made_failed, made_octets, made_open, made_partners, made_stands, made_tallies}
 use Rattle.farm_run.proofs.Worked.Facts as parts
 use Rattle.farm_run.proofs.Worked.Round.{FilledRound, WorkedRound}
 use Rattle.farm_run.proofs.Worked.Facts.{outgoing_between}
@@ -94,19 +95,12 @@ round g c =
     let settled = drain.settled in
     let made : IsMade c.args.stage.farm c.settle-farm.result c.in_ok-round.round c.fill.new.self c.work-worked.result = record {
       kept = fill.kept;
-      live = plan.live;
-      tallies = plan.tallies;
-      calls = plan.calls;
-      live_worked = work.live;
-      tallies_worked = work.tallies;
+      farm_planned = plan.farm ∙ ap (λ (n : ℕ). record c.args.stage.farm { ended = n }) (sym (ap (λ (f : FarmMemory). f.ended) plan.farm));
+      farm_worked = work.farm;
       partners_worked = work.partners;
       stands = work.stands;
       octets = work.octets;
-      alive = drain.live;
-      is_open = drain.open;
-      partners_after = drain.partners;
-      history = drain.history;
-      tallies_after = drain.tallies;
+      passed = drain.passed;
     } in
     record {
       planned = c.in_ok-round.round.seats;
@@ -134,7 +128,7 @@ round g c =
       drained_number = settled.number;
       known = plan.known;
       gains = subst (λ before. GainsFailed before c.settle-farm.result.failed settled.seats)
-          (work.failed ∙ ap (λ (p : RoundMemory). p.failed) fill.kept ∙ plan.failed) settled.gains;
+          (made_failed _ _ _ _ _ made) settled.gains;
       is_open = made_open _ _ _ _ _ made;
       partners = made_partners _ _ _ _ _ made;
       octets = made_octets _ _ _ _ _ made;
@@ -204,10 +198,10 @@ returns-clause-reaches g c =
         bridges = omega (arith, ap length done, c.requires.stage.bridges);
         ended = omega (
           arith,
-          c.settle-farm.ensures.ended,
-          c.work-worked.ensures.ended,
-          ap (λ (p : RoundMemory). p.ended) c.fill.ensures.kept,
-          c.in_ok-round.ensures.ended,
+          c.settle-farm.ensures.passed.ended,
+          ap (λ (f : FarmMemory). f.ended) c.work-worked.ensures.farm,
+          ap (λ (p : RoundMemory). p.farm.ended) c.fill.ensures.kept,
+          ap (λ (f : FarmMemory). f.ended) c.in_ok-round.ensures.farm,
         );
         knows = knows_after _ _ b _ _ _ _ _ w a knows b' told.told told.open;
         few = (let kept = ap length (ap (λ (s : State). orders_of s) told.told ∙ told_orders b c.ends.result.now) in omega (arith, kept, c.requires.stage.few));

@@ -1,6 +1,7 @@
 use Rattle.std.proofs.Common.{◌<◌, refl, sym, ap, ◌∙◌, subst, arith, List, length}
 use Rattle.std.specs.Prelude.{IfOk, OnErr, Err}
 use Rattle.trau_orders.specs.Lists.{AreOrders}
+use Rattle.switchboard.specs.Replies.{IsInRange}
 use Rattle.switchboard.specs.Open.{IsExecuted, IsAsBefore}
 use Rattle.trau_io.specs.declared.line.Line.{Line}
 use Rattle.run_spec.specs.Run.{Run}
@@ -13,7 +14,7 @@ use Rattle.farm_run.proofs.Noted.Accepted.{noted_accepted}
 use Rattle.farm_run.proofs.Ordered.Doing.{done_then}
 use Rattle.farm_run.proofs.Ordered.Due.{due_of, told_kept, left_fewer, ahead_more}
 use Rattle.farm_run.proofs.Ordered.Following.{follows_more, follows_same}
-use Rattle.farm_run.proofs.Ordered.Matching.{matches_more, matches_same}
+use Rattle.farm_run.proofs.Ordered.Matching.{fits, matches_more, matches_same}
 use Rattle.farm_run.proofs.Told.Few.{one_more}
 use Rattle.farm_run.proofs.Listed.Boards.{over_turned, new_unlisted, knows_turned}
 use Rattle.farm_run.proofs.orders.execute_orders.Goals as goal
@@ -25,6 +26,14 @@ apply-requires-clause-fresh c =
     (let does : IsExecuted b c.turn.new.self c.args.clock c.in-Ok.act = subst (λ x. IfOk x (IsExecuted b c.turn.new.self c.args.clock)) c.in-Ok.is
     c.in-Some.ensures.accepted in does.finds)
     c.loop-reply.invariant.ready.knows
+
+pub apply-requires-clause-fits : goal.apply-requires-clause-fits
+apply-requires-clause-fits c =
+    let b = c.loop-reply.board in
+    let does : IsExecuted b c.turn.new.self c.args.clock c.in-Ok.act = subst (λ x. IfOk x (IsExecuted b c.turn.new.self c.args.clock)) c.in-Ok.is
+    c.in-Some.ensures.accepted in
+    fits b c.loop-reply.farm.calls c.in-Ok.act c.loop-reply.invariant.ready.clock.matches does.finds
+        (subst (λ x. IfOk x IsInRange) c.in-Ok.is c.in-Some.ensures.range)
 
 pub loop-reply-preserved : goal.loop-reply-preserved
 loop-reply-preserved c =

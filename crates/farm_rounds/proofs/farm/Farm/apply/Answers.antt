@@ -32,7 +32,7 @@ applied_closed : (c : goal.After-close) → Applied c.args.act.now c.args.self.n
 applied_closed c =
     let fits = subst (λ (a : Act). ActFits c.args.self.now.calls a) c.in-Closed.is c.requires.fits in
     subst (λ (a : Act). Applied a c.args.self.now.calls c.close.new.self.calls) (sym c.in-Closed.is)
-    (subst (λ (p : Option ℕ). Applied (act.Closed c.in-Closed.call p) c.args.self.now.calls c.close.new.self.calls) fits.1 c.close.ensures.applied)
+    (subst (λ (p : Option ℕ). Applied (act.Closed c.in-Closed.call p) c.args.self.now.calls c.close.new.self.calls) fits.0.1 c.close.ensures.applied)
 
 pub returns-in-Closed-clause-calls : goal.returns-in-Closed-clause-calls
 returns-in-Closed-clause-calls c = (applied_closed c).calls
@@ -49,7 +49,7 @@ returns-in-Closed-clause-tallies c h s d =
     let fits = subst (λ (a : Act). ActFits c.args.self.now.calls a) c.in-Closed.is c.requires.fits in
     subst (λ (a : Act). tally_in c.close.new.self.tallies d ≡ tallies_after a h (tally_in c.args.self.now.tallies) d) (sym c.in-Closed.is)
     (tallied h c.args.self.now.calls c.in-Closed.call c.in-Closed.partner (tally_in c.args.self.now.tallies)
-    (tally_in c.close.new.self.tallies) s fits.0 c.close.ensures.tallies
+    (tally_in c.close.new.self.tallies) s fits.0.0 c.close.ensures.tallies
     (λ m y e st. c.close.ensures.tally m (whose c.in-Closed.call y) y.periods y.now e st) d)
 
 pub returns-in_default-clause-calls : goal.returns-in_default-clause-calls

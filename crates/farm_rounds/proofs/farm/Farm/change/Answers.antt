@@ -15,7 +15,7 @@ sound_read most live ns bs cs e f s =
     subst (λ (xs : List ℕ). AreOpen most xs (opens_in cs)) (sym e) (subst (λ (xs : List (Box OpenCall)). AreOpen most live (opens_in xs)) (sym f) s)
 
 pub change-requires-clause-sound : goal.change-requires-clause-sound
-change-requires-clause-sound c = (c.self.inside.ended, sound_read _ _ _ _ _ c.deref.ensures.value c.deref_mut.ensures.value c.self.invariant.0)
+change-requires-clause-sound c = (c.self.inside.calls.ended, sound_read _ _ _ _ _ c.deref.ensures.value c.deref_mut.ensures.value c.self.invariant.0)
 
 pub change-requires-clause-fits : goal.change-requires-clause-fits
 change-requires-clause-fits c =
@@ -24,14 +24,14 @@ change-requires-clause-fits c =
 
 pub invariant_of-self : goal.invariant_of-self
 invariant_of-self c =
-    let items = with_items_is c.self.inside.calls c.change.new.calls (c.change.auto.calls ∙ c.deref_mut.ensures.len) in
-    let s = sound_read c.self.inside.ended c.self.inside.live.items c.deref.result.now c.self.inside.calls.items c.deref_mut.result.now c.deref.ensures.value
+    let items = with_items_is c.self.inside.calls.open c.change.new.calls (c.change.auto.calls ∙ c.deref_mut.ensures.len) in
+    let s = sound_read c.self.inside.calls.ended c.self.inside.calls.live.items c.deref.result.now c.self.inside.calls.open.items c.deref_mut.result.now c.deref.ensures.value
     c.deref_mut.ensures.value c.self.invariant.0 in (
-      sound_read _ _ _ _ _ (sym c.deref.ensures.value) items (c.change.ensures.sound c.self.inside.ended s),
+      sound_read _ _ _ _ _ (sym c.deref.ensures.value) items (c.change.ensures.sound c.self.inside.calls.ended s),
       c.self.invariant.1,
-      subst (λ (bs : List (Box OpenCall)). AreFailed c.self.inside.failed.items (calls_of bs)) (sym items)
-          (known_after c.args.act.now c.self.inside.failed.items (calls_of c.self.inside.calls.items) (calls_of c.change.new.calls)
-          (stays_fresh c.args.act.now c.self.inside.failed.items c.requires.stays)
+      subst (λ (bs : List (Box OpenCall)). AreFailed c.self.inside.calls.failed.items (calls_of bs)) (sym items)
+          (known_after c.args.act.now c.self.inside.calls.failed.items (calls_of c.self.inside.calls.open.items) (calls_of c.change.new.calls)
+          (stays_fresh c.args.act.now c.self.inside.calls.failed.items c.requires.stays)
           (subst (λ (bs : List (Box OpenCall)). Applied c.args.act.now (calls_of bs) (calls_of c.change.new.calls)) c.deref_mut.ensures.value
           c.change.ensures.applied) c.self.invariant.2),
     )
@@ -41,7 +41,7 @@ returns-clause-before c = subst (λ (f : FarmMemory). AreMutual f.calls) c.self.
 
 pub returns-clause-applied : goal.returns-clause-applied
 returns-clause-applied c =
-    let items = with_items_is c.self.inside.calls c.change.new.calls (c.change.auto.calls ∙ c.deref_mut.ensures.len) in
+    let items = with_items_is c.self.inside.calls.open c.change.new.calls (c.change.auto.calls ∙ c.deref_mut.ensures.len) in
     subst (λ (bs : List (Box OpenCall)). Applied c.args.act.now c.args.self.now.calls (calls_of bs)) (sym items)
     (subst (λ (f : FarmMemory). Applied c.args.act.now f.calls (calls_of c.change.new.calls)) c.self.view_is
     (subst (λ (bs : List (Box OpenCall)). Applied c.args.act.now (calls_of bs) (calls_of c.change.new.calls)) c.deref_mut.ensures.value
@@ -49,5 +49,5 @@ returns-clause-applied c =
 
 pub returns-clause-others : goal.returns-clause-others
 returns-clause-others c =
-    let calls = calls_of (with_items c.self.inside.calls c.change.new.calls).items in
+    let calls = calls_of (with_items c.self.inside.calls.open c.change.new.calls).items in
     ap (λ (f : FarmMemory). record f { calls = calls }) c.self.view_is

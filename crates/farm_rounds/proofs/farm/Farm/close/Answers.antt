@@ -14,7 +14,7 @@ use Rattle.farm_rounds.proofs.Failing.{known_after}
 use Rattle.farm_rounds.proofs.farm.Farm.close.Goals as goal
 
 pub close-tally-requires-clause-sound : goal.close-tally-requires-clause-sound
-close-tally-requires-clause-sound c = (c.self.inside.ended, c.self.invariant.0)
+close-tally-requires-clause-sound c = (c.self.inside.calls.ended, c.self.invariant.0)
 
 pub close-tally-requires-clause-fits : goal.close-tally-requires-clause-fits
 close-tally-requires-clause-fits c = subst (λ (f : FarmMemory). IsOpen f.calls c.args.call) (sym c.self.view_is) c.requires
@@ -26,16 +26,16 @@ number_fits most os call ts all isopen long = let n = open_number most os call a
 pub index_mut-requires : goal.index_mut-requires
 index_mut-requires c =
     let n =
-    number_fits c.self.inside.ended (opens_in c.self.inside.calls.items) c.args.call c.self.inside.tallies.items c.self.invariant.0.each
+    number_fits c.self.inside.calls.ended (opens_in c.self.inside.calls.open.items) c.args.call c.self.inside.calls.tallies.items c.self.invariant.0.each
     (subst (λ (f : FarmMemory). IsOpen f.calls c.args.call) (sym c.self.view_is) c.requires) c.self.invariant.1 in
     omega (arith, n)
 
 pub invariant_of-self : goal.invariant_of-self
 invariant_of-self c = (
-  c.close-tally.ensures.sound c.self.inside.ended c.self.invariant.0,
-  length-set c.self.inside.tallies.items c.args.call c.close-tally.result ∙ c.self.invariant.1,
-  known_after (act.Closed c.args.call (partner_in (calls_of c.self.inside.calls.items) c.args.call)) c.self.inside.failed.items
-      (calls_of c.self.inside.calls.items) (calls_of c.close-tally.new.calls.items) tt c.close-tally.ensures.applied c.self.invariant.2,
+  c.close-tally.ensures.sound c.self.inside.calls.ended c.self.invariant.0,
+  length-set c.self.inside.calls.tallies.items c.args.call c.close-tally.result ∙ c.self.invariant.1,
+  known_after (act.Closed c.args.call (partner_in (calls_of c.self.inside.calls.open.items) c.args.call)) c.self.inside.calls.failed.items
+      (calls_of c.self.inside.calls.open.items) (calls_of c.close-tally.new.calls.items) tt c.close-tally.ensures.applied c.self.invariant.2,
 )
 
 pub returns-clause-before : goal.returns-clause-before
@@ -48,17 +48,17 @@ returns-clause-applied c =
 
 pub returns-clause-others : goal.returns-clause-others
 returns-clause-others c =
-    let tallies = set c.self.inside.tallies.items c.args.call c.close-tally.result in
+    let tallies = set c.self.inside.calls.tallies.items c.args.call c.close-tally.result in
     ap (λ (f : FarmMemory).
     record f { calls = calls_of c.close-tally.new.calls.items; live = c.close-tally.new.live.items; tallies = tallies }) c.self.view_is
 
 pub returns-clause-tallies : goal.returns-clause-tallies
 returns-clause-tallies c d n =
-    get_or-set_other c.self.inside.tallies.items c.args.call d c.close-tally.result no_tally n ∙ ap (λ (f : FarmMemory). tally_in f.tallies d) c.self.view_is
+    get_or-set_other c.self.inside.calls.tallies.items c.args.call d c.close-tally.result no_tally n ∙ ap (λ (f : FarmMemory). tally_in f.tallies d) c.self.view_is
 
 pub returns-clause-tally : goal.returns-clause-tally
 returns-clause-tally c x n ts now e s =
-    get_or-set_same c.self.inside.tallies.items c.args.call c.close-tally.result no_tally
-    (number_fits c.self.inside.ended (opens_in c.self.inside.calls.items) c.args.call c.self.inside.tallies.items c.self.invariant.0.each
+    get_or-set_same c.self.inside.calls.tallies.items c.args.call c.close-tally.result no_tally
+    (number_fits c.self.inside.calls.ended (opens_in c.self.inside.calls.open.items) c.args.call c.self.inside.calls.tallies.items c.self.invariant.0.each
     (subst (λ (f : FarmMemory). IsOpen f.calls c.args.call) (sym c.self.view_is) c.requires) c.self.invariant.1)
     ∙ c.close-tally.ensures.tally x n ts now (ap (λ (f : FarmMemory). call_in f.calls c.args.call) c.self.view_is ∙ e) s

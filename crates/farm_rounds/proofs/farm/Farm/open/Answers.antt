@@ -13,7 +13,7 @@ use Rattle.farm_rounds.proofs.Failing.{known_after}
 use Rattle.farm_rounds.proofs.farm.Farm.open.Goals as goal
 
 pub open-requires-clause-sound : goal.open-requires-clause-sound
-open-requires-clause-sound c = (c.self.inside.ended, c.self.invariant.0)
+open-requires-clause-sound c = (c.self.inside.calls.ended, c.self.invariant.0)
 
 pub open-requires-clause-fits : goal.open-requires-clause-fits
 open-requires-clause-fits c = subst (λ (f : FarmMemory). ActFits f.calls (act.Opened c.args.call c.args.law)) (sym c.self.view_is) c.requires.fits
@@ -24,12 +24,12 @@ either_way (Err e) P Q R f g p q = g q
 
 pub invariant_of-self : goal.invariant_of-self
 invariant_of-self c =
-    let lines = c.self.inside.failed.items in
+    let lines = c.self.inside.calls.failed.items in
     let fresh = subst (λ (f : FarmMemory). (s : Side) → is_listed f.failed c.args.call s ≡ false) (sym c.self.view_is) c.requires.fresh in (
-      c.open.ensures.sound c.self.inside.ended c.self.invariant.0,
+      c.open.ensures.sound c.self.inside.calls.ended c.self.invariant.0,
       c.self.invariant.1,
       either_way c.open.result _ _ _
-          (λ p. known_after (act.Opened c.args.call c.args.law) lines (calls_of c.self.inside.calls.items) (calls_of c.open.new.calls.items) fresh p
+          (λ p. known_after (act.Opened c.args.call c.args.law) lines (calls_of c.self.inside.calls.open.items) (calls_of c.open.new.calls.items) fresh p
           c.self.invariant.2)
           (λ p. subst (λ (bs : List (Box OpenCall)). AreFailed lines (calls_of bs)) (sym p) c.self.invariant.2) c.open.ensures.applied c.open.ensures.calls,
     )
@@ -50,8 +50,8 @@ pub returns-clause-refused : goal.returns-clause-refused
 returns-clause-refused c =
     both_refused c.open.result _ _ _
     (λ p q.
-    ap (λ (bs : List (Box OpenCall)). make_farm bs c.open.new.live.items c.self.inside.tallies.items c.self.inside.failed.items c.self.inside.ended) p
-    ∙ ap (λ (ns : List ℕ). make_farm c.self.inside.calls.items ns c.self.inside.tallies.items c.self.inside.failed.items c.self.inside.ended) q
+    ap (λ (bs : List (Box OpenCall)). make_farm bs c.open.new.live.items c.self.inside.calls.tallies.items c.self.inside.calls.failed.items c.self.inside.calls.ended) p
+    ∙ ap (λ (ns : List ℕ). make_farm c.self.inside.calls.open.items ns c.self.inside.calls.tallies.items c.self.inside.calls.failed.items c.self.inside.calls.ended) q
     ∙ c.self.view_is) c.open.ensures.calls c.open.ensures.live
 
 pub returns-clause-others : goal.returns-clause-others

@@ -20,8 +20,8 @@ use Rattle.farm_rounds.proofs.farm.Farm.tally.Goals as goal
 pub returns-in-Ok-clause-live : goal.returns-in-Ok-clause-live
 returns-in-Ok-clause-live c x who ts now e s =
     let i = c.self.invariant.0 in
-    let live = c.self.inside.live.items in
-    let bs = c.self.inside.calls.items in
+    let live = c.self.inside.calls.live.items in
+    let bs = c.self.inside.calls.open.items in
     let at = c.in-Ok.at in
     let call = c.args.call in
     let r = place_found live c.deref.result.now call c.binary_search.result c.deref.ensures.value i.rising c.binary_search.ensures.position at c.in-Ok.is in
@@ -35,8 +35,8 @@ returns-in-Ok-clause-live c x who ts now e s =
 pub returns-in-Ok-clause-ended : goal.returns-in-Ok-clause-ended
 returns-in-Ok-clause-ended c e =
     let i = c.self.invariant.0 in
-    let live = c.self.inside.live.items in
-    let bs = c.self.inside.calls.items in
+    let live = c.self.inside.calls.live.items in
+    let bs = c.self.inside.calls.open.items in
     let at = c.in-Ok.at in
     let call = c.args.call in
     let r = place_found live c.deref.result.now call c.binary_search.result c.deref.ensures.value i.rising c.binary_search.ensures.position at c.in-Ok.is in
@@ -47,9 +47,9 @@ returns-in-Ok-clause-ended c e =
 pub returns-in-Err-clause-live : goal.returns-in-Err-clause-live
 returns-in-Err-clause-live c x who ts now e s =
     let i = c.self.invariant.0 in
-    let live = c.self.inside.live.items in
+    let live = c.self.inside.calls.live.items in
     let call = c.args.call in
     let r = place_free live c.deref.result.now call c.binary_search.result c.deref.ensures.value i.rising c.binary_search.ensures.position _ c.in-Err.is in
-    let some = ap (λ (ns : List ℕ). is_among ns call) i.listed ∙ among_open (opens_in c.self.inside.calls.items) call
+    let some = ap (λ (ns : List ℕ). is_among ns call) i.listed ∙ among_open (opens_in c.self.inside.calls.open.items) call
     ∙ ap is_some (ap (λ (f : FarmMemory). call_in f.calls call) c.self.view_is ∙ e) in
     absurd (false≢true (sym (not_there live call _ r.1 r.2) ∙ some))

@@ -19,29 +19,29 @@ use Rattle.farm_rounds.proofs.round.Round.fill.Goals as goal
 
 pub fill_all-requires-clause-rising : goal.fill_all-requires-clause-rising
 fill_all-requires-clause-rising g c =
-    let i = c.self.inside in
+    let i = c.self.inside.calls in
     subst (λ (bs : List (Box OpenCall)). Rising (seats_of bs)) (sym c.deref_mut.ensures.value)
-    (round_rising i.start i.ended i.live.items (opens_in i.calls.items) c.self.invariant.0)
+    (round_rising c.self.inside.start i.ended i.live.items (opens_in i.open.items) c.self.invariant.0)
 
 pub fill_all-requires-clause-fits : goal.fill_all-requires-clause-fits
 fill_all-requires-clause-fits g c =
-    let i = c.self.inside in
+    let i = c.self.inside.calls in
     subst (λ (bs : List (Box OpenCall)). All HasBuffers (opens_in bs)) (sym c.deref_mut.ensures.value)
-    (round_fits i.start i.ended i.live.items (opens_in i.calls.items) c.self.invariant.0)
+    (round_fits c.self.inside.start i.ended i.live.items (opens_in i.open.items) c.self.invariant.0)
 
 pub invariant_of-self : goal.invariant_of-self
 invariant_of-self g c =
-    let i = c.self.inside in
+    let i = c.self.inside.calls in
     let new = c.fill_all.new.calls in
     let a = g.T.Trunk.lines c.args.trunk.now in
     let b = g.T.Trunk.lines c.fill_all.new.trunk in
-    let kept : same_seats new ≡ same_seats i.calls.items = c.fill_all.ensures.kept ∙ ap same_seats c.deref_mut.ensures.value in
+    let kept : same_seats new ≡ same_seats i.open.items = c.fill_all.ensures.kept ∙ ap same_seats c.deref_mut.ensures.value in
     let whole =
-    back i.calls.len new i.calls.items (omega (arith, c.deref_mut.ensures.len, ap length c.deref_mut.ensures.value)) (same_boxes new i.calls.items kept) in
-    let fills : Each Fills a b (seats_of i.calls.items) (seats_of new) (length i.calls.items) =
+    back i.open.len new i.open.items (omega (arith, c.deref_mut.ensures.len, ap length c.deref_mut.ensures.value)) (same_boxes new i.open.items kept) in
+    let fills : Each Fills a b (seats_of i.open.items) (seats_of new) (length i.open.items) =
     subst (λ (bs : List (Box OpenCall)). Each Fills a b (seats_of bs) (seats_of new) (length bs)) c.deref_mut.ensures.value c.fill_all.ensures.fills in (
-      subst (λ (bs : List (Box OpenCall)). IsRound i.start i.ended i.live.items (opens_in bs)) (sym whole)
-          (filled i.start i.ended i.live.items (opens_in new) (opens_in i.calls.items) kept (as_long a b new i.calls.items kept fills) c.self.invariant.0),
+      subst (λ (bs : List (Box OpenCall)). IsRound c.self.inside.start i.ended i.live.items (opens_in bs)) (sym whole)
+          (filled c.self.inside.start i.ended i.live.items (opens_in new) (opens_in i.open.items) kept (as_long a b new i.open.items kept fills) c.self.invariant.0),
       c.self.invariant.1,
       c.self.invariant.2,
       c.self.invariant.3,
@@ -49,85 +49,81 @@ invariant_of-self g c =
       c.self.invariant.5,
       c.self.invariant.6,
       subst (λ (bs : List (Box OpenCall)). AreFailedBefore i.failed.items (opens_in bs)) (sym whole)
-          (known_filled i.start i.ended i.live.items i.failed.items a b new i.calls.items c.self.invariant.0 kept fills c.self.invariant.7),
+          (known_filled c.self.inside.start i.ended i.live.items i.failed.items a b new i.open.items c.self.invariant.0 kept fills c.self.invariant.7),
     )
 
 pub returns-clause-fills : goal.returns-clause-fills
 returns-clause-fills g c =
-    let i = c.self.inside in
+    let i = c.self.inside.calls in
     let new = c.fill_all.new.calls in
     let a = g.T.Trunk.lines c.args.trunk.now in
     let b = g.T.Trunk.lines c.fill_all.new.trunk in
-    let kept : same_seats new ≡ same_seats i.calls.items = c.fill_all.ensures.kept ∙ ap same_seats c.deref_mut.ensures.value in
+    let kept : same_seats new ≡ same_seats i.open.items = c.fill_all.ensures.kept ∙ ap same_seats c.deref_mut.ensures.value in
     let whole =
-    back i.calls.len new i.calls.items (omega (arith, c.deref_mut.ensures.len, ap length c.deref_mut.ensures.value)) (same_boxes new i.calls.items kept) in
-    let fills : Each Fills a b (seats_of i.calls.items) (seats_of new) (length i.calls.items) =
+    back i.open.len new i.open.items (omega (arith, c.deref_mut.ensures.len, ap length c.deref_mut.ensures.value)) (same_boxes new i.open.items kept) in
+    let fills : Each Fills a b (seats_of i.open.items) (seats_of new) (length i.open.items) =
     subst (λ (bs : List (Box OpenCall)). Each Fills a b (seats_of bs) (seats_of new) (length bs)) c.deref_mut.ensures.value c.fill_all.ensures.fills in
     subst (λ (bs : List (Box OpenCall)). Each Fills a b c.args.self.now.seats (seats_of bs) (length c.args.self.now.seats)) (sym whole)
     (subst (λ (r : RoundMemory). Each Fills a b r.seats (seats_of new) (length r.seats)) c.self.view_is
-    (subst (λ (n : ℕ). Each Fills a b (seats_of i.calls.items) (seats_of new) n) (sym (seats_long i.calls.items)) fills))
+    (subst (λ (n : ℕ). Each Fills a b (seats_of i.open.items) (seats_of new) n) (sym (seats_long i.open.items)) fills))
 
 pub returns-clause-others : goal.returns-clause-others
 returns-clause-others g c =
-    let i = c.self.inside in
+    let i = c.self.inside.calls in
     let a = g.T.Trunk.lines c.args.trunk.now in
     let b = g.T.Trunk.lines c.fill_all.new.trunk in
-    let others : KeepsButEach IsIncoming a b (seats_of i.calls.items) (length i.calls.items) =
+    let others : KeepsButEach IsIncoming a b (seats_of i.open.items) (length i.open.items) =
     subst (λ (bs : List (Box OpenCall)). KeepsButEach IsIncoming a b (seats_of bs) (length bs)) c.deref_mut.ensures.value c.fill_all.ensures.others in
     subst (λ (r : RoundMemory). KeepsButEach IsIncoming a b r.seats (length r.seats)) c.self.view_is
-    (subst (λ (n : ℕ). KeepsButEach IsIncoming a b (seats_of i.calls.items) n) (sym (seats_long i.calls.items)) others)
+    (subst (λ (n : ℕ). KeepsButEach IsIncoming a b (seats_of i.open.items) n) (sym (seats_long i.open.items)) others)
 
 pub returns-clause-kept : goal.returns-clause-kept
 returns-clause-kept g c =
-    let i = c.self.inside in
+    let i = c.self.inside.calls in
     let new = c.fill_all.new.calls in
-    let kept : same_seats new ≡ same_seats i.calls.items = c.fill_all.ensures.kept ∙ ap same_seats c.deref_mut.ensures.value in
+    let kept : same_seats new ≡ same_seats i.open.items = c.fill_all.ensures.kept ∙ ap same_seats c.deref_mut.ensures.value in
     let whole =
-    back i.calls.len new i.calls.items (omega (arith, c.deref_mut.ensures.len, ap length c.deref_mut.ensures.value)) (same_boxes new i.calls.items kept) in
-    let seats = seats_of (take i.calls.len (new ++ drop (length new) i.calls.items)) in
+    back i.open.len new i.open.items (omega (arith, c.deref_mut.ensures.len, ap length c.deref_mut.ensures.value)) (same_boxes new i.open.items kept) in
+    let seats = seats_of (take i.open.len (new ++ drop (length new) i.open.items)) in
     ap (λ (ks : List Kept). record {
-      start = i.start;
-      ended = i.ended;
-      live = i.live.items;
-      tallies = i.tallies.items;
-      failed = i.failed.items;
-      calls = ks;
+      start = c.self.inside.start;
+      farm = record { calls = ks; live = i.live.items; tallies = i.tallies.items; failed = i.failed.items; ended = i.ended };
       seats = seats;
-    }) (ap calls_of whole ∙ same_kept (opens_in new) (opens_in i.calls.items) kept)
+    }) (ap calls_of whole ∙ same_kept (opens_in new) (opens_in i.open.items) kept)
     ∙ ap (λ (r : RoundMemory). record r { seats = seats }) c.self.view_is
 
 pub returns-clause-number : goal.returns-clause-number
 returns-clause-number g c =
-    let i = c.self.inside in
+    let i = c.self.inside.calls in
     let new = c.fill_all.new.calls in
-    let kept : same_seats new ≡ same_seats i.calls.items = c.fill_all.ensures.kept ∙ ap same_seats c.deref_mut.ensures.value in
-    let number = same_boxes new i.calls.items kept in
-    let whole = back i.calls.len new i.calls.items (omega (arith, c.deref_mut.ensures.len, ap length c.deref_mut.ensures.value)) number in
-    ap (λ (bs : List (Box OpenCall)). length (seats_of bs)) whole ∙ seats_long new ∙ number ∙ sym (seats_long i.calls.items)
+    let kept : same_seats new ≡ same_seats i.open.items = c.fill_all.ensures.kept ∙ ap same_seats c.deref_mut.ensures.value in
+    let number = same_boxes new i.open.items kept in
+    let whole = back i.open.len new i.open.items (omega (arith, c.deref_mut.ensures.len, ap length c.deref_mut.ensures.value)) number in
+    ap (λ (bs : List (Box OpenCall)). length (seats_of bs)) whole ∙ seats_long new ∙ number ∙ sym (seats_long i.open.items)
     ∙ ap (λ (r : RoundMemory). length r.seats) c.self.view_is
 
 pub returns-clause-rising : goal.returns-clause-rising
 returns-clause-rising g c =
-    let i = c.self.inside in
+    let i = c.self.inside.calls in
     let new = c.fill_all.new.calls in
-    let kept : same_seats new ≡ same_seats i.calls.items = c.fill_all.ensures.kept ∙ ap same_seats c.deref_mut.ensures.value in
+    let kept : same_seats new ≡ same_seats i.open.items = c.fill_all.ensures.kept ∙ ap same_seats c.deref_mut.ensures.value in
     let whole =
-    back i.calls.len new i.calls.items (omega (arith, c.deref_mut.ensures.len, ap length c.deref_mut.ensures.value)) (same_boxes new i.calls.items kept) in
+    back i.open.len new i.open.items (omega (arith, c.deref_mut.ensures.len, ap length c.deref_mut.ensures.value)) (same_boxes new i.open.items kept) in
     subst (λ (bs : List (Box OpenCall)). Rising (seats_of bs)) (sym whole) c.fill_all.ensures.rising
 
 pub returns-clause-short : goal.returns-clause-short
 returns-clause-short g c =
-    let i = c.self.inside in
+    let i = c.self.inside.calls in
     let new = c.fill_all.new.calls in
     let a = g.T.Trunk.lines c.args.trunk.now in
     let b = g.T.Trunk.lines c.fill_all.new.trunk in
-    let kept : same_seats new ≡ same_seats i.calls.items = c.fill_all.ensures.kept ∙ ap same_seats c.deref_mut.ensures.value in
-    let number = same_boxes new i.calls.items kept in
-    let whole = back i.calls.len new i.calls.items (omega (arith, c.deref_mut.ensures.len, ap length c.deref_mut.ensures.value)) number in
-    let fills : Each Fills a b (seats_of i.calls.items) (seats_of new) (length i.calls.items) =
+    let kept : same_seats new ≡ same_seats i.open.items = c.fill_all.ensures.kept ∙ ap same_seats c.deref_mut.ensures.value in
+    let number = same_boxes new i.open.items kept in
+    let whole = back i.open.len new i.open.items (omega (arith, c.deref_mut.ensures.len, ap length c.deref_mut.ensures.value)) number in
+    let fills : Each Fills a b (seats_of i.open.items) (seats_of new) (length i.open.items) =
     subst (λ (bs : List (Box OpenCall)). Each Fills a b (seats_of bs) (seats_of new) (length bs)) c.deref_mut.ensures.value c.fill_all.ensures.fills in
     subst (λ (bs : List (Box OpenCall)). (k : ℕ) → k < length (seats_of bs) → EndsShort (seat_at (seats_of bs) k).lines) (sym whole)
     (λ k l.
-    let lk : k < length i.calls.items = omega (arith, l, seats_long new, number) in
-    is_short _ _ (seat_at (seats_of i.calls.items) k) (seat_at (seats_of new) k) (fills k lk)
-    (seat_fits i.start i.ended i.live.items (opens_in i.calls.items) k c.self.invariant.0 (omega (arith, lk, opens_long i.calls.items))))
+    let lk : k < length i.open.items = omega (arith, l, seats_long new, number) in
+    is_short _ _ (seat_at (seats_of i.open.items) k) (seat_at (seats_of new) k) (fills k lk)
+    (seat_fits c.self.inside.start i.ended i.live.items (opens_in i.open.items) k c.self.invariant.0 (omega (arith, lk, opens_long i.open.items))))

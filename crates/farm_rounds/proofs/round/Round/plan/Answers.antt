@@ -5,9 +5,9 @@ use Rattle.std.proofs.lemmas.Result.{IfOk-from_err}
 use Rattle.trau_io.specs.declared.line.Line.{Line}
 use Rattle.round_lines.specs.Rounds.{seat_at}
 use Rattle.farm_rounds.specs.declared.open.OpenCall.{OpenCall}
-use Rattle.farm_rounds.specs.Calls.{call_in}
+use Rattle.farm_rounds.specs.Calls.{Kept, call_in}
 use Rattle.farm_rounds.specs.Memory.{FarmMemory}
-use Rattle.farm_rounds.specs.Opens.{opens_in, open_planned, kept_of, seat_of_open}
+use Rattle.farm_rounds.specs.Opens.{opens_in, calls_of, open_planned, kept_of, seat_of_open}
 use Rattle.farm_rounds.specs.RoundHistories.{seat_for}
 use Rattle.farm_rounds.specs.Working.{IsRound}
 use Rattle.farm_rounds.specs.Failed.{AreFailed, AreFailedBefore}
@@ -21,29 +21,29 @@ use Rattle.farm_rounds.proofs.round.Round.plan.Goals as goal
 
 pub take_memory-requires-clause-calls : goal.take_memory-requires-clause-calls
 take_memory-requires-clause-calls c =
-    let i = c.farm.inside in
-    let few = few_live i.ended i.live.items (opens_in i.calls.items) c.farm.invariant.0 in
+    let i = c.farm.inside.calls in
+    let few = few_live i.ended i.live.items (opens_in i.open.items) c.farm.invariant.0 in
     omega (arith, few, c.len.ensures, i.live.ok.0)
 
 -- the calls of the round
 opens : (c : goal.In_ok-ends) →
-    opens_in (take c.farm.inside.calls.len (c.plan_all.new.calls ++ drop (length c.plan_all.new.calls) c.farm.inside.calls.items))
-    ≡ map (open_planned c.args.periods) (opens_in c.farm.inside.calls.items)
+    opens_in (take c.farm.inside.calls.open.len (c.plan_all.new.calls ++ drop (length c.plan_all.new.calls) c.farm.inside.calls.open.items))
+    ≡ map (open_planned c.args.periods) (opens_in c.farm.inside.calls.open.items)
 opens c =
-    let i = c.farm.inside in
+    let i = c.farm.inside.calls in
     let new = c.plan_all.new.calls in
     let is = c.in_ok-plan_all.ensures.planned ∙ ap (λ bs. map (open_planned c.args.periods) (opens_in bs)) c.deref_mut.ensures.value in
-    let number : length new ≡ length i.calls.items =
-    sym (opens_long new) ∙ ap length is ∙ length-map (opens_in i.calls.items) (open_planned c.args.periods) ∙ opens_long i.calls.items in
-    ap opens_in (back i.calls.len new i.calls.items (omega (arith, c.deref_mut.ensures.len, ap length c.deref_mut.ensures.value)) number) ∙ is
+    let number : length new ≡ length i.open.items =
+    sym (opens_long new) ∙ ap length is ∙ length-map (opens_in i.open.items) (open_planned c.args.periods) ∙ opens_long i.open.items in
+    ap opens_in (back i.open.len new i.open.items (omega (arith, c.deref_mut.ensures.len, ap length c.deref_mut.ensures.value)) number) ∙ is
 
 pub invariant_of-result : goal.invariant_of-result
 invariant_of-result c =
-    let i = c.farm.inside in
+    let i = c.farm.inside.calls in
     let ended = ap (λ (f : FarmMemory). f.ended) c.farm.view_is in
     let later : i.ended ≤ c.args.start = omega (arith, ended, c.requires.later) in (
       subst (λ (os : List OpenCall). IsRound c.args.start (c.args.start + c.args.periods) i.live.items os) (sym (opens c))
-          (planned i.ended c.args.start c.args.periods i.live.items (opens_in i.calls.items) later c.requires.last c.farm.invariant.0),
+          (planned i.ended c.args.start c.args.periods i.live.items (opens_in i.open.items) later c.requires.last c.farm.invariant.0),
       c.in_ok-ends.ensures.none,
       omega (arith, c.in_ok-ends.ensures.ends, c.len.ensures, i.live.ok.0),
       omega (arith, c.in_ok-ends.ensures.first, c.len.ensures, i.live.ok.0),
@@ -51,52 +51,46 @@ invariant_of-result c =
       c.farm.invariant.1,
       omega (arith, c.in_ok-ends.ensures.failed, c.len.ensures, i.live.ok.0),
       subst (λ (ls : List Line). AreFailedBefore ls
-          (opens_in (take i.calls.len (c.plan_all.new.calls ++ drop (length c.plan_all.new.calls) i.calls.items)))) (sym c.take_memory.ensures.kept)
+          (opens_in (take i.open.len (c.plan_all.new.calls ++ drop (length c.plan_all.new.calls) i.open.items)))) (sym c.take_memory.ensures.kept)
           (subst (λ (os : List OpenCall). AreFailedBefore i.failed.items os) (sym (opens c))
-          (known_planned i.ended c.args.periods i.live.items (opens_in i.calls.items) i.failed.items c.farm.invariant.0 c.farm.invariant.2)),
+          (known_planned i.ended c.args.periods i.live.items (opens_in i.open.items) i.failed.items c.farm.invariant.0 c.farm.invariant.2)),
     )
 
 pub returns-clause-start : goal.returns-clause-start
 returns-clause-start c = refl
 
-pub returns-clause-ended : goal.returns-clause-ended
-returns-clause-ended c = refl
-
-pub returns-clause-live : goal.returns-clause-live
-returns-clause-live c = ap (λ (f : FarmMemory). f.live) c.farm.view_is
-
-pub returns-clause-failed : goal.returns-clause-failed
-returns-clause-failed c = c.take_memory.ensures.kept ∙ ap (λ (f : FarmMemory). f.failed) c.farm.view_is
-
-pub returns-clause-tallies : goal.returns-clause-tallies
-returns-clause-tallies c = ap (λ (f : FarmMemory). f.tallies) c.farm.view_is
+pub returns-clause-farm : goal.returns-clause-farm
+returns-clause-farm c =
+    let i = c.farm.inside.calls in
+    let end = c.args.start + c.args.periods in
+    let seen : List Kept → List Line → FarmMemory = λ ks ls. record { calls = ks; live = i.live.items; tallies = i.tallies.items; failed = ls; ended = end } in
+    ap (λ (os : List OpenCall). seen (map kept_of os) c.take_memory.new.failed.items) (opens c)
+    ∙ ap (λ (ks : List Kept). seen ks c.take_memory.new.failed.items) (kept_all c.args.periods (opens_in i.open.items))
+    ∙ ap (seen (calls_of i.open.items)) c.take_memory.ensures.kept
+    ∙ ap (λ (f : FarmMemory). record f { ended = end }) c.farm.view_is
 
 pub returns-clause-number : goal.returns-clause-number
 returns-clause-number c =
-    let i = c.farm.inside in
-    let was = opens_in i.calls.items in
+    let i = c.farm.inside.calls in
+    let was = opens_in i.open.items in
     ap (λ (os : List OpenCall). length (map seat_of_open os)) (opens c) ∙ length-map (map (open_planned c.args.periods) was) seat_of_open
     ∙ length-map was (open_planned c.args.periods) ∙ sym (listed_long i.live.items was c.farm.invariant.0.listed)
     ∙ ap (λ (f : FarmMemory). length f.live) c.farm.view_is
 
 pub returns-clause-seats : goal.returns-clause-seats
 returns-clause-seats c =
-    let i = c.farm.inside in
+    let i = c.farm.inside.calls in
     subst (λ (f : FarmMemory). (k : ℕ) → k < length f.live →
-    seat_at (map seat_of_open (opens_in (take i.calls.len (c.plan_all.new.calls ++ drop (length c.plan_all.new.calls) i.calls.items)))) k
+    seat_at (map seat_of_open (opens_in (take i.open.len (c.plan_all.new.calls ++ drop (length c.plan_all.new.calls) i.open.items)))) k
     ≡ seat_for c.args.periods (slice_index f.live k) (call_in f.calls (slice_index f.live k))) c.farm.view_is
     (λ k l. ap (λ (os : List OpenCall). seat_at (map seat_of_open os) k) (opens c)
-    ∙ planned_seat i.ended c.args.periods i.live.items (opens_in i.calls.items) k c.farm.invariant.0 l)
-
-pub returns-clause-calls : goal.returns-clause-calls
-returns-clause-calls c =
-    ap (map kept_of) (opens c) ∙ kept_all c.args.periods (opens_in c.farm.inside.calls.items) ∙ ap (λ (f : FarmMemory). f.calls) c.farm.view_is
+    ∙ planned_seat i.ended c.args.periods i.live.items (opens_in i.open.items) k c.farm.invariant.0 l)
 
 pub returns-clause-order : goal.returns-clause-order
 returns-clause-order c =
-    let i = c.farm.inside in
+    let i = c.farm.inside.calls in
     subst (λ (os : List OpenCall). IsRising (map (λ k. k.call.number) (map kept_of os))) (sym (opens c))
-    (rising_kept c.args.periods i.ended i.live.items (opens_in i.calls.items) c.farm.invariant.0)
+    (rising_kept c.args.periods i.ended i.live.items (opens_in i.open.items) c.farm.invariant.0)
 
 pub returns-clause-known : goal.returns-clause-known
 returns-clause-known c = subst (λ (f : FarmMemory). AreFailed f.failed f.calls) c.farm.view_is c.farm.invariant.2
@@ -106,14 +100,10 @@ returns-in_err-plan_all c =
     let no = c.from_residual.ensures.0 in
     record {
       start = IfOk-from_err _ _ no;
-      ended = IfOk-from_err _ _ no;
-      live = IfOk-from_err _ _ no;
-      failed = IfOk-from_err _ _ no;
-      tallies = IfOk-from_err _ _ no;
+      farm = IfOk-from_err _ _ no;
       number = IfOk-from_err _ _ no;
       seats = IfOk-from_err _ _ no;
       order = IfOk-from_err _ _ no;
-      calls = IfOk-from_err _ _ no;
       known = IfOk-from_err _ _ no;
     }
 
@@ -122,13 +112,9 @@ returns-in_err-ends c =
     let no = c.from_residual-in_err-ends.ensures.0 in
     record {
       start = IfOk-from_err _ _ no;
-      ended = IfOk-from_err _ _ no;
-      live = IfOk-from_err _ _ no;
-      failed = IfOk-from_err _ _ no;
-      tallies = IfOk-from_err _ _ no;
+      farm = IfOk-from_err _ _ no;
       number = IfOk-from_err _ _ no;
       seats = IfOk-from_err _ _ no;
       order = IfOk-from_err _ _ no;
-      calls = IfOk-from_err _ _ no;
       known = IfOk-from_err _ _ no;
     }

@@ -16,18 +16,18 @@ use Rattle.farm_rounds.proofs.worked.Worked.add.Goals as goal
 
 pub add_call-requires : goal.add_call-requires
 add_call-requires c =
-    let calls = c.self.inside.calls.items in
+    let calls = c.self.inside.calls.open.items in
     let n = c.loop-call.call-index in
     let here = c.deref-call-items.ensures.value in
     let l : n < length calls = subst (λ (bs : List (Box OpenCall)). n < length bs) here c.loop-call-test.true in
     let own : c.deref.result.now ≡ open_at calls n = c.deref.ensures ∙ ap (λ (b : Box OpenCall). b.value) c.call-item.is
     ∙ ap (λ (bs : List (Box OpenCall)). (get_or bs n c.call-item.result).value) here ∙ at_read calls n c.call-item.result l in
-    let sound = All-get_or (IsWorkedCall c.self.inside.ended) (opens_in calls) n no_open (omega (arith, l, opens_long calls)) c.self.invariant.0.each in
+    let sound = All-get_or (IsWorkedCall c.self.inside.calls.ended) (opens_in calls) n no_open (omega (arith, l, opens_long calls)) c.self.invariant.0.each in
     subst HasBuffers (sym own) sound.fits
 
 pub loop-call-preserved : goal.loop-call-preserved
 loop-call-preserved c =
-    let calls = c.self.inside.calls.items in
+    let calls = c.self.inside.calls.open.items in
     let n = c.loop-call.call-index in
     let seats = c.args.self.now.seats in
     let round = c.self.invariant.0 in
@@ -37,7 +37,7 @@ loop-call-preserved c =
     ∙ ap (λ (bs : List (Box OpenCall)). (get_or bs n c.call-item.result).value) here ∙ at_read calls n c.call-item.result l in
     let are : seats_of calls ≡ seats = ap (λ (r : WorkedMemory). r.seats) c.self.view_is in
     let rising : Rising seats = subst Rising are (seats_rising (opens_in calls) (subst IsRising round.listed round.rising)
-    (All-weaker (IsWorkedCall c.self.inside.ended) (λ o. o.lines.call ≡ o.job.io.call) (λ o w. w.lines) (opens_in calls) round.each)) in
+    (All-weaker (IsWorkedCall c.self.inside.calls.ended) (λ o. o.lines.call ≡ o.job.io.call) (λ o w. w.lines) (opens_in calls) round.each)) in
     let within : n < length seats = subst (λ (ss : List SeatMemory). n < length ss) are (omega (arith, l, seats_long calls)) in
     let seat : seat_of_open c.deref.result.now ≡ seat_at seats n = ap seat_of_open own ∙ seat_read calls n l ∙ ap (λ (ss : List SeatMemory). seat_at ss n) are in
     let new = subst (λ (s : SeatMemory). AddsSeat s (sum_in c.loop-call.sums) (sum_in c.add_call.new.self)) seat c.add_call.ensures in

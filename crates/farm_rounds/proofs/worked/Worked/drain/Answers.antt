@@ -13,14 +13,19 @@ use Rattle.farm_rounds.specs.Opens.{opens_in, calls_of, seats_of, same_call}
 use Rattle.farm_rounds.specs.Opened.{HasBuffers, same_calls}
 use Rattle.farm_rounds.specs.Histories.{CallHistory, CallsStand, kept_of}
 use Rattle.farm_rounds.specs.Working.{WorkedMemory, IsWorkedRound, GainsFailed, goes_on_call, partner_past}
-use Rattle.farm_rounds.specs.RoundHistories.{WorkedStand, KnowFailed, those_that}
+use Rattle.farm_rounds.specs.RoundHistories.{WorkedStand, KnowFailed, IsPassed, those_that}
 use Rattle.farm_rounds.specs.Failed.{AreFailedBefore}
 use Rattle.farm_rounds.proofs.Boxes.{opens_long, seats_long}
+use Rattle.farm_rounds.proofs.Farms.{make_farm}
 use Rattle.farm_rounds.proofs.Marked.{still_worked, still_stand, same_going, same_partners, buffered, seats_rise}
 use Rattle.farm_rounds.proofs.Written.{back}
 use Rattle.farm_rounds.proofs.Known.{known_drained}
 use Rattle.farm_rounds.proofs.worked.Worked.drain.Given as given
 use Rattle.farm_rounds.proofs.worked.Worked.drain.Goals as goal
+
+-- the round with these calls
+abbrev drained_round : WorkedMemory → List (Box OpenCall) → WorkedMemory
+drained_round r now = record r { farm = record r.farm { calls = calls_of now }; seats = seats_of now }
 
 -- the calls are the same but for the marks of their outgoing lines
 kept : (was here now : List (Box OpenCall)) → here ≡ was → same_calls now ≡ same_calls here → same_calls now ≡ same_calls was
@@ -30,59 +35,51 @@ many : (was now : List (Box OpenCall)) → same_calls now ≡ same_calls was →
 many was now k =
     sym (opens_long now) ∙ sym (length-map (opens_in now) same_call) ∙ ap length k ∙ length-map (opens_in was) same_call ∙ opens_long was
 
--- .. and they are given on whole
+-- all of them are given on
 written : (n : ℕ) (was here now : List (Box OpenCall)) → here ≡ was → length here ≡ n → same_calls now ≡ same_calls here →
     take n (now ++ drop (length now) was) ≡ now
 written n was here now e l k = back n now was (omega (arith, l, ap length e)) (many was now (kept was here now e k))
 
-same : (g : given.Over) (c : goal.After-pass g) → same_calls c.drain_all.new.calls ≡ same_calls c.self.inside.calls.items
-same g c = kept c.self.inside.calls.items c.deref_mut.result.now c.drain_all.new.calls c.deref_mut.ensures.value c.drain_all.ensures.kept
+same : (g : given.Over) (c : goal.After-pass g) → same_calls c.drain_all.new.calls ≡ same_calls c.self.inside.calls.open.items
+same g c = kept c.self.inside.calls.open.items c.deref_mut.result.now c.drain_all.new.calls c.deref_mut.ensures.value c.drain_all.ensures.kept
 
 -- the round that is passed on
 after : (g : given.Over) (c : goal.After-pass g) →
-    let i = c.self.inside in
-    let calls = take i.calls.len (c.drain_all.new.calls ++ drop (length c.drain_all.new.calls) i.calls.items) in
+    let i = c.self.inside.calls in
+    let calls = take i.open.len (c.drain_all.new.calls ++ drop (length c.drain_all.new.calls) i.open.items) in
     record {
-      ended = i.ended;
-      live = i.live.items;
-      tallies = i.tallies.items;
-      failed = i.failed.items;
-      calls = calls_of calls;
+      farm = make_farm calls i.live.items i.tallies.items i.failed.items i.ended;
       seats = seats_of calls;
-      ends = i.ends.items;
-    } ≡ record c.args.self { calls = calls_of c.drain_all.new.calls; seats = seats_of c.drain_all.new.calls }
+      ends = c.self.inside.ends.items;
+    } ≡ drained_round c.args.self c.drain_all.new.calls
 after g c =
-    let i = c.self.inside in
+    let i = c.self.inside.calls in
     ap (λ (bs : List (Box OpenCall)).
     record {
-      ended = i.ended;
-      live = i.live.items;
-      tallies = i.tallies.items;
-      failed = i.failed.items;
-      calls = calls_of bs;
+      farm = make_farm bs i.live.items i.tallies.items i.failed.items i.ended;
       seats = seats_of bs;
-      ends = i.ends.items;
+      ends = c.self.inside.ends.items;
     })
-    (written i.calls.len i.calls.items c.deref_mut.result.now c.drain_all.new.calls c.deref_mut.ensures.value c.deref_mut.ensures.len
+    (written i.open.len i.open.items c.deref_mut.result.now c.drain_all.new.calls c.deref_mut.ensures.value c.deref_mut.ensures.len
     c.drain_all.ensures.kept)
-    ∙ ap (λ (r : WorkedMemory). record r { calls = calls_of c.drain_all.new.calls; seats = seats_of c.drain_all.new.calls }) c.self.view_is
+    ∙ ap (λ (r : WorkedMemory). drained_round r c.drain_all.new.calls) c.self.view_is
 
 -- the same calls go on, with the same partners
 goes : (g : given.Over) (c : goal.After-pass g) → goes_on_call (seats_of c.drain_all.new.calls) ≡ goes_on_call c.args.self.seats
 goes g c =
-    same_going (opens_in c.self.inside.calls.items) (opens_in c.drain_all.new.calls) (same g c)
+    same_going (opens_in c.self.inside.calls.open.items) (opens_in c.drain_all.new.calls) (same g c)
     ∙ ap (λ (r : WorkedMemory). goes_on_call r.seats) c.self.view_is
 
-partners : (g : given.Over) (c : goal.After-pass g) → partner_in (calls_of c.drain_all.new.calls) ≡ partner_in c.args.self.calls
+partners : (g : given.Over) (c : goal.After-pass g) → partner_in (calls_of c.drain_all.new.calls) ≡ partner_in c.args.self.farm.calls
 partners g c =
-    same_partners (opens_in c.self.inside.calls.items) (opens_in c.drain_all.new.calls) (same g c)
-    ∙ ap (λ (r : WorkedMemory). partner_in r.calls) c.self.view_is
+    same_partners (opens_in c.self.inside.calls.open.items) (opens_in c.drain_all.new.calls) (same g c)
+    ∙ ap (λ (r : WorkedMemory). partner_in r.farm.calls) c.self.view_is
 
 -- the calls stand for the same periods
 stands : (g : given.Over) (c : goal.After-pass g) (h : ℕ → Option CallHistory) → WorkedStand h c.args.self →
-    WorkedStand h (record c.args.self { calls = calls_of c.drain_all.new.calls; seats = seats_of c.drain_all.new.calls })
+    WorkedStand h (drained_round c.args.self c.drain_all.new.calls)
 stands g c h stand =
-    still_stand (opens_in c.self.inside.calls.items) (opens_in c.drain_all.new.calls) (same g c) h
+    still_stand (opens_in c.self.inside.calls.open.items) (opens_in c.drain_all.new.calls) (same g c) h
     (subst (λ (r : WorkedMemory). WorkedStand h r) (sym c.self.view_is) stand)
 
 pub drain_all-requires-clause-rising : goal.drain_all-requires-clause-rising
@@ -95,21 +92,21 @@ drain_all-requires-clause-fits g c =
 
 pub invariant_of-self : goal.invariant_of-self
 invariant_of-self g c =
-    let i = c.self.inside in
+    let i = c.self.inside.calls in
     let now = c.drain_all.new.calls in
     let here = c.deref_mut.result.now in
     let before = g.T.Trunk.lines c.args.trunk.now in
     let behind = g.T.Trunk.lines c.drain_all.new.trunk in (
       subst (λ (bs : List (Box OpenCall)). IsWorkedRound i.ended i.live.items (opens_in bs))
-          (sym (written i.calls.len i.calls.items here now c.deref_mut.ensures.value c.deref_mut.ensures.len c.drain_all.ensures.kept))
-          (still_worked (opens_in i.calls.items) (opens_in now) (kept i.calls.items here now c.deref_mut.ensures.value c.drain_all.ensures.kept) i.ended
+          (sym (written i.open.len i.open.items here now c.deref_mut.ensures.value c.deref_mut.ensures.len c.drain_all.ensures.kept))
+          (still_worked (opens_in i.open.items) (opens_in now) (kept i.open.items here now c.deref_mut.ensures.value c.drain_all.ensures.kept) i.ended
           i.live.items c.self.invariant.0),
       c.self.invariant.1,
       c.self.invariant.2,
       subst (λ (bs : List (Box OpenCall)). AreFailedBefore i.failed.items (opens_in bs))
-          (sym (written i.calls.len i.calls.items here now c.deref_mut.ensures.value c.deref_mut.ensures.len c.drain_all.ensures.kept))
-          (known_drained i.failed.items before behind now i.calls.items
-          (many i.calls.items now (kept i.calls.items here now c.deref_mut.ensures.value c.drain_all.ensures.kept))
+          (sym (written i.open.len i.open.items here now c.deref_mut.ensures.value c.deref_mut.ensures.len c.drain_all.ensures.kept))
+          (known_drained i.failed.items before behind now i.open.items
+          (many i.open.items now (kept i.open.items here now c.deref_mut.ensures.value c.drain_all.ensures.kept))
           (subst (λ (bs : List (Box OpenCall)). Each Drains before behind (seats_of bs) (seats_of now) (length bs)) c.deref_mut.ensures.value
           c.drain_all.ensures.drains) c.self.invariant.3),
     )
@@ -118,7 +115,7 @@ invariant_of-self g c =
 seated : (g : given.Over) (c : goal.After-pass g) (P : List SeatMemory → ℕ → Type 0) → P (seats_of c.deref_mut.result.now) (length c.deref_mut.result.now) →
     P c.args.self.seats (length c.args.self.seats)
 seated g c P said =
-    let was = c.self.inside.calls.items in
+    let was = c.self.inside.calls.open.items in
     subst (λ (r : WorkedMemory). P r.seats (length r.seats)) c.self.view_is
     (subst (λ (n : ℕ). P (seats_of was) n) (sym (seats_long was))
     (subst (λ (bs : List (Box OpenCall)). P (seats_of bs) (length bs)) c.deref_mut.ensures.value said))
@@ -128,47 +125,33 @@ returns-clause-drains g c =
     let now = c.drain_all.new.calls in
     let before = g.T.Trunk.lines c.args.trunk.now in
     let behind = g.T.Trunk.lines c.drain_all.new.trunk in
-    let passes =
-    subst (λ (r : WorkedMemory). GainsFailed r.failed c.pass.result.failed r.seats × KnowFailed r.seats c.pass.result.calls) (after g c)
-    c.pass.ensures.passes in (
+    let gains =
+    subst (λ (r : WorkedMemory). GainsFailed r.farm.failed c.pass.result.failed r.seats × KnowFailed r.seats c.pass.result.calls) (after g c)
+    c.pass.ensures.gains in (
       seats_of now,
       seated g c (λ ss n. Each Drains before behind ss (seats_of now) n) c.drain_all.ensures.drains,
-      passes.0,
-      passes.1,
-      seats_long now ∙ many c.self.inside.calls.items now (same g c) ∙ sym (seats_long c.self.inside.calls.items) ∙ ap (λ (r : WorkedMemory). length r.seats) c.self.view_is,
+      gains.0,
+      gains.1,
+      seats_long now ∙ many c.self.inside.calls.open.items now (same g c) ∙ sym (seats_long c.self.inside.calls.open.items) ∙ ap (λ (r : WorkedMemory). length r.seats) c.self.view_is,
     )
 
 pub returns-clause-others : goal.returns-clause-others
 returns-clause-others g c =
     seated g c (λ ss n. KeepsButEach IsOutgoing (g.T.Trunk.lines c.args.trunk.now) (g.T.Trunk.lines c.drain_all.new.trunk) ss n) c.drain_all.ensures.others
 
-pub returns-clause-ended : goal.returns-clause-ended
-returns-clause-ended g c = c.pass.ensures.ended ∙ ap (λ (r : WorkedMemory). r.ended) c.self.view_is
-
-pub returns-clause-live : goal.returns-clause-live
-returns-clause-live g c =
-    subst (λ (f : ℕ → Bool). (d : ℕ) → is_among c.pass.result.live d ≡ (is_among c.args.self.live d && f d)) (goes g c)
-    (subst (λ (r : WorkedMemory). (d : ℕ) → is_among c.pass.result.live d ≡ (is_among r.live d && goes_on_call r.seats d)) (after g c) c.pass.ensures.live)
-
-pub returns-clause-partners : goal.returns-clause-partners
-returns-clause-partners g c =
-    let result = c.pass.result.calls in
-    subst (λ (p : ℕ → Option ℕ). (d : ℕ) → partner_in result d ≡ partner_past (goes_on_call c.args.self.seats) p d) (partners g c)
-    (subst (λ (f : ℕ → Bool). (d : ℕ) → partner_in result d ≡ partner_past f (partner_in (calls_of c.drain_all.new.calls)) d) (goes g c)
-    (subst (λ (r : WorkedMemory). (d : ℕ) → partner_in result d ≡ partner_past (goes_on_call r.seats) (partner_in r.calls) d) (after g c)
-    c.pass.ensures.partners))
-
-pub returns-clause-history : goal.returns-clause-history
-returns-clause-history g c h stand =
-    subst (λ (f : ℕ → Bool). CallsStand (those_that f h) c.pass.result.calls) (goes g c)
-    (subst (λ (r : WorkedMemory). WorkedStand h r → CallsStand (those_that (goes_on_call r.seats) h) c.pass.result.calls) (after g c)
-    (c.pass.ensures.history h) (stands g c h stand))
-
-pub returns-clause-tallies : goal.returns-clause-tallies
-returns-clause-tallies g c h stand =
-    let told = c.pass.result.tallies in
-    let was = c.args.self.tallies in
-    subst (λ (f : ℕ → Bool). (d : ℕ) → tally_in told d ≡ (if f d then tally_in was d else kept_of (h d) (tally_in was d))) (goes g c)
-    (subst (λ (r : WorkedMemory).
-    WorkedStand h r → (d : ℕ) → tally_in told d ≡ (if goes_on_call r.seats d then tally_in r.tallies d else kept_of (h d) (tally_in r.tallies d))) (after g c)
-    (c.pass.ensures.tallies h) (stands g c h stand))
+pub returns-clause-passed : goal.returns-clause-passed
+returns-clause-passed g c =
+    let f = c.pass.result in
+    let was = c.args.self.farm in
+    let p = subst (λ (r : WorkedMemory). IsPassed r f) (after g c) c.pass.ensures.passed in
+    record {
+      ended = p.ended;
+      live = subst (λ (stays : ℕ → Bool). (d : ℕ) → is_among f.live d ≡ (is_among was.live d && stays d)) (goes g c) p.live;
+      is_open = p.is_open;
+      partners = subst (λ (q : ℕ → Option ℕ). (d : ℕ) → partner_in f.calls d ≡ partner_past (goes_on_call c.args.self.seats) q d) (partners g c)
+          (subst (λ (stays : ℕ → Bool). (d : ℕ) → partner_in f.calls d ≡ partner_past stays (partner_in (calls_of c.drain_all.new.calls)) d) (goes g c)
+          p.partners);
+      history = λ h stand. subst (λ (stays : ℕ → Bool). CallsStand (those_that stays h) f.calls) (goes g c) (p.history h (stands g c h stand));
+      tallies = λ h stand. subst (λ (stays : ℕ → Bool). (d : ℕ) → tally_in f.tallies d
+          ≡ (if stays d then tally_in was.tallies d else kept_of (h d) (tally_in was.tallies d))) (goes g c) (p.tallies h (stands g c h stand));
+    }

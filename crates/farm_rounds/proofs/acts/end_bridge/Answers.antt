@@ -1,24 +1,24 @@
 use Rattle.std.proofs.Common.{◌≡◌, ◌∙◌, ap, None}
 use Rattle.farm_rounds.specs.Calls.{Call}
-use Rattle.farm_rounds.specs.Acts.{parted}
+use Rattle.farm_rounds.specs.Acts.{parted_call}
 use Rattle.farm_rounds.specs.Opened.{open_at}
 use Rattle.farm_rounds.proofs.Boxes.{at_read}
 use Rattle.farm_rounds.proofs.Changing.{kept, kept_same, listed_within, first_at, up_at, down_at, changed_there}
 use Rattle.farm_rounds.proofs.Placed.{paired_at}
-use Rattle.farm_rounds.proofs.acts.part.Goals as goal
+use Rattle.farm_rounds.proofs.acts.end_bridge.Goals as goal
 
 pub bounds-calls-index_of : goal.bounds-calls-index_of
 bounds-calls-index_of c = listed_within c.args.calls.now c.args.live.now c.index_of.result c.requires.listed c.index_of.ensures.within
 
-pub part-requires-clause-first : goal.part-requires-clause-first
-part-requires-clause-first c =
+pub end_bridge-requires-clause-first : goal.end_bridge-requires-clause-first
+end_bridge-requires-clause-first c =
     let calls = c.args.calls.now in
     let k = c.index_of.result in
     first_at calls c.args.live.now k _ c.requires.listed c.index_of.ensures.within
     (c.deref_mut.ensures.value ∙ at_read calls k _ (listed_within calls c.args.live.now k c.requires.listed c.index_of.ensures.within))
 
-pub part-requires-clause-up : goal.part-requires-clause-up
-part-requires-clause-up c =
+pub end_bridge-requires-clause-up : goal.end_bridge-requires-clause-up
+end_bridge-requires-clause-up c =
     let calls = c.args.calls.now in
     let live = c.args.live.now in
     let k = c.index_of.result in
@@ -28,8 +28,8 @@ part-requires-clause-up c =
     (paired_at live calls k c.args.call _ c.requires.listed.listed c.requires.listed.rising c.index_of.ensures.within c.index_of.ensures.number own
     ∙ c.requires.partner)
 
-pub part-requires-clause-down : goal.part-requires-clause-down
-part-requires-clause-down c =
+pub end_bridge-requires-clause-down : goal.end_bridge-requires-clause-down
+end_bridge-requires-clause-down c =
     let calls = c.args.calls.now in
     let live = c.args.live.now in
     let k = c.index_of.result in
@@ -43,7 +43,7 @@ pub returns : goal.returns
 returns c =
     let calls = c.args.calls.now in
     let k = c.index_of.result in
-    changed_there calls c.args.live.now k c.args.call _ _ (λ x. kept (parted x.call) None) c.requires.listed
+    changed_there calls c.args.live.now k c.args.call _ _ (λ x. kept (parted_call x.call) None) c.requires.listed
     c.index_of.ensures.within c.index_of.ensures.number
     (c.deref_mut.ensures.value ∙ at_read calls k _ (listed_within calls c.args.live.now k c.requires.listed c.index_of.ensures.within))
-    (kept_same _ _ _ _ c.part.ensures.call c.part.ensures.partner) (ap (λ (x : Call). x.number) c.part.ensures.call) c.part.ensures.kept
+    (kept_same _ _ _ _ c.end_bridge.ensures.call c.end_bridge.ensures.partner) (ap (λ (x : Call). x.number) c.end_bridge.ensures.call) c.end_bridge.ensures.kept
