@@ -95,6 +95,55 @@ static void decoded_frames(void)
     expect(same_pair, "pairs unpack to the same frames");
 }
 
+/* A frame whose fields differ, and its octets: 1101, and then the fields as GSM 06.10, table 1.1, has them: the LARs, and for each
+ * block Nc, bc, Mc, xmaxc and the pulses, most significant bits first. */
+static const struct trau_fr_params fields = {
+    .larc = {37, 22, 19, 9, 11, 6, 5, 2},
+    .nc = {40, 77, 101, 120},
+    .bc = {1, 3, 0, 2},
+    .mc = {2, 0, 3, 1},
+    .xmaxc = {45, 19, 60, 34},
+    .xmc = {
+        {1, 4, 7, 2, 5, 0, 3, 6, 2, 5, 0, 3, 6},
+        {3, 6, 1, 4, 7, 2, 5, 0, 4, 7, 2, 5, 0},
+        {5, 0, 3, 6, 1, 4, 7, 2, 6, 1, 4, 7, 2},
+        {7, 2, 5, 0, 3, 6, 1, 4, 0, 3, 6, 1, 4},
+    },
+};
+static const uint8_t packed[33] = {
+    0xD9, 0x56, 0x9A, 0x6D, 0xAA, 0x50, 0xD6, 0x99, 0xD5, 0x0F, 0x2A, 0x1E, 0x9B, 0x89, 0xBC, 0x67, 0x54,
+    0x4E, 0xA8, 0xCA, 0x7E, 0x50, 0xF1, 0x9D, 0x63, 0x3A, 0xF1, 0x31, 0x75, 0x43, 0xC6, 0x07, 0x8C,
+};
+
+static int same_fields(const struct trau_fr_params *a, const struct trau_fr_params *b)
+{
+    return !memcmp(a->larc, b->larc, sizeof a->larc) && !memcmp(a->nc, b->nc, sizeof a->nc) && !memcmp(a->bc, b->bc, sizeof a->bc)
+        && !memcmp(a->mc, b->mc, sizeof a->mc) && !memcmp(a->xmaxc, b->xmaxc, sizeof a->xmaxc) && !memcmp(a->xmc, b->xmc, sizeof a->xmc);
+}
+
+/* The order of the struct's fields is that of the library. */
+static void fields_in_order(void)
+{
+    struct trau_fr_decoder by_fields = trau_fr_decoder_home(), by_octets = by_fields;
+    struct trau_fr_params frame = {0};
+    int16_t samples[160], wanted[160];
+    uint8_t octets[33];
+    int same = trau_fr_unpack(packed, &frame) && same_fields(&frame, &fields);
+
+    expect(same, "each field of a frame is unpacked to its place");
+    /* Else the library might read values that are too wide for their fields. */
+    if (!same)
+        return;
+    trau_fr_pack(&fields, octets);
+    expect(!memcmp(octets, packed, 33), "each field is packed from its place");
+    for (int k = 0; k < 2; k++) {
+        trau_fr_decode(&by_fields, &fields, samples);
+        trau_fr_decode_octets(&by_octets, packed, wanted);
+        same &= !memcmp(samples, wanted, sizeof samples);
+    }
+    expect(same, "each field is decoded from its place");
+}
+
 /* Frames that are only written, over octets of ones and over zeros. */
 static void overwritten(void)
 {
@@ -299,6 +348,7 @@ int main(int argc, char **argv)
     home_states();
     encoded();
     decoded_frames();
+    fields_in_order();
     overwritten();
     refused();
     compressed(argv[1]);

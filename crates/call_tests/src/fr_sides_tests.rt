@@ -1,6 +1,6 @@
 //! Both sides of a call by frames of 33 octets, and these in TRAU frames.
 
-use crate::rows::assert_row;
+use crate::rows::{assert_row, assert_rows};
 use fr_sides::{
     IDLE, LOST, Receiver, SID, SPEECH, hand_octets, kind_of_octets, read_downlink, read_uplink,
     receive_octets, write_downlink, write_uplink,
@@ -113,4 +113,69 @@ fn kinds_by_the_code_word(rt: HostRuntime) {
     assert_row(&rt, 3, kind_of_octets(&frame) == LOST);
     frame[0] = 0;
     assert_row(&rt, 4, kind_of_octets(&frame) == LOST);
+}
+
+// The code word's bits among the 264 bits of 33 octets, counted from 0: of the pulses that begin at bits 57, 113, 169 and 225 those
+// that class I of GSM 05.03 has, which are the two highest of each, but the highest alone of the last nine.
+static CODE_WORD: [usize; 95] = [
+    57, 58, 60, 61, 63, 64, 66, 67, 69, 70, 72, 73, 75, 76, 78, 79, 81, 82, 84, 85, 87, 88, 90, 91,
+    93, 94, 113, 114, 116, 117, 119, 120, 122, 123, 125, 126, 128, 129, 131, 132, 134, 135, 137,
+    138, 140, 141, 143, 144, 146, 147, 149, 150, 169, 170, 172, 173, 175, 176, 178, 179, 181, 182,
+    184, 185, 187, 188, 190, 191, 193, 194, 196, 197, 199, 200, 202, 203, 205, 206, 225, 226, 228,
+    229, 231, 232, 234, 235, 237, 240, 243, 246, 249, 252, 255, 258, 261,
+];
+
+// The octets with this bit changed.
+fn changed(octets: &[u8; 33], place: usize) -> [u8; 33] {
+    let mut changed = *octets;
+    if let Some(octet) = changed.get_mut(place / 8) {
+        *octet ^= 128 >> (place % 8);
+    }
+    changed
+}
+
+// The octets with these bits changed.
+fn all_changed(octets: &[u8; 33], places: &[usize]) -> [u8; 33] {
+    let mut all = *octets;
+    for place in places {
+        all = changed(&all, *place);
+    }
+    all
+}
+
+// How many of these bits, each changed alone, make a frame of this kind, before the first that doesn't.
+fn are_of_kind(octets: &[u8; 33], places: &[usize], kind: u32) -> usize {
+    let mut count = 0usize;
+    for place in places {
+        if kind_of_octets(&changed(octets, *place)) != kind {
+            return count;
+        }
+        count = count.saturating_add(1);
+    }
+    count
+}
+
+// The other bits are all ones, or all zeros but for 1101.
+#[test]
+fn bits_of_the_code_word(rt: HostRuntime) {
+    let mut ones = [0xff; 33];
+    ones[0] = 0xdf;
+    let others = all_changed(&ones, &CODE_WORD);
+    let mut zeros = [0; 33];
+    zeros[0] = 0xd0;
+    assert_row(&rt, 96, kind_of_octets(&others) == SID);
+    assert_rows(&rt, are_of_kind(&others, &CODE_WORD, SID), 95);
+    assert_rows(&rt, are_of_kind(&zeros, &CODE_WORD, SID), 95);
+}
+
+#[test]
+fn limits_of_wrong_bits(rt: HostRuntime) {
+    let mut zeros = [0; 33];
+    zeros[0] = 0xd0;
+    let one = changed(&zeros, CODE_WORD[0]);
+    assert_rows(&rt, are_of_kind(&one, &CODE_WORD[1..], LOST), 94);
+    let fourteen = all_changed(&zeros, &CODE_WORD[..14]);
+    assert_rows(&rt, are_of_kind(&fourteen, &CODE_WORD[14..], LOST), 81);
+    let fifteen = all_changed(&zeros, &CODE_WORD[..15]);
+    assert_rows(&rt, are_of_kind(&fifteen, &CODE_WORD[15..], SPEECH), 80);
 }

@@ -17,7 +17,7 @@ mod Written
 mod Marked
 mod Flags
 mod Found
-mod Planning
+pub mod Planning
 mod Phased
 mod Working
 mod Rounded

@@ -1,3 +1,4 @@
+-- For crates above: a planned round takes over whether an outgoing line has failed (`marks`).
 -- A round that is planned: its calls are those of the farm.
 use Rattle.std.proofs.Common.{◌≡◌, refl, sym, ap, ◌∙◌, subst, ℕ, ◌+◌, ◌*◌, ◌<◌, ◌≤◌, Bool, true, false, Some, List, [], ◌∷◌, length, get_or, arith}
 use Rattle.std.specs.Prelude.{map, slice_index}

@@ -28,6 +28,11 @@ Has (Some held) c = (held.file ≡ c.file) × (c.access ≡ Writing → held.acc
 abbrev pub OthersKeep : List (Option Claim) → List (Option Claim) → ℕ → Type 0
 OthersKeep old new p = (k : ℕ) → k ≢ p → claim_at new k ≡ claim_at old k
 
+-- a line that has a file for writing has it for writing as long as it has this file
+abbrev pub StaysForWriting : List (Option Claim) → List (Option Claim) → ℕ → Type 0
+StaysForWriting old new p =
+    (a b : Claim) → claim_at old p ≡ Some a → claim_at new p ≡ Some b → b.file ≡ a.file → a.access ≡ Writing → b.access ≡ Writing
+
 -- another line has this file, and one of the two is written
 pub record IsTaken (claims : List (Option Claim)) (p : ℕ) (c : Claim) (other : ℕ) : Type 0 where
   pub elsewhere : other ≢ p

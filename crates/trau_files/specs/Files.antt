@@ -110,7 +110,7 @@ pub record IsFileOf {F : Type 0} (seats : List (Option (OpenLine F))) (call : �
 abbrev pub OnlyCloses : {F : Type 0} → List (Option (OpenLine F)) → List (Option (OpenLine F)) → Type 0
 OnlyCloses old new = (k : ℕ) → (in_seat new k ≡ in_seat old k) ⊎ (in_seat new k ≡ None)
 
--- each seat but this one has the file that it had, or none
+-- each seat but this one has the file that it had, or none as before
 abbrev pub OthersSit : {F : Type 0} → List (Option (OpenLine F)) → List (Option (OpenLine F)) → ℕ → Type 0
 OthersSit old new seat = (k : ℕ) → k ≢ seat → in_seat new k ≡ in_seat old k
 

@@ -4,7 +4,7 @@ ghost use Rattle.std.specs.Prelude.{◌≡◌, ◌⊎◌, IfOk, IfErr, IfSome, I
 ghost use Rattle.std.specs.Fs.{IsFile, file_type};
 ghost use Rattle.trau_io.specs.Indices.{index_of_line};
 ghost use Rattle.trau_files.specs.declared.trunk.seats.Access.TheVariants.{Writing};
-ghost use Rattle.trau_files.specs.Claims.{AreApart, Has, IsTaken, MayHave, MayShare, OthersKeep, claim_at};
+ghost use Rattle.trau_files.specs.Claims.{AreApart, Has, IsTaken, MayHave, MayShare, OthersKeep, StaysForWriting, claim_at};
 
 use super::name::name_of;
 use super::recordings::Recordings;
@@ -90,6 +90,7 @@ impl Claims {
             × (IsTaken self.old (index_of_line line.call line.side) claim other ⊎ (claim.access ≡ Writing))) }
         ensures apart { AreApart self.old → AreApart self.new }
         ensures others { OthersKeep self.old self.new (index_of_line line.call line.side) }
+        ensures stays { StaysForWriting self.old self.new (index_of_line line.call line.side) }
     {
         if !metadata.is_file() {
             return Ok(());
@@ -130,6 +131,7 @@ impl Claims {
     pub fn claim(&mut self, line: Line, claim: Claim) -> Result<(), usize>
         ensures has { IfOk result (λ _. Has (claim_at self.new (index_of_line line.call line.side)) claim) }
         ensures others { OthersKeep self.old self.new (index_of_line line.call line.side) }
+        ensures stays { StaysForWriting self.old self.new (index_of_line line.call line.side) }
         ensures taken { IfErr result (λ other. (self.new ≡ self.old) × IsTaken self.old (index_of_line line.call line.side) claim other) }
         ensures apart { AreApart self.new }
     {
@@ -162,7 +164,8 @@ impl Claims {
 
 // Whether a line has this file already, for the same access or for writing.
 fn has(held: Option<Claim>, claim: Claim) -> bool
-    ensures { IsTrue result → Has held claim }
+    ensures has { IsTrue result → Has held claim }
+    ensures lacks { result ≡ false → IfSome held (λ a. claim.file ≡ a.file → a.access ≡ Writing → ⊥) }
 {
     match held {
         Some(held) => {

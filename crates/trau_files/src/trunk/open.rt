@@ -5,7 +5,7 @@ ghost use Rattle.std.specs.IoError.{raw_os_error};
 ghost use Rattle.std.specs.Io.{ReadsAtMost, WritesAtMost};
 ghost use Rattle.trau_io.specs.Indices.{index_of_line};
 ghost use Rattle.trau_files.specs.declared.trunk.seats.Access.TheVariants.{Reading, Writing};
-ghost use Rattle.trau_files.specs.Claims.{AreApart, OthersKeep};
+ghost use Rattle.trau_files.specs.Claims.{AreApart, OthersKeep, StaysForWriting};
 ghost use Rattle.trau_files.specs.Files.{IsOpenAt, IsFileOf, OnlyCloses, OpenAfter, file_name, in_seat, options_for};
 ghost use Rattle.trau_files.specs.Opening.{IsSeen, IsOpened, IsShared, FailsToOpen, Opens, OpensOnce, OpensOrMakes, Starts, LacksDescriptor, IsToBeMade};
 ghost use Rattle.trau_files.specs.Seats.{FreesNext, FreesSeats, HoldsOrLessens};
@@ -190,6 +190,7 @@ fn open_at<D: Folder>(
     ensures opens { OpensOnce D.does folder.old folder.new claims.old claims.new line.call line.side access at result }
     ensures apart { AreApart claims.old → AreApart claims.new }
     ensures others { OthersKeep claims.old claims.new (index_of_line line.call line.side) }
+    ensures stays { StaysForWriting claims.old claims.new (index_of_line line.call line.side) }
 {
     let (mut file, is_new) = open_or_make(folder, line, access, at)?;
     let metadata = match folder.ask(&file) {

@@ -33,7 +33,7 @@ apply-requires-clause-fits c =
     let does : IsExecuted b c.turn.new.self c.args.clock c.in-Ok.act = subst (λ x. IfOk x (IsExecuted b c.turn.new.self c.args.clock)) c.in-Ok.is
     c.in-Some.ensures.accepted in
     fits b c.loop-reply.farm.calls c.in-Ok.act c.loop-reply.invariant.ready.clock.matches does.finds
-        (subst (λ x. IfOk x IsInRange) c.in-Ok.is c.in-Some.ensures.range)
+    (subst (λ x. IfOk x IsInRange) c.in-Ok.is c.in-Some.ensures.range)
 
 pub loop-reply-preserved : goal.loop-reply-preserved
 loop-reply-preserved c =
