@@ -1,7 +1,8 @@
 #!/bin/sh
 # The C library, built from what is proved: its C and Python tests against recorded answers of libgsm and of Python's audioop; hard signals
 # against libgsm built with integers; random calls by both sides against the model; the hosts of clib/examples; and if sox, toast, ffmpeg and
-# GStreamer are installed, what they write for recorded speech on the system's libgsm and on this library. TRAU_CLIB names a library to use in place of clib/out, which isn't built then.
+# GStreamer are installed, what they write for recorded speech on the system's libgsm and on this library. TRAU_CLIB names a library to
+# use in place of clib/out, which isn't built then.
 set -eu
 top=$(cd "$(dirname "$0")/.." && pwd)
 vectors=$top/checks/vectors

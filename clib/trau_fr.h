@@ -174,7 +174,7 @@ struct trau_fr_decoder {
 /* The state of a receive side, 434 octets. */
 struct trau_fr_receiver {
     struct {
-        uint8_t tag;                      /* 0: the call is quiet; 1: after a good frame; 2: comfort noise */
+        uint8_t tag;                      /* the library writes 0: the call is quiet; 1: after a good frame; 2: comfort noise */
         uint8_t periods;                  /* since the good frame, or since the noise began to fall */
         uint8_t step;                     /* of the noise on its way to the last descriptor */
         uint8_t missed;                   /* descriptors that were due since then */

@@ -1,11 +1,15 @@
 """The recorded answers of this repository, each made anew by the model: file by file, which octets it has to have.
 
-Their inputs are recorded lines, orders and words; of `checks/follow` the downlinks that the model makes of the recorded farms.
+Their inputs are recorded lines, orders and words; of `checks/follow` the downlinks that the model makes of the recorded farms. A tool draws
+the picture of the farm of examples.
 """
 
 from __future__ import annotations
 
+import subprocess
+import sys
 from pathlib import Path
+from tempfile import TemporaryDirectory
 from typing import Callable, Dict, List, NamedTuple, Sequence, Tuple
 
 from core.lines import name_of
@@ -80,9 +84,22 @@ def files_of(ran: Ran, folder: Path) -> Files:
 
 
 def mixed_farm() -> Files:
-    """examples/farm/wanted."""
+    """examples/farm/wanted, and the picture that tools/README.md shows of it."""
     incoming, orders = mixed_incoming()
-    return files_of(run_command(["run"], incoming, orders), TOP / "examples/farm/wanted")
+    ran = run_command(["run"], incoming, orders)
+    return {**files_of(ran, TOP / "examples/farm/wanted"), TOP / "tools/farm.svg": picture_of(incoming, orders, ran)}
+
+
+def picture_of(incoming: Dict[str, bytes], orders: bytes, ran: Ran) -> bytes:
+    """The picture that tools/timeline.py draws of a run, which is laid into a folder for it."""
+    with TemporaryDirectory() as name:
+        folder = Path(name)
+        for path, octets in {**files_of(ran, folder), **{folder / line: octets for line, octets in incoming.items()}}.items():
+            path.write_bytes(octets)
+        (folder / "orders.txt").write_bytes(orders)
+        picture = folder / "picture.svg"
+        subprocess.run([sys.executable, str(TOP / "tools/timeline.py"), str(folder), str(picture)], check=True, stdout=subprocess.DEVNULL)
+        return picture.read_bytes()
 
 
 def harsh_farm() -> Files:

@@ -12,6 +12,7 @@ from support import TOOLS, TOP, InFolder
 
 import orders
 import trau_words
+from core import profile
 from word_faults import grouped
 
 DOCS = TOP / "docs"
@@ -40,8 +41,6 @@ NUMBERS = (
 )
 # Other numbers that look like these: a factor in a rule, and the first cells of a measurement.
 OTHER_NUMBERS = ("seed times 4,096", "| 4,096 | 20 |")
-# EXCEPTION, for now: pages that still repeat these numbers.
-NOT_YET = ("docs/GATEWAY.md",)
 
 
 def pages():
@@ -63,6 +62,11 @@ def prose(page):
     for other in OTHER_NUMBERS:
         text = text.replace(other, "")
     return text
+
+
+def integers(text):
+    """The numbers of a text, in order."""
+    return [int(digits) for digits in re.findall(r"\d+", text)]
 
 
 def rows(text, cells):
@@ -117,9 +121,22 @@ class Documents(unittest.TestCase):
         texts = {str(page.relative_to(TOP)): prose(page) for page in pages()}
         for number, home, others in NUMBERS:
             self.assertRegex(texts[home], number)
-            for name in texts.keys() - {home, *NOT_YET}:
+            for name in texts.keys() - {home}:
                 with self.subTest(page=name, home=home):
                     self.assertLessEqual(len(re.findall(number, texts[name])), others.get(name, 0))
+
+    def test_numbers_of_the_profile(self):
+        # Each is in its crate as a definition and as a constant, and in core/profile.py, by these names.
+        text = (DOCS / "ARCHITECTURE.md").read_text()
+        table = rows(text[text.index("| Crate | Definitions |") : text.index("**What must change")], ["`(\\w+)`", "(.*?)"])
+        self.assertTrue(table)
+        for crate, cell in table:
+            specs, src = ("\n".join(path.read_text() for path in (TOP / "crates" / crate).glob(each)) for each in ("specs/*.antt", "src/*.rt"))
+            for name, other, more in re.findall(r"`(\w+)`(?: \(`(\w+)`(?: \+ (\d+))?\))?", cell):
+                with self.subTest(crate=crate, name=name):
+                    wanted = [number + int(more or 0) for number in integers(str(getattr(profile, other or name.upper())))]
+                    self.assertEqual(integers(re.search(rf"^{name} = (.*)$", specs, re.M)[1]), wanted)
+                    self.assertEqual(integers(re.search(rf"\bconst {name.upper()}: .* = (.*);$", src, re.M)[1]), wanted)
 
     def test_orders(self):
         text = (DOCS / "OPERATORS.md").read_text()
