@@ -1,5 +1,6 @@
-"""Tests of the doors between crates: a module of a crate's proofs is public exactly if another crate cites it. Its file then opens
-with what it offers, so lemmas of all other modules may be renamed within their crate."""
+"""Tests of the doors between crates: a module of a crate's proofs is public exactly if another crate cites it, and a module of a group
+exactly if it is cited outside of the group. The file of one that another crate cites opens with what it offers. So the lemmas of all
+others may be renamed within their crate."""
 
 import re
 import unittest
@@ -12,14 +13,15 @@ CITED = re.compile(r"\bRattle\.(\w+)\.proofs\.([\w.]*\w)")
 DECLARED = re.compile(r"^(pub )?mod (\w+)$", re.M)
 
 
-def cited_modules():
-    """The modules of proofs that another crate cites, as crates and paths."""
-    found = set()
+def citations():
+    """Where modules of proofs are cited and which, each as its crate and path; of a file in specs or src the crate alone."""
     for kind in ("proofs/**/*.antt", "specs/**/*.antt", "src/**/*.rt"):
         for file in CRATES.glob(f"*/{kind}"):
-            above = file.relative_to(CRATES).parts[0]
-            found.update(cited for cited in CITED.findall(file.read_text(encoding="utf-8")) if cited[0] != above)
-    return {(crate, path) for crate, path in found if (CRATES / crate).is_dir()}
+            above, folder, *names = file.relative_to(CRATES).with_suffix("").parts
+            at = (above, *names) if folder == "proofs" else (above,)
+            for crate, path in CITED.findall(file.read_text(encoding="utf-8")):
+                if (CRATES / crate).is_dir():
+                    yield at, (crate, *path.split("."))
 
 
 def declared_modules():
@@ -29,33 +31,36 @@ def declared_modules():
         crate, _, *names = file.relative_to(CRATES).with_suffix("").parts
         outer = [] if names == ["Lib"] else names
         for public, module in DECLARED.findall(file.read_text(encoding="utf-8")):
-            found[crate, ".".join([*outer, module])] = bool(public)
+            found[(crate, *outer, module)] = bool(public)
     return found
 
 
-def prefixes(path):
-    """A module's path, and those of the modules that it is in."""
-    names = path.split(".")
-    return [".".join(names[:count]) for count in range(1, len(names) + 1)]
+def opened(at, cited):
+    """The modules that have to be public for a citation there: the cited one and those that it is in, up to one that the place is in too."""
+    for length in range(2, len(cited) + 1):
+        group = cited[: length - 1]
+        if at[: len(group)] != group:
+            yield cited[:length]
 
 
 class Doors(unittest.TestCase):
     @classmethod
     def setUpClass(cls):
-        cls.cited = cited_modules()
+        cls.citations = list(citations())
         cls.declared = declared_modules()
 
     def test_public(self):
-        """A module is public exactly if another crate cites it, or a module in it."""
+        """A module is public exactly if it, or a module in it, is cited from where it would be hidden."""
         public = {module for module, is_public in self.declared.items() if is_public}
-        self.assertEqual(public, {(crate, outer) for crate, path in self.cited for outer in prefixes(path)})
+        self.assertEqual(public, {module for at, cited in self.citations for module in opened(at, cited)})
 
     def test_openings(self):
         """A file opens with what it offers exactly if another crate cites it. The lemmas that it names there are public."""
-        for crate, path in self.declared:
+        doors = {cited for at, cited in self.citations if at[0] != cited[0]}
+        for crate, *path in self.declared:
             with self.subTest(crate=crate, module=path):
-                text = (CRATES / crate / "proofs").joinpath(*path.split(".")).with_suffix(".antt").read_text(encoding="utf-8")
-                self.assertEqual(text.startswith(OPENING), (crate, path) in self.cited)
+                text = (CRATES / crate / "proofs").joinpath(*path).with_suffix(".antt").read_text(encoding="utf-8")
+                self.assertEqual(text.startswith(OPENING), (crate, *path) in doors)
                 opening, _, rest = text.partition("\n")
                 for name in re.findall("`(.+?)`", opening) if text.startswith(OPENING) else ():
                     self.assertRegex(rest, rf"\bpub\b.*[ {{]{re.escape(name)}[ ,}}\n]")

@@ -1,9 +1,9 @@
 -- A run from clock to clock.
 pub mod Reach
-mod Reaching
-mod Stepping
-mod Meeting
+pub mod Reaching
+pub mod Stepping
+pub mod Meeting
 mod Summing
-mod First
-mod Idle
+pub mod First
+pub mod Idle
 pub mod Last

@@ -1,6 +1,6 @@
 -- The lines that failed, and the list of them.
 pub mod Tests
-mod Counts
-mod Boards
-mod Round
-mod Behind
+pub mod Counts
+pub mod Boards
+pub mod Round
+pub mod Behind

@@ -1,5 +1,5 @@
 -- A run that is marked, and one that is resumed at a mark.
-mod Calls
+pub mod Calls
 mod Numbers
 pub mod Resumption
-mod Parts
+pub mod Parts

@@ -1,12 +1,12 @@
 -- What is noted of a run.
-mod Noting
+pub mod Noting
 mod Opened
-mod Orders
-mod Accepted
-mod Rounds
-mod Truly
-mod Latest
+pub mod Orders
+pub mod Accepted
+pub mod Rounds
+pub mod Truly
+pub mod Latest
 mod Bridges
 mod Bridging
-mod Openings
-mod Knowing
+pub mod Openings
+pub mod Knowing

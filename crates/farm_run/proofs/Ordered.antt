@@ -1,6 +1,6 @@
 -- One more order: the board, the farm and the definition of the run go on together.
-mod Matching
-mod Due
+pub mod Matching
+pub mod Due
 mod Changing
-mod Following
-mod Doing
+pub mod Following
+pub mod Doing

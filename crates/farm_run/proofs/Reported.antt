@@ -1,6 +1,6 @@
 -- The report of a run.
 mod Finishing
-mod Rows
-mod Reporting
-mod Rising
-mod LastEnds
+pub mod Rows
+pub mod Reporting
+pub mod Rising
+pub mod LastEnds

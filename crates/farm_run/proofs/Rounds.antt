@@ -1,10 +1,10 @@
 -- A round of periods, by the definition of the run: what is taken, what each call has had behind it, and which calls end.
-mod Taken
-mod Histories
-mod Open
-mod Partners
-mod Finished
+pub mod Taken
+pub mod Histories
+pub mod Open
+pub mod Partners
+pub mod Finished
 mod Octets
-mod Ends
+pub mod Ends
 mod Giving
-mod Taking
+pub mod Taking

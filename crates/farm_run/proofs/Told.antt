@@ -1,7 +1,7 @@
 -- The ends of calls, as the board is told of them.
-mod Few
-mod Boards
-mod Seats
-mod Lacking
-mod Next
-mod Ends
+pub mod Few
+pub mod Boards
+pub mod Seats
+pub mod Lacking
+pub mod Next
+pub mod Ends

@@ -1,15 +1,15 @@
 -- A round as the farm works it, beside that.
-mod Round
-mod Facts
-mod Making
-mod Settled
+pub mod Round
+pub mod Facts
+pub mod Making
+pub mod Settled
 mod Seats
 mod Calls
 mod Past
-mod Tallies
-mod Short
-mod Sums
-mod Clock
-mod Board
-mod Written
-mod Lines
+pub mod Tallies
+pub mod Short
+pub mod Sums
+pub mod Clock
+pub mod Board
+pub mod Written
+pub mod Lines
