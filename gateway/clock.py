@@ -29,7 +29,14 @@ class Clock:
     ) -> None:
         """A turned clock, as tests have it, gives its own time and its own waiting, both in nanoseconds."""
         self.now, self.sleep = now, sleep
-        self.late = self.latest = self.given_up = 0  # turns late by more than a period; nanoseconds; periods
+        self.late = self.given_up = 0  # turns late by more than a period; periods
+        self.latest = self.lately = 0  # how late a turn was at most, up to the last report and since; nanoseconds
+
+    def report(self) -> int:
+        """How many nanoseconds late a turn was at most since the last report."""
+        lately, self.lately = self.lately, 0
+        self.latest = max(self.latest, lately)
+        return lately
 
     def turns(self) -> Iterator[Turn]:
         """The turns without end."""
@@ -44,6 +51,6 @@ class Clock:
             start += given_up * PERIOD
             self.given_up += given_up
             self.late += late > PERIOD
-            self.latest = max(self.latest, late)
+            self.lately = max(self.lately, late)
             yield Turn(number // PHASES, number % PHASES, late // PERIOD - given_up, given_up)
             number += 1

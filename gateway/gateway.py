@@ -9,7 +9,8 @@ before; 2 if it was refused. `check` replays a recording and compares: status 0 
 Counts of a call: periods with speech, descriptor, invalid (a damaged descriptor), not-gsm, no-gsm, no-pcm. Of each side: packets that came,
 those missing by their numbers, jitter in ms; late, doubled, far (a second off, once), jumps, slips-on, slips-back, given-up (with the clock),
 overflowed (no room in the kernel); refused: stranger, other-address (of this host), other-port, other-type, odd-size, empty, too-long, not-rtp,
-probation (of a new-source); sent, unsent, unreachable (the peer's port is closed); rtcp, rtcp-sent, far-lost (by the peer's reports).
+probation (of a new-source), fault (of the gateway); sent, unsent, unreachable (the peer's port is closed); rtcp, rtcp-sent, far-lost (by the
+peer's reports).
 """
 
 from __future__ import annotations

@@ -17,7 +17,7 @@ from collections import deque
 from pathlib import Path
 from typing import Deque, List, NamedTuple, Optional, Tuple
 
-from clock import Clock, Turn
+from clock import PHASES, Clock, Turn
 from core.words import Refusal
 from network import Network
 from recorder import Recorder
@@ -30,7 +30,7 @@ MOST_LINE = 1000  # octets
 MOST_REPLY = 1000  # characters: a pipe takes them whole or not at all (PIPE_BUF)
 MOST_SAID = 1000  # lines that wait for a reader
 LAST_WORDS = 2  # seconds that a reader has at the end
-MOST_BEHIND = 10  # periods by which the clock may be late when a call is opened
+MOST_BEHIND = 10  # periods by which the clock may have been late in the last second when a call is opened
 DESCRIPTORS = (10, 64)  # of a call, and of all else
 
 
@@ -128,18 +128,19 @@ class Gateway:
     def __init__(self, board: Switchboard, clock: Clock, commands: Commands, say: Speaker) -> None:
         self.board, self.clock, self.commands, self.say = board, clock, commands, say
         self.is_to_end, self.late = False, 0  # turns that were said to be late
+        self.busy_until = 0  # the period up to which no call is opened
 
     def end(self, *_: object) -> None:
         """Ends the gateway at the next period; for signals."""
         self.is_to_end = True
 
-    def obey(self, line: str, period: int, behind: int = 0) -> None:
-        """Executes a line in a period that is late by `behind`, and says whether it was."""
+    def obey(self, line: str, period: int) -> None:
+        """Executes a line in a period, and says whether it was."""
         try:
             if len(line) > MOST_LINE:
                 raise Refusal("the line is too long")
-            if behind > MOST_BEHIND and line.split()[0] == "open":
-                raise Refusal(f"the gateway is {20 * behind} ms behind its clock")
+            if period < self.busy_until and line.split()[0] == "open":
+                raise Refusal("the gateway was behind its clock in the last second")
             if line == "counts":
                 self.say(f"at {period} calls {len(self.board.connections)} {self.state()}")
             else:
@@ -151,25 +152,31 @@ class Gateway:
     def state(self) -> str:
         """What a line says of the gateway: late turns and the latest one, what was given up and dropped, and its processor time."""
         clock, used = self.clock, time.process_time()
-        times = f"late {clock.late} latest {clock.latest // 1_000_000} ms given-up {clock.given_up}"
+        latest = max(clock.latest, clock.lately) // 1_000_000
+        times = f"late {clock.late} latest {latest} ms given-up {clock.given_up}"
         return f"{times} dropped {self.say.dropped} processor {used:.2f} s"
 
     def begin_period(self, turn: Turn) -> None:
         """What is done once a period, before its calls."""
-        for line in self.commands.taken():
-            self.obey(line, turn.period, turn.behind)
-        self.board.look_after(turn.period)
-        if turn.period % PERIODS == 0 and self.clock.late > self.late:
-            self.say(f"late {self.clock.late - self.late} latest {self.clock.latest // 1_000_000} ms at {turn.period}")
+        late = self.clock.late - self.late
+        if turn.period % PERIODS == 0 and late:
+            self.say(f"late {late} latest {self.clock.report() // 1_000_000} ms at {turn.period}")
             self.late = self.clock.late
+            if late > PERIODS * PHASES // 2:  # most turns
+                self.busy_until = turn.period + PERIODS
+        for line in self.commands.taken():
+            self.obey(line, turn.period)
+        self.board.look_after(turn.period)
 
     def run(self, periods: Optional[int]) -> Tuple[int, bool]:
         """Processes this time, or until it is ended; the result is how many periods there were, and whether all is recorded."""
-        is_whole, end = False, None
+        is_whole, end, self.board.is_running = False, None, True
         try:
             for turn in self.clock.turns():
                 if turn.given_up:
                     self.board.give_up(turn.given_up, turn.period)
+                if turn.given_up or turn.behind > MOST_BEHIND:
+                    self.busy_until = turn.period + PERIODS
                 if turn.phase == 0:
                     if self.is_to_end or periods is not None and turn.period + self.clock.given_up >= periods:
                         break
@@ -195,13 +202,14 @@ def open_file(board: Switchboard, path: Path) -> None:
 
 
 def begin(board: Switchboard, calls: Optional[Path]) -> None:
-    """Opens the calls of a file, if there is one. If a line is refused, nothing is left of the recording."""
+    """Opens the calls of a file, if there is one. If a line is refused, nothing is left of the recordings."""
     try:
         if calls:
             open_file(board, calls)
     except (Refusal, OSError):
         board.end_recordings(None)
-        shutil.rmtree(board.ended[0].folder)
+        for recorder in board.ended:  # one may be in another's folder
+            shutil.rmtree(recorder.folder, ignore_errors=True)
         raise
 
 
@@ -231,6 +239,7 @@ def run(options: Options) -> int:
     say = Speaker()
     with naming(options.folder):
         recorder = Recorder(options.folder, options.every, say)
+        recorder.make()
     board = Switchboard(Network(options.address), recorder, most_calls(options.most_calls), say)
     clock = Clock()
     gateway = Gateway(board, clock, Commands(None if sys.stdin is None else 0), say)

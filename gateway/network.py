@@ -24,6 +24,7 @@ MOST_CONTROL = 100  # datagrams of RTCP, or of strangers, that are read at a tim
 MOST_OLD = 2000  # datagrams that a socket may hold
 MEMORY, DROPS = 55, 8  # SO_MEMINFO of Linux, and the number in it that says how many datagrams found no room
 MOST_REPORT = 1500  # octets of one
+ERRORS = 11  # IP_RECVERR of Linux: ICMP answers come to a socket that isn't connected too, by a queue
 ARRIVAL = 35  # SO_TIMESTAMPNS of Linux: the kernel says when a datagram came, as RTCP waits up to a second to be read
 TIME = struct.Struct("@qq")  # seconds and nanoseconds of the system's clock
 KEEPS_PORT = 50  # periods that a port of the peer has to be still before another is heard
@@ -47,7 +48,10 @@ class Endpoint:
                 self.incoming.counts["other-port"] += 1
                 return
             self.port = sender[1]
-        self.incoming.packet(data, tick, behind)
+        try:
+            self.incoming.packet(data, tick, behind)
+        except Exception:  # whatever one call's network brings, the others go on
+            self.incoming.counts["fault"] += 1
 
 
 def prepare(one: socket.socket, buffer: int) -> None:
@@ -108,17 +112,23 @@ class SocketEndpoint(Endpoint):
             if is_strict:
                 self.control.connect(self.reached)
             self.control.setsockopt(socket.SOL_SOCKET, ARRIVAL, 1)
+            if not is_strict:
+                self.socket.setsockopt(socket.IPPROTO_IP, ERRORS, 1)
             self.opened = opened.pop_all()
+        self.dropped = 0  # strangers that found no room
 
     def count_losses(self) -> None:
         """Counts what found no room, and in a strict call what others sent, or the peer to another address of this host."""
-        self.incoming.counts["overflowed"] = drops_of(self.socket)
-        for _ in range(MOST_CONTROL if self.is_strict else 0):
-            try:
+        counts = self.incoming.counts
+        counts["overflowed"] = drops_of(self.socket)
+        if not self.is_strict:
+            return
+        before, self.dropped = self.dropped, drops_of(self.others)
+        counts["stranger"] += self.dropped - before
+        with contextlib.suppress(OSError):
+            for _ in range(MOST_CONTROL):
                 _, sender = self.others.recvfrom(1)
-            except OSError:
-                return
-            self.incoming.counts["other-address" if sender == self.peer else "stranger"] += 1
+                counts["other-address" if sender == self.peer else "stranger"] += 1
 
     def drop(self) -> None:
         """Drops what came up to now."""
@@ -145,6 +155,13 @@ class SocketEndpoint(Endpoint):
 
     def report(self, reports: Reports, period: int) -> None:
         """Counts the RTCP that came, and answers the peer's reports by one."""
+        try:
+            self.answer(reports, period)
+        except Exception:  # as in `arrived`
+            self.incoming.counts["fault"] += 1
+
+    def answer(self, reports: Reports, period: int) -> None:
+        """Answers all reports that came by one."""
         is_asked = False
         for data, sender, arrival in self.came_to_control():
             self.incoming.counts["rtcp" if is_control(data) else "not-rtcp"] += 1
@@ -154,20 +171,27 @@ class SocketEndpoint(Endpoint):
                 self.control.sendto(reports.answer(self.incoming.reception, time.time_ns(), period), self.reached)
                 self.incoming.counts["rtcp-sent"] += 1
 
+    def count_errors(self) -> None:
+        """Counts some ICMP answers in the queue of a call that isn't strict, where they else take the room of packets."""
+        with contextlib.suppress(OSError):
+            for _ in range(MOST_PACKETS):
+                self.socket.recvmsg(0, 0, socket.MSG_ERRQUEUE)
+                self.incoming.counts["unreachable"] += 1
+
     def close(self) -> None:
         """Closes the sockets."""
         self.opened.close()
 
     def send(self, datagram: bytes) -> None:
         """Sends to the peer; what can't be sent is counted and gone."""
-        for _ in range(2):
+        for _ in range(2):  # at first, it may be the ICMP answer to an earlier packet that fails
             try:
                 self.socket.sendto(datagram, self.peer)
                 return
-            except ConnectionRefusedError:  # the ICMP answer to an earlier packet
-                self.incoming.counts["unreachable"] += 1
+            except ConnectionRefusedError:
+                self.incoming.counts["unreachable"] += self.is_strict  # else it is in the queue too
             except OSError:
-                break
+                continue
         self.incoming.counts["unsent"] += 1
 
 
@@ -221,8 +245,10 @@ class Network:
         packets, octets = MOST_PACKETS * sockets, MOST_OCTETS * sockets
         while packets > 0 and octets > 0 and (ready := self.polls[phase].poll(0)):
             packets -= len(ready)
-            for descriptor, _ in ready:
+            for descriptor, events in ready:
                 endpoint = self.endpoints[descriptor]
+                if events & select.EPOLLERR and not endpoint.is_strict:
+                    endpoint.count_errors()
                 try:
                     data, sender = endpoint.socket.recvfrom(MOST_DATAGRAM)
                 except BlockingIOError:

@@ -12,9 +12,10 @@ import errno
 import os
 import queue
 import threading
+import time
 from datetime import datetime, timezone
 from pathlib import Path
-from typing import Callable, Dict, List, Optional, Set, Tuple
+from typing import Callable, Dict, Iterable, List, Optional, Set, Tuple
 
 from core.lines import SIDES
 from core.profile import MOST_ORDERS, MOST_ORDER_OCTETS
@@ -23,15 +24,29 @@ NEW = os.O_WRONLY | os.O_CREAT | os.O_EXCL | os.O_APPEND
 FIRST_DOWN = b"\xff" * 40
 CLOSE_OCTETS = len("4294967294 close 4096\n")
 MOST_WAITING = 32 << 20  # octets that wait for the disk, some 8 s of 200 calls
+LAST_WRITES = 10  # seconds that the disk has at the end
 CLOCK, EVENTS, ORDERS = "clock.txt", "events.txt", "orders.txt"
 
 Work = Callable[[], object]
+Given = Tuple[float, Optional[int], Work]  # since when it waits, its octets (None: it is done also after a failure), and what is done
 
 
 def write_all(descriptor: int, data: bytes) -> None:
     """Writes all octets, or fails."""
     if os.write(descriptor, data) != len(data):
         raise OSError(errno.ENOSPC, os.strerror(errno.ENOSPC))
+
+
+def close_all(descriptors: Iterable[int]) -> None:
+    """Closes all of these, and then fails if one failed. A file system of the network may say only then that there is no room."""
+    failures = []
+    for descriptor in descriptors:
+        try:
+            os.close(descriptor)
+        except OSError as failure:
+            failures.append(failure)
+    for failure in failures:
+        raise failure
 
 
 def now() -> str:
@@ -56,23 +71,29 @@ class NoRecorder:
 
 
 class Recorder:
-    """Writes a recording into a new folder. Its period 0 is the gateway's period `first`."""
+    """Writes a recording into a new folder, after `make`. Its period 0 is the gateway's period `first`."""
 
     def __init__(self, folder: Path, every: int, say: Callable[[str], None], first: int = 0) -> None:
         """`every` is the number of periods that are held before a write; `say` is told once if the recording ends."""
-        folder.mkdir(mode=0o700, parents=True)
         self.folder, self.every, self.say, self.first = folder, every, say, first
-        self.texts = {name: os.open(folder / name, NEW, 0o600) for name in (ORDERS, CLOCK, EVENTS)}
+        self.texts: Dict[str, int] = {}
         self.descriptors: Dict[int, List[int]] = {}
         self.held: Dict[int, List[List[bytes]]] = {}
         self.used: Set[int] = set()  # numbers of calls: each serves once
         self.orders = self.order_octets = 0
-        self.has_ended = False
+        self.has_ended = self.is_behind = False
         self.given = self.written = 0  # octets, by the two threads
-        self.work: "queue.SimpleQueue[Optional[Tuple[Optional[int], Work]]]" = queue.SimpleQueue()
+        self.oldest: Optional[float] = None  # since when that waits which the thread does now
+        self.work: "queue.SimpleQueue[Optional[Given]]" = queue.SimpleQueue()
         self.writer = threading.Thread(target=self.write_what_comes, daemon=True)
         self.writer.start()
-        self.text(CLOCK, f"0 every {every}")
+
+    def make(self) -> None:
+        """Makes the folder and its texts. Raises OSError if they can't be had."""
+        self.folder.mkdir(mode=0o700, parents=True)
+        for name in (ORDERS, CLOCK, EVENTS):
+            self.texts[name] = os.open(self.folder / name, NEW, 0o600)
+        write_all(self.texts[CLOCK], f"0 every {self.every}\n".encode())
 
     def has_room(self, orders: int, opens: int = 0) -> bool:
         """Whether a run will take so many orders more, and then a `close` of each open call."""
@@ -87,13 +108,17 @@ class Recorder:
             self.fail("the disk is too slow")
         else:
             self.given += octets
-            self.work.put((octets, work))
+            self.put(octets, work)
+
+    def put(self, octets: Optional[int], work: Work) -> None:
+        """Gives the thread what it is to do."""
+        self.work.put((time.monotonic(), octets, work))
 
     def write_what_comes(self) -> None:
         """The thread that writes. After a failure nothing more is written, so that no line has a gap; files are closed all the same."""
         has_failed = False
         while (given := self.work.get()) is not None:
-            octets, work = given
+            self.oldest, octets, work = given
             try:
                 if not has_failed or octets is None:
                     work()
@@ -101,12 +126,30 @@ class Recorder:
                 has_failed = True
                 self.fail(failure.strerror)
             self.written += octets or 0
+            if self.work.empty():
+                self.oldest = None
+        self.oldest = None
 
     def fail(self, reason: str) -> None:
         """Ends the recording, and says so once."""
         if not self.has_ended:
             self.has_ended = True
-            self.say(f"recording ended: {reason}")
+            self.say(f"recording {self.folder} ended: {reason}")
+
+    def look_after(self, period: int) -> None:
+        """Says that the disk is behind by a second, and that it isn't any longer."""
+        oldest = self.oldest
+        waits = int(time.monotonic() - oldest) if oldest is not None else 0
+        if self.is_behind != (waits > 0):
+            self.is_behind = waits > 0
+            state = f"{waits} s behind" if waits else "in time again"
+            self.say(f"recording {self.folder}: the disk is {state} at {period}")
+
+    def finish(self, until: float) -> None:
+        """Waits for the disk, at most until this time of the monotonic clock, and says what isn't written then."""
+        self.writer.join(max(0, until - time.monotonic()))
+        if self.writer.is_alive():
+            self.fail(f"{self.given - self.written} octets aren't written")
 
     def text(self, name: str, text: str) -> None:
         """Writes a line of a text."""
@@ -160,21 +203,14 @@ class Recorder:
         self.write(call, 1)
         del self.held[call]
         descriptors = self.descriptors.pop(call)
-        self.work.put((None, lambda: self.close_files(descriptors)))
+        self.put(None, lambda: close_all(descriptors))
 
     def end(self, period: Optional[int] = None) -> None:
-        """Ends the recording. What is held of calls that weren't closed is written. A period says that all is whole."""
+        """Ends the recording. What is held of calls that weren't closed is written. A period says that all is whole, with so many orders."""
         for call in list(self.held):
             self.close(call)
+        self.put(None, lambda: close_all(self.texts.pop(name) for name in (ORDERS, EVENTS) if name in self.texts))
         if period is not None:
-            self.text(CLOCK, f"{period - self.first} end")
-        self.work.put((None, lambda: self.close_files(list(self.texts.values()))))
+            self.text(CLOCK, f"{period - self.first} end {self.orders}")
+        self.put(None, lambda: close_all(self.texts.values()))
         self.work.put(None)
-
-    def close_files(self, descriptors: List[int]) -> None:
-        """Closes files. A file system of the network may say only then that there is no room."""
-        for descriptor in descriptors:
-            try:
-                os.close(descriptor)
-            except OSError as failure:
-                self.fail(failure.strerror)

@@ -78,13 +78,25 @@ def calls_of(folder: Path, orders: List[Order]) -> List[Recorded]:
     return calls
 
 
-def slack_of(folder: Path) -> int:
-    """How many periods a line may lack: none if the recording ended, else as many as were held before a write, and one."""
+def clock_of(folder: Path) -> List[List[str]]:
+    """The words of the whole lines of clock.txt."""
     path = folder / CLOCK
     with naming(path):
         clock = path.read_text(encoding="utf-8", errors="replace") if path.exists() else ""
-    rows = [line.split() for line in clock.splitlines()]
-    if any(row[1:] == ["end"] for row in rows):
+    return [line.split() for line in clock.split("\n")[:-1]]
+
+
+def lost_orders(folder: Path) -> str:
+    """Empty, or how many orders there are of those that a recording had at its end."""
+    count = len(whole_orders(folder))
+    ends = [row[2] for row in clock_of(folder) if row[1:2] == ["end"] and len(row) == 3]
+    return f"orders.txt has {count} orders of {ends[0]}" if ends and ends[0] != str(count) else ""
+
+
+def slack_of(folder: Path) -> int:
+    """How many periods a line may lack: none if the recording ended, else as many as were held before a write, and one."""
+    rows = clock_of(folder)
+    if any(row[1:2] == ["end"] for row in rows):
         return 0
     every = [number("".join(row[2:]), 1, MOST_EVERY) for row in rows if row[1:2] == ["every"]]
     return 1 + ((every and every[0]) or MOST_EVERY)
@@ -195,6 +207,9 @@ def replay_in(folder: Path, again: Path, program: str) -> bool:
 def check(folder: Path, trau: Optional[str], again: Optional[Path]) -> int:
     """Checks a recording. Status 0 if all is equal, 1 if not."""
     program = listening.program_named(trau) if trau else listening.program_beside()
+    if lost := lost_orders(folder):
+        print(lost)
+        return 1
     if again:
         with naming(again):
             again.mkdir(parents=True)

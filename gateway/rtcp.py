@@ -13,6 +13,7 @@ from rtp import NUMBERS, SAMPLES, STAMPS, Outgoing, Packet
 SENDER_REPORT, RECEIVER_REPORT, DESCRIPTION = 200, 201, 202  # packet types
 NAME = 1  # the item CNAME of a description
 HEAD = struct.Struct(">BBHI")  # version and count, type, length, SSRC
+LEAST = 4  # octets of a packet: without an SSRC, as a BYE of nobody
 SENDER = struct.Struct(">QIII")  # NTP time, time stamp, packets, octets
 BLOCK = struct.Struct(">IIIIII")  # SSRC, losses, highest number, jitter, last report, delay since
 UNIX_EPOCH = 2_208_988_800  # seconds since 1900, with which NTP's time begins
@@ -41,26 +42,27 @@ class Reception:
         self.received = self.jitter = 0  # packets; 16 times the jitter, in units of the time stamp
         self.transit: Optional[int] = None
         self.reported = 0, 0  # packets that were due, and that came, at the last report
+        self.wild: Optional[int] = None  # the number with which a sender that begins anew goes on
 
     def count(self, packet: Packet, tick: Optional[int]) -> None:
         """Counts a packet, also a late or doubled one. A late tick says nothing about its arrival, and is None."""
-        self.received += 1
         ahead = packet.number - self.highest & NUMBERS
-        if ahead == 1:
-            self.highest += 1
-        else:
-            self.move(ahead)
+        if MOST_GAP < ahead < 0x10000 - MOST_GAP and not self.begins_anew(packet.number, ahead):
+            return
+        self.received += 1
+        if ahead <= MOST_GAP:
+            self.highest += ahead
         before, self.transit = self.transit, None if tick is None else SAMPLES * tick - packet.stamp
         if before is not None and self.transit is not None and (self.jitter or before != self.transit):
             self.smooth(abs(signed(self.transit - before, 32)))
 
-    def move(self, ahead: int) -> None:
-        """Takes a number that isn't the next one."""
-        if MOST_GAP < ahead < 0x10000 - MOST_GAP:
+    def begins_anew(self, number: int, ahead: int) -> bool:
+        """Whether a number that is far away follows one that was: a single one is dropped."""
+        is_next, self.wild = number == self.wild, number + 1 & NUMBERS
+        if is_next:
             self.first += ahead - 1
             self.highest += ahead
-        elif ahead <= MOST_GAP:
-            self.highest += ahead
+        return is_next
 
     def smooth(self, moved: int) -> None:
         """Takes how far a packet came from its time into the jitter."""
@@ -92,9 +94,9 @@ def packed(count: int, kind: int, source: int, content: bytes) -> bytes:
 
 
 def packets_of(data: bytes) -> List[bytes]:
-    """The packets of a datagram; none if they don't fill it, or no report is the first (A.2)."""
+    """The packets of a datagram; none if they don't fill it, or no report is the first (A.2). Some may have no SSRC."""
     found, at = [], 0
-    while at + HEAD.size <= len(data) and data[at] >> 6 == 2:
+    while at + LEAST <= len(data) and data[at] >> 6 == 2:
         end = at + 4 + 4 * int.from_bytes(data[at + 2 : at + 4], "big")
         found.append(data[at:end])
         at = end
@@ -114,6 +116,8 @@ class Reports:
         """Takes a datagram that came at a time of the system's clock; the result is whether it is to be answered."""
         packets = packets_of(data)
         for packet in packets:
+            if len(packet) < HEAD.size:
+                continue
             count, kind, _, source = HEAD.unpack_from(packet)
             at = HEAD.size + (SENDER.size if kind == SENDER_REPORT else 0)
             if kind not in (SENDER_REPORT, RECEIVER_REPORT) or len(packet) < at + BLOCK.size * (count & 31):
@@ -129,7 +133,7 @@ class Reports:
     def answer(self, reception: Optional[Reception], now: int, period: int) -> bytes:
         """The report at a time of the system's clock, which is the start of a period, and a description."""
         out, block = self.outgoing, b""
-        if reception:
+        if reception and reception.received != reception.reported[1]:
             source, middle, arrival = self.last if self.last[0] == reception.source else (0, 0, now)
             block = reception.block(middle, min(STAMPS, max(0, now - arrival << 16) // SECOND))
         kind, head = RECEIVER_REPORT, b""

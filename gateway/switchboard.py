@@ -2,22 +2,23 @@
 
 from __future__ import annotations
 
+import time
 from collections import Counter
 from dataclasses import dataclass, field
 from pathlib import Path
-from typing import Callable, Dict, List, Optional, Set, Union
+from typing import Callable, Dict, List, Optional, Set, Tuple, Union
 
 from core.profile import MOST_CALLS, MOST_LEVEL
 from core.words import Refusal
 from calls import STILL_AFTER, Call
 from clock import PHASES
 from network import Network, SocketEndpoint
-from recorder import NoRecorder, Recorder
+from recorder import LAST_WRITES, NoRecorder, Recorder
 from run_texts import REFUSALS
 from settings import Settings, number, read_open, switch
 
 SECOND, HOUR = 50, 180_000  # periods
-REFUSED = {"stranger", "other-port", "other-type", "odd-size", "empty", "too-long", "not-rtp", "probation", "far", "unreachable"}
+REFUSED = {"stranger", "other-port", "other-type", "odd-size", "empty", "too-long", "not-rtp", "probation", "far", "unreachable", "fault"}
 
 Say = Callable[[str], None]
 
@@ -31,12 +32,23 @@ class Connection:
     recorder: Union[Recorder, NoRecorder]
     endpoints: Dict[str, SocketEndpoint] = field(default_factory=dict)
     noted: Counter[str] = field(default_factory=Counter)  # counts up to the last events
+    seen: Dict[str, Tuple[Optional[int], Counter[str]]] = field(default_factory=dict)  # by sides: when it was heard last, and the counts then
 
     def events(self) -> str:
         """What the network did since it was asked last: counts that rose."""
         counts = Counter({f"{side}-{name}": count for side, stream in self.call.sides.items() for name, count in stream.faults().items()})
         risen, self.noted = counts - self.noted, counts
         return " ".join(f"{name} {count}" for name, count in sorted(risen.items()))
+
+    def reason(self, side: str) -> str:
+        """What was refused most since a side was heard, to the second; empty if nothing was."""
+        incoming = self.call.sides[side].incoming
+        heard, counts = self.seen.get(side, (None, Counter()))
+        if heard != incoming.heard:
+            self.seen[side] = incoming.heard, incoming.counts.copy()
+            return ""
+        risen = incoming.counts - counts
+        return next((f": {reason} {count}" for reason, count in risen.most_common() if reason in REFUSED), "")
 
 
 class Switchboard:
@@ -47,6 +59,7 @@ class Switchboard:
         self.recorders, self.unrecorded = [recorder], NoRecorder()  # new calls go to the last one
         self.ended: List[Recorder] = []  # whose threads may still write
         self.connections: Dict[int, Connection] = {}
+        self.is_running = False  # whether the clock turns, so that nothing may wait for the disk
         self.still: Set[str] = set()
         self.verbs: Dict[str, Callable[[List[str], int], None]] = {
             "open": self.open,
@@ -182,8 +195,12 @@ class Switchboard:
         self.say(self.connection(words[0]).call.summary(f"at {period}"))
 
     def record(self, words: List[str], period: int) -> None:
-        """Begins a recording in a new folder, for calls that are opened from now on."""
+        """Begins a recording in a new folder, for calls that are opened from now on. If the folder can't be made, it ends."""
         recorder = Recorder(Path(words[0]), self.recorders[-1].every, self.say, period)
+        if self.is_running:
+            recorder.attempt(0, recorder.make)
+        else:
+            recorder.make()
         recorder.time(period)
         self.recorders.append(recorder)
         self.end_old(period)
@@ -221,12 +238,15 @@ class Switchboard:
             connection.call.give_up(periods, period)
 
     def look_after(self, period: int) -> None:
-        """Looks after each call once a second, and writes the time once an hour."""
+        """Looks after each call and the disk once a second, and writes the time once an hour."""
         for connection in self.connections.values():
             if (period - connection.call.number) % SECOND == 0:
                 self.note(connection, period)
                 for side in connection.call.sides:
                     self.look_after_side(connection, side, period)
+        if period % SECOND == 0:
+            for recorder in self.recorders + self.ended:
+                recorder.look_after(period)
         if period % HOUR == 0:
             for recorder in self.recorders:
                 recorder.time(period)
@@ -239,15 +259,14 @@ class Switchboard:
             connection.recorder.event(period, f"call {connection.call.number} {events}")
 
     def look_after_side(self, connection: Connection, side: str, period: int) -> None:
-        """Answers RTCP; says that a side hears nothing for five seconds, with what was refused most, and that it is heard again."""
+        """Answers RTCP; says that a side hears nothing for five seconds, with what was refused most in them, and that it is heard again."""
         incoming, _, reports = connection.call.sides[side]
         connection.endpoints[side].report(reports, period)
-        name = f"call {connection.call.number} {side}"
+        name, reason = f"call {connection.call.number} {side}", connection.reason(side)
         is_still = period - (connection.call.start if incoming.heard is None else incoming.heard) >= STILL_AFTER
         if is_still and name not in self.still:
             self.still.add(name)
-            refused = [f"{reason} {count}" for reason, count in incoming.counts.most_common() if reason in REFUSED]
-            self.say(": ".join([f"{name} hears nothing at {period}", *refused[:1]]))
+            self.say(f"{name} hears nothing at {period}{reason}")
         elif not is_still and name in self.still:
             self.still.remove(name)
             self.say(f"{name} hears again at {period}")
@@ -258,9 +277,10 @@ class Switchboard:
             self.close([str(call)], period)
 
     def end_recordings(self, period: Optional[int]) -> bool:
-        """Ends all recordings, and waits until they are written; the result is whether all are whole. No period: not all calls are closed."""
+        """Ends all recordings, and waits some seconds for the disk; the result is whether all are whole. No period: not all calls are closed."""
         for recorder in list(self.recorders):
             self.end_recording(recorder, period)
+        until = time.monotonic() + LAST_WRITES
         for recorder in self.ended:
-            recorder.writer.join()
+            recorder.finish(until)
         return not any(recorder.has_ended for recorder in self.ended)

@@ -235,3 +235,12 @@ def hostile_packet(draw: random.Random, kind: int) -> bytes:
             b"\x80" + fields + content * draw.randrange(12),
         )
     )
+
+
+def hostile_report(draw: random.Random) -> bytes:
+    """A datagram that is nearly RTCP: packets with lengths, types and counts at random, mostly a report at first."""
+    report = b""
+    for _ in range(draw.randrange(1, 5)):
+        length, kind = draw.choice((0, 0, 1, 2, 6, 7, 12, 13)), draw.choice((200, 201, 201, 202, 203, 204, 7))
+        report += struct.pack(">BBH", 0x80 | draw.randrange(64), kind, length) + draw.randbytes(max(0, 4 * length + draw.choice((0,) * 9 + (-4, 4))))
+    return report

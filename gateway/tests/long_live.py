@@ -9,7 +9,7 @@ import subprocess
 import time
 import unittest
 
-from live_support import LOOPBACK, WithLive, bound, hostile_packet, playing, talk
+from live_support import LOOPBACK, WithLive, bound, hostile_packet, hostile_report, playing, talk
 from support import LINE, SPEECH, repeated, with_program
 
 from rtp import ALAW, GSM
@@ -40,7 +40,9 @@ class Long(WithLive):
             for k in range(100_000):
                 peers, kind = live.peers[1 + k % 2], draw.choice((GSM, ALAW))
                 sender = draw.choices((stranger, peers.gsm, peers.pcm), (8, 1, 1))[0]
-                sender.sendto(hostile_packet(draw, kind), (LOOPBACK, peers.ports[0 if kind == GSM else 1]))
+                port = peers.ports[0 if kind == GSM else 1]
+                sender.sendto(hostile_packet(draw, kind), (LOOPBACK, port))
+                sender.sendto(hostile_report(draw), (LOOPBACK, port + 1))
                 if k % 100 == 0:
                     time.sleep(0.01)
             print(live.ask("close 3"))
@@ -85,7 +87,7 @@ class Long(WithLive):
         self.addCleanup(subprocess.run, ["umount", str(disk)], check=True)
         live = self.live(disk / "rec")
         with playing([row for call in (1, 2) for row in talk(live.open(call), call, 800)]):
-            print(live.wait_for("recording ended"))
+            print(live.wait_for(f"recording {live.folder} ended"))
             self.assertRegex(live.ask("level 1 300"), "^ok ")
             self.assertEqual(live.end(), 1)
         print(self.assert_replays(live.folder)[0])

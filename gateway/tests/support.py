@@ -172,6 +172,7 @@ class Turned:
         self.time = TurnedClock()
         self.network = TurnedNetwork(self.time)
         self.recorder = Recorder(folder, every, self.say)
+        self.recorder.make()
         self.board = Switchboard(self.network, self.recorder, 100, self.say)
 
     def bring(self, call: int, from_station: Iterable[Sent] = (), from_exchange: Iterable[Sent] = ()) -> None:

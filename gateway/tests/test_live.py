@@ -12,7 +12,7 @@ import sys
 import time
 import unittest
 
-from live_support import LOOPBACK, Ended, Peers, WithLive, bound, hostile_packet, playing, talk, with_loopback
+from live_support import LOOPBACK, Ended, Peers, WithLive, bound, hostile_packet, hostile_report, playing, talk, with_loopback
 from support import GATEWAY, with_program
 
 from rtp import ALAW, GSM
@@ -42,19 +42,27 @@ class Starts(WithLive):
             self.assertRegex(live.said[-1], r"^end period \d+ late \d+ latest \d+ ms given-up \d+ dropped 0 processor \d+\.\d\d s$")
             self.assertIn("0 dtx 7 on\n", (live.folder / "orders.txt").read_text())
 
-    def test_a_file_with_a_mistake(self):
-        lines = self.folder / "calls.txt"
-        lines.write_text("\nopen 7\n")
+    def refused(self, lines):
+        """What is said of a file with these lines, of which one is refused."""
+        (self.folder / "calls.txt").write_text(lines)
         ran = subprocess.run(
-            [sys.executable, "-B", str(GATEWAY / "gateway.py"), "run", str(self.folder / "rec"), "--calls", str(lines)],
+            [sys.executable, "-B", str(GATEWAY / "gateway.py"), "run", str(self.folder / "rec"), "--calls", str(self.folder / "calls.txt")],
             stdin=subprocess.DEVNULL,
             stdout=subprocess.PIPE,
             stderr=subprocess.PIPE,
             text=True,
         )
         self.assertEqual((ran.returncode, ran.stdout, ran.stderr.count("\n")), (2, "", 1), ran.stderr)
-        self.assertIn("calls.txt line 2: both sides are needed", ran.stderr)
         self.assertFalse((self.folder / "rec").exists())
+        return ran.stderr
+
+    def test_a_file_with_a_mistake(self):
+        self.assertIn("calls.txt line 2: both sides are needed", self.refused("\nopen 7\n"))
+        new, old = self.folder / "new", self.folder / "old"
+        self.assertIn("calls.txt line 2: both sides are needed", self.refused(f"record {new}\nopen 7\n"))
+        old.mkdir()
+        self.assertIn("calls.txt line 2: File exists", self.refused(f"record {new}\nrecord {old}\n"))
+        self.assertEqual((new.exists(), old.exists()), (False, True))
 
     def test_standard_input_that_cant_be_read(self):  # as nohup leaves it
         words = [sys.executable, "-B", str(GATEWAY / "gateway.py"), "run", str(self.folder / "rec"), "--seconds", "1"]
@@ -70,7 +78,7 @@ class Starts(WithLive):
             live.ask("counts 1")
         self.assertEqual(live.end(signal.SIGHUP), 0)
         self.assertGreater((live.folder / "1.out").stat().st_size, 0)
-        self.assertRegex((live.folder / "clock.txt").read_text(), r"\n\d+ end\n$")
+        self.assertRegex((live.folder / "clock.txt").read_text(), r"\n\d+ end 4\n$")
 
     def test_a_terminal_that_nobody_reads(self):
         here, there = pty.openpty()
@@ -152,7 +160,7 @@ class Calls(WithLive):
         live = self.live(self.folder / "rec", file_limit=160 * 40 + 7)
         rows = [row for call in (1, 2) for row in talk(live.open(call), call, 400)]
         with playing(rows):
-            live.wait_for("recording ended: ")
+            live.wait_for(f"recording {live.folder} ended: ")
             self.assertRegex(live.ask("level 1 300"), "^ok ")
             self.assertRegex(live.ask("close 2"), "^ok ")
             self.assertEqual(live.end(), 1)
@@ -169,11 +177,22 @@ class Calls(WithLive):
             for k in range(2000):
                 peers, kind = live.peers[1 + k % 2], draw.choice((GSM, ALAW))
                 port = peers.ports[0 if kind == GSM else 1]
-                draw.choice((stranger, peers.gsm, peers.pcm)).sendto(hostile_packet(draw, kind), (LOOPBACK, port))
+                sender = draw.choice((stranger, peers.gsm, peers.pcm))
+                sender.sendto(hostile_packet(draw, kind), (LOOPBACK, port))
+                sender.sendto(hostile_report(draw), (LOOPBACK, port + 1))
                 if k % 50 == 0:
                     live.wait_for_periods(3, k // 50)
         self.assertEqual(live.end(), 0)
         self.assert_replays(live.folder)
+
+    def test_a_packet_of_rtcp_without_a_source(self):
+        live = self.live(self.folder / "rec")
+        peers, report = live.open(1, "strict off"), bytes.fromhex("80c9000100000001")
+        live.ask("counts 1")
+        while not re.search(r" gsm-rtcp [1-9]", live.said[-2]):
+            peers.gsm.sendto(report + bytes.fromhex("80cb0000") + report, (LOOPBACK, peers.ports[0] + 1))
+            live.ask("counts 1")
+        self.assertEqual(live.end(), 0)
 
 
 if __name__ == "__main__":

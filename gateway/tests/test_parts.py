@@ -13,11 +13,12 @@ import unittest
 import unittest.mock
 from collections import Counter
 
-from live_support import bound, even_port, hostile_packet, with_loopback
+from live_support import bound, even_port, hostile_packet, hostile_report, with_loopback
 from support import SPEECH, InFolder, TurnedClock
 
 import recorder
 import rtp
+import switchboard
 from calls import SILENCE, SOFT_BLOCK, idle_line, is_soft_frame, soft_octets
 from clock import PERIOD, Clock
 from core.profile import MOST_ORDERS
@@ -30,6 +31,7 @@ from recorder import CLOSE_OCTETS, Recorder
 from rtcp import Reception, Reports
 from settings import Side, read_open
 from spoiler import header
+from switchboard import Switchboard
 from trau_fr import Kind, kind_of
 
 ONE = bytes(33)
@@ -273,8 +275,12 @@ class Receptions(unittest.TestCase):
         self.assertEqual(self.reception([0, 2, 1, 3]).missing(), 0)
 
     def test_a_sender_that_begins_anew(self):
-        came = self.reception([*range(5), *range(40_000, 40_010), 7, 8])
-        self.assertEqual((came.received, came.missing()), (17, 0))
+        came = self.reception([*range(5), *range(40_000, 40_010), 7, 8])  # two numbers in a row are believed
+        self.assertEqual((came.received, came.missing()), (15, 0))
+
+    def test_a_single_wild_number_is_dropped(self):
+        came = self.reception([*range(100), 40_000, *range(100, 200), 9_000, 40_001, 200])
+        self.assertEqual((came.received, came.missing(), self.block(came)[2]), (201, 0, 200))
 
     def test_jitter(self):
         came = Reception(rtp.Packet(3, 0, 0, 5, ONE))
@@ -310,7 +316,9 @@ class Answers(unittest.TestCase):
         wanted = struct.pack(">IIIIII", 5, 0, 4, 0, 0x33445566, 3 << 15)
         self.assertEqual(self.answer(1, came, reports)[1][28:52], wanted)
         reports.take(sender_report(6, 0x1122334455667788), self.NOW)  # of a source that isn't heard
+        came.count(rtp.Packet(3, 5, 800, 5, ONE), 5)
         self.assertEqual(self.answer(1, came, reports)[1][44:52], bytes(8))
+        self.assertEqual(self.answer(1, came, reports)[1][:4], bytes((0x80, 200, 0, 6)))  # nothing came since
 
     def test_what_the_peer_lost(self):
         reports = Reports(rtp.Outgoing(rtp.GSM), Counter())
@@ -319,6 +327,13 @@ class Answers(unittest.TestCase):
             reports.counts.clear()
             self.assertTrue(reports.take(report + bytes((0x80, 203, 0, 1)) + bytes(4), 0))
             self.assertEqual(reports.counts, {"far-lost": 123})
+
+    def test_packets_without_a_source(self):
+        reports, nobody = Reports(rtp.Outgoing(rtp.GSM), Counter()), bytes((0x80, 203, 0, 0))
+        lost = receiver_report(5, [(reports.outgoing.source, 7)])
+        for data, is_taken in ((lost + nobody, True), (lost + nobody + lost, True), (nobody, False), (nobody + lost, False)):
+            reports.counts.clear()
+            self.assertEqual((reports.take(data, 0), reports.counts["far-lost"]), (is_taken, 7 if is_taken else 0))
 
     def test_nonsense(self):
         reports, draw = Reports(rtp.Outgoing(rtp.GSM), Counter()), random.Random(2)
@@ -332,6 +347,44 @@ class Answers(unittest.TestCase):
                 data[draw.randrange(len(data))] = draw.choice((0, 0x80, 0x9F, 0xFF, 200, 201, draw.randrange(256)))
             reports.take(bytes(data), 0)
             self.assertEqual(len(reports.answer(None, 0, 0)), 8 + 28)
+
+
+class Fuzz(unittest.TestCase):
+    """100,000 datagrams at random, and such as are nearly right: what takes them refuses, or takes, but doesn't fail."""
+
+    def mutated(self, draw, whole):
+        """A datagram with some octets changed, taken out, or put in twice."""
+        data = bytearray(whole)
+        for _ in range(draw.randrange(4)):
+            at = draw.randrange(len(data) or 1)
+            data[at : at + draw.choice((0, 1, 1, 4))] = draw.choice((b"", b"\0", b"\xff", data[: draw.randrange(9)], draw.randbytes(1)))
+        return bytes(data)
+
+    def datagrams(self, count, made, whole):
+        """Datagrams that are made, mutated, or nothing but random octets."""
+        draw = random.Random(count)
+        for _ in range(count // 4):
+            yield made(draw)
+            yield self.mutated(draw, made(draw))
+            yield self.mutated(draw, whole)
+            yield draw.randbytes(draw.randrange(80))
+
+    def test_rtcp(self):
+        reports = Reports(rtp.Outgoing(rtp.GSM), Counter())
+        whole = sender_report(5, 0, [(reports.outgoing.source, 1)]) + receiver_report(5, [(6, 1)])
+        taken = sum(reports.take(data, 0) for data in self.datagrams(50_000, hostile_report, whole))
+        self.assertGreater(taken, 5_000)
+
+    def test_rtp(self):
+        whole, came, taken = b"\xb2" + header(3, 7, 160, 9)[1:] + bytes(8) + b"\xbe\xde\0\1" + bytes(4) + ONE + b"\0\0\3", None, 0
+        for data in self.datagrams(50_000, lambda draw: hostile_packet(draw, 3), whole):
+            with contextlib.suppress(rtp.Refused):
+                packet = rtp.parse(data)
+                came = came or Reception(packet)
+                came.count(packet, taken)
+                came.block(0, 0)
+                taken += 1
+        self.assertGreater(taken, 5_000)
 
 
 class Playing(unittest.TestCase):
@@ -518,6 +571,21 @@ class Endpoints(unittest.TestCase):
             endpoint.arrived(self.packet(number), sender, 0, 0)
         self.assertEqual((endpoint.incoming.counts["stranger"], len(endpoint.incoming.buffer.periods)), (2, 1))
 
+    def test_a_fault_is_counted_and_ends_nothing(self):
+        endpoint = Endpoint(Side(6000, self.PEER), True, gsm_stream())
+        with unittest.mock.patch.object(endpoint.incoming, "packet", side_effect=struct.error):
+            endpoint.arrived(self.packet(1), self.PEER, 0, 0)
+        endpoint.arrived(self.packet(1), self.PEER, 0, 0)
+        self.assertEqual((endpoint.incoming.counts["fault"], endpoint.incoming.heard), (1, 0))
+
+    @with_loopback
+    def test_a_fault_of_a_report_is_counted(self):
+        with bound() as control:
+            _, endpoint, port, _ = self.opened(False, ("127.0.0.1", control.getsockname()[1] - 1))
+            control.sendto(receiver_report(5, []), ("127.0.0.1", port + 1))
+            while not endpoint.incoming.counts["fault"]:
+                endpoint.report(unittest.mock.Mock(take=unittest.mock.Mock(side_effect=struct.error)), 0)
+
     def opened(self, is_strict, address=None):
         """A network with one endpoint in phase 0, its port, and the peer's socket, if the peer has no other address."""
         peer, network = bound(), Network("127.0.0.1")
@@ -542,6 +610,16 @@ class Endpoints(unittest.TestCase):
         self.assertEqual(+endpoint.incoming.counts, {"stranger": 3})
 
     @with_loopback
+    def test_strangers_that_find_no_room_are_counted(self):
+        _, endpoint, port, _ = self.opened(True)
+        with bound() as stranger:
+            for _ in range(350):
+                stranger.sendto(self.packet(1), ("127.0.0.1", port))
+        while endpoint.incoming.counts["stranger"] < 350:
+            endpoint.count_losses()
+        self.assertEqual(+endpoint.incoming.counts, {"stranger": 350})
+
+    @with_loopback
     def test_a_strict_port_is_had_once(self):
         network, _, port, peer = self.opened(True)
         for is_strict in (True, False):
@@ -564,11 +642,21 @@ class Endpoints(unittest.TestCase):
 
     @with_loopback
     def test_a_closed_port_of_the_peer_is_counted(self):
-        network, endpoint, _, peer = self.opened(True)
-        peer.close()
-        while not endpoint.incoming.counts["unreachable"]:
-            endpoint.send(ONE)
-            network.read(0, 0, 0)
+        for is_strict in (True, False):
+            network, endpoint, port, peer = self.opened(is_strict)
+            peer.close()
+            sent = 0
+            while not endpoint.incoming.counts["unreachable"] or sent < 20:
+                endpoint.send(ONE)
+                network.read(0, 0, 0)
+                sent += 1
+            with bound() as other:  # what comes is heard all the same
+                other.sendto(self.packet(1), ("127.0.0.1", port))
+                while endpoint.incoming.heard is None and not is_strict:
+                    network.read(0, 0, 0)
+            while network.polls[0].poll(0):  # the answers are taken out of the queue
+                network.read(0, 0, 0)
+            self.assertLessEqual(endpoint.incoming.counts["unreachable"], sent)
 
     @with_loopback
     def test_what_finds_no_room_is_counted(self):
@@ -635,8 +723,14 @@ class Endpoints(unittest.TestCase):
 
 
 class Recordings(InFolder):
+    def made(self, say=print, every=1, name="new"):
+        """A recorder with its folder."""
+        one = Recorder(self.folder / name, every, say)
+        one.make()
+        return one
+
     def test_room_for_orders(self):
-        recorder = Recorder(self.folder / "new", 1, print)
+        recorder = self.made()
         recorder.orders = MOST_ORDERS - 4
         self.assertTrue(recorder.has_room(3, 1))
         recorder.orders += 1
@@ -648,7 +742,7 @@ class Recordings(InFolder):
 
     def test_the_lines_end_alike(self):
         for every in (1, 3, 50):
-            recorder = Recorder(self.folder / str(every), every, print)
+            recorder = self.made(every=every, name=str(every))
             recorder.open(1)
             for _ in range(7):
                 recorder.period(1, b"u" * 40, b"p" * 160, b"d" * 40, b"o" * 160)
@@ -667,8 +761,9 @@ class Recordings(InFolder):
             is_over.wait(60)
             return really(descriptor, data)
 
+        one = self.made(said.append)
         with unittest.mock.patch.object(recorder.os, "write", write):
-            one = Recorder(self.folder / "new", 1, said.append)
+            one.order(0, "open 1")
             one.open(1)
             for _ in range(periods):
                 one.period(1, b"u" * 40, b"p" * 160, b"d" * 40, b"o" * 160)
@@ -680,12 +775,43 @@ class Recordings(InFolder):
         return said, (one.folder / "1.out").read_bytes(), (one.folder / "clock.txt").read_text()
 
     def test_a_disk_that_stalls_holds_nobody_up(self):
-        self.assertEqual(self.stalled(500), ([], b"o" * 160 * 500, "0 every 1\n500 end\n"))
+        self.assertEqual(self.stalled(500), ([], b"o" * 160 * 500, "0 every 1\n500 end 1\n"))
 
     def test_a_disk_that_stalls_for_long_ends_the_recording(self):
         with unittest.mock.patch.object(recorder, "MOST_WAITING", 400 * 100):
             said, out, clock = self.stalled(500)
-        self.assertEqual((said, len(out), clock), (["recording ended: the disk is too slow"], 160 * 100, "0 every 1\n"))
+        ended = f"recording {self.folder / 'new'} ended: the disk is too slow"
+        self.assertEqual((said, len(out), clock), ([ended], 160 * 100, "0 every 1\n"))
+
+    def test_a_disk_that_stalls_is_said(self):
+        said, is_over = [], threading.Event()
+        one = self.made(said.append)
+        one.attempt(0, is_over.wait)
+        while one.oldest is None:
+            one.look_after(7)
+        since = one.oldest
+        for period, waits in ((49, 0.9), (99, 3.5), (149, 4.5)):
+            with unittest.mock.patch.object(recorder.time, "monotonic", lambda: since + waits):
+                one.look_after(period)
+        is_over.set()
+        one.end()
+        one.writer.join()
+        with unittest.mock.patch.object(recorder.time, "monotonic", lambda: since + 60):
+            one.look_after(199)
+        name = f"recording {one.folder}: the disk is"
+        self.assertEqual(said, [f"{name} 3 s behind at 99", f"{name} in time again at 199"])
+
+    def test_the_end_doesnt_wait_for_a_dead_disk(self):
+        said, is_over = [], threading.Event()
+        one = self.made(said.append)
+        one.attempt(0, is_over.wait)
+        board = Switchboard(Network("127.0.0.1"), one, 1, said.append)
+        one.event(3, "a line")
+        with unittest.mock.patch.object(switchboard, "LAST_WRITES", 0):
+            self.assertFalse(board.end_recordings(4))
+        is_over.set()
+        one.writer.join()
+        self.assertEqual(said, [f"recording {one.folder} ended: 17 octets aren't written"])
 
     def test_a_close_that_fails_ends_the_recording_once(self):
         def close(descriptor):
@@ -693,16 +819,17 @@ class Recordings(InFolder):
             raise OSError(errno.EDQUOT, "Disk quota exceeded")
 
         really, said = os.close, []
-        one = Recorder(self.folder / "new", 1, said.append)
+        one = self.made(said.append)
         one.open(1)
         with unittest.mock.patch.object(recorder.os, "close", close):
             one.close(1)
-            one.end()
+            one.end(7)
             one.writer.join()
-        self.assertEqual((said, one.has_ended), (["recording ended: Disk quota exceeded"], True))
+        self.assertEqual((said, one.has_ended), ([f"recording {one.folder} ended: Disk quota exceeded"], True))
+        self.assertEqual((one.folder / "clock.txt").read_text(), "0 every 1\n")
 
     def test_recordings_are_private(self):
-        one = Recorder(self.folder / "new", 1, print)
+        one = self.made()
         one.open(1)
         one.end()
         one.writer.join()

@@ -49,6 +49,13 @@ class Checks(InFolder):
             self.assertEqual(lines[-2], "calls 3 differ 1")
             folder.rename(self.folder / name)
 
+    def test_lost_orders(self):
+        folder = self.record()
+        whole = (folder / "orders.txt").read_text().splitlines(True)
+        for left in ([], whole[:1], whole[:-1], [order for order in whole if " 3" not in order]):
+            (folder / "orders.txt").write_text("".join(left))
+            self.assertEqual(self.checked(folder), (1, [f"orders.txt has {len(left)} orders of 14"]))
+
     def test_a_line_that_is_too_long(self):
         for name, size in (("1.out", 160), ("2.up", 1), ("3.pcm", 160)):
             folder = self.record()
@@ -69,7 +76,7 @@ class Checks(InFolder):
     def killed(self, every):
         """A recording of a gateway that was killed: clock.txt doesn't say that it ended."""
         folder = self.record()
-        clock = (folder / "clock.txt").read_text().replace("60 end\n", "").replace("0 every 1\n", f"0 every {every}\n")
+        clock = (folder / "clock.txt").read_text().replace("60 end 14\n", "").replace("0 every 1\n", f"0 every {every}\n")
         (folder / "clock.txt").write_text(clock)
         return folder
 

@@ -1,9 +1,12 @@
 """Calls on a turned clock, and their replay: spoiled networks, all kinds of frames, levels, DTX, bridges, late ticks."""
 
 import random
+import re
 import struct
+import threading
 import unittest
 import unittest.mock
+from pathlib import Path
 
 from support import LINE, SPEECH, InFolder, Turned, cut, open_line, ports_of, repeated, with_program
 
@@ -226,6 +229,15 @@ class Quiet(InFolder):
         self.assertIn("call 1 gsm hears nothing at 251", said)
         self.assertIn("call 1 gsm hears again at 301", said)
 
+    def test_why_it_hears_nothing_is_of_now(self):
+        turned = Turned(self.folder / "rec")
+        for call, wrong in ((1, 0), (2, 5.0)):  # when packets of another type come
+            good = schedule(LINE[:50], ALAW, call, start=2.0)
+            turned.bring(call, (), [*good, *schedule(LINE[:70], MULAW, call, start=wrong)])
+        said = turned.run({0: [open_line(1), open_line(2)]}, 450)
+        pattern = r"call (\d) pcm hears nothing at \d+(.*)"
+        self.assertEqual([re.match(pattern, line).groups() for line in said if "pcm hears nothing" in line], [("1", ""), ("2", ": other-type 70")])
+
 
 class Late(InFolder):
     @with_program
@@ -246,7 +258,7 @@ class Late(InFolder):
         self.assertEqual((turned.time.clock.given_up, stops), (164, {}))
         every, first, *rest = (self.folder / "rec/clock.txt").read_text().splitlines()
         self.assertRegex(first, r"^0 at \d{4}-\d\d-\d\dT\d\d:\d\d:\d\d\.\d{3}\+00:00$")
-        self.assertEqual((every, rest), ("0 every 1", ["120 given-up 164", "200 end"]))
+        self.assertEqual((every, rest), ("0 every 1", ["120 given-up 164", "200 end 9"]))
         self.assertIn("given up 164 periods at 120", said)
         self.assertIn("late 135 latest 695 ms at 100", said)
         closing = next(line for line in said if line.startswith("call 1 from"))
@@ -262,13 +274,44 @@ class Late(InFolder):
 
         def slow(phase, period, behind):
             process(phase, period, behind)
-            turned.time.time += {(10, 3): 240, (30, 3): 200}.get((period, phase), 0) * 1_000_000
+            turned.time.time += {(10, 3): 240, (90, 3): 200, (119, 3): 1_100}.get((period, phase), 0) * 1_000_000
 
         turned.board.process = slow
-        lines = {0: [open_line(1)], 11: [open_line(2), "level 1 300", "close 1"], 31: [open_line(3)], 40: [open_line(2)]}
-        said = [line for line in turned.run(lines, 50) if line.startswith(("ok", "refused"))]
-        refused = f"refused 11 {open_line(2)[:80]}: the gateway is 220 ms behind its clock"
-        self.assertEqual(said[1:], [refused, "ok 11 level 1", "ok 11 close 1", "ok 31 open 3", "ok 40 open 2"])
+        lines = {0: [open_line(1)], 11: [open_line(2), "level 1 300", "close 1"], 91: [open_line(3)]}
+        lines.update({period: [open_line(period)] for period in (30, 63, 120, 169, 170)})
+        said = [line for line in turned.run(lines, 230) if line.startswith(("ok", "refused"))]
+        refused = {
+            f"refused {period} {open_line(call)[:80]}: the gateway was behind its clock in the last second"
+            for period, call in ((11, 2), (30, 30), (120, 120), (169, 169))
+        }
+        wanted = {"ok 0 open 1", "ok 11 level 1", "ok 11 close 1", "ok 63 open 63", "ok 91 open 3", "ok 170 open 170"}
+        self.assertEqual(set(said), refused | wanted)
+
+    def test_an_overloaded_gateway_takes_no_calls(self):
+        for cost in (5.5, 6, 7):  # milliseconds for each turn of 5
+            turned = Turned(self.folder / f"rec{cost}")
+
+            def slow(phase, period, behind):
+                turned.time.time += int(cost * 1_000_000)
+
+            turned.board.process = slow
+            lines = {period: [f"{open_line(1)} record off", "close 1"] for period in range(2500)}
+            said = turned.run({0: lines[0], **lines}, 2500)
+            taken = [int(line.split()[1]) for line in said if line.startswith("ok") and " open " in line]
+            self.assertGreater(turned.time.clock.given_up, 0)
+            self.assertLess(taken[-1], 101, cost)
+
+    def test_the_latest_turn_is_of_the_time_since_it_was_said(self):
+        turned = Turned(self.folder / "rec")
+        stops = {60: 700, 130: 300}
+
+        def slow(phase, period, behind):
+            turned.time.time += stops.pop(period, 0) * 1_000_000
+
+        turned.board.process = slow
+        said = turned.run({180: ["counts"]}, 200)
+        self.assertEqual([line.split(" latest ")[1] for line in said if line.startswith("late ")], ["695 ms at 100", "295 ms at 150"])
+        self.assertIn(" latest 695 ms ", said[-2])
 
 
 class Ends(InFolder):
@@ -310,9 +353,30 @@ class Recorded(InFolder):
         self.assertEqual(self.orders("rec")[3:], ["40 level 1 300", "40 close 1"])
         self.assertEqual([line for line in self.orders("new") if "open" in line], ["0 open 2", "21 open 1"])
         ends = [(self.folder / name / "clock.txt").read_text().splitlines()[-1] for name in ("rec", "new")]
-        self.assertEqual(ends, ["40 end", "60 end"])
+        self.assertEqual(ends, ["40 end 5", "60 end 8"])
         for name, count in (("rec", 1), ("new", 2)):
             self.assertEqual(self.assert_replays(self.folder / name)[-1], f"calls {count} differ 0")
+
+    def test_the_clock_makes_no_folder(self):
+        makers, really = [], Path.mkdir
+
+        def mkdir(*given, **words):
+            makers.append(threading.current_thread())
+            really(*given, **words)
+
+        turned = Turned(self.folder / "rec")
+        with unittest.mock.patch.object(Path, "mkdir", mkdir):
+            said = turned.run({5: [f"record {self.folder / 'new'}", open_line(1)]}, 10)
+        self.assertEqual((len(makers), threading.main_thread() in makers), (1, False))
+        self.assertIn("ok 5 record", said[0])
+        self.assertEqual((self.folder / "new/1.out").stat().st_size, 5 * 160)
+
+    @with_program
+    def test_a_folder_that_cant_be_made(self):
+        _, said = self.run_two({20: [f"record {self.folder / 'rec'}", open_line(2)], 40: [f"record {self.folder / 'new'}", "close 2"]})
+        self.assertIn(f"recording {self.folder / 'rec'} ended: File exists", said)
+        self.assertEqual([line for line in said if line.startswith("refused")], [])
+        self.assertEqual(self.assert_replays(self.folder / "rec"), ["call 1 periods 80 equal", "calls 1 differ 0"])
 
     @with_program
     def test_after_a_full_disk(self):
