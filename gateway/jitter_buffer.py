@@ -12,10 +12,13 @@ from typing import Callable, Dict, List, Optional, Tuple
 LIMIT = 50  # periods that a packet may stand ahead; one that is further away is a jump
 WINDOW = 500  # packets or ticks over which margins are watched, 10 s
 FEWEST = 50  # packets that say something about a path
-STRAGGLERS = 100  # one packet in so many may come too late without a slip back
+STRAGGLERS = 100  # one packet in so many of a window may come too late without a slip back
 MOST_MARGIN = 40  # periods; where packets wait so long, stragglers no longer bring slips back
 PATIENCE = 250  # ticks that slips wait for a pause
 REST = 10  # ticks from a slip to the next one in what came
+BURST = 5  # ticks; what comes late in them is one burst
+BURSTS = 3  # so many of them within SPAN ticks: the path reorders
+SPAN = 100
 KEPT = 2 * LIMIT  # periods for which it is known what of them was played
 
 Content = Optional[bytes]
@@ -47,6 +50,7 @@ class JitterBuffer:
     def watch_anew(self, tick: int) -> None:
         """Forgets the margins that were seen."""
         self.margins: List[int] = []
+        self.bursts: List[Tuple[int, int]] = []  # of late packets, the tick and the margin of the first one
         self.watched_from = tick
 
     def margin(self, period: int, tick: int) -> int:
@@ -77,6 +81,8 @@ class JitterBuffer:
         if is_watched:
             self.margins.append(margin)
         if margin < 0:
+            if is_watched:
+                self.straggle(margin, tick)
             return "late"
         self.periods[period] = octets[:part] + piece + octets[end:], missing & ~places
         return ""
@@ -91,6 +97,18 @@ class JitterBuffer:
             self.owed, is_late = 0, False
             self.watch_anew(tick)
         self.was_late = is_late
+
+    def straggle(self, margin: int, tick: int) -> None:
+        """A packet was late. If this comes again and again, the path reorders: slips back are owed, so that such packets wait too. One burst
+        moves nothing, nor do packets for which the newest would wait too long."""
+        newest = max(self.periods, default=tick + self.shift)
+        is_same = self.bursts and tick < self.bursts[-1][0] + BURST
+        if is_same or self.margin(newest, tick) - margin > MOST_MARGIN:
+            return
+        self.bursts = [burst for burst in self.bursts if tick - burst[0] <= SPAN] + [(tick, margin)]
+        if len(self.bursts) == BURSTS:
+            self.owed = sorted(lacking for _, lacking in self.bursts)[BURSTS // 2]
+            self.patience = PATIENCE
 
     def take(self, tick: int) -> Content:
         """The period that is played at this tick, or None if it didn't come."""
@@ -122,7 +140,8 @@ class JitterBuffer:
         """Makes one slip that is owed: where nothing came at once, else after a rest, and in a soft period until patience ends."""
         self.patience -= 1
         laid = self.periods.get(tick + self.shift)
-        if laid and (tick < self.rest_until or self.patience > 0 and not self.is_soft(laid[0])):
+        is_speech = laid and (self.owed > 0 or not laid[1])  # a part that didn't come may still come
+        if is_speech and (tick < self.rest_until or self.patience > 0 and not self.is_soft(laid[0])):
             return
         if self.owed > 0:
             self.periods.pop(tick + self.shift, None)

@@ -9,7 +9,7 @@ from pathlib import Path
 sys.path.insert(0, str(Path(__file__).resolve().parents[1]))
 
 from incoming import Incoming
-from jitter_buffer import PATIENCE, WINDOW, JitterBuffer
+from jitter_buffer import LIMIT, PATIENCE, WINDOW, JitterBuffer
 from rtp import ALAW, GSM, SAMPLES
 from spoiler import header
 
@@ -94,6 +94,107 @@ class Stragglers(unittest.TestCase):
         stream = gsm_stream()
         got = numbers(stream, packets, LATER + 24 * 8)
         self.assertEqual((stream.counts["late"], sum(n is not None for n in got[LATER:])), (1, 7))
+
+
+def reordered(packet, periods, late, ticks):
+    """The packets of each tick, of so many periods: `late` gives the ticks that one is late, though newer ones are in time."""
+    came = [[] for _ in range(ticks + LIMIT)]
+    for number in range(ticks // periods):
+        sent = periods * (number + 1) - 1
+        came[sent + (late(number) if sent >= LATER else 0)].append(packet(number))
+    return came.__getitem__
+
+
+def some(share, late, seed):
+    """Late by so many ticks: a share of the packets."""
+    draw = random.Random(seed)
+    return lambda number: late if draw.random() < share else 0
+
+
+class Reordering(unittest.TestCase):
+    """Paths on which packets come late again and again while newer ones are in time."""
+
+    def lost(self, stream, packets, ticks=2000):
+        """The periods that aren't played once the path reorders; half a period counts as a half."""
+        got = list(played(stream, packets, ticks))[LATER:]
+        return sum(1 if period is None else period.count(IDLE) // (SAMPLES // 2) / 2 for period in got)
+
+    def test_some_packets_are_late(self):
+        for share, late, periods, most in ((0.1, 6, 1, 20), (0.03, 6, 1, 30), (0.1, 20, 1, 40), (0.1, 9, 3, 40)):
+            for seed in range(10):
+                stream = gsm_stream()
+                lost = self.lost(stream, reordered(lambda n: gsm_packet(n, periods), periods, some(share, late, seed), 2000))
+                self.assertLess(lost, most, (share, late, periods, seed))
+                self.assertLessEqual(-stream.buffer.shift, late + periods, (share, late, periods, seed))
+
+    def test_packets_in_no_order(self):
+        for most_late, most in ((8, 30), (10, 50), (15, 60)):
+            for seed in range(10):
+                late = random.Random(seed).randrange
+                lost = self.lost(gsm_stream(), reordered(gsm_packet, 1, lambda n: late(most_late), 2000))
+                self.assertLess(lost, most, (most_late, seed))
+
+    def test_two_paths_in_turn(self):
+        for every, late in ((2, 8), (3, 6), (7, 12)):
+            lost = self.lost(gsm_stream(), reordered(gsm_packet, 1, lambda n: 0 if n % every else late, 2000))
+            self.assertLess(lost, 30, (every, late))
+
+    def test_octets_off_the_grid(self):
+        for seed in range(10):
+            packets = reordered(lambda n: line_packet(n, SAMPLES, 80), 1, some(0.1, 6, seed), 2000)
+            self.assertLess(self.lost(line_stream(), packets), 20, seed)
+
+    def test_once_in_order_again_the_depth_comes_back(self):
+        def late(number):
+            return 0 if number % 10 or number >= 600 else 6
+
+        for ticks, least, most in ((600, DEPTH + 3, DEPTH + 4), (2000, DEPTH, DEPTH)):
+            stream = gsm_stream()
+            list(played(stream, reordered(gsm_packet, 1, late, 2000), ticks))
+            self.assertTrue(least <= -stream.buffer.shift <= most, (ticks, stream.buffer.shift))
+
+    def delay(self, late, ticks, behind=0, is_soft=True):
+        """The delay after so many ticks of speech that is soft or not; packets are read while the process is late by `behind`."""
+        stream, packets = gsm_stream(is_soft=lambda frame: is_soft), reordered(gsm_packet, 1, late, ticks)
+        for tick in range(ticks):
+            for packet in packets(tick):
+                stream.packet(packet, tick, behind)
+            stream.buffer.take(tick)
+        return -stream.buffer.shift
+
+    def test_one_burst_moves_nothing(self):
+        for count in (3, 5, 10):
+            for late in (12, 20, 30):
+                held = range(LATER, LATER + count)
+                self.assertEqual(self.delay(lambda n: late if n in held else 0, LATER + 190), DEPTH, (count, late))
+
+    def test_nor_do_packets_that_are_rarely_late(self):
+        self.assertEqual(self.delay(lambda n: 0 if n % 60 else 20, LATER + 190), DEPTH)
+
+    def test_nor_do_packets_for_which_others_would_wait_too_long(self):
+        self.assertEqual(self.delay(lambda n: 0 if n % 10 else 45, LATER + 190), DEPTH)
+
+    def test_nor_does_a_late_process(self):
+        self.assertEqual(self.delay(lambda n: 0 if n % 10 else 6, LATER + 190, behind=1), DEPTH + 1)
+
+    def test_one_that_is_later_than_others_doesnt_count(self):
+        late = {LATER: 5, LATER + 10: 30, LATER + 40: 7}
+        self.assertEqual(self.delay(lambda n: late.get(n, 0), LATER + 190), DEPTH + 4)
+
+    def test_slips_back_wait_for_what_doesnt_come(self):
+        late = {LATER: 5, LATER + 10: 5, LATER + 20: 5, LATER + 100: 45}
+        for ticks, delay in ((LATER + 100, DEPTH), (LATER + 110, DEPTH + 2)):
+            self.assertEqual(self.delay(lambda n: late.get(n, 0), ticks, is_soft=False), delay)
+
+    def test_half_a_period_is_left_out_by_no_slip(self):
+        for owed, wanted in ((1, [b"half" + 4 * IDLE, None]), (-1, [None, b"halfhalf"])):
+            buffer = JitterBuffer(0, 8 * IDLE, lambda line: False)
+            buffer.owed, buffer.patience = owed, PATIENCE
+            got = []
+            for tick in range(2):
+                buffer.put(0, 4 * tick, b"half", tick)
+                got.append(buffer.take(tick))
+            self.assertEqual(got, wanted)
 
 
 class Parts(unittest.TestCase):
