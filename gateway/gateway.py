@@ -56,7 +56,8 @@ def words_of(given: Sequence[str]) -> argparse.Namespace:
     check = commands.add_parser("check", help="replays a recording by `trau run`, and compares")
     check.add_argument("folder", type=Path, metavar="FOLDER", help="the recording")
     check.add_argument("--trau", metavar="PROGRAM", help="the program (the one beside this tool, or of the path)")
-    check.add_argument("--again", type=Path, metavar="NEW", help="a new folder for the replay, which is kept (one that is removed)")
+    kept = "a new folder for the replay, kept with its report for report.py and timeline.py (one that is removed)"
+    check.add_argument("--again", type=Path, metavar="NEW", help=kept)
     return parser.parse_args(given)
 
 

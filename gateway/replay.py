@@ -212,7 +212,7 @@ def check(folder: Path, trau: Optional[str], again: Optional[Path]) -> int:
         return 1
     if again:
         with naming(again):
-            again.mkdir(parents=True)
+            again.mkdir(mode=0o700, parents=True)  # call speech, as the recording's folder
     made = again or Path(tempfile.mkdtemp(prefix="trau-gateway-"))
     is_kept = again is not None
     try:

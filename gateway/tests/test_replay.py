@@ -127,6 +127,7 @@ class Checks(InFolder):
         folder, again = self.record(20), self.folder / "again"
         self.assertEqual(self.run_tool(gateway.main, ["check", str(folder), "--again", str(again)])[0], 0)
         self.assertEqual((again / "1.out").read_bytes(), (folder / "1.out").read_bytes())
+        self.assertEqual(again.stat().st_mode & 0o777, 0o700)
 
 
 class Ends(InFolder):
