@@ -42,6 +42,7 @@ class JitterBuffer:
         self.played: List[Tuple[Optional[int], int]] = [(None, 0)] * KEPT  # period p at p % KEPT, with what it lacked
         self.shift = -tick - self.depth
         self.was_late = False  # the newest packet
+        self.late_at = tick  # when a packet came late behind newer ones
         self.owed = 0  # slips on, or below 0 slips back, that wait for a pause
         self.patience = 0  # ticks that they wait
         self.rest_until = tick
@@ -101,6 +102,7 @@ class JitterBuffer:
     def straggle(self, margin: int, tick: int) -> None:
         """A packet was late. If this comes again and again, the path reorders: slips back are owed, so that such packets wait too. One burst
         moves nothing, nor do packets for which the newest would wait too long."""
+        self.late_at = tick
         newest = max(self.periods, default=tick + self.shift)
         is_same = self.bursts and tick < self.bursts[-1][0] + BURST
         if is_same or self.margin(newest, tick) - margin > MOST_MARGIN:
@@ -137,7 +139,11 @@ class JitterBuffer:
         self.drop_past(tick)
 
     def slip(self, tick: int) -> None:
-        """Makes one slip that is owed: where nothing came at once, else after a rest, and in a soft period until patience ends."""
+        """Makes one slip that is owed: where nothing came at once, else after a rest, and in a soft period until patience ends. Slips back for
+        a path that reorders are owed no longer if nothing was late for a while."""
+        if self.owed < -1 and tick - self.late_at > SPAN:
+            self.owed = 0
+            return
         self.patience -= 1
         laid = self.periods.get(tick + self.shift)
         is_speech = laid and (self.owed > 0 or not laid[1])  # a part that didn't come may still come

@@ -122,9 +122,9 @@ class Recorder:
             try:
                 if not has_failed or octets is None:
                     work()
-            except OSError as failure:
+            except Exception as failure:  # of any kind: without this thread nothing would be written, and nobody told
                 has_failed = True
-                self.fail(failure.strerror)
+                self.fail(getattr(failure, "strerror", None) or str(failure))
             self.written += octets or 0
             if self.work.empty():
                 self.oldest = None

@@ -196,6 +196,8 @@ class Switchboard:
 
     def record(self, words: List[str], period: int) -> None:
         """Begins a recording in a new folder, for calls that are opened from now on. If the folder can't be made, it ends."""
+        if "\0" in words[0]:
+            raise Refusal("a folder's name has no NUL")
         recorder = Recorder(Path(words[0]), self.recorders[-1].every, self.say, period)
         if self.is_running:
             recorder.attempt(0, recorder.make)

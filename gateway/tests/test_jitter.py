@@ -168,6 +168,10 @@ class Reordering(unittest.TestCase):
                 held = range(LATER, LATER + count)
                 self.assertEqual(self.delay(lambda n: late if n in held else 0, LATER + 190), DEPTH, (count, late))
 
+    def test_nor_do_three_late_ones_on_a_path_that_is_well_again(self):
+        late = {LATER: 20, LATER + 40: 20, LATER + 80: 20}
+        self.assertEqual(self.delay(lambda n: late.get(n, 0), LATER + 600, is_soft=False), DEPTH)
+
     def test_nor_do_packets_that_are_rarely_late(self):
         self.assertEqual(self.delay(lambda n: 0 if n % 60 else 20, LATER + 190), DEPTH)
 

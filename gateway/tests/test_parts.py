@@ -783,6 +783,19 @@ class Recordings(InFolder):
         ended = f"recording {self.folder / 'new'} ended: the disk is too slow"
         self.assertEqual((said, len(out), clock), ([ended], 160 * 100, "0 every 1\n"))
 
+    def test_a_fault_of_the_writing_thread_ends_the_recording(self):
+        said = []
+        one = self.made(said.append)
+
+        def work():
+            raise ValueError("embedded null byte")
+
+        one.attempt(0, work)
+        one.end(1)
+        one.writer.join()
+        self.assertEqual(said, [f"recording {self.folder / 'new'} ended: embedded null byte"])
+        self.assertEqual((one.folder / "clock.txt").read_text(), "0 every 1\n")
+
     def test_a_disk_that_stalls_is_said(self):
         said, is_over = [], threading.Event()
         one = self.made(said.append)

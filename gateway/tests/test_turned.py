@@ -379,6 +379,12 @@ class Recorded(InFolder):
         self.assertEqual(self.assert_replays(self.folder / "rec"), ["call 1 periods 80 equal", "calls 1 differ 0"])
 
     @with_program
+    def test_a_name_that_no_folder_can_have(self):
+        _, said = self.run_two({20: ["record a\0b"], 21: [open_line(2)]})
+        self.assertIn("refused 20 record a\0b: a folder's name has no NUL", said)
+        self.assertEqual(self.assert_replays(self.folder / "rec")[-1], "calls 2 differ 0")
+
+    @with_program
     def test_after_a_full_disk(self):
         lines = {20: ["close 1", open_line(1)], 30: ["close 1", f"record {self.folder / 'new'}", open_line(2)]}
         turned = Turned(self.folder / "rec")
