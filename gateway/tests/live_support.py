@@ -54,9 +54,10 @@ def even_port() -> int:
 
 
 def limited(file_octets: Optional[int], descriptors: Optional[int]) -> Callable[[], None]:
-    """Limits the size of files, as a full disk does, and the number of descriptors."""
+    """Limits the size of files, as a full disk does, and the number of descriptors; and a hangup ends the process, also under nohup."""
 
     def limit() -> None:
+        signal.signal(signal.SIGHUP, signal.SIG_DFL)
         for kind, most in ((resource.RLIMIT_FSIZE, file_octets), (resource.RLIMIT_NOFILE, descriptors)):
             if most is not None:
                 resource.setrlimit(kind, (most, most))
