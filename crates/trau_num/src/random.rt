@@ -3,6 +3,12 @@
 ghost use Rattle.std.specs.Prelude.{◌≡◌, ℕ, ◌<◌, ◌≤◌};
 ghost use Rattle.trau_num.specs.Random.{state_after_draw, drawn_number};
 
+/// The multiplier of a draw (this project's profile).
+pub const RANDOM_STEP: u16 = 25173;
+
+/// What a draw adds to the product (this project's profile).
+pub const RANDOM_ADD: u16 = 13849;
+
 /// The random source of a call, which starts at the call's number.
 #[derive(Clone, Copy)]
 pub struct Draw {
@@ -20,7 +26,7 @@ impl Draw {
         ensures value { result ≡ drawn_number self.old.r m }
         ensures below { result < m }
     {
-        self.r = self.r.wrapping_mul(25173).wrapping_add(13849);
+        self.r = self.r.wrapping_mul(RANDOM_STEP).wrapping_add(RANDOM_ADD);
         ((u32::from(self.r) * u32::from(m)) >> 16) as u16
     }
 }
