@@ -1,4 +1,5 @@
--- For crates above: a command that a line's fault ended has status 6 (`fault_status`); one that refuses no block never has 8 (`never_refused`).
+-- For crates above: a command that a line's fault ended has status 6 (`fault_status`); one that refuses no block never has 8 (`never_refused`). A calm count didn't
+-- rise (`not_calm`).
 -- Why a command ends as it does, and what it leaves where nothing failed.
 use Rattle.std.proofs.Common.{◌≡◌, ◌≢◌, ◌⊎◌, inl, inr, ⊎_elim, ℕ, ◌<◌, List, [], ◌++◌, length, Some, Ok, Err, refl, sym, ◌∙◌, ap, subst, arith, nat_lt, ◌==◌}
 use Rattle.std.proofs.KnownBytes.{Appends-trans}
@@ -84,7 +85,7 @@ line_rose k o o' x y reaches = (subst (λ stage. Reaches stage o o' x y) is reac
     is = cond-false (nat_lt k k) _ _ (le-ltb k k (omega arith)) ∙ cond-true (k == k) _ _ (eq-eqb k k refl)
 
 -- no count rose where all of them are calm
-not_calm : (before now : ℕ) → IsCalm before now → Rose before now → ⊥
+pub not_calm : (before now : ℕ) → IsCalm before now → Rose before now → ⊥
 not_calm before now calm rose = omega (arith, calm.0, calm.1, rose)
 
 module _ (M : Machine) (before now : ℕ → Side → LineState) (desk middle desk' : DeskState) (call : ℕ) (result : ToolEnd) where

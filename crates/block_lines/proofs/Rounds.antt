@@ -2,11 +2,12 @@
 use Rattle.std.proofs.Common.{◌≡◌, ◌≢◌, inl, inr, ℕ, ◌+◌, ◌*◌, ◌-◌, ◌^◌, ◌<◌, ◌≤◌, List, [], ◌∷◌, ◌++◌, length, All, refl, sym, ◌∙◌, ap, subst, arith}
 use Rattle.std.proofs.Common.{length-append, append-nil}
 use Rattle.std.specs.List.{concat}
-use Rattle.std.proofs.KnownBytes.{Appends-nil, Consumes-nil, Consumes-trans}
+use Rattle.std.proofs.KnownBytes.{Appends-nil, Consumes-nil}
 use Rattle.std.proofs.Math.Nat.{mul-le-mul_left, mul-suc}
 use Rattle.std.proofs.lemmas.List.Elements.{All-append, All-cons, All-nil}
-use Rattle.trau_io.specs.Lines.{LineState, Rose}
+use Rattle.trau_io.specs.Lines.{Rose}
 use Rattle.trau_io.specs.Transfer.{Gives}
+use Rattle.trau_io.proofs.Given.{gives_on}
 use Rattle.block_lines.specs.declared.end.RunEnd.{RunEnd}
 use Rattle.block_lines.specs.declared.end.RunEnd.TheVariants.{Done, Refused, ReadFailed, WriteFailed, DeskFailed}
 use Rattle.block_lines.specs.Machines.{IsBlock, IsLawful, IsNext, IsRest, Machine}
@@ -43,14 +44,6 @@ at_start M stands a law now = record {
   where
     reaches_none : (o : Output) (sent : List ℕ) → sent ≡ [] → Reaches All_of_it o o [] sent
     reaches_none o sent none = subst (Reaches All_of_it o o []) (sym none) (Appends-nil o.written, refl)
-
--- one read behind another
-gives_on : (a b c : LineState) (s t : List ℕ) → Gives a b s → Gives b c t → Gives a c (s ++ t)
-gives_on a b c s t first second = record {
-  read = Consumes-trans _ _ _ _ _ first.read second.read;
-  written = second.written ∙ first.written;
-  later = omega (arith, first.later, second.later);
-}
 
 -- a block, and not less
 block_of : (M : Machine) (next : List ℕ) → IsNext M next → length next ≡ M.shape.octets → IsBlock M next

@@ -13,7 +13,7 @@ use Rattle.call_leg.specs.Down.{down_line, down_now}
 use Rattle.call_leg.proofs.LineLaws.{HandBits, down_now-bits}
 use Rattle.call_spec.proofs.Stretched.{reverse-more}
 use Rattle.trau_bits.proofs.Joined.{bits_of-append}
-use Rattle.run_spec.proofs.LongerLines.{length-down_line}
+use Rattle.call_leg.proofs.LineLaws.{length-down_line}
 
 line-bits : (who : Who) (ts : List CallPeriod) → HandBits ts → AreBits (down_line who ts)
 line-bits who [] hand = All-nil (λ b. b < 2)

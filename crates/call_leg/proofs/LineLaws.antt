@@ -1,10 +1,10 @@
--- For crates above: a period has 320 bits of Down and 160 octets of Out, and Down is made of bits if all handed frames are (`HandBits`).
+-- For crates above: a period has 320 bits of Down and 160 octets of Out, and so have lines of several periods; Down is made of bits if all handed frames are (`HandBits`).
 use Rattle.std.proofs.Common.{◌≡◌, subst, ◌∙◌, ℕ, FitsSigned, w16, ◌*◌, ◌<◌, ℤ, pos, negsuc, true, if◌then◌else◌, nat_le, Option, Some, None, IfSome, unwrap_or}
-use Rattle.std.proofs.Common.{get_or, All, List, [], ◌∷◌, length, drop, replicate, arith, length-take, length-drop}
+use Rattle.std.proofs.Common.{refl, get_or, All, List, [], ◌∷◌, length, drop, replicate, arith, length-take, length-drop}
 use Rattle.std.specs.Prelude.{◌==◌}
 use Rattle.std.specs.List.{range_with_len}
 use Rattle.std.proofs.lemmas.Bool.{cond_both}
-use Rattle.std.proofs.lemmas.List.{length-replicate, length-map}
+use Rattle.std.proofs.lemmas.List.{length-append, length-replicate, length-map}
 use Rattle.std.proofs.lemmas.List.Elements.{All-nil, All-cons, All-head, All-tail, All-replicate, All-append, All-map, All-take, All-drop}
 use Rattle.trau_alaw.specs.declared.Law.{Law}
 use Rattle.trau_alaw.specs.declared.Law.TheVariants.{A, Mu}
@@ -29,9 +29,9 @@ use Rattle.down_framer.specs.Made.{next_start, next_frame, grown, frame_on_line}
 use Rattle.down_framer.proofs.Store.{made-far}
 use Rattle.call_leg.specs.Who.{Who}
 use Rattle.call_leg.specs.Periods.{CallPeriod, quiet_now, handed_in, bridges_begun}
-use Rattle.call_leg.specs.Out.{plain_stretch, decoded_octets, out_of}
+use Rattle.call_leg.specs.Out.{plain_stretch, decoded_octets, out_line, out_of}
 use Rattle.call_leg.specs.Down.{CallFrame, down_period, down_periods, frames_of, coded_stretch, coded_after, coded_frames, speech, frame_now, bits_now}
-use Rattle.call_leg.specs.Down.{down_made, down_now}
+use Rattle.call_leg.specs.Down.{down_line, down_made, down_now}
 
 -- ---- lengths
 
@@ -50,6 +50,16 @@ length-down_now who t past =
     (down_periods (t ∷ past)) in
     let rest = length-drop (320 * length (down_periods past)) line in
     length-take 320 (drop (320 * length (down_periods past)) line) ∙ omega arith
+
+pub length-out_line : (who : Who) (ts : List CallPeriod) → length (out_line who ts) ≡ 160 * length ts
+length-out_line who [] = refl
+length-out_line who (t ∷ past) =
+    omega (arith, length-append (out_line who past) (out_of who (t ∷ past)), length-out_line who past, length-out_of who (t ∷ past))
+
+pub length-down_line : (who : Who) (ts : List CallPeriod) → length (down_line who ts) ≡ 320 * length ts
+length-down_line who [] = refl
+length-down_line who (t ∷ past) =
+    omega (arith, length-append (down_line who past) (down_now who (t ∷ past)), length-down_line who past, length-down_now who t past)
 
 -- ---- octets
 

@@ -1,5 +1,5 @@
 -- Each period's place in the whole lines, and the history of a leg.
-use Rattle.std.proofs.Common.{◌≡◌, refl, sym, ap, ◌∙◌, ℕ, ◌*◌, List, [], ◌∷◌, ◌++◌, length, take, drop, All, arith, length-append, append-nil}
+use Rattle.std.proofs.Common.{◌≡◌, sym, ap, ◌∙◌, ℕ, ◌*◌, List, [], ◌∷◌, ◌++◌, length, take, drop, All, append-nil}
 use Rattle.std.proofs.lemmas.List.{append_assoc}
 use Rattle.std.proofs.lemmas.List.Elements.{All-nil, All-cons, All-head, All-tail}
 use Rattle.std.proofs.Math.Seq.{take-append_seam, drop-append_seam}
@@ -10,7 +10,7 @@ use Rattle.call_leg.specs.Out.{out_of, out_line}
 use Rattle.call_leg.specs.Down.{down_now, down_line}
 use Rattle.call_leg.specs.Memory.{LegMemory}
 use Rattle.call_leg.specs.Stands.{Stands}
-use Rattle.call_leg.proofs.LineLaws.{length-out_of, length-down_now}
+use Rattle.call_leg.proofs.LineLaws.{length-out_of, length-out_line, length-down_now, length-down_line}
 use Rattle.call_spec.specs.History.{IsCallHistory}
 
 -- ---- the octets of a period
@@ -21,20 +21,6 @@ part n m before here after b h =
     let rest : drop n ((before ++ here) ++ after) ≡ here ++ after =
     ap (λ xs. drop n xs) (append_assoc before here after) ∙ ap (λ k. drop k (before ++ (here ++ after))) (sym b) ∙ drop-append_seam before (here ++ after) in
     sym (ap (take m) rest ∙ ap (λ k. take k (here ++ after)) (sym h) ∙ take-append_seam here after)
-
-length-outs : (who : Who) (ts : List CallPeriod) → length (out_line who ts) ≡ 160 * length ts
-length-outs who [] = refl
-length-outs who (t ∷ past) =
-    let before = length-outs who past in
-    let here = length-out_of who (t ∷ past) in
-    length-append (out_line who past) (out_of who (t ∷ past)) ∙ omega arith
-
-length-downs : (who : Who) (ts : List CallPeriod) → length (down_line who ts) ≡ 320 * length ts
-length-downs who [] = refl
-length-downs who (t ∷ past) =
-    let before = length-downs who past in
-    let here = length-down_now who t past in
-    length-append (down_line who past) (down_now who (t ∷ past)) ∙ omega arith
 
 -- later periods add to the lines
 outs-later : (who : Who) (later ts : List CallPeriod) → (more : List ℕ) × (out_line who (later ++ ts) ≡ out_line who ts ++ more)
@@ -56,7 +42,7 @@ pub out-place : (who : Who) (later past : List CallPeriod) (t : CallPeriod) (who
     out_of who (t ∷ past) ≡ take 160 (drop (160 * length past) whole)
 out-place who later past t whole same =
     let more = outs-later who later (t ∷ past) in
-    part (160 * length past) 160 (out_line who past) (out_of who (t ∷ past)) more.0 (length-outs who past) (length-out_of who (t ∷ past))
+    part (160 * length past) 160 (out_line who past) (out_of who (t ∷ past)) more.0 (length-out_line who past) (length-out_of who (t ∷ past))
     ∙ ap (λ xs. take 160 (drop (160 * length past) xs)) (sym more.1 ∙ same)
 
 -- **.. and so do its bits of the Down line.**
@@ -64,7 +50,7 @@ pub down-place : (who : Who) (later past : List CallPeriod) (t : CallPeriod) (wh
     down_now who (t ∷ past) ≡ take 320 (drop (320 * length past) whole)
 down-place who later past t whole same =
     let more = downs-later who later (t ∷ past) in
-    part (320 * length past) 320 (down_line who past) (down_now who (t ∷ past)) more.0 (length-downs who past) (length-down_now who t past)
+    part (320 * length past) 320 (down_line who past) (down_now who (t ∷ past)) more.0 (length-down_line who past) (length-down_now who t past)
     ∙ ap (λ xs. take 320 (drop (320 * length past) xs)) (sym more.1 ∙ same)
 
 -- ---- the history of a leg

@@ -5,9 +5,10 @@ use Rattle.std.proofs.lemmas.Bool.{cases_lt, le-leb, lt-ltb, le-ltb, cond-true, 
 use Rattle.std.specs.Prelude.{is_some, ◌-◌, ◌&&◌, nat_le}
 use Rattle.std.proofs.lemmas.List.{map-append, length-map, length-reverse}
 use Rattle.std.proofs.lemmas.List.Elements.{All-head, All-tail}
-use Rattle.down_framer.specs.Made.{MadeFrame, next_start}
+use Rattle.down_framer.specs.Made.{MadeFrame}
 use Rattle.down_framer.specs.ByNumber.{Bridge, NumberedFrame, when, count_from, carried_item, numbered_frames, numbered_start, longer, bridges_in, asked_fields}
 use Rattle.down_framer.specs.ByNumber.{numbered_of}
+use Rattle.down_framer.proofs.Carried.{numbered_start-of}
 use Rattle.down_framer.proofs.FrameLaws.{in_time}
 use Rattle.call_leg.specs.Who.{Who}
 use Rattle.call_leg.specs.Periods.{CallPeriod}
@@ -93,10 +94,6 @@ all_within n (f ∷ fs) h =
     cond-true (nat_lt (when f.start) n) (numbered_of f ∷ filter (is_within n) (map numbered_of fs)) _ (lt-ltb (when f.start) n (omega arith)) ∙
     ap (λ gs. numbered_of f ∷ gs) (all_within n fs (All-tail (λ f. (f.period ≡ when f.start) × (f.start + 160 ≤ 160 * n)) f fs h))
 
-start-of : {A : Type 0} (fs : List (MadeFrame A)) → numbered_start (map numbered_of fs) ≡ next_start fs
-start-of [] = refl
-start-of (f ∷ fs) = refl
-
 -- where the call's first frame outside of its periods would start
 far_enough : (ts : List CallPeriod) → IsCallHistory ts →
     160 * length ts < numbered_start (numbered_frames (reverse (bridges_in (down_periods ts))) (asked_fields (down_periods ts)) (length (frames_of ts))) + 160
@@ -104,7 +101,7 @@ far_enough ts h =
     let time = in_time (down_periods ts) in
     let next = time.next in
     let long = length-down_periods ts in
-    let start = start-of (frames_of ts) in
+    let start = numbered_start-of (frames_of ts) in
     subst (λ fs. 160 * length ts < numbered_start fs + 160) (made-in_order (down_periods ts) h.bridges) (omega arith)
 
 bridges-of : (ts : List CallPeriod) → map without_items (reverse (spans_in_history ts)) ≡ reverse (bridges_in (down_periods ts))

@@ -21,7 +21,8 @@ match-carried a p b q h m =
     (λ i l. sym (h i (omega arith)) ∙ match_zeros (bit_in a) p m i l)
     (λ row l r. sym (h (16 * row) (omega arith)) ∙ match_ones (bit_in a) p m row l r)
 
-both_ways : (b : Bool) → b ≡ true → b ≡ false → ⊥
+-- no truth value is both
+pub both_ways : (b : Bool) → b ≡ true → b ≡ false → ⊥
 both_ways b t f = cc
 
 pub no_match-carried : (a : List ℕ) (p : ℕ) (b : List ℕ) (q : ℕ) → SameFrom a p b q → is_match (bit_in a) p ≡ false → is_match (bit_in b) q ≡ false

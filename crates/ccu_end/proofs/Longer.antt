@@ -1,16 +1,13 @@
 -- The frames of one period more are found behind those before it.
-use Rattle.std.proofs.Common.{◌≡◌, ℕ, ◌+◌, ◌≤◌, ◌<◌, Bool, true, false, List, [], ◌∷◌, ◌++◌, length, length-append, sym, ◌∙◌, inl, inr, arith}
+use Rattle.std.proofs.Common.{◌≡◌, ℕ, ◌+◌, ◌≤◌, ◌<◌, true, false, List, [], ◌∷◌, ◌++◌, length, length-append, sym, ◌∙◌, inl, inr, arith}
 use Rattle.std.proofs.lemmas.Bool.{cases_lt, le-leb, leb-true, and_parts, and_from, false_from_ne_true}
 use Rattle.std.proofs.lemmas.List.{get_or_append_left}
 use Rattle.trau_frame.specs.Match.{bit_in, is_match}
 use Rattle.ccu_end.specs.Found.{FoundFrame, is_found_at, FoundFrom}
 use Rattle.ccu_end.specs.Window.{index_of, NoneNext, AreNext, low_after}
-use Rattle.ccu_end.proofs.Alike.{SameFrom, match-carried, no_match-carried, read-carried}
+use Rattle.ccu_end.proofs.Alike.{SameFrom, both_ways, match-carried, no_match-carried, read-carried}
 
 -- ---- found or not, by the match
-
-both_ways : (b : Bool) → b ≡ true → b ≡ false → ⊥
-both_ways b t f = cc
 
 -- a match that fits is found, and what is found matches and fits
 found-from : (bits : List ℕ) (q : ℕ) → q + 316 ≤ length bits → is_match (bit_in bits) q ≡ true → is_found_at bits q ≡ true

@@ -1,12 +1,10 @@
 -- A list of bits has one list of found frames.
-use Rattle.std.proofs.Common.{◌≡◌, ℕ, ◌+◌, Bool, true, false, List, [], ◌∷◌, refl, sym, ap, ◌∙◌, subst, inl, inr}
+use Rattle.std.proofs.Common.{◌≡◌, ℕ, ◌+◌, List, [], ◌∷◌, refl, sym, ap, ◌∙◌, subst, inl, inr}
 use Rattle.std.proofs.lemmas.Bool.{cases_order}
 use Rattle.trau_frame.specs.Match.{bit_in, frame_at}
 use Rattle.ccu_end.specs.Read.{down_frame_in}
 use Rattle.ccu_end.specs.Found.{FoundFrame, is_found_at, FoundFrom}
-
-both_ways : (b : Bool) → b ≡ true → b ≡ false → ⊥
-both_ways b t f = cc
+use Rattle.ccu_end.proofs.Alike.{both_ways}
 
 -- the first frames of two lists have one place
 same_place : (bits : List ℕ) (low : ℕ) (f g : FoundFrame) (fs gs : List FoundFrame) → FoundFrom bits low (f ∷ fs) → FoundFrom bits low (g ∷ gs) →

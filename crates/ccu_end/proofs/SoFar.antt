@@ -3,9 +3,9 @@ use Rattle.std.proofs.Common.{◌≡◌, ℕ, ◌*◌, ◌≤◌, List, [], ◌�
 use Rattle.std.specs.List.{concat}
 use Rattle.std.proofs.lemmas.Grind.{flat_map-append}
 use Rattle.std.proofs.lemmas.List.Elements.{All-nil}
-use Rattle.std.proofs.KnownBytes.{Consumes-nil, Consumes-trans, Appends-nil, Appends-trans}
+use Rattle.std.proofs.KnownBytes.{Consumes-nil, Appends-nil, Appends-trans}
 use Rattle.trau_io.specs.Lines.{LineState}
-use Rattle.trau_io.specs.Transfer.{Gives}
+use Rattle.trau_io.proofs.Given.{gives_on}
 use Rattle.trau_io.specs.Desks.{DeskState}
 use Rattle.ccu_end.specs.Found.{FoundFrame}
 use Rattle.ccu_end.specs.Asked.{asked}
@@ -14,14 +14,7 @@ use Rattle.ccu_end.specs.Told.{line_of, lines_of, listed, octets_saying, sent_up
 use Rattle.ccu_end.specs.Follows.{Gains, DeskHears, Moves}
 use Rattle.ccu_end.specs.FollowStep.{NoFault}
 
--- what is given, gained and told, and then more
-gives_on : (a b c : LineState) (g h : List ℕ) → Gives a b g → Gives b c h → Gives a c (g ++ h)
-gives_on a b c g h first second = record {
-  read = Consumes-trans _ _ _ _ _ first.read second.read;
-  written = second.written ∙ first.written;
-  later = omega (arith, first.later, second.later);
-}
-
+-- what is gained and printed, and then more
 gains_on : (a b c : LineState) (s t : List ℕ) → Gains a b s → Gains b c t → Gains a c (s ++ t)
 gains_on a b c s t first second = record {
   written = Appends-trans _ _ _ _ _ first.written second.written;

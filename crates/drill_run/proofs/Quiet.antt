@@ -19,9 +19,10 @@ use Rattle.farm_report.specs.View.{ReportView}
 use Rattle.round_lines.specs.Rounds.{IsIncoming}
 use Rattle.farm_run.specs.declared.pace.Pace.{Pace}
 use Rattle.farm_run.specs.Runs.{AreTold, IsRunOver, Runs, is_listed}
+use Rattle.farm_drill.proofs.Setting.{drilled-of_call}
 use Rattle.drill_run.specs.Rooms.{AreAmple, DrillMemory, IsAmple, known_lines, room_by}
 use Rattle.drill_run.proofs.Opened.{opened_drilled}
-use Rattle.drill_run.proofs.Rooms.{below, drilled-of_call, found_in, high, low, side_at}
+use Rattle.drill_run.proofs.Rooms.{below, found_in, high, low, side_at}
 use Rattle.drill_run.proofs.Lines.{known-line, none_listed, numbered, short_of, told-same, whole_down, whole_out}
 
 -- What is known behind the run of a drill: `d` are its lines as they were made, `e` those behind the run.

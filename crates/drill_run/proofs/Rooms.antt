@@ -1,17 +1,19 @@
 -- An operation leaves each line its room.
-use Rattle.std.proofs.Common.{◌≡◌, ◌≢◌, refl, sym, ap, ◌∙◌, subst, ℕ, zero, suc, ◌+◌, ◌-◌, ◌*◌, ◌/◌, ◌%◌, ◌<◌, ◌≤◌, Bool, true, false, inl, inr, Option, Some}
+use Rattle.std.proofs.Common.{◌≡◌, refl, sym, ap, ◌∙◌, subst, ℕ, zero, suc, ◌+◌, ◌-◌, ◌*◌, ◌/◌, ◌%◌, ◌<◌, ◌≤◌, Bool, true, false, inl, inr, Option, Some}
 use Rattle.std.proofs.Common.{List, [], ◌∷◌, ◌++◌, length, take, arith, slice_get, slice_set}
-use Rattle.std.specs.Prelude.{◌==◌, ◌||◌, if◌then◌else◌, min, max, nat_lt, nat_le, slice_index, Result, Ok, Err, IfSome}
+use Rattle.std.specs.Prelude.{◌==◌, ◌||◌, if◌then◌else◌, min, max, nat_lt, slice_index, Result, Ok, Err, IfSome}
 use Rattle.std.specs.List.{list_any}
-use Rattle.std.proofs.lemmas.Bool.{cases_eq, eqb-true, le-leb}
-use Rattle.std.proofs.lemmas.List.{length-append, length-take, length-set, get_or-set_same, get_or-set_other}
-use Rattle.std.proofs.lemmas.Option.{slice_get-get_or, slice_get_within}
+use Rattle.std.proofs.lemmas.Bool.{cases_eq, eqb-true}
+use Rattle.std.proofs.lemmas.List.{length-append, length-take, length-set}
+use Rattle.std.proofs.lemmas.Option.{slice_get_within}
 use Rattle.trau_io.specs.declared.line.Failed.{Failed}
 use Rattle.trau_io.specs.declared.line.Side.{Side}
 use Rattle.trau_io.specs.declared.line.Side.TheVariants.{Up, Pcm, Down, Out}
 use Rattle.trau_io.specs.Indices.{number_of_side, index_of_line}
 use Rattle.trau_io.specs.Memory.{MemoryLine, is_failing, cut_of, read_answer, write_answer, after_read, after_write}
+use Rattle.trau_io.proofs.Tables.{number_of_side-below}
 use Rattle.farm_drill.specs.Lines.{AreDrilled, drilled_line, line_of_call}
+use Rattle.farm_drill.proofs.Setting.{drilled-of_call, get-other, get-same}
 use Rattle.drill_run.specs.Rooms.{IsAmple, AreAmple, DrillMemory, room_by}
 
 failed : Failed
@@ -58,13 +60,6 @@ ample_write room l bytes res a e = by (l.room == 0) refl
         sum m k e h = omega (arith, a.whole, e, h, length-append l.written (take m bytes), length-take m bytes)
 
 -- ---- the table
-
-get-same : (xs : List MemoryLine) (i : ℕ) (x : MemoryLine) → i < length xs → slice_get (slice_set xs i x) i ≡ Some x
-get-same xs i x h = slice_get-get_or (slice_set xs i x) i x (omega (arith, h, length-set xs i x)) ∙ ap Some (get_or-set_same xs i x x h)
-
-get-other : (xs : List MemoryLine) (i j : ℕ) (x : MemoryLine) → j < length xs → j ≢ i → slice_get (slice_set xs i x) j ≡ slice_get xs j
-get-other xs i j x h ne =
-    slice_get-get_or (slice_set xs i x) j x (omega (arith, h, length-set xs i x)) ∙ ap Some (get_or-set_other xs i j x x ne) ∙ sym (slice_get-get_or xs j x h)
 
 pub found_in : {X : Type 0} (xs : List X) (i : ℕ) → i < length xs → (x : X) × (slice_get xs i ≡ Some x)
 found_in [] i l = absurd (omega arith)
@@ -138,12 +133,6 @@ side_at call Pcm = omega arith
 side_at call Down = omega arith
 side_at call Out = omega arith
 
-small : (s : Side) → number_of_side s < 4
-small Up = omega arith
-small Pcm = omega arith
-small Down = omega arith
-small Out = omega arith
-
 -- a place is that of a line
 record IsPlace (i : ℕ) : Type 0 where
   pub call : ℕ
@@ -165,13 +154,6 @@ ample_at_first seed periods call Pcm = record { never = refl; whole = refl; full
 ample_at_first seed periods call Down = record { never = refl; whole = omega arith; full = λ h. absurd (omega (arith, h)) }
 ample_at_first seed periods call Out = record { never = refl; whole = omega arith; full = λ h. absurd (omega (arith, h)) }
 
-pub drilled-of_call : (seed calls periods call : ℕ) (s : Side) → 1 ≤ call → call ≤ calls →
-    drilled_line seed calls periods call s ≡ line_of_call seed call periods s
-drilled-of_call seed calls periods call s low high =
-    let least : nat_le 1 call ≡ true = le-leb 1 call low in
-    let most : nat_le call calls ≡ true = le-leb call calls high in
-    rw (least, most) refl
-
 -- **So the lines of a drill have their rooms.**
 pub ample_drilled : (seed calls periods : ℕ) (lines : List MemoryLine) → calls ≤ 256 → AreDrilled seed calls periods lines →
     AreAmple (record { lines = lines; calls = calls; periods = periods })
@@ -185,7 +167,7 @@ ample_drilled seed calls periods lines few are = record { long = are.count; each
         let c = at.call in
         let s = at.side in
         let is = at.is in
-        let first : 1 ≤ c = omega (arith, is, low, small s) in
+        let first : 1 ≤ c = omega (arith, is, low, number_of_side-below s) in
         let last : c ≤ calls = omega (arith, is, below) in
         let made : slice_get lines (index_of_line c s) ≡ Some (drilled_line seed calls periods c s) = are.each c s (omega (arith, last, few)) in
         let here : slice_get lines (index_of_line c s) ≡ Some l = subst (λ (k : ℕ). slice_get lines k ≡ Some l) is e in

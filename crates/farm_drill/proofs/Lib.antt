@@ -1,6 +1,6 @@
 -- Lemmas on draws, lines and orders.
 mod Drawing
 mod Octets
-mod Setting
+pub mod Setting
 mod Texts
 mod Spelling

@@ -1,3 +1,4 @@
+-- For crates above: a drilled call has its lines (`drilled-of_call`), and what a table of lines has where one was set (`get-same`, `get-other`).
 -- The lines of a drill, as those of one call after the other are set.
 use Rattle.std.proofs.Common.{◌≡◌, ◌≢◌, ℕ, zero, suc, ◌-◌, ◌<◌, ◌≤◌, Bool, true, false, ◌&&◌, inl, inr, List, [], length, Some, slice_get, slice_set, refl, sym}
 use Rattle.std.proofs.Common.{ap, ◌∙◌, subst, arith}
@@ -8,28 +9,23 @@ use Rattle.std.proofs.lemmas.Option.{slice_get-get_or}
 use Rattle.call_number.specs.declared.TheConstants.{NUMBERS}
 use Rattle.trau_io.specs.declared.line.Side.{Side}
 use Rattle.trau_io.specs.declared.line.Side.TheVariants.{Up, Pcm, Down, Out}
-use Rattle.trau_io.specs.Indices.{number_of_side, index_of_line}
+use Rattle.trau_io.specs.Indices.{index_of_line}
 use Rattle.trau_io.specs.Memory.{MemoryLine, new_line}
+use Rattle.trau_io.proofs.Tables.{number_of_side-below}
 use Rattle.farm_drill.specs.Lines.{line_of_call, drilled_line, AreDrilled}
 
 -- ---- places
 
-small : (s : Side) → number_of_side s < 4
-small Up = omega arith
-small Pcm = omega arith
-small Down = omega arith
-small Out = omega arith
-
 within : (call : ℕ) (s : Side) → call < NUMBERS → index_of_line call s < 16388
-within call s h = omega (arith, h, small s)
+within call s h = omega (arith, h, number_of_side-below s)
 
 other_call : (c call : ℕ) (s side : Side) → c ≢ call → index_of_line c s ≢ index_of_line call side
-other_call c call s side other = λ same. other (omega (arith, same, small s, small side))
+other_call c call s side other = λ same. other (omega (arith, same, number_of_side-below s, number_of_side-below side))
 
-get-same : (xs : List MemoryLine) (i : ℕ) (x : MemoryLine) → i < length xs → slice_get (slice_set xs i x) i ≡ Some x
+pub get-same : (xs : List MemoryLine) (i : ℕ) (x : MemoryLine) → i < length xs → slice_get (slice_set xs i x) i ≡ Some x
 get-same xs i x h = slice_get-get_or (slice_set xs i x) i x (omega (arith, h, length-set xs i x)) ∙ ap Some (get_or-set_same xs i x x h)
 
-get-other : (xs : List MemoryLine) (i j : ℕ) (x : MemoryLine) → j < length xs → j ≢ i → slice_get (slice_set xs i x) j ≡ slice_get xs j
+pub get-other : (xs : List MemoryLine) (i j : ℕ) (x : MemoryLine) → j < length xs → j ≢ i → slice_get (slice_set xs i x) j ≡ slice_get xs j
 get-other xs i j x h ne =
     slice_get-get_or (slice_set xs i x) j x (omega (arith, h, length-set xs i x)) ∙ ap Some (get_or-set_other xs i j x x ne) ∙ sym (slice_get-get_or xs j x h)
 
@@ -42,7 +38,7 @@ both_false : (a b : Bool) → b ≡ false → (a && b) ≡ false
 both_false true b e = e
 both_false false b e = refl
 
-drilled-of_call : (seed calls periods call : ℕ) (s : Side) → 1 ≤ call → call ≤ calls → drilled_line seed calls periods call s ≡ line_of_call seed call periods s
+pub drilled-of_call : (seed calls periods call : ℕ) (s : Side) → 1 ≤ call → call ≤ calls → drilled_line seed calls periods call s ≡ line_of_call seed call periods s
 drilled-of_call seed calls periods call s low high =
     let least : nat_le 1 call ≡ true = le-leb 1 call low in
     let most : nat_le call calls ≡ true = le-leb call calls high in

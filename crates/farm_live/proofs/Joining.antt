@@ -7,6 +7,7 @@ use Rattle.std.proofs.Math.Seq.{get_or-append_seam}
 use Rattle.std.proofs.lemmas.Bool.{cases_eq, cases_lt}
 use Rattle.std.proofs.lemmas.List.{reverse-append, get_or_append_left}
 use Rattle.std.proofs.lemmas.Grind.{flat_map-append}
+use Rattle.trau_num.proofs.Lists.{same_default}
 use Rattle.crossbeam_queue.specs.Passes.{IsPassOf}
 use Rattle.farm_live.specs.declared.post.BookOf.{BookOf}
 use Rattle.farm_live.specs.declared.slot.View.{View}
@@ -18,7 +19,6 @@ use Rattle.farm_live.specs.declared.live.Closed.{Closed}
 use Rattle.farm_live.specs.Live.{view_of, book_at, IsSeat, IsSeated}
 use Rattle.farm_live.specs.Closing.{view_at, views_at, HasAll, IsJoined, AreJoined, AreHalfJoined, AreAllSeated, IsClosedAs, IsClosedBy}
 use Rattle.farm_live.proofs.NewFarm.{Line}
-use Rattle.farm_live.proofs.Rows.{same_default}
 use Rattle.trau_num.proofs.Weights.{weigh-append}
 
 -- what one view more has
@@ -61,10 +61,6 @@ all_at P new rest u a = subst P (get_or-append_seam new u rest u) (a (length new
 -- what holds of all items holds of a prefix
 pub all_front : {X : Type 0} (P : X → Type 0) (xs ys : List X) → All P (xs ++ ys) → All P xs
 all_front P xs ys a = λ k d h. subst P (get_or_append_left xs ys d k h) (a k d (let l = length-append xs ys in omega arith))
-
-pub no_items : {X : Type 0} (xs : List X) → length xs ≡ 0 → xs ≡ []
-no_items [] e = refl
-no_items (x ∷ xs) e = absurd (omega arith)
 
 -- one caller more, the last one's first
 pub turned_round : {X : Type 0} (cs rest : List X) (u : X) → (cs ++ reverse rest) ++ u ∷ [] ≡ cs ++ reverse (u ∷ rest)

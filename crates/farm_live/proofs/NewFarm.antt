@@ -1,12 +1,13 @@
--- For crates above: the numbers of a new farm's first and last callers (`first_numbers`, `last_numbers`), and lent lists (`written_back`).
+-- For crates above: the numbers of a new farm's first and last callers (`first_numbers`, `last_numbers`).
 -- The seats of a new farm.
 use Rattle.std.proofs.Common.{◌≡◌, ◌≢◌, ℕ, zero, suc, ◌+◌, ◌-◌, ◌<◌, ◌≤◌, true, false, ◌==◌, Option, List, [], ◌∷◌, ◌++◌, length, take, drop, set, get_or}
 use Rattle.std.proofs.Common.{get_or-set_same, get_or-set_other, refl, sym, ap, ◌∙◌, subst, ⊎_elim, arith, length-append}
 use Rattle.std.proofs.Math.ListN.{length-set}
-use Rattle.std.proofs.Math.Seq.{get_or-append_seam, take-append_seam}
+use Rattle.std.proofs.Math.Seq.{get_or-append_seam}
 use Rattle.std.proofs.lemmas.Bool.{cases_eq, cases_lt}
 use Rattle.std.proofs.lemmas.List.{get_or_append_left}
 use Rattle.std.proofs.lemmas.Grind.{common_steps}
+use Rattle.trau_num.proofs.Lists.{each_snoc, same_default}
 use Rattle.crossbeam_queue.specs.declared.array_queue.Doing.{Doing}
 use Rattle.crossbeam_queue.specs.declared.array_queue.Slotted.{Slotted}
 use Rattle.farm_live.specs.declared.post.BookOf.{BookOf}
@@ -17,7 +18,6 @@ use Rattle.farm_live.specs.declared.live.Caller.{Caller}
 use Rattle.farm_live.specs.Book.{of_caller}
 use Rattle.farm_live.specs.Slot.{times, is_at, bit, ascending, all_callers}
 use Rattle.farm_live.specs.Live.{book_at, AreSeats, IsNewSeat, AreNew, IsNewRow, numbers_of, IsNewCaller}
-use Rattle.farm_live.proofs.Rows.{same_default}
 
 -- ---- the numbers
 
@@ -54,10 +54,6 @@ drop_next i = let e : suc i ≡ i + 1 = omega arith in drop_more i all_callers �
 
 -- ---- lists
 
--- a list that was lent in part, and is back
-pub written_back : {X : Type 0} (xs rest : List X) (n : ℕ) → length xs ≡ n → take n (xs ++ rest) ≡ xs
-written_back xs rest n e = subst (λ (k : ℕ). take k (xs ++ rest) ≡ xs) e (take-append_seam xs rest)
-
 -- an index below k + 1 that is not k is below k
 not_last : (j k : ℕ) → j < k + 1 → j ≢ k → j < k
 not_last j k h ne = ⊎_elim (λ (lt : j < k). lt) (λ (le : k ≤ j). absurd (ne (let e : j ≡ k = omega arith in e))) (cases_lt j k)
@@ -69,13 +65,6 @@ first_numbers callers i h = let e : (i + 1 == callers) ≡ false = grind (arith,
 -- the last caller has all numbers that are left
 pub last_numbers : (callers i : ℕ) → i + 1 ≡ callers → drop i all_callers ≡ numbers_of callers i
 last_numbers callers i h = let e : (i + 1 == callers) ≡ true = grind (arith, common_steps) in rw e refl
-
--- a property of each place of a list that is one longer
-pub each_snoc : {X : Type 0} (P : ℕ → X → Type 0) (xs : List X) (y : X) → ((i : ℕ) (d : X) → i < length xs → P i (get_or xs i d)) → P (length xs) y →
-    (i : ℕ) (d : X) → i < length (xs ++ y ∷ []) → P i (get_or (xs ++ y ∷ []) i d)
-each_snoc P xs y old new i d h = ⊎_elim (λ (lt : i < length xs). subst (P i) (sym (get_or_append_left xs (y ∷ []) d i lt)) (old i d lt))
-    (λ (le : length xs ≤ i). let e : length xs ≡ i = omega (arith, length-append xs (y ∷ [])) in
-    subst (λ (k : ℕ). P k (get_or (xs ++ y ∷ []) k d)) e (subst (P (length xs)) (sym (get_or-append_seam xs y [] d)) new)) (cases_lt i (length xs))
 
 abbrev pub Line : Type 0 → Type 0 → Type 0
 Line Q A = Slotted (Option Token) (Doing Token View) Q A

@@ -1,8 +1,8 @@
 -- A caller's seats, one of which changes.
-use Rattle.std.proofs.Common.{◌≡◌, ◌≢◌, ℕ, zero, suc, ◌-◌, ◌<◌, Option, List, [], ◌∷◌, length, refl, set, get_or, get_or-set_same, get_or-set_other, sym, ◌∙◌, subst}
-use Rattle.std.proofs.Common.{ap, ⊎_elim, arith}
+use Rattle.std.proofs.Common.{◌≡◌, ℕ, ◌-◌, ◌<◌, Option, List, length, set, get_or, get_or-set_same, get_or-set_other, sym, ◌∙◌, subst}
+use Rattle.std.proofs.Common.{ap, arith}
 use Rattle.std.proofs.Math.ListN.{length-set}
-use Rattle.std.proofs.lemmas.Bool.{cases_eq}
+use Rattle.trau_num.proofs.Lists.{each_set, same_default}
 use Rattle.crossbeam_queue.specs.declared.array_queue.Doing.{Doing}
 use Rattle.crossbeam_queue.specs.declared.array_queue.Slotted.{Slotted}
 use Rattle.farm_live.specs.declared.post.BookOf.{BookOf}
@@ -11,20 +11,6 @@ use Rattle.farm_live.specs.declared.slot.View.{View}
 use Rattle.farm_live.specs.declared.live.Seat.{Seat}
 use Rattle.farm_live.specs.declared.live.Caller.{Caller}
 use Rattle.farm_live.specs.Live.{view_of, book_at, IsSeat, AreSeats, Turns}
-
--- a property of each place after a write to one
-pub each_set : {X : Type 0} (P : ℕ → X → Type 0) (xs : List X) (i : ℕ) (y : X) → i < length xs → P i y →
-    ((j : ℕ) (d : X) → j < length xs → P j (get_or xs j d)) →
-    (j : ℕ) (d : X) → j < length (set xs i y) → P j (get_or (set xs i y) j d)
-each_set P xs i y there new old j d in_range =
-    let in_range' : j < length xs = omega (arith, length-set xs i y) in
-    ⊎_elim (λ (e : j ≡ i). subst (λ (k : ℕ). P k (get_or (set xs i y) k d)) (sym e) (subst (P i) (sym (get_or-set_same xs i y d there)) new))
-    (λ (ne : j ≢ i). subst (P j) (sym (get_or-set_other xs i j y d ne)) (old j d in_range')) (cases_eq j i)
-
-pub same_default : {X : Type 0} (xs : List X) (i : ℕ) (a b : X) → i < length xs → get_or xs i a ≡ get_or xs i b
-same_default [] i a b h = absurd (omega arith)
-same_default (x ∷ xs) zero a b h = refl
-same_default (x ∷ xs) (suc i) a b h = same_default xs i a b (omega arith)
 
 module _ {Q A : Type 0} (inbox : ℕ) (slots : List (Slotted (Option Token) (Doing Token View) Q A)) (caller : ℕ) where
   -- one seat of a caller changes

@@ -8,6 +8,7 @@ use Rattle.trau_io.specs.declared.line.Line.{Line}
 use Rattle.trau_io.specs.declared.line.Side.{Side}
 use Rattle.trau_io.specs.declared.line.Side.TheVariants.{Up, Pcm, Down, Out}
 use Rattle.trau_io.specs.Indices.{number_of_side, index_of_line}
+use Rattle.trau_io.proofs.Tables.{number_of_side-below}
 use Rattle.round_lines.specs.Seats.{SeatMemory, down_given, out_given}
 use Rattle.round_lines.specs.Rounds.{Rising, IsOutgoing, seat_at, call_at}
 use Rattle.farm_rounds.specs.Sums.{AddsSeat, Adds, no_sums, sum_in}
@@ -38,12 +39,6 @@ side_numbered (suc zero) = Pcm
 side_numbered (suc (suc zero)) = Down
 side_numbered (suc (suc (suc n))) = Out
 
-number_small : (s : Side) → number_of_side s < 4
-number_small Up = omega arith
-number_small Pcm = omega arith
-number_small Down = omega arith
-number_small Out = omega arith
-
 numbered_back : (s : Side) → side_numbered (number_of_side s) ≡ s
 unfolding side_numbered
 numbered_back Up = refl
@@ -57,8 +52,8 @@ pub added_elsewhere : (sums old : List ℕ) (call at b : ℕ) (side : Side) → 
 added_elsewhere sums old call at b side same here c s other =
     get_or-set_other sums at (index_of_line c s) b 0
     (λ e.
-    let low = number_small s in
-    let less = number_small side in
+    let low = number_of_side-below s in
+    let less = number_of_side-below side in
     let sides : number_of_side s ≡ number_of_side side = omega arith in
     other (omega arith) (sym (numbered_back s) ∙ ap side_numbered sides ∙ numbered_back side))
     ∙ ap (λ (xs : List ℕ). sum_in xs c s) same

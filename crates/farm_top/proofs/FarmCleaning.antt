@@ -18,7 +18,8 @@ use Rattle.farm_top.specs.FarmClean.{CleanFarm, CleanTelling, IsCalmRun, TellsOr
 use Rattle.farm_top.specs.FarmEnded.{EndedTelling, GainsFront, RunEnded, report_told}
 use Rattle.farm_top.specs.Headline.{Headline}
 use Rattle.farm_top.specs.Save.{CarriesSave, CleanSave, SaveEnded, SavesOrders, mark_told}
-use Rattle.farm_top.proofs.Taking.{NotTaken, Taken, done_of, front_out, not_rose, opened_rose, read_out, status_out, taken, whole_out}
+use Rattle.block_lines.proofs.Ending.{not_calm}
+use Rattle.farm_top.proofs.Taking.{NotTaken, Taken, done_of, front_out, opened_rose, read_out, status_out, taken, whole_out}
 use Rattle.farm_top.proofs.ToldRuns.{ToldOrCut, ToldRun, cut_none, cut_whole, told_by_run, told_by_save}
 
 -- ---- of orders that the desk tells, whatever is done with them that comes to this
@@ -130,7 +131,7 @@ module _ (text_of : Run → List TheLine → List ℕ) (good : GoodOrBad) (one :
       to_come = tells.to_come ∙ ran.all_read;
     })
     well_told ran (inl (inr (is, tells))) =
-        absurd (not_rose desk.write_faults desk'.write_faults calm.writing (subst (λ (n : ℕ). Rose n desk'.write_faults) ran.write_faults tells.cause.failed))
+        absurd (not_calm desk.write_faults desk'.write_faults calm.writing (subst (λ (n : ℕ). Rose n desk'.write_faults) ran.write_faults tells.cause.failed))
     well_told ran (inr ends) = inl ends.status_is
 
     ends_well : (status ≡ 5) ⊎ EndsWell
@@ -141,7 +142,7 @@ module _ (text_of : Run → List TheLine → List ℕ) (good : GoodOrBad) (one :
     ]
       where
         only_memory : ((status ≡ 3) × Rose desk.read_faults desk'.read_faults) ⊎ (status ≡ 5) → status ≡ 5
-        only_memory (inl (is, rose)) = absurd (not_rose desk.read_faults desk'.read_faults calm.reading rose)
+        only_memory (inl (is, rose)) = absurd (not_calm desk.read_faults desk'.read_faults calm.reading rose)
         only_memory (inr is) = is
 
     -- orders that are accepted are run, unless there is no memory

@@ -32,7 +32,8 @@ use Rattle.farm_top.specs.Headline.{HeadlineFrom}
 use Rattle.farm_top.specs.Resume.{CarriesResume, FindsAndTells, FollowsMarked, ResumesAndTells, ResumesOrders}
 use Rattle.farm_top.specs.ResumeEnded.{JoinsMarked, ResumeDiffers, ResumeEnded}
 use Rattle.farm_top.proofs.ResumeCausing.{marked_not_bad, same_mark, same_orders, taken_not_bad, taken_not_long}
-use Rattle.farm_top.proofs.Taking.{NotTaken, Taken, done_of, front_out, none_left, not_rose, opened_rose, read_out, status_out, whole_out}
+use Rattle.block_lines.proofs.Ending.{not_calm}
+use Rattle.farm_top.proofs.Taking.{NotTaken, Taken, done_of, front_out, none_left, opened_rose, read_out, status_out, whole_out}
 use Rattle.farm_top.proofs.ResumeCutting.{cut_none_from, cut_whole, due_of}
 use Rattle.farm_top.proofs.TwoParts.{both_stay, down_whole, out_whole, run_of_first}
 
@@ -211,7 +212,7 @@ module _ (good : GoodOrBad) (one : SpellsOneList) (mark_good : NotGoodAndBad) (o
     only_memory : Else → status ≡ 5
     only_memory (inl cut) = cut.1
     only_memory (inr none) = elim none.why [
-      | inl rose ↦ absurd (not_rose desk.read_faults desk'.read_faults calm.reading rose.1)
+      | inl rose ↦ absurd (not_calm desk.read_faults desk'.read_faults calm.reading rose.1)
       | inr is ↦ is
     ]
 
@@ -222,7 +223,7 @@ module _ (good : GoodOrBad) (one : SpellsOneList) (mark_good : NotGoodAndBad) (o
     well_told : (ran : Ran) → TellsReport ran.done.report ran.read desk' status → (status ≡ 0) ⊎ (status ≡ 5)
     well_told ran (inl (inl (is, tells))) = inl (is ∙ done_of before now calm.lines ran.done.report.failed ran.done.resumes.failed)
     well_told ran (inl (inr (is, tells))) =
-        absurd (not_rose desk.write_faults desk'.write_faults calm.writing (subst (λ (n : ℕ). Rose n desk'.write_faults) ran.write_faults tells.cause.failed))
+        absurd (not_calm desk.write_faults desk'.write_faults calm.writing (subst (λ (n : ℕ). Rose n desk'.write_faults) ran.write_faults tells.cause.failed))
     well_told ran (inr ends) = inr ends.status_is
 
     pub same : marked_calls r ≡ mark.calls → (status ≡ 0) ⊎ (status ≡ 5)

@@ -14,7 +14,6 @@ use Rattle.farm_orders.specs.Reading.{AnswersTold, ReadsOrders}
 use Rattle.run_spec.specs.Run.{Run}
 use Rattle.farm_run.specs.Runs.{NoneRose, OnlyOpenedFail, TellsFailed, is_listed}
 use Rattle.farm_run.proofs.Listed.Tests.{listed_head}
-use Rattle.block_lines.specs.Command.{IsCalm}
 use Rattle.farm_top.specs.Farm.{AllStay, FollowsReading, LacksMemory, ReadsAndFollows, TellsRun, status_of_run}
 use Rattle.farm_top.specs.FarmClean.{TellsOrders}
 use Rattle.farm_top.specs.FarmEnded.{GainsFront}
@@ -41,10 +40,6 @@ opened_rose r before now (line ∷ lines) status (inr is) failed only six =
 -- of lines that are as they were no count rose
 pub stayed : (before now : ℕ → Side → LineState) → AllStay before now → (c : ℕ) (s : Side) → (before c s).faults < (now c s).faults → ⊥
 stayed before now stay c s rose = let same : (now c s).faults ≡ (before c s).faults = ap (λ (l : LineState). l.faults) (stay c s) in omega (arith, rose, same)
-
--- a count that is calm didn't rise
-pub not_rose : (before now : ℕ) → IsCalm before now → Rose before now → ⊥
-not_rose before now calm rose = omega (arith, calm.0, calm.1, rose)
 
 -- what tells its octets and is at its end has none left
 pub none_left : (text given : List ℕ) (now : Option (List ℕ)) → Consumes (Some text) now given → IsAtEnd now → now ≡ Some []

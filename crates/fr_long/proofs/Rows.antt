@@ -1,5 +1,5 @@
 -- The rows of a lag's products, 16, 16 and eight of them: added by neighbours, and then to four lanes.
-use Rattle.std.proofs.Common.{◌≡◌, ℕ, zero, suc, ◌+◌, ◌-◌, ◌%◌, ◌^◌, ◌<◌, ◌≤◌, ℤ, pos, ◌+ℤ◌, ◌*ℤ◌, FitsSigned, w16, w32, to_z, of_z, fold, map, List}
+use Rattle.std.proofs.Common.{◌≡◌, ℕ, ◌+◌, ◌-◌, ◌%◌, ◌^◌, ◌<◌, ◌≤◌, ℤ, pos, ◌+ℤ◌, ◌*ℤ◌, FitsSigned, w16, w32, to_z, of_z, fold, map, List}
 use Rattle.std.proofs.Common.{[], ◌∷◌, ◌++◌, length, get_or, refl, ap, sym, subst, ◌∙◌, arith, lit≤}
 use Rattle.std.specs.List.{range_with_len}
 use Rattle.std.proofs.lemmas.Int.{ints, to_z-of_z}
@@ -7,7 +7,7 @@ use Rattle.std.specs.Simd.Lanes.{zip2, Each1, chunk}
 use Rattle.std.proofs.lemmas.Simd.{pick_l-range_with_len, zip2_of_maps, Each1-chunk, Each1-from_get_or, Each1-weaker, length-zip2, length-chunk, get_or-zip2}
 use Rattle.trau_lanes.specs.Lanes.{sums_of_pairs}
 use Rattle.trau_lanes.proofs.Eight.{by_four, by_eight, eight_same}
-use Rattle.trau_lanes.proofs.LaneDots.{Within, products_within, sums_within, pairs_within, product_at, fold_on, pair, pair_sum, lane_sum, four_same, lanes_passed}
+use Rattle.trau_lanes.proofs.LaneDots.{Within, products_within, sums_within, pairs_within, product_at, fold_on, fold_sums, shifted, pair, pair_sum, lane_sum, four_same, lanes_passed}
 use Rattle.fr_long.specs.Scaling.{AreScaled}
 use Rattle.fr_long.specs.Lag.{AreSigned16}
 use Rattle.fr_long.proofs.Lanes.{scaled_all, kept, joined_within}
@@ -131,28 +131,12 @@ sum_of_pairs (x ∷ y ∷ zs) n s l =
     let turn : s +ℤ (x +ℤ y) ≡ s +ℤ x +ℤ y = omega (arith, ints) in
     ap (λ a. fold ◌+ℤ◌ a (sums_of_pairs zs)) turn ∙ sum_of_pairs zs (n - 1) (s +ℤ x +ℤ y) (omega arith)
 
--- the sum of the sums of two lists
-sum_of_two : (xs ys : List ℤ) (s t : ℤ) → length xs ≡ length ys → fold ◌+ℤ◌ (s +ℤ t) (zip2 ◌+ℤ◌ xs ys) ≡ fold ◌+ℤ◌ s xs +ℤ fold ◌+ℤ◌ t ys
-sum_of_two [] [] s t e = refl
-sum_of_two [] (y ∷ ys) s t e = absurd (omega arith)
-sum_of_two (x ∷ xs) [] s t e = absurd (omega arith)
-sum_of_two (x ∷ xs) (y ∷ ys) s t e =
-    let turn : s +ℤ t +ℤ (x +ℤ y) ≡ s +ℤ x +ℤ (t +ℤ y) = omega (arith, ints) in
-    ap (λ a. fold ◌+ℤ◌ a (zip2 ◌+ℤ◌ xs ys)) turn ∙ sum_of_two xs ys (s +ℤ x) (t +ℤ y) (omega arith)
-
 -- the sum of two halves
 sum_of_halves : (xs : List ℤ) → length xs ≡ 8 → fold ◌+ℤ◌ (pos 0) (zip2 ◌+ℤ◌ (chunk 0 4 xs) (chunk 4 4 xs)) ≡ fold ◌+ℤ◌ (pos 0) xs
 sum_of_halves xs l = by_eight (λ zs. fold ◌+ℤ◌ (pos 0) (zip2 ◌+ℤ◌ (chunk 0 4 zs) (chunk 4 4 zs)) ≡ fold ◌+ℤ◌ (pos 0) zs) (λ a b c d e f g h. omega (arith, ints)) xs l
 
 length_of_halves : (xs : List ℤ) → length xs ≡ 8 → length (zip2 ◌+ℤ◌ (chunk 0 4 xs) (chunk 4 4 xs)) ≡ 4
 length_of_halves xs l = by_eight (λ zs. length (zip2 ◌+ℤ◌ (chunk 0 4 zs) (chunk 4 4 zs)) ≡ 4) (λ a b c d e f g h. refl) xs l
-
--- places counted from s
-from_start : (h : ℕ → ℤ) (s i n : ℕ) → map h (range_with_len (s + i) n) ≡ map (λ k. h (s + k)) (range_with_len i n)
-from_start h s i zero = refl
-from_start h s i (suc n) =
-    let next : s + i + 1 ≡ s + (i + 1) = omega arith in
-    ap (λ zs. h (s + i) ∷ zs) (ap (λ j. map h (range_with_len j n)) next ∙ from_start h s (i + 1) n)
 
 -- a row of 2 n products, added by pairs
 pub record Row (wt earlier : List ℤ) (start n i : ℕ) (xs : List ℤ) : Type 0 where
@@ -168,7 +152,7 @@ row_of wt earlier start n i at xs l scaled words a b place e =
     let terms : zip2 ◌*ℤ◌ (chunk i (n + n) wt) (chunk (start + i) (n + n) earlier) ≡ map (product_at wt earlier start) (range_with_len i (n + n)) =
     zip2_of_maps ◌*ℤ◌ (λ k. get_or wt k (pos 0)) (λ k. get_or earlier (start + k) (pos 0)) (range_with_len i (n + n))
     (sym (pick_l-range_with_len (pos 0) wt i (n + n) a))
-    (sym (pick_l-range_with_len (pos 0) earlier (start + i) (n + n) room) ∙ from_start (λ k. get_or earlier k (pos 0)) start i (n + n)) in
+    (sym (pick_l-range_with_len (pos 0) earlier (start + i) (n + n) room) ∙ shifted (λ k. get_or earlier k (pos 0)) start i (n + n)) in
     record {
       within = subst (Each1 (Within 33554432)) (sym e) (pairs_small wt earlier (n + n) i at l scaled words);
       long = ap length e ∙ length_of_pairs (zip2 ◌*ℤ◌ (chunk i (n + n) wt) (chunk at (n + n) earlier)) n long;
@@ -207,7 +191,7 @@ added_of xs ys zs k l p q e =
     record {
       within = subst (Each1 (Within 67108864)) (sym is) (sums_within 33554432 33554432 xs ys p q);
       long = ap length is ∙ length-zip2 ◌+ℤ◌ xs ys (k ∙ sym l) ∙ k;
-      total = ap (fold ◌+ℤ◌ (pos 0)) is ∙ sum_of_two xs ys (pos 0) (pos 0) (k ∙ sym l);
+      total = ap (fold ◌+ℤ◌ (pos 0)) is ∙ fold_sums xs ys (pos 0) (pos 0) (k ∙ sym l);
     }
 
 pub record Folded (xs zs : List ℤ) : Type 0 where
@@ -244,7 +228,7 @@ sums_of wt earlier start front middle back added folded zs f m b a h e =
     record {
       within = subst (Each1 (Within 167772160)) (sym is) (sums_within 134217728 33554432 folded back h.within b.within);
       long = ap length is ∙ length-zip2 ◌+ℤ◌ folded back (h.long ∙ sym b.long) ∙ h.long;
-      total = ap (fold ◌+ℤ◌ (pos 0)) is ∙ sum_of_two folded back (pos 0) (pos 0) (h.long ∙ sym b.long) ∙
+      total = ap (fold ◌+ℤ◌ (pos 0)) is ∙ fold_sums folded back (pos 0) (pos 0) (h.long ∙ sym b.long) ∙
           ap (λ z. z +ℤ fold ◌+ℤ◌ (pos 0) back) (h.total ∙ a.total) ∙ (λ i. ft i +ℤ mt i +ℤ bt i) ∙
           ap (λ z. z +ℤ fold ◌+ℤ◌ (pos 0) (map g (range_with_len 32 8))) (sym (fold_on g 16 16)) ∙ sym (fold_on g 32 8);
     }

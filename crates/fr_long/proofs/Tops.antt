@@ -12,6 +12,7 @@ use Rattle.std.proofs.lemmas.Simd.{get_or-zip2, get_or-chunk, length-zip2, lengt
 use lib.Lanes.{sel_l, top}
 use lib.Signed.{lt_z}
 use Rattle.trau_num.specs.Num.{entry}
+use Rattle.trau_lanes.proofs.LaneSums.{less}
 use Rattle.fr_long.specs.Lag.{IsTop}
 
 -- ---- the greater of two
@@ -32,10 +33,6 @@ max_fits x y f g = elim (max_reached x y) [
   | inl e ↦ subst (FitsSigned w32) (sym e) f
   | inr e ↦ subst (FitsSigned w32) (sym e) g
 ]
-
--- the test of two lanes as the vector makes it
-abbrev less : ℕ → ℕ → ℕ
-less a b = cond (lt_z (to_z w32 a) (to_z w32 b)) (2 ^ 32 - 1) 0
 
 -- the greater of two lanes, and of each of eight
 lane_max : (x y : ℤ) → FitsSigned w32 x → FitsSigned w32 y → to_z w32 (cond (top 31 (less (of_z w32 x) (of_z w32 y))) (of_z w32 y) (of_z w32 x)) ≡ int_max x y

@@ -1,21 +1,10 @@
 -- Table 4.1, place by place.
-use Rattle.std.proofs.Common.{◌≡◌, ℕ, zero, suc, ◌-◌, ◌^◌, ◌<◌, pos, ◌-ℤ◌, ◌≤ℤ◌, get_or, refl, arith}
+use Rattle.std.proofs.Common.{◌≡◌, ℕ, ◌-◌, ◌^◌, ◌<◌, pos, ◌-ℤ◌, ◌≤ℤ◌, get_or, refl, arith}
 use Rattle.trau_num.specs.Num.{entry}
+use Rattle.trau_num.proofs.Eight.{by_place}
 use Rattle.trau_params.specs.Ratios.{least_ratios}
 use Rattle.trau_params.specs.Widths.{larc_widths}
 use Rattle.fr_lpc.specs.Ratios.{most}
-
--- what holds at each of eight places
-by_place : (P : ℕ → Type 0) → P 0 → P 1 → P 2 → P 3 → P 4 → P 5 → P 6 → P 7 → (i : ℕ) → i < 8 → P i
-by_place P a b c d e f g h zero l = a
-by_place P a b c d e f g h (suc zero) l = b
-by_place P a b c d e f g h (suc (suc zero)) l = c
-by_place P a b c d e f g h (suc (suc (suc zero))) l = d
-by_place P a b c d e f g h (suc (suc (suc (suc zero)))) l = e
-by_place P a b c d e f g h (suc (suc (suc (suc (suc zero))))) l = f
-by_place P a b c d e f g h (suc (suc (suc (suc (suc (suc zero)))))) l = g
-by_place P a b c d e f g h (suc (suc (suc (suc (suc (suc (suc zero))))))) l = h
-by_place P a b c d e f g h (suc (suc (suc (suc (suc (suc (suc (suc n)))))))) l = absurd (omega arith)
 
 -- MIC isn't above MAC
 pub least-most : (i : ℕ) → i < 8 → entry least_ratios i ≤ℤ entry most i

@@ -1,10 +1,11 @@
 -- A pulse that its scale has room for has a level within 16 bits, and a code of 3 bits.
-use Rattle.std.proofs.Common.{◌≡◌, ℕ, ℤ, zero, suc, ◌+◌, ◌-◌, ◌*◌, ◌<◌, ◌≤◌, min, pos, negsuc, neg_ℤ, ◌*ℤ◌, ◌<ℤ◌, ◌≤ℤ◌, unsigned_abs, arith, refl, FitsSigned}
+use Rattle.std.proofs.Common.{◌≡◌, ℕ, ℤ, suc, ◌+◌, ◌-◌, ◌*◌, ◌<◌, ◌≤◌, min, pos, negsuc, neg_ℤ, ◌*ℤ◌, ◌<ℤ◌, ◌≤ℤ◌, unsigned_abs, arith, refl, FitsSigned}
 use Rattle.std.proofs.Common.{w16, inl, inr}
 use Rattle.std.proofs.lemmas.Int.{ints, unsigned_abs-mul}
 use Rattle.std.proofs.lemmas.Bool.{cases_lt}
 use Rattle.std.proofs.Math.Nat.{mul-le-mul_right}
 use Rattle.trau_num.specs.Num.{abs_of, mult_of, clamp16, floor_shr}
+use Rattle.trau_num.proofs.Eight.{by_place}
 use Rattle.fr_rpe.specs.Quantisation.{inverse_of}
 
 -- a level below the next step of its mantissa; only the greatest mantissa has -32768
@@ -50,18 +51,6 @@ share : (z : ℤ) → neg_ℤ (pos 536870912) ≤ℤ z → z <ℤ pos 536870912 
 share (pos n) l h = record { low = omega (arith, ints); high = omega (arith, ints) }
 share (negsuc n) l h = record { low = omega (arith, ints); high = omega (arith, ints) }
 
--- what holds at each of eight mantissas
-by_mantissa : (P : ℕ → Type 0) → P 0 → P 1 → P 2 → P 3 → P 4 → P 5 → P 6 → P 7 → (i : ℕ) → i < 8 → P i
-by_mantissa P a b c d e f g h zero l = a
-by_mantissa P a b c d e f g h (suc zero) l = b
-by_mantissa P a b c d e f g h (suc (suc zero)) l = c
-by_mantissa P a b c d e f g h (suc (suc (suc zero))) l = d
-by_mantissa P a b c d e f g h (suc (suc (suc (suc zero)))) l = e
-by_mantissa P a b c d e f g h (suc (suc (suc (suc (suc zero))))) l = f
-by_mantissa P a b c d e f g h (suc (suc (suc (suc (suc (suc zero)))))) l = g
-by_mantissa P a b c d e f g h (suc (suc (suc (suc (suc (suc (suc zero))))))) l = h
-by_mantissa P a b c d e f g h (suc (suc (suc (suc (suc (suc (suc (suc n)))))))) l = absurd (omega arith)
-
 -- the inverse of a mantissa keeps the product within them
 record InTable (mantissa : ℕ) : Type 0 where
   low : (level : ℤ) → IsLevel mantissa level → neg_ℤ (pos 536870912) ≤ℤ (level *ℤ inverse_of mantissa)
@@ -99,7 +88,7 @@ at_7 = record {
 -- the levels of each mantissa
 levels : (mantissa : ℕ) → mantissa < 8 → InTable mantissa
 levels =
-    by_mantissa InTable (below_7 0 29128 (omega arith) refl (omega arith)) (below_7 1 26215 (omega arith) refl (omega arith))
+    by_place InTable (below_7 0 29128 (omega arith) refl (omega arith)) (below_7 1 26215 (omega arith) refl (omega arith))
     (below_7 2 23832 (omega arith) refl (omega arith)) (below_7 3 21846 (omega arith) refl (omega arith))
     (below_7 4 20165 (omega arith) refl (omega arith)) (below_7 5 18725 (omega arith) refl (omega arith))
     (below_7 6 17476 (omega arith) refl (omega arith)) at_7

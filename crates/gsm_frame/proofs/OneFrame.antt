@@ -1,46 +1,20 @@
 -- For crates above: octets carry one frame only (`one_frame`), and a frame has one list of octets only (`one_packing`).
-use Rattle.std.proofs.Common.{◌≡◌, ℕ, ◌+◌, ◌-◌, ◌^◌, ◌<◌, ◌≤◌, zero, suc, List, [], ◌∷◌, ◌++◌, All, length, get_or, sym, ap, subst, ◌∙◌}
+use Rattle.std.proofs.Common.{◌≡◌, ℕ, ◌+◌, ◌-◌, ◌^◌, ◌<◌, ◌≤◌, suc, List, [], ◌++◌, All, length, get_or, sym, ap, subst, ◌∙◌}
 use Rattle.std.proofs.Common.{inl, inr, replicate, arith}
 use Rattle.std.proofs.lemmas.Bool.{cases_lt}
 use Rattle.std.proofs.lemmas.List.{get_or-replicate, length-replicate}
-use Rattle.std.proofs.lemmas.List.Elements.{All-get_or}
 use Rattle.std.proofs.lemmas.Grind.{same_number_lists}
 use Rattle.trau_params.specs.declared.params.Params.{Params}
 use Rattle.trau_params.specs.Fields.{Fields, fields_of}
 use Rattle.trau_params.specs.FieldBits.{field_bits}
-use Rattle.trau_params.specs.Widths.{larc_widths, block_widths, pulse_widths, FitWidth}
+use Rattle.trau_params.specs.Widths.{larc_widths, block_widths}
 use Rattle.trau_params.specs.Bits260.{bits260, bits260_of, block_values, SameFields}
 use Rattle.trau_params.specs.Shape.{HasShape}
-use Rattle.trau_params.proofs.OneFrame.{same_fields}
+use Rattle.trau_params.proofs.OneFrame.{fits, same_fields}
 use Rattle.gsm_frame.specs.Packed.{magic, octets_from, block_number, Carries}
 use Rattle.gsm_frame.proofs.OneNumber.{Fit, same_from_first}
 
 -- ---- the fields of octets
-
--- each field of a block fits its width
-block_fits : (nc bc mc xmaxc : ℕ) (xmc : List ℕ) → nc < 128 → bc < 4 → mc < 4 → xmaxc < 64 →
-    All (λ v. v < 8) xmc → length xmc ≡ 13 → (k : ℕ) → k < 17 →
-    get_or (nc ∷ bc ∷ mc ∷ xmaxc ∷ xmc) k 0 < 2 ^ get_or block_widths k 0
-block_fits a b c d xs p q r s t n zero l = p
-block_fits a b c d xs p q r s t n (suc zero) l = q
-block_fits a b c d xs p q r s t n (suc (suc zero)) l = r
-block_fits a b c d xs p q r s t n (suc (suc (suc zero))) l = s
-block_fits a b c d xs p q r s t n (suc (suc (suc (suc k)))) l =
-    let below : k < 13 = omega arith in
-    let w : get_or pulse_widths k 0 ≡ 3 = get_or-replicate 13 k 3 0 below in
-    rw w (All-get_or (λ v. v < 8) xs k 0 (omega arith) t)
-
--- the same in a frame
-fits : (p : Params) → HasShape p → (j : ℕ) → j < 4 → (k : ℕ) → k < 17 →
-    get_or (block_values p j) k 0 < 2 ^ get_or block_widths k 0
-fits p n j h =
-    block_fits (get_or p.nc j 0) (get_or p.bc j 0) (get_or p.mc j 0) (get_or p.xmaxc j 0) (get_or p.xmc j [])
-    (All-get_or (λ v. v < 128) p.nc j 0 (omega (arith, n.nc)) p.nc_fit)
-    (All-get_or (λ v. v < 4) p.bc j 0 (omega (arith, n.bc)) p.bc_fit)
-    (All-get_or (λ v. v < 4) p.mc j 0 (omega (arith, n.mc)) p.mc_fit)
-    (All-get_or (λ v. v < 64) p.xmaxc j 0 (omega (arith, n.xmaxc)) p.xmaxc_fit)
-    (All-get_or (λ row. FitWidth 3 row) p.xmc j [] (omega (arith, n.xmc)) p.xmc_fit)
-    (n.pulses j h)
 
 -- a value at k of a list, at k + 0
 shifted : (widths values : List ℕ) → ((k : ℕ) → k < length widths → get_or values k 0 < 2 ^ get_or widths k 0) →

@@ -1,10 +1,10 @@
 -- The bits of octets that come one after another.
-use Rattle.std.proofs.Common.{◌≡◌, ℕ, ◌+◌, ◌*◌, ◌/◌, ◌%◌, ◌^◌, ◌<◌, List, [], ◌∷◌, ◌++◌, take, set, get_or, length, sym, ap, ◌∙◌, arith}
-use Rattle.std.specs.List.{range_with_len}
+use Rattle.std.proofs.Common.{◌≡◌, ℕ, ◌+◌, ◌*◌, ◌<◌, List, [], ◌∷◌, ◌++◌, take, set, get_or, length, sym, ap, ◌∙◌, arith}
 use Rattle.std.proofs.lemmas.List.{take_more, take_more_set, flat_map_more}
-use Rattle.std.proofs.lemmas.List.Elements.{All-nil, All-append, All-map}
+use Rattle.std.proofs.lemmas.List.Elements.{All-nil, All-append}
 use Rattle.trau_bits.specs.Bits.{AreBits}
 use Rattle.trau_params.specs.FieldBits.{low_bits}
+use Rattle.trau_params.proofs.AreBits.{AreBits-low_bits}
 use Rattle.gsm_frame.specs.Pair.{bits_of_pair}
 
 -- equal lists one after another
@@ -38,11 +38,6 @@ read bits octets k octet l h e =
     ap (λ n. take n bits) place ∙ e ∙ ap (λ xs. xs ++ low_bits 8 octet) h ∙ octets_set octets k octet l
 
 -- they are bits
-pub AreBits-low_bits : (width value : ℕ) → AreBits (low_bits width value)
-unfolding low_bits
-AreBits-low_bits width value =
-    All-map (λ b. b < 2) (λ t. value / 2 ^ t % 2) (range_with_len 0 width) (λ k d h. omega arith)
-
 pub AreBits-bits_of_pair : (octets : List ℕ) → AreBits (bits_of_pair octets)
 AreBits-bits_of_pair [] = All-nil (λ b. b < 2)
 AreBits-bits_of_pair (octet ∷ octets) = All-append (λ b. b < 2) _ _ (AreBits-low_bits 8 octet) (AreBits-bits_of_pair octets)

@@ -4,6 +4,7 @@ use Rattle.std.proofs.Common.{ap, ◌∙◌, subst, ⊎_elim, arith, add-one}
 use Rattle.std.specs.Global.{Global}
 use Rattle.std.proofs.lemmas.Bool.{cases_eq}
 use Rattle.std.proofs.Math.ListN.{length-set}
+use Rattle.trau_num.proofs.Lists.{each_set}
 use Rattle.crossbeam_deque.specs.Handles.{worker_deque, stealer_deque, worker_view, SameWorker}
 use Rattle.crossbeam_deque.specs.declared.handles.Worker.{Worker}
 use Rattle.pool_run.specs.declared.deque.View.{View}
@@ -18,7 +19,7 @@ use Rattle.pool_run.specs.Joins.{HasRow, IsShared, below, rows_at}
 use Rattle.pool_run.specs.Pool.{passes_of}
 use Rattle.pool_run.proofs.Weights.{weigh-set}
 use Rattle.pool_run.proofs.Rows.{has_pass, passes_at, passes_set_kept}
-use Rattle.pool_run.proofs.Lists.{each_set, below_at, below_self, below_other, below-le}
+use Rattle.pool_run.proofs.Lists.{below_at, below_self, below_other, below-le}
 
 module _ {W : Type 0} where
   rows-le : (k : ℕ) (ms : List (Member W)) → rows_at k ms ≤ length ms

@@ -7,6 +7,7 @@ use Rattle.std.specs.Option.{option_to_list}
 use Rattle.std.proofs.Math.ListN.{length-set}
 use Rattle.std.proofs.Math.Seq.{get_or-append_seam}
 use Rattle.std.proofs.lemmas.List.{get_or_append_left}
+use Rattle.trau_num.proofs.Lists.{each_set, no_items}
 use Rattle.crossbeam_deque.specs.Handles.{view, IsPassOf, worker_deque, stealer_deque, worker_view, SameWorker}
 use Rattle.crossbeam_deque.specs.declared.handles.Worker.{Worker}
 use Rattle.pool_run.specs.declared.deque.View.{View}
@@ -20,7 +21,7 @@ use Rattle.pool_run.specs.Pool.{IsPool, IsOwner, passes_of, all_given, all_obtai
 use Rattle.pool_run.specs.Joins.{HasRow, IsShared, IsLastTaken, below, rows_at}
 use Rattle.trau_num.proofs.Weights.{weigh-append}
 use Rattle.pool_run.proofs.Weights.{weigh-set, weigh_ones, weigh_zeros}
-use Rattle.pool_run.proofs.Lists.{any_of, below_at, below_lt, below_other, below_self, each_set, no_items}
+use Rattle.pool_run.proofs.Lists.{any_of, below_at, below_lt, below_other, below_self}
 use Rattle.pool_run.proofs.Rows.{has_pass, passes_at, passes_set_same, passes_set_other, passes_set_kept}
 
 module _ {W : Type 0} (finish : W → W) (thieves : List (Thief W)) where

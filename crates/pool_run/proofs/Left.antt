@@ -1,6 +1,7 @@
 -- The room that is left in the deques after a change of one worker.
 use Rattle.std.proofs.Common.{◌≡◌, ◌+◌, ◌<◌, ◌≤◌, ℕ, List, length, set, get_or, arith}
 use Rattle.std.specs.Global.{Global}
+use Rattle.trau_num.proofs.Lists.{each_set}
 use Rattle.crossbeam_deque.specs.Handles.{worker_index, worker_capacity, SameWorker}
 use Rattle.crossbeam_deque.specs.declared.handles.Worker.{Worker}
 use Rattle.pool_run.specs.declared.deque.View.{View}
@@ -8,7 +9,6 @@ use Rattle.pool_run.specs.declared.deque.Task.{Task}
 use Rattle.pool_run.specs.declared.deque.OneDeque.{OneDeque}
 use Rattle.pool_run.specs.declared.member.Member.{Member}
 use Rattle.pool_run.specs.Room.{RoomLeft}
-use Rattle.pool_run.proofs.Lists.{each_set}
 
 module _ {W : Type 0} (taken most : ℕ) where
   -- of the worker at a place, whichever it is

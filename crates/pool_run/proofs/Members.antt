@@ -7,6 +7,7 @@ use Rattle.std.proofs.Math.ListN.{length-set}
 use Rattle.std.proofs.lemmas.Bool.{cases_eq}
 use Rattle.std.proofs.lemmas.List.Elements.{All-append, All-cons}
 use Rattle.std.proofs.lemmas.List.{map-append}
+use Rattle.trau_num.proofs.Lists.{same_default}
 use Rattle.crossbeam_deque.specs.Steals.{MatchSteal}
 use Rattle.crossbeam_deque.specs.declared.steal.Steal.{Steal}
 use Rattle.crossbeam_deque.specs.declared.steal.Steal.TheVariants.{Empty, Success, Retry}
@@ -21,7 +22,6 @@ use Rattle.pool_run.specs.Deque.{entry_of, after_push, after_take}
 use Rattle.pool_run.specs.Member.{Thief, Knower, IsPassFor, IsEnded, IsReady, held, Moves, stolen_job}
 use Rattle.trau_num.proofs.Weights.{weigh-append}
 use Rattle.pool_run.proofs.Weights.{weigh-set}
-use Rattle.pool_run.proofs.Lists.{same_default}
 
 module _ {W : Type 0} (finish : W → W) (thieves : List (Thief W)) where
   abbrev Deque : Type 0

@@ -4,6 +4,7 @@ use Rattle.std.specs.Global.{Global, Box}
 use Rattle.std.proofs.lemmas.List.Elements.{All-append, All-cons}
 use Rattle.std.proofs.Math.ListN.{length-set}
 use Rattle.std.proofs.lemmas.List.{map-append}
+use Rattle.trau_num.proofs.Lists.{each_set}
 use Rattle.crossbeam_deque.specs.Handles.{worker_deque, stealer_deque, worker_view, SameWorker, worker_index}
 use Rattle.crossbeam_deque.specs.declared.handles.Worker.{Worker}
 use Rattle.pool_run.specs.declared.deque.View.{View}
@@ -17,7 +18,6 @@ use Rattle.pool_run.specs.Pool.{entries_from, IsPool, all_given, all_obtained}
 use Rattle.pool_run.specs.Room.{RoomLeft}
 use Rattle.trau_num.proofs.Weights.{weigh-append}
 use Rattle.pool_run.proofs.Weights.{weigh-set}
-use Rattle.pool_run.proofs.Lists.{each_set}
 use Rattle.pool_run.proofs.Left.{left_more}
 
 module _ {W : Type 0} (finish : W → W) where

@@ -2,6 +2,7 @@
 use Rattle.std.proofs.Common.{◌≡◌, ◌≢◌, ℕ, zero, suc, ◌+◌, ◌<◌, ◌≤◌, List, [], ◌∷◌, ◌++◌, length, map, All, set, get_or, sym, refl, ap, ◌∙◌, subst, arith}
 use Rattle.std.specs.Global.{Vec}
 use Rattle.std.proofs.Math.ListN.{length-set}
+use Rattle.trau_num.proofs.Lists.{each_set, each_snoc, same_default}
 use Rattle.crossbeam_deque.specs.Handles.{view, worker_deque, stealer_deque, worker_flavor, stealer_flavor, worker_view}
 use Rattle.pool_run.specs.declared.deque.View.{View}
 use Rattle.pool_run.specs.declared.deque.Task.{Task}
@@ -15,7 +16,7 @@ use Rattle.pool_run.specs.Pool.{passes_of}
 use Rattle.trau_num.proofs.Weights.{weigh-append}
 use Rattle.pool_run.proofs.Weights.{weigh-set, weigh_ones, weigh_zeros}
 use Rattle.pool_run.proofs.Rows.{has_pass, passes_at, passes_set_same, passes_set_other}
-use Rattle.pool_run.proofs.Lists.{any_of, each_set, below_lt, each_snoc, same_default}
+use Rattle.pool_run.proofs.Lists.{any_of, below_lt}
 use Rattle.pool_run.proofs.Left.{OwnLeft}
 
 module _ {W : Type 0} where

@@ -3,6 +3,7 @@ use Rattle.std.proofs.Common.{◌≡◌, ◌≤◌, ℕ, suc, ◌+◌, List, [],
 use Rattle.std.specs.Global.{Vec, Box}
 use Rattle.std.proofs.lemmas.List.{length-map}
 use Rattle.std.proofs.Math.ListN.{take}
+use Rattle.trau_num.proofs.Lists.{written_back}
 use Rattle.crossbeam_deque.specs.Handles.{view, worker_view}
 use Rattle.pool_run.specs.declared.deque.Task.{Task}
 use Rattle.pool_run.specs.declared.member.Member.{Member}
@@ -10,7 +11,6 @@ use Rattle.trau_num.specs.Weights.{weigh}
 use Rattle.pool_run.specs.Deque.{entry_of}
 use Rattle.pool_run.specs.Member.{Knower, obtained}
 use Rattle.pool_run.specs.Pool.{IsOwner, IsSettled, all_given, all_obtained, entries_from}
-use Rattle.pool_run.proofs.Lists.{written_back}
 use Rattle.pool_run.proofs.Orders.{entries_count}
 use Rattle.pool_run.proofs.Weights.{weigh_all}
 

@@ -22,7 +22,8 @@ use Rattle.switchboard.proofs.Whole.{end_by}
 use Rattle.run_spec.proofs.Settling.{found_stamp, closed_stamp, at_of, ends_by, start_is}
 use Rattle.run_spec.proofs.SoFar.{rest_in, done-rest, rest_from, standing_now, standing_end}
 use Rattle.run_spec.proofs.Going.{opened_run, start_run, law_run}
-use Rattle.run_spec.proofs.LongerLines.{length-periods_to, length-out_line, length-down_octets, out_more, down_on}
+use Rattle.call_leg.proofs.LineLaws.{length-out_line}
+use Rattle.run_spec.proofs.LongerLines.{length-periods_to, length-down_octets, out_more, down_on}
 use Rattle.run_spec.proofs.Cut.{so_far_below, periods_kept}
 use Rattle.run_spec.proofs.Lists.{one_value}
 

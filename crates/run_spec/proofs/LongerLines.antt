@@ -1,12 +1,11 @@
--- For crates above: how long the outgoing lines of a call are, and that more periods only append to them (`down_on`, `out_more`).
+-- For crates above: how many octets a call has on Down, and that more periods only append to its outgoing lines (`down_on`, `out_more`).
 use Rattle.std.proofs.Common.{◌≡◌, refl, sym, ap, ◌∙◌, ℕ, zero, suc, ◌+◌, ◌*◌, List, [], ◌∷◌, ◌++◌, length, arith, append_assoc, append-nil}
-use Rattle.std.proofs.lemmas.List.{length-append}
 use Rattle.trau_bits.specs.Bits.{octets_of}
 use Rattle.trau_bits.proofs.Appended.{length-whole_octets, octets_of-append}
 use Rattle.call_leg.specs.Who.{Who}
 use Rattle.call_leg.specs.Periods.{CallPeriod}
 use Rattle.call_leg.specs.Down.{down_now, down_line}
-use Rattle.call_leg.proofs.LineLaws.{length-out_of, length-down_now}
+use Rattle.call_leg.proofs.LineLaws.{length-down_line}
 use Rattle.run_spec.specs.Run.{Run, periods_to, who_in}
 use Rattle.call_leg.specs.Out.{out_of, out_line}
 use Rattle.run_spec.specs.Lines.{down_octets}
@@ -16,16 +15,6 @@ use Rattle.run_spec.specs.Lines.{down_octets}
 pub length-periods_to : (r : Run) (c n : ℕ) → length (periods_to r c n) ≡ n
 length-periods_to r c zero = refl
 length-periods_to r c (suc n) = ap suc (length-periods_to r c n)
-
-pub length-down_line : (who : Who) (ts : List CallPeriod) → length (down_line who ts) ≡ 320 * length ts
-length-down_line who [] = refl
-length-down_line who (t ∷ past) =
-    omega (arith, length-append (down_line who past) (down_now who (t ∷ past)), length-down_line who past, length-down_now who t past)
-
-pub length-out_line : (who : Who) (ts : List CallPeriod) → length (out_line who ts) ≡ 160 * length ts
-length-out_line who [] = refl
-length-out_line who (t ∷ past) =
-    omega (arith, length-append (out_line who past) (out_of who (t ∷ past)), length-out_line who past, length-out_of who (t ∷ past))
 
 pub length-down_octets : (who : Who) (ts : List CallPeriod) → length (down_octets who ts) ≡ 40 * length ts
 length-down_octets who ts = omega (arith, length-whole_octets (down_line who ts), length-down_line who ts)

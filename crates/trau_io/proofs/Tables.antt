@@ -6,11 +6,11 @@ use Rattle.trau_io.specs.declared.line.Side.TheVariants.{Up, Pcm, Down, Out}
 use Rattle.trau_io.specs.Indices.{number_of_side, index_of_line}
 use Rattle.trau_io.specs.Lines.{LineState, OthersStay}
 
-small : (s : Side) → number_of_side s < 4
-small Up = omega arith
-small Pcm = omega arith
-small Down = omega arith
-small Out = omega arith
+pub number_of_side-below : (s : Side) → number_of_side s < 4
+number_of_side-below Up = omega arith
+number_of_side-below Pcm = omega arith
+number_of_side-below Down = omega arith
+number_of_side-below Out = omega arith
 
 abbrev side_of : ℕ → Side
 side_of zero = Up
@@ -27,7 +27,7 @@ side_of-number Out = refl
 -- a place is one line's
 pub same_line : (c d : ℕ) (s t : Side) → index_of_line c s ≡ index_of_line d t → (c ≡ d) × (s ≡ t)
 same_line c d s t same =
-    let number : number_of_side s ≡ number_of_side t = omega (arith, same, small s, small t) in
+    let number : number_of_side s ≡ number_of_side t = omega (arith, same, number_of_side-below s, number_of_side-below t) in
     (omega (arith, same, number), sym (side_of-number s) ∙ ap side_of number ∙ side_of-number t)
 
 get-set_same : {X : Type 0} (xs : List X) (i : ℕ) (x : X) → i < length xs → slice_get (slice_set xs i x) i ≡ Some x

@@ -1,4 +1,5 @@
--- For crates above: sums and products of 32-bit lanes don't wrap within bounds (`Within`), and so sums of products lane by lane (`Pairs`).
+-- For crates above: sums and products of 32-bit lanes don't wrap within bounds (`Within`), and so sums of products lane by lane (`Pairs`); sums of
+-- two lists (`fold_sums`), and places counted from another (`shifted`).
 use Rattle.std.proofs.Common.{◌≡◌, ℕ, zero, suc, ◌+◌, ◌*◌, ◌%◌, ◌^◌, ◌≤◌, ℤ, pos, ◌+ℤ◌, ◌*ℤ◌, unsigned_abs, FitsSigned, w16, w32, to_z, of_z, fold, map, List}
 use Rattle.std.proofs.Common.{[], ◌∷◌, ◌++◌, length, get_or, refl, ap, sym, ◌∙◌, arith, lit<, mul-le-mul, add-zero, add-one}
 use Rattle.std.specs.List.{range_with_len}
@@ -63,7 +64,7 @@ sums_within m n (x ∷ xs) [] p q = tt
 sums_within m n (x ∷ xs) (y ∷ ys) p q = let a = p.0 in let b = q.0 in (omega (arith, ints), sums_within m n xs ys p.1 q.1)
 
 -- the sum of sums
-fold_sums : (xs ys : List ℤ) (s t : ℤ) → length xs ≡ length ys → fold ◌+ℤ◌ (s +ℤ t) (zip2 ◌+ℤ◌ xs ys) ≡ fold ◌+ℤ◌ s xs +ℤ fold ◌+ℤ◌ t ys
+pub fold_sums : (xs ys : List ℤ) (s t : ℤ) → length xs ≡ length ys → fold ◌+ℤ◌ (s +ℤ t) (zip2 ◌+ℤ◌ xs ys) ≡ fold ◌+ℤ◌ s xs +ℤ fold ◌+ℤ◌ t ys
 fold_sums [] [] s t e = refl
 fold_sums [] (y ∷ ys) s t e = absurd (omega arith)
 fold_sums (x ∷ xs) [] s t e = absurd (omega arith)
@@ -94,7 +95,7 @@ fold_on g i (suc n) =
     rw place (omega (arith, ints))
 
 -- places counted from s
-shifted : (h : ℕ → ℤ) (s i n : ℕ) → map h (range_with_len (s + i) n) ≡ map (λ k. h (s + k)) (range_with_len i n)
+pub shifted : (h : ℕ → ℤ) (s i n : ℕ) → map h (range_with_len (s + i) n) ≡ map (λ k. h (s + k)) (range_with_len i n)
 shifted h s i zero = refl
 shifted h s i (suc n) =
     let next : s + i + 1 ≡ s + (i + 1) = omega arith in

@@ -8,7 +8,7 @@
 //!
 //! Definitions: `specs/Num.antt`, `specs/Random.antt`, and `specs/Weights.antt` (the weight of a list). Lemmas that
 //! other crates use too: `proofs/Fill.antt` (lists of a fixed size that a loop fills entry by entry),
-//! `proofs/Greatest.antt` (a search for the least number at which a function is greatest), `proofs/Clamped.antt` (a
+//! `proofs/Eight.antt` (what holds at each of eight places), `proofs/Greatest.antt` (a search for the least number at which a function is greatest), `proofs/Clamped.antt` (a
 //! saturated number is a word), `proofs/Fitting.antt` (numbers that fit a word), `proofs/Mapped.antt` (a loop that
 //! maps one sample after another) and `proofs/Weights.antt` (weights of lists, added up).
 #![tactic(auto)]

@@ -1,4 +1,4 @@
--- For crates above: the 260 bits of fields are bits (`AreBits-bits260`).
+-- For crates above: the bits of a value are bits (`AreBits-low_bits`), and so are the 260 bits of fields (`AreBits-bits260`).
 use Rattle.std.proofs.Common.{ℕ, ◌/◌, ◌%◌, ◌+◌, ◌^◌, ◌<◌, zero, suc, List, [], ◌∷◌, arith}
 use Rattle.std.specs.List.{range_with_len, flat_map}
 use Rattle.std.proofs.lemmas.List.Elements.{All-nil, All-append, All-map}
@@ -10,7 +10,7 @@ use Rattle.trau_params.specs.FieldBits.{low_bits, field_bits}
 use Rattle.trau_params.specs.Bits260.{bits260, bits260_of, values_in}
 
 -- of one value, of several fields, of parts, and of a frame
-AreBits-low_bits : (width value : ℕ) → AreBits (low_bits width value)
+pub AreBits-low_bits : (width value : ℕ) → AreBits (low_bits width value)
 unfolding low_bits
 AreBits-low_bits width value =
     All-map (λ b. b < 2) (λ t. value / 2 ^ t % 2) (range_with_len 0 width) (λ k d h. omega arith)

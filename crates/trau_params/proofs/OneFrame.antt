@@ -1,4 +1,4 @@
--- For crates above: frames with the same 260 bits have the same fields (`same_fields`).
+-- For crates above: each value of a block fits its width (`fits`); frames with the same 260 bits have the same fields (`same_fields`).
 use Rattle.std.proofs.Common.{◌≡◌, ℕ, ◌+◌, ◌*◌, ◌/◌, ◌%◌, ◌^◌, ◌<◌, ◌≤◌, zero, suc, List, [], ◌∷◌, ◌++◌, All, length, take, get_or, refl, sym, ap, ◌∙◌, inl}
 use Rattle.std.proofs.Common.{inr, arith}
 use Rattle.std.specs.List.{range_with_len, flat_map}
@@ -109,7 +109,7 @@ block_fits a b c d xs p q r s t n (suc (suc (suc (suc k)))) l =
     rw w (All-get_or (λ v. v < 8) xs k 0 (omega arith) t)
 
 -- the same in a frame
-fits : (p : Params) → HasShape p → (j : ℕ) → j < 4 → (k : ℕ) → k < 17 →
+pub fits : (p : Params) → HasShape p → (j : ℕ) → j < 4 → (k : ℕ) → k < 17 →
     get_or (block_values p j) k 0 < 2 ^ get_or block_widths k 0
 fits p n j h =
     block_fits (get_or p.nc j 0) (get_or p.bc j 0) (get_or p.mc j 0) (get_or p.xmaxc j 0) (get_or p.xmc j [])

@@ -1,10 +1,9 @@
--- What lines give and gain, one part after another.
-use Rattle.std.proofs.Common.{◌≡◌, ℕ, ◌+◌, List, ◌++◌, length, take, sym, ◌∙◌, ap, subst, arith}
+-- What lines gain, one part after another.
+use Rattle.std.proofs.Common.{◌≡◌, ℕ, ◌+◌, List, ◌++◌, length, take, sym, ◌∙◌, ap, subst}
 use Rattle.std.specs.Io.KnownBytes.{Appends}
-use Rattle.std.proofs.KnownBytes.{Appends-trans, Consumes-trans}
+use Rattle.std.proofs.KnownBytes.{Appends-trans}
 use Rattle.std.proofs.Math.Seq.{take-append-add}
 use Rattle.trau_io.specs.Lines.{LineState}
-use Rattle.trau_io.specs.Transfer.{Gives}
 use Rattle.trau_submux.specs.Lines.{Gains}
 
 -- one gain after another
@@ -20,11 +19,3 @@ pub front_on : (a b c : LineState) (s t all : List ℕ) (n : ℕ) → all ≡ s 
     Appends a.written c.written (take (length s + n) all)
 front_on a b c s t all n are first more =
     subst (Appends a.written c.written) (sym (ap (take (length s + n)) are ∙ take-append-add s t n)) (Appends-trans _ _ _ _ _ first.written more)
-
--- and what is given
-pub gives_on : (a b c : LineState) (s t : List ℕ) → Gives a b s → Gives b c t → Gives a c (s ++ t)
-gives_on a b c s t first second = record {
-  read = Consumes-trans _ _ _ _ _ first.read second.read;
-  written = second.written ∙ first.written;
-  later = omega (arith, first.later, second.later);
-}

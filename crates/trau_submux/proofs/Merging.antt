@@ -17,7 +17,8 @@ use Rattle.trau_submux.specs.Channels.{IsMerged}
 use Rattle.trau_submux.specs.Lines.{Gains, GainsFront}
 use Rattle.trau_submux.specs.Merges.{BlockEndsAs, FailsAt, Merges, Takes}
 use Rattle.trau_submux.proofs.Merged.{merged-append}
-use Rattle.trau_submux.proofs.Gaining.{front_on, gains_on, gives_on}
+use Rattle.trau_io.proofs.Given.{gives_on}
+use Rattle.trau_submux.proofs.Gaining.{front_on, gains_on}
 use Rattle.trau_submux.proofs.Pieces.{MergeSoFar, Piece, PieceHolds, length-merged}
 
 module _ (u0 u1 u2 : ℕ → LineState) (o0 o1 o2 : LineState) (call n octets : ℕ) (so_far : MergeSoFar u0 u1 o0 o1 n octets) where

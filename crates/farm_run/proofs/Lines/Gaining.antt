@@ -9,7 +9,8 @@ use Rattle.round_lines.specs.declared.transfer.Outlet.{Outlet}
 use Rattle.round_lines.specs.Transfer.{LineGives, has_failed}
 use Rattle.run_spec.specs.Run.{Run, periods_to, who_in}
 use Rattle.run_spec.specs.Lines.{out_line, down_octets}
-use Rattle.run_spec.proofs.LongerLines.{length-out_line, length-down_octets, length-periods_to, out_more, down_on}
+use Rattle.call_leg.proofs.LineLaws.{length-out_line}
+use Rattle.run_spec.proofs.LongerLines.{length-down_octets, length-periods_to, out_more, down_on}
 use Rattle.farm_run.specs.Runs.{HasWritten}
 use Rattle.farm_run.specs.Fronts.{HasFront}
 

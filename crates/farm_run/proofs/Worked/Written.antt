@@ -40,7 +40,8 @@ use Rattle.farm_run.proofs.Clocks.Reach.{worked_now, worked_then, worked_idle}
 use Rattle.farm_run.proofs.Worked.Round.{WorkedRound}
 use Rattle.farm_run.proofs.Worked.Facts.{lines_kept, writes_at, down_between, out_between}
 use Rattle.farm_run.proofs.Lines.Gaining.{gains}
-use Rattle.run_spec.proofs.LongerLines.{length-out_line, length-down_octets, length-periods_to}
+use Rattle.call_leg.proofs.LineLaws.{length-out_line}
+use Rattle.run_spec.proofs.LongerLines.{length-down_octets, length-periods_to}
 use Rattle.farm_run.proofs.Listed.Round.{listed_kept, was_down, was_out, stands_down, stands_out}
 use Rattle.farm_run.proofs.Worked.Calls.{OpenSeat, open_seat, open_is, opened_is}
 use Rattle.farm_run.proofs.Worked.Past.{IsPast, worked_past}

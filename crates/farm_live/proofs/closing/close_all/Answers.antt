@@ -1,7 +1,7 @@
 use Rattle.std.proofs.Common.{◌≡◌, ◌+◌, ℕ, length, sym, ap, subst, arith}
+use Rattle.trau_num.proofs.Lists.{each_snoc}
 use Rattle.farm_live.specs.declared.live.Closed.{Closed}
 use Rattle.farm_live.specs.Closing.{AreClosedTo, IsClosedBy, views_at}
-use Rattle.farm_live.proofs.NewFarm.{each_snoc}
 use Rattle.farm_live.proofs.Joining.{all_left, fewer_left, left_at, closed_by}
 use Rattle.farm_live.proofs.closing.close_all.Goals as goal
 

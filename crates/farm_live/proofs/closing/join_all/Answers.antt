@@ -1,8 +1,9 @@
 use Rattle.std.proofs.Common.{◌≡◌, ◌++◌, ◌∷◌, [], List, length, reverse, sym, ap, ◌∙◌, subst, append-nil, arith}
+use Rattle.trau_num.proofs.Lists.{no_items}
 use Rattle.farm_live.specs.declared.live.Caller.{Caller}
 use Rattle.farm_live.specs.Live.{IsSeated}
 use Rattle.farm_live.specs.Closing.{AreJoined, AreAllSeated}
-use Rattle.farm_live.proofs.Joining.{popped, all_at, no_items, turned_round}
+use Rattle.farm_live.proofs.Joining.{popped, all_at, turned_round}
 use Rattle.farm_live.proofs.closing.join_all.Goals as goal
 
 pub loop-other-init : goal.loop-other-init

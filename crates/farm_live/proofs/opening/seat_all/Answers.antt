@@ -1,9 +1,10 @@
 use Rattle.std.proofs.Common.{◌≡◌, ◌<◌, ◌+◌, ◌-◌, ℕ, List, [], ◌∷◌, length, take, drop, get_or, refl, sym, ap, subst, length-append, arith}
+use Rattle.trau_num.proofs.Lists.{each_snoc, written_back}
 use Rattle.farm_live.specs.declared.live.Seat.{Seat}
 use Rattle.farm_live.specs.declared.live.Caller.{Caller}
 use Rattle.farm_live.specs.Slot.{all_callers}
 use Rattle.farm_live.specs.Live.{IsNewRow, IsNewCaller}
-use Rattle.farm_live.proofs.NewFarm.{drop_next, written_back, each_snoc, caller_is, first_is, left_is, first_numbers, last_numbers}
+use Rattle.farm_live.proofs.NewFarm.{drop_next, caller_is, first_is, left_is, first_numbers, last_numbers}
 use Rattle.farm_live.proofs.opening.seat_all.Goals as goal
 
 pub first_row-requires : goal.first_row-requires

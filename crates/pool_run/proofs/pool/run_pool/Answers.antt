@@ -1,11 +1,11 @@
 use Rattle.std.proofs.Common.{◌≡◌, ◌∙◌, All, List, ap, arith, drop, length, map, subst, sym, vec_len}
+use Rattle.trau_num.proofs.Lists.{written_back}
 use Rattle.pool_run.specs.declared.member.Member.{Member}
 use Rattle.pool_run.specs.Member.{IsEnded, Thief}
 use Rattle.trau_num.specs.Weights.{weigh}
 use Rattle.pool_run.specs.Deque.{entry_of}
 use Rattle.pool_run.specs.Pool.{IsSettled, entries_from}
 use Rattle.pool_run.specs.Room.{IsRoom}
-use Rattle.pool_run.proofs.Lists.{written_back}
 use Rattle.pool_run.proofs.Orders.{entries_numbered, entries_values}
 use Rattle.pool_run.proofs.Rooms.{room_less}
 use Rattle.pool_run.proofs.Settled.{one, count_back, count_tasks, entries_back}

@@ -1,7 +1,7 @@
 use Rattle.std.proofs.Common.{ℕ, All, length, sym, subst, ap, arith}
+use Rattle.trau_num.proofs.Lists.{each_snoc}
 use Rattle.pool_run.specs.declared.member.Member.{Member}
 use Rattle.pool_run.specs.Room.{IsNew}
-use Rattle.pool_run.proofs.Lists.{each_snoc}
 use Rattle.pool_run.proofs.room.new_members.Goals as goal
 
 pub loop-me-init : goal.loop-me-init

@@ -1,8 +1,8 @@
 use Rattle.std.proofs.Common.{◌≡◌, List, ◌<◌, ◌∙◌, ℕ, All, length, drop, sym, subst, ap, arith}
+use Rattle.trau_num.proofs.Lists.{written_back}
 use Rattle.pool_run.specs.declared.member.Member.{Member}
 use Rattle.pool_run.specs.Member.{Thief}
 use Rattle.pool_run.specs.Room.{IsRoom, IsNew, IsUnused, RoomLeft}
-use Rattle.pool_run.proofs.Lists.{written_back}
 use Rattle.pool_run.proofs.Rooms.{no_passes, new_left, unused_room}
 use Rattle.pool_run.proofs.room.new_pool.Goals as goal
 
