@@ -31,7 +31,7 @@ def options(words: Sequence[str], ranges: Mapping[str, Range]) -> Optional[Dict[
     """The value of each option, from the words after the command's; None where they aren't in the grammar (docs/commands/run.md,
     "Options").
 
-    A value is the next word, or stands after `=`. Each option stands once at most, in any order, and no name is shortened.
+    A value is the next word, or follows `=`. Options come in any order, each at most once, and no name is shortened.
     A last word `--` is taken (this project's profile; the manner of the library that reads the words).
     """
     rest = iter(words[:-1] if words and words[-1] == "--" else words)

@@ -118,7 +118,7 @@ PACE = {
     "slice": "the periods of a call that are processed in one go",
 }
 MEANINGS = {
-    "run": {**PACE, "periods": "the period at which the run ends; resume goes on to its mark's if that is greater"},
+    "run": {**PACE, "periods": "the period at which the run ends, required by save; resume goes on to its mark's if that is greater"},
     "drill": {
         **PACE,
         "periods": "the periods of the drill",
@@ -147,7 +147,7 @@ ORDERS = (
     Order("S close C", "the call ends"),
     Order("S bridge C D", "frames of the two calls are handed over without decoding"),
     Order("S unbridge C", "they are handed over no more"),
-    Order("S level C V", "frames whose peak is below this level count as such without speech"),
+    Order("S level C V", "a frame whose peak is below this level counts as one without speech"),
     Order("S dtx C on|off|uplink", "silence descriptors instead of frames without speech: always, never, or as the uplink asks"),
 )
 
@@ -185,7 +185,7 @@ NOTE_ON_ORDERS = (
 )
 NOTE_ON_HELP = (
     "help and --help print a help, help COMMAND and COMMAND --help the page of a command, and --version says what is installed."
-    " What is wrong with words that are no command, and why a line failed, stands on standard error."
+    " What is wrong with words that are no command, and why a line failed, is printed on standard error."
 )
 NOTE_ON_LOCK = (
     "A command that writes lines locks the folder (flock(1)) while it runs, so that two don't write into each other's lines; the"
@@ -243,7 +243,7 @@ def help_text() -> str:
     lines += ["", "Statuses:", ""]
     lines += table((str(status.number), status.means) for status in STATUSES)
     lines += ["", *folded(NOTE_ON_LOCK, ""), "", *folded(NOTE_ON_PROGRAMS, "")]
-    lines += ["", "trau help COMMAND tells of one command; demo, beside this script, runs an", "example; docs/ has the rest."]
+    lines += ["", "trau help COMMAND prints the page of one command; demo, beside this script,", "runs an example; docs/ has the rest."]
     return "\n".join(lines) + "\n"
 
 
@@ -322,7 +322,7 @@ def man_page(version: str, date: str) -> str:
     lines += [".SH ORDERS", escaped(NOTE_ON_ORDERS)]
     lines += paragraphs((order.words, order.does) for order in ORDERS)
     lines += [".SH FILES", *paragraphs(FILES)]
-    lines += [".SH EXIT STATUS", "Behind the meaning stands the text on standard output."]
+    lines += [".SH EXIT STATUS", "The text on standard output follows the meaning."]
     said = ((str(each.number), each.means + (f": {each.text}" if each.text else "")) for each in STATUSES)
     return "\n".join([*lines, *paragraphs(said)]) + "\n"
 

@@ -683,7 +683,7 @@ class Help(Started):
                 self.assertEqual(self.trau(*words), (0, trau_words.page(command), ""), words)
         # Of a name that is no command, none is a pattern.
         for name in ("x", ".*", "r.n", "[", "run\nsave", "run/"):
-            self.assertEqual(self.trau("help", name), (1, "usage\n", f"trau: help {name}: no command; trau help tells them\n"))
+            self.assertEqual(self.trau("help", name), (1, "usage\n", f"trau: help {name}: no command; trau help lists them\n"))
 
     def test_where_the_program_is_built_too(self):
         self.built()
@@ -742,10 +742,10 @@ class WrongWords(Started):
         "run --periods 99999999999999999999": "--periods 99999999999999999999: 1 to 4294967295",
         "run --batch": "--batch: its value is missing, 1 to 250",
         "run --batch=": "--batch: its value is missing, 1 to 250",
-        "run -x": "-x: no option of run; trau help run tells them",
-        "run --batch 2 --batch=3": "--batch: it stands twice",
-        "run --work 2": "--work: no option of run; trau help run tells them",
-        "run --seed 2": "--seed: no option of run; trau help run tells them",
+        "run -x": "-x: no option of run; trau help run lists them",
+        "run --batch 2 --batch=3": "--batch: it is given twice",
+        "run --work 2": "--work: no option of run; trau help run lists them",
+        "run --seed 2": "--seed: no option of run; trau help run lists them",
         "run orders.txt": "orders.txt: a word too many",
         "run -- --periods 5": "--periods: a word too many",
         "drill --seed 2 -- --": "--: a word too many",
@@ -762,11 +762,11 @@ class WrongWords(Started):
         "follow 7": "follow: W is missing, 0 to 316",
         "follow 7 6": "follow 6: W is a multiple of 4",
         "follow 7 320": "follow 320: W is 0 to 316",
-        "relya 7": "relya: no command; trau help tells them",
-        "-x": "-x: no command; trau help tells them",
-        "relay 7 --no-lock": "--no-lock: it stands once, before the command",
-        "run --no-lock": "--no-lock: it stands once, before the command",
-        "no such/thing": "no: no command; trau help tells them",
+        "relya 7": "relya: no command; trau help lists them",
+        "-x": "-x: no command; trau help lists them",
+        "relay 7 --no-lock": "--no-lock: it comes once, before the command",
+        "run --no-lock": "--no-lock: it comes once, before the command",
+        "no such/thing": "no: no command; trau help lists them",
     }
     RIGHT = (
         *("run --workers 64 --batch=1", "save --periods 4294967295", "live --seed 0", "split 4093", "follow 7 316", "frames 1"),

@@ -138,6 +138,11 @@ class Documents(unittest.TestCase):
                     self.assertEqual(integers(re.search(rf"^{name} = (.*)$", specs, re.M)[1]), wanted)
                     self.assertEqual(integers(re.search(rf"\bconst {name.upper()}: .* = (.*);$", src, re.M)[1]), wanted)
 
+    def test_the_version(self):
+        newest = re.search(r"^## ([\d.]+), ", (DOCS / "CHANGELOG.md").read_text(), re.M)[1]
+        for name in ("README.md", "docs/INSTALL.md", "docs/LIBRARY.md"):
+            self.assertEqual(set(re.findall(r"(?:of version |_)(\d+\.\d+\.\d+)", (TOP / name).read_text())), {newest}, name)
+
     def test_orders(self):
         text = (DOCS / "OPERATORS.md").read_text()
         table = text[text.index("| Order |") : text.index("## When")]
@@ -165,7 +170,7 @@ class ManPage(InFolder):
         text = " ".join(ended.stdout.decode().split())
         self.assertIn("TRAU(1)", text)
         self.assertIn("trau run [--workers N] [--batch N] [--slice N] [--periods N] <ORDERS", text)
-        run_ends = "The period at which the run ends; resume goes on to its mark's if that is greater"
+        run_ends = "The period at which the run ends, required by save; resume goes on to its mark's if that is greater"
         self.assertIn(f"{run_ends} (1 to 4,294,967,295, else 4,294,967,295).", text)
         self.assertIn("2 Line N of the orders or of the mark isn't in the grammar: orders line N, save line N.", text)
 
