@@ -1,7 +1,7 @@
 //! The report of a run: the results of its orders, bridges and calls, as text.
 //!
-//! At the end of a run it takes the board's replies and spans, and from the rounds the calls' ends and counts and
-//! the lines that failed. From these it makes the text that goes to the desk.
+//! At the end of a run it takes the board's replies, spans and ends, and from the rounds the calls' counts and the
+//! lines that failed. From these it makes the text that goes to the desk.
 //!
 //! The text is this project's profile. `report` has the report, `lines` how each kind of line is written, `text`
 //! the whole text and that of the failed lines alone, `sums` the sum of octets, modulo 2^32, which marks have too, and
