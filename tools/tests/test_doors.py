@@ -1,6 +1,6 @@
 """Tests of the doors between crates: a module of a crate's proofs is public exactly if another crate cites it, and a module of a group
 exactly if it is cited outside of the group. The file of one that another crate cites opens with what it offers. So the lemmas of all
-others may be renamed within their crate."""
+others may be renamed within their crate. None is left over: each is cited, or has worked rows."""
 
 import re
 import unittest
@@ -10,6 +10,7 @@ from support import TOP
 CRATES = TOP / "crates"
 OPENING = "-- For crates above: "
 CITED = re.compile(r"\bRattle\.(\w+)\.proofs\.([\w.]*\w)")
+NAMED = re.compile(r"\busing\(crate::proofs::([\w:]+)::\w+\)")
 DECLARED = re.compile(r"^(pub )?mod (\w+)$", re.M)
 
 
@@ -19,9 +20,11 @@ def citations():
         for file in CRATES.glob(f"*/{kind}"):
             above, folder, *names = file.relative_to(CRATES).with_suffix("").parts
             at = (above, *names) if folder == "proofs" else (above,)
-            for crate, path in CITED.findall(file.read_text(encoding="utf-8")):
+            text = file.read_text(encoding="utf-8")
+            for crate, path in CITED.findall(text):
                 if (CRATES / crate).is_dir():
                     yield at, (crate, *path.split("."))
+            yield from ((at, (above, *path.split("::"))) for path in NAMED.findall(text))
 
 
 def declared_modules():
@@ -53,6 +56,12 @@ class Doors(unittest.TestCase):
         """A module is public exactly if it, or a module in it, is cited from where it would be hidden."""
         public = {module for module, is_public in self.declared.items() if is_public}
         self.assertEqual(public, {module for at, cited in self.citations for module in opened(at, cited)})
+
+    def test_none_is_left_over(self):
+        """Each module, or one in it, is cited, or its name says that it has worked rows, which the check computes."""
+        cited = {cited[:length] for _, cited in self.citations for length in range(2, len(cited) + 1)}
+        rows = {module for module in self.declared if module[-1] in ("Rows", "Worked")}
+        self.assertEqual(self.declared.keys() - cited - rows, set())
 
     def test_openings(self):
         """A file opens with what it offers exactly if another crate cites it. The lemmas that it names there are public."""

@@ -1,3 +1,2 @@
 -- Lemmas on reading the desk.
-mod Marking
 mod Told

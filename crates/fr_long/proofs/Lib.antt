@@ -4,6 +4,5 @@ mod Lags
 mod Lanes
 pub mod Predictions
 mod Rows
-mod Search
 mod Tops
 mod Words
