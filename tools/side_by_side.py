@@ -7,10 +7,10 @@ import os
 import signal
 import sys
 import time
-from concurrent.futures import Future, ProcessPoolExecutor
+from concurrent.futures import ProcessPoolExecutor
 from concurrent.futures.process import BrokenProcessPool
 from pathlib import Path
-from typing import Any, Callable, Iterator, List, Optional, Sequence, Tuple, TypeVar
+from typing import Any, Callable, Iterator, Optional, Sequence, Tuple, TypeVar
 
 from core.words import Refusal, number_within, option
 
@@ -89,22 +89,12 @@ class Workers:
             progress.end()
 
     def results(self, function: Callable[..., Result], pieces: Sequence[Tuple[Any, ...]]) -> Iterator[Result]:
-        """The results of processes, in order. At most four pieces a process wait."""
+        """The results of processes, in order."""
         with ProcessPoolExecutor(min(self.processes, len(pieces)), initializer=leave_interrupts) as pool:
-            waiting: List[Future] = []
-            rest = iter(pieces)
             try:
-                for piece in rest:
-                    waiting.append(pool.submit(function, *piece))
-                    if len(waiting) == 4 * self.processes:
-                        yield waiting.pop(0).result()
-                while waiting:
-                    yield waiting.pop(0).result()
+                yield from pool.map(function, *zip(*pieces))
             except BrokenProcessPool:
                 raise Refusal("a process ended early; was there enough memory?") from None
-            finally:
-                for future in waiting:
-                    future.cancel()
 
 
 ALONE = Workers(1)
