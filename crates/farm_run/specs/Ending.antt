@@ -1,11 +1,19 @@
 -- The ends of calls, as they are reported to the board (this project's profile).
-use Rattle.std.specs.Prelude.{◌≡◌, ◌≤◌, ℕ, Bool, true, false, ◌||◌, if◌then◌else◌, Option, Some, None, List, [], ◌∷◌}
-use Rattle.std.specs.List.{All}
+use Rattle.std.specs.Prelude.{◌≡◌, ◌≤◌, ℕ, Bool, true, false, ◌||◌, if◌then◌else◌, Option, Some, None, List, [], ◌∷◌, ◌==◌}
+use Rattle.std.specs.List.{All, list_any}
 use Rattle.trau_io.specs.declared.ends.CallEnd.{CallEnd}
 use Rattle.trau_io.specs.declared.ends.Cause.TheVariants.{Limit}
-use Rattle.switchboard.specs.State.{State, last_stamp}
+use Rattle.switchboard.specs.State.{State, last_stamp, told_more}
 use Rattle.switchboard.specs.Open.{open_now}
-use Rattle.farm_run.specs.Going.{is_told}
+
+-- the board after these ends were reported to it, one after another
+abbrev pub told_after : State → List CallEnd → State
+told_after s [] = s
+told_after s (e ∷ ends) = told_after (told_more s e) ends
+
+-- whether the end of a call is one of these
+abbrev pub is_told : ℕ → List CallEnd → Bool
+is_told c ends = list_any (λ e. c == e.call) ends
 
 -- ends of calls that are open
 abbrev pub AreOpen : State → List CallEnd → Type 0

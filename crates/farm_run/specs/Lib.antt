@@ -1,7 +1,6 @@
 -- The run of a farm.
 pub mod Match
 pub mod Pace
-pub mod Going
 pub mod Ending
 pub mod Facts
 pub mod Noted

@@ -1,15 +1,11 @@
--- How a run goes on from one clock to a later one, whatever fails, and what an incoming line gives in a round (this project's
+-- How a run goes on from one clock to a later one, whatever fails, and what an incoming line never gives in it (this project's
 -- profile).
-use Rattle.std.specs.Prelude.{◌≡◌, ◌<◌, ℕ, ◌+◌, ◌-◌, min, Bool, true, false, ◌||◌, Some, is_some, unwrap_or, List, [], ◌++◌, length, take, drop}
+use Rattle.std.specs.Prelude.{◌≡◌, ℕ, Bool, true, false, ◌||◌, Some, is_some, unwrap_or, List, [], ◌++◌, drop}
 use Rattle.trau_io.specs.declared.line.Line.{Line}
 use Rattle.trau_io.specs.declared.line.Side.{Side}
 use Rattle.trau_io.specs.declared.line.Side.TheVariants.{Up, Pcm}
 use Rattle.trau_io.specs.Lines.{LineState}
-use Rattle.round_lines.specs.declared.transfer.Taken.{Taken}
-use Rattle.round_lines.specs.Memory as round_lines
-use Rattle.round_lines.specs.Memory.{fails_in}
-use Rattle.round_lines.specs.Seats.{SeatMemory}
-use Rattle.round_lines.specs.Rounds.{IsIncoming, seat_at, call_at}
+use Rattle.round_lines.specs.Rounds.{IsIncoming}
 use Rattle.switchboard.specs.Calls.{closed_at}
 use Rattle.switchboard.specs.State.{State, gone_in}
 use Rattle.switchboard.specs.Open.{opened_now}
@@ -61,37 +57,9 @@ never_given true last = unwrap_or last.to_come []
 abbrev pub IsToCome : LineState → ℕ → List ℕ → List ℕ → Type 0
 IsToCome now k line rest = now.to_come ≡ Some (drop k line ++ rest)
 
--- How a round's read of at most m octets agrees with the run. `failing` says whether the line fails in the run, `rest` is what it
--- never gives, `now` the line after the read, and `t` what was read.
-pub record Meets (m : ℕ) (rest : List ℕ) (failing : Bool) (now : LineState) (t : Taken) : Type 0 where
-  -- a line that doesn't fail in the run gives all
-  pub whole : failing ≡ false → rest ≡ []
-  -- a line that failed in this read fails in the run, and at this point
-  pub here : t.failed ≡ true → (failing ≡ true) × (now.to_come ≡ Some rest)
-  -- a line that fails later in the run gave all m octets, and what it never gives is still to come
-  pub ahead : t.failed ≡ false → failing ≡ true → (t.count ≡ m) × ((x : List ℕ) × (now.to_come ≡ Some (x ++ rest)))
-
--- What a round's read of at most m octets took of a line, after the run's first k octets of it were read.
-pub record GaveBlock (m k : ℕ) (line rest : List ℕ) (failing : Bool) (now : LineState) (t : Taken) (block : List ℕ) : Type 0 where
-  -- it took the run's next octets: m of them, or as many as the line has
-  pub count : t.count ≡ min m (length line - k)
-  pub octets : take t.count block ≡ take t.count (drop k line)
-  pub left : IsToCome now (k + m) line rest
-  -- a line that gave fewer than m failed in this round exactly if it fails in the run
-  pub fails : t.count < m → t.failed ≡ failing
-
--- ---- a round
+-- ---- the run's end
 
 -- the run's incoming lines fail exactly if they are listed at its end
 pub record HasFlags (r : Run) (last : Standing) : Type 0 where
   pub up : (c : ℕ) → (r.lines c).up_failed ≡ last.listed c Up
   pub pcm : (c : ℕ) → (r.lines c).pcm_failed ≡ last.listed c Pcm
-
--- How a round of n periods agrees with the run: `behind` is the state of the run after the round, `last` at its end.
-pub record MeetsRun (r : Run) (n : ℕ) (seats : List SeatMemory) (behind last : Standing) : Type 0 where
-  pub on : StandingGoesOn behind last
-  pub flags : HasFlags r last
-  -- of the incoming lines of the round's calls, exactly those that failed in it are listed after it
-  pub listed : (k : ℕ) (s : Side) → k < length seats → IsIncoming s → behind.listed (call_at seats k) s ≡ fails_in (seat_at seats k).lines s
-  -- a call whose lines lack one of the periods has ended after it
-  pub over : (k : ℕ) → k < length seats → round_lines.whole_in (seat_at seats k).lines < n → behind.over (call_at seats k) ≡ true

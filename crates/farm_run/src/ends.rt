@@ -5,8 +5,7 @@ ghost use Rattle.std.specs.List.{All};
 ghost use Rattle.switchboard.specs.State.{last_stamp};
 ghost use Rattle.switchboard.specs.Open.{open_now, partner_now};
 ghost use Rattle.farm_rounds.specs.Numbers.{IsRising, is_among};
-ghost use Rattle.farm_run.specs.Going.{told_after, is_told};
-ghost use Rattle.farm_run.specs.Ending.{AreOpen, AreApart, AreLate, partner_past, limit_at};
+ghost use Rattle.farm_run.specs.Ending.{AreOpen, AreApart, AreLate, partner_past, limit_at, told_after, is_told};
 
 use switchboard::Board;
 use trau_io::{CallEnd, Cause};

@@ -14,13 +14,13 @@
 //! Definitions: `specs/Runs.antt` (what a run leaves on the lines and reports, whatever fails), `specs/Saving.antt` (the same
 //! for a run that is marked), `specs/Resuming.antt` (for a run that is resumed), `specs/Fronts.antt` (for a run that runs out
 //! of memory), `specs/Stages.antt` (one clock of a run, and how it gets to a later one), `specs/Parts.antt` (the parts of a
-//! run), `specs/Standing.antt` (how a run goes on from clock to clock, and what a line gives in a round), `specs/Clock.antt`
+//! run), `specs/Standing.antt` (how a run goes on from clock to clock, and what a line never gives), `specs/Clock.antt`
 //! (what holds at a clock), `specs/Orders.antt` (its orders), `specs/Outgoing.antt` (where a round's octets go),
-//! `specs/Match.antt` (how board and farm agree with each other, and with the run that `run_spec` defines), `specs/Going.antt`
-//! (how far the calls come in a round), `specs/Ending.antt` (the ends that the board is given), `specs/Noted.antt` (what is noted,
-//! and when the notes are right, so that at the run's end the report is the definition's),
-//! `specs/Facts.antt` (what the report says), `specs/Marking.antt` (what a mark says of a call), `specs/Pace.antt`. How
-//! orders, rounds and ends follow each other is this project's profile.
+//! `specs/Match.antt` (how board and farm agree with each other, and with the run that `run_spec` defines),
+//! `specs/Ending.antt` (the ends that the board is given, and the board after them), `specs/Noted.antt` (what is noted, and
+//! when the notes are right, so that at the run's end the report is the definition's), `specs/Facts.antt` (what the report
+//! says), `specs/Marking.antt` (what a mark says of a call), `specs/Pace.antt`. How orders, rounds and ends follow each other
+//! is this project's profile.
 #![tactic(auto)]
 
 mod clock;

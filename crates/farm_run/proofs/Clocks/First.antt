@@ -151,10 +151,6 @@ at_first r b calls periods lines last a none g run =
       lines = lines_at_first r (orders_of b) periods lines last run;
     }
 
--- **Before the first round no line is listed.**
-pub knows_first : (b : State) → KnowsListed b []
-knows_first b = record { opened = λ c s l. cc; ended = λ c s i l. cc }
-
 -- what is listed at the run's end is what the run says
 pub flags_of : (r : Run) (os : List Order) (periods : ℕ) (first : ℕ → Side → LineState) (last : Standing) →
     IsRunOver os periods last.listed first last.lines r → HasFlags r last

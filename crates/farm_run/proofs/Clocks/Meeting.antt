@@ -11,7 +11,7 @@ use Rattle.round_lines.specs.Rounds.{IsIncoming}
 use Rattle.trau_io.specs.declared.line.Line.{Line}
 use Rattle.switchboard.specs.State.{State}
 use Rattle.farm_run.specs.Runs.{IsGiven, ReadsOn, is_listed}
-use Rattle.farm_run.specs.Standing.{Standing, standing, is_over, StandingGoesOn, Meets, never_given}
+use Rattle.farm_run.specs.Standing.{Standing, standing, is_over, StandingGoesOn, never_given}
 
 -- **Nothing has happened.**
 pub stays : (a : Standing) → StandingGoesOn a a
@@ -56,6 +56,17 @@ pub told_first : (fails : Bool) (before now : LineState) (octets : List ℕ) →
     before.to_come ≡ Some (octets ++ never_given fails now)
 told_first false before now octets e = e ∙ ap Some (sym (append-nil octets))
 told_first true before now octets e = e.1 ∙ ap (λ (u : Option (List ℕ)). Some (octets ++ unwrap_or u [])) (sym e.2)
+
+-- How a round's read of at most m octets agrees with the run. `failing` says whether the line fails in the run, `rest` is what it
+-- never gives, `now` the line after the read, and `t` what was read.
+pub record Meets (m : ℕ) (rest : List ℕ) (failing : Bool) (now : LineState) (t : Taken) : Type 0 where
+  -- a line that doesn't fail in the run gives all
+  pub whole : failing ≡ false → rest ≡ []
+  -- a line that failed in this read fails in the run, and at this point
+  pub here : t.failed ≡ true → (failing ≡ true) × (now.to_come ≡ Some rest)
+  -- a line that fails later in the run gave all m octets, and what it never gives is still to come
+  pub ahead : t.failed ≡ false → failing ≡ true →
+      (t.count ≡ m) × ((x : List ℕ) × (now.to_come ≡ Some (x ++ rest)))
 
 -- **A round of a run that goes on to its end meets it.**
 pub meets : (m : ℕ) (c : ℕ) (s : Side) (now last : Standing) (t : Taken) (ys : List ℕ) → IsIncoming s → StandingGoesOn now last →

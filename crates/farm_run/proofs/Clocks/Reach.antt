@@ -22,9 +22,8 @@ use Rattle.run_spec.proofs.Settling.{start_is, closed_stamp, at_of, ends_has}
 use Rattle.run_spec.proofs.SoFar.{standing_now, standing_rest, standing_end, done-rest, rest_in, rest_above, rest_from, so_far_later}
 use Rattle.run_spec.proofs.Ending.{end_closed, end_lacks}
 use Rattle.run_spec.proofs.Going.{opened_run}
-use Rattle.farm_run.specs.Going.{places_in, ends_within}
 use Rattle.farm_run.specs.Runs.{IsCutOff}
-use Rattle.farm_run.proofs.Rounds.Taken.{IsRound}
+use Rattle.farm_run.proofs.Rounds.Taken.{IsRound, places_in, ends_within}
 use Rattle.farm_run.proofs.Rounds.Open.{open_at, no_order, has_period_in}
 use Rattle.farm_run.proofs.Rounds.Ends.{ends_there, start_kept}
 

@@ -26,21 +26,12 @@ use Rattle.farm_run.proofs.Noted.Truly.{truly_same}
 use Rattle.farm_run.proofs.Lines.Sides.{sides_none}
 use Rattle.farm_run.proofs.Clocks.Summing.{sums_on}
 
--- what follows from what a call gives, where it gives it
-pub ok_more : {T E : Type 0} (P Q : T → Type 0) (o : Result T E) → ((x : T) → P x → Q x) → IfOk o P → IfOk o Q
-ok_more P Q (Ok x) h p = h x p
-ok_more P Q (Err e) h p = tt
-
 -- from two facts of a result
 pub ok_both : {T E : Type 0} (P Q R : T → Type 0) (o : Result T E) → ((x : T) → P x → Q x → R x) → IfOk o P → IfOk o Q → IfOk o R
 ok_both P Q R (Ok x) h p q = h x p q
 ok_both P Q R (Err e) h p q = tt
 
 module _ (s : Stage) (b : State) (farm : FarmMemory) (ns : List SentBefore) (stage : IsStage s) (o : OrdersDone s.clock s.board s.farm s.notes b farm ns) where
-  -- the stage at the later clock
-  abbrev behind : Stage
-  behind = record s { board = b; farm = farm; notes = ns }
-
   -- **What holds at a clock holds behind its orders.**
   pub stage_behind : IsStage (record s { board = b; farm = farm; notes = ns })
   stage_behind =

@@ -34,11 +34,6 @@ pub on_err : {T E P : Type 0} (o : Result T E) → P → OnErr o P
 on_err (Ok x) p = tt
 on_err (Err e) p = p
 
--- a fact of an error that follows from another
-pub err_more : {T E P Q : Type 0} (o : Result T E) → (P → Q) → OnErr o P → OnErr o Q
-err_more (Ok x) h p = tt
-err_more (Err e) h p = h p
-
 -- **At a clock each outgoing line holds a prefix of what the run gives, one that failed a proper prefix.**
 fronts_at : (r : Run) (t : ℕ) (b : State) (calls : List Kept) (failed : List Line) (first now : ℕ → Side → LineState) →
     IsAtClock r t b calls (standing b failed now) first now →

@@ -1,5 +1,5 @@
 -- A run at its end: what it leaves on the lines, and what is told of it.
-use Rattle.std.proofs.Common.{◌≡◌, refl, sym, ap, ◌∙◌, subst, ℕ, ◌≤◌, Bool, List, length, map, arith}
+use Rattle.std.proofs.Common.{◌≡◌, refl, sym, ap, ◌∙◌, subst, ℕ, ◌≤◌, List, length, map, arith}
 use Rattle.std.specs.Prelude.{is_some}
 use Rattle.trau_io.specs.declared.line.Line.{Line}
 use Rattle.trau_io.specs.declared.line.Side.{Side}
@@ -33,10 +33,6 @@ use Rattle.farm_run.proofs.Clocks.Meeting.{stays}
 use Rattle.farm_run.proofs.Clocks.Reaching.{GoneTo}
 
 module _ (os : List Order) (batch : ℕ) (first now : ℕ → Side → LineState) (u : Stage) (g : GoneTo os batch first now u) where
-  -- the lines that are listed as failed
-  abbrev pub fails : ℕ → Side → Bool
-  fails = is_listed u.farm.failed
-
   -- how it stands there
   abbrev pub last : Standing
   last = standing u.board u.farm.failed now

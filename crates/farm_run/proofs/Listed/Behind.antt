@@ -19,19 +19,19 @@ use Rattle.farm_rounds.specs.Calls.{Call, call_in}
 use Rattle.farm_rounds.specs.Memory.{FarmMemory}
 use Rattle.farm_rounds.specs.Working.{goes_on_call}
 use Rattle.run_spec.specs.Run.{Run}
-use Rattle.farm_run.specs.Going.{told_after, is_told}
 use Rattle.farm_run.specs.Match.{AtClock}
 use Rattle.farm_run.specs.Runs.{is_listed, ReadsOn}
-use Rattle.farm_run.specs.Standing.{Standing, standing, is_over, StandingGoesOn, KnowsListed, HasFlags, MeetsRun}
+use Rattle.farm_run.specs.Standing.{Standing, standing, is_over, StandingGoesOn, KnowsListed, HasFlags}
 use Rattle.farm_run.proofs.Listed.Boards.{over_shut, open_opened, open_gone, gone_told, over_told}
 use Rattle.farm_run.proofs.Listed.Counts.{seat_cases}
-use Rattle.farm_run.proofs.Worked.Round.{WorkedRound, SeatFacts, filled_call, filled_periods, worked_call, up_long, pcm_long}
+use Rattle.farm_run.proofs.Worked.Round.{WorkedRound, SeatFacts, filled_call, filled_periods, worked_call, up_long, pcm_long, MeetsRun}
 use Rattle.farm_run.proofs.Worked.Facts.{lines_kept, incoming_after, seat_facts}
 use Rattle.farm_run.proofs.Listed.Round.{listed_cases, marked, listed_kept, listed_incoming, marks_kept}
 use Rattle.farm_rounds.proofs.Gaining.{fewer_up, fewer_pcm}
 use Rattle.farm_rounds.proofs.GoingOn.{goes_on_at}
 use Rattle.farm_run.proofs.Told.Boards.{told_done}
 use Rattle.farm_run.proofs.Worked.Clock.{told_is}
+use Rattle.farm_run.specs.Ending.{told_after, is_told}
 
 -- what a line gave in a round is a prefix
 front_read : (u v : Option (List ℕ)) (front xs : List ℕ) → Consumes u v front → u ≡ Some xs → (k : ℕ) × (v ≡ Some (drop k xs))

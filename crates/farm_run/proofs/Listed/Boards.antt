@@ -15,11 +15,11 @@ use Rattle.switchboard.specs.Open.{opened_now, open_now, partner_now, Finds}
 use Rattle.switchboard.proofs.Appending.{or_else}
 use Rattle.run_spec.proofs.Executing.{opened-append, closed-append}
 use Rattle.farm_rounds.specs.Failed.{NoneListed}
-use Rattle.farm_run.specs.Going.{told_after}
 use Rattle.farm_run.specs.Runs.{is_listed}
 use Rattle.farm_run.specs.Standing.{is_over, KnowsListed}
 use Rattle.farm_run.proofs.Told.Boards.{told_done, is_told_end}
 use Rattle.farm_run.proofs.Listed.Tests.{or_cases, or_left, or_right, is_false}
+use Rattle.farm_run.specs.Ending.{told_after}
 
 -- ---- a call that is open, and one that is over
 

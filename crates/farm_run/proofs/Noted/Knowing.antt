@@ -10,13 +10,12 @@ use Rattle.farm_rounds.specs.declared.tally.Tally.{Tally}
 use Rattle.run_spec.specs.Run.{Run, given_in, whole_in, done_in}
 use Rattle.run_spec.proofs.Lists.{each_weaker}
 use Rattle.farm_run.specs.declared.notes.SentBefore.{SentBefore}
-use Rattle.farm_run.specs.Going.{places_in}
-use Rattle.farm_run.proofs.Rounds.Taken.{IsRound}
-use Rattle.farm_run.specs.Clock.{EndsRound}
+use Rattle.farm_run.proofs.Rounds.Taken.{IsRound, places_in}
+use Rattle.farm_run.proofs.Rounds.Outcome.{IsRoundEnd, EndsRound}
 use Rattle.farm_run.specs.Noted.{call_end_in, IsKnown, Noted, TellsTruly}
 use Rattle.farm_run.proofs.Rounds.Ends.{start_kept}
 use Rattle.farm_run.proofs.Told.Boards.{told_done}
-use Rattle.farm_run.proofs.Noted.Rounds.{IsRoundEnd, noted_start, noted_jump, noted_round}
+use Rattle.farm_run.proofs.Noted.Rounds.{noted_start, noted_jump, noted_round}
 use Rattle.farm_run.proofs.Noted.Truly.{truly_start, truly_told}
 
 -- nothing is known before the first order
@@ -49,5 +48,5 @@ known_round r t n b b' ns tallies tallies' round over known =
       truly = subst (λ (s : State). TellsTruly r s) (sym over.board)
           (truly_told r b ends (each_weaker (IsRoundEnd r b.done t n) (λ e. e ≡ call_end_in r e.call) ends (right_end r t n b round) over.each) known.truly);
       noted = subst (λ (ds : List Done). Noted r ds (t + n) ns tallies') (sym done)
-          (noted_round r t n b.done b.left ns tallies tallies' round known.noted over.tallies.ended over.tallies.others);
+          (noted_round r t n b.done b.left ns tallies tallies' round known.noted over.tallies);
     }

@@ -4,10 +4,9 @@ use Rattle.std.proofs.Common.{arith}
 use Rattle.std.specs.Prelude.{min, nat_lt, is_some, IfSome, if◌then◌else◌}
 use Rattle.std.proofs.Math.Bool.{and-false}
 use Rattle.std.proofs.lemmas.Bool.{and_parts, true≢false}
-use Rattle.trau_io.specs.declared.ends.CallEnd.{CallEnd}
 use Rattle.trau_orders.specs.declared.order.Order.{Order}
 use Rattle.switchboard.specs.Calls.{Done, opened_at, closed_at, is_open, gone_at}
-use Rattle.switchboard.specs.Ends.{end_of, start_of, ends_at}
+use Rattle.switchboard.specs.Ends.{start_of, ends_at}
 use Rattle.switchboard.specs.State.{first_stamp}
 use Rattle.call_leg.specs.Periods.{CallPeriod, bridges_begun}
 use Rattle.call_leg.specs.Settings.{Settings}
@@ -25,8 +24,8 @@ use Rattle.run_spec.proofs.OpenCalls.{open_facts}
 use Rattle.run_spec.proofs.Going.{start_run}
 use Rattle.run_spec.proofs.Sent.{sent_at_end}
 use Rattle.farm_run.specs.declared.notes.SentBefore.{SentBefore}
-use Rattle.farm_run.specs.Going.{places_in, ends_within}
-use Rattle.farm_run.proofs.Rounds.Taken.{IsRound}
+use Rattle.farm_run.proofs.Rounds.Taken.{IsRound, places_in, ends_within}
+use Rattle.farm_run.proofs.Rounds.Outcome.{KeepsTallies}
 use Rattle.farm_run.specs.Noted.{is_opened, ended_at, IsKept, Noted}
 use Rattle.farm_run.proofs.Rounds.Open.{shut_after}
 use Rattle.farm_run.proofs.Rounds.Ends.{ends_there}
@@ -78,10 +77,6 @@ noted_jump r t u ds ns tallies l none n = noted_same r ds (ended_at r ds t) (end
 
 -- ---- a round
 
--- an end that a round tells: its call's lines end it there
-abbrev pub IsRoundEnd : Run → List Done → ℕ → ℕ → CallEnd → Type 0
-IsRoundEnd r ds t n e = (ends_within r ds t n e.call ≡ true) × (e ≡ end_of (given_in r) r.periods (done_in r) e.call (start_of ds e.call))
-
 -- who has ended after it
 module _ (r : Run) (t n : ℕ) (ds : List Done) (c : ℕ) where
   -- tests before the round, behind it, and in it
@@ -130,14 +125,10 @@ sooner u v (o ∷ left) l h = omega arith
 
 -- **After a round whose tallies tell of the calls that it ended, what is noted is right again.**
 pub noted_round : (r : Run) (t n : ℕ) (ds : List Done) (left : List Order) (ns : List SentBefore) (tallies tallies' : List Tally) →
-    IsRound r t n ds left → Noted r ds t ns tallies →
-    ((c : ℕ) → ends_within r ds t n c ≡ true →
-    (now : Settings) × (now.starts ≡ (settings_now r ds (t + places_in r ds t n c) c).starts)
-    × (tally_in tallies' c ≡ tally_of (periods_to r c (t + places_in r ds t n c - start_of ds c)) now)) →
-    ((c : ℕ) → ends_within r ds t n c ≡ false → tally_in tallies' c ≡ tally_in tallies c) → Noted r ds (t + n) ns tallies'
-noted_round r t n ds left ns tallies tallies' h noted kept same =
+    IsRound r t n ds left → Noted r ds t ns tallies → KeepsTallies r t n ds tallies tallies' → Noted r ds (t + n) ns tallies'
+noted_round r t n ds left ns tallies tallies' h noted keeps =
     noted_same r ds (λ c. ended_at r ds t c || ends_within r ds t n c) (ended_at r ds (t + n)) ns (tally_in tallies') (tally_in tallies')
-    (noted_ends r ds (ended_at r ds t) (ends_within r ds t n) ns (tally_in tallies) (tally_in tallies') noted right same)
+    (noted_ends r ds (ended_at r ds t) (ends_within r ds t n) ns (tally_in tallies) (tally_in tallies') noted right keeps.others)
     (λ c. ended_round r t n ds c) (λ c. refl)
   where
     opened : (c : ℕ) → ends_within r ds t n c ≡ true → is_open (gone_at (whole_in r) t ds) ds c ≡ true
@@ -151,7 +142,7 @@ noted_round r t n ds left ns tallies tallies' h noted kept same =
 
     right : (c : ℕ) → ends_within r ds t n c ≡ true → IsKept r ds c (tally_in tallies' c)
     right c w =
-        let k = kept c w in
+        let k = keeps.ended c w in
         subst (IsKept r ds c) (sym k.2)
         (kept_at_end r (t + places_in r ds t n c) ds left c k.0 (far (places_in r ds t n c) (within (start_of ds c + whole_in r c - t)))
         (open_not_ended r t ds c (opened c w)).1 (ends_there r t n ds left c h w) k.1)

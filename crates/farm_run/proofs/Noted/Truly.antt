@@ -7,8 +7,8 @@ use Rattle.std.proofs.lemmas.List.{length-set, get_or_past, get_or-set_same, get
 use Rattle.trau_io.specs.declared.ends.CallEnd.{CallEnd}
 use Rattle.switchboard.specs.State.{State, EndBefore, end_told, told_more}
 use Rattle.run_spec.specs.Run.{Run}
-use Rattle.farm_run.specs.Going.{told_after}
 use Rattle.farm_run.specs.Noted.{call_end_in, TellsTruly}
+use Rattle.farm_run.specs.Ending.{told_after}
 
 -- **A board that was told no end tells none that is wrong.**
 pub truly_start : (r : Run) (s : State) → EndBefore 0 s → TellsTruly r s

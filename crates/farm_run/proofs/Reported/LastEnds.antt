@@ -31,8 +31,7 @@ use Rattle.run_spec.proofs.Ending.{end_limit, all_done, report_end}
 use Rattle.farm_run.specs.Match.{past_if, histories_at}
 use Rattle.farm_run.specs.declared.notes.SentBefore.{SentBefore}
 use Rattle.farm_run.specs.Facts.{span_lines, sent_in_table, kept_in, Reports}
-use Rattle.farm_run.specs.Going.{told_after}
-use Rattle.farm_run.specs.Ending.{limit_at}
+use Rattle.farm_run.specs.Ending.{limit_at, told_after}
 use Rattle.farm_run.specs.Noted.{call_end_in, is_opened, ended_at, IsKept, IsNoted, TellsTruly, IsAtEnd}
 use Rattle.farm_run.proofs.Rounds.Open.{open_at}
 use Rattle.farm_run.proofs.Told.Boards.{told_done, is_told_end}

@@ -1,27 +1,25 @@
 -- The ends of calls in a round are the run's.
 use Rattle.std.proofs.Common.{◌≡◌, sym, ap, ◌∙◌, subst, ℕ, ◌+◌, ◌-◌, ◌*◌, ◌<◌, ◌≤◌, Bool, true, false, Some, None, List, inl, inr, arith}
-use Rattle.std.specs.Prelude.{IfSome, min, ◌&&◌, nat_lt, if◌then◌else◌}
+use Rattle.std.specs.Prelude.{min, ◌&&◌, nat_lt, if◌then◌else◌}
 use Rattle.std.proofs.lemmas.Bool.{lt-ltb, le-ltb, ltb-true, cases_lt, eq-eqb, ne_eqb, and_parts}
 use Rattle.trau_io.specs.declared.line.Side.TheVariants.{Up, Pcm}
 use Rattle.trau_io.specs.declared.ends.Cause.{Cause}
-use Rattle.trau_io.specs.declared.ends.Cause.TheVariants.{End, Fault, Limit}
+use Rattle.trau_io.specs.declared.ends.Cause.TheVariants.{End, Fault}
 use Rattle.trau_io.specs.declared.ends.CallEnd.{CallEnd}
 use Rattle.trau_orders.specs.declared.order.Order.{Order}
-use Rattle.switchboard.specs.State.{first_stamp}
 use Rattle.switchboard.specs.Calls.{Done, is_open, gone_at}
 use Rattle.switchboard.specs.Ends.{Given, whole_of, lack_of, end_of, start_of, ends_at}
 use Rattle.round_lines.specs.Memory as round_lines
 use Rattle.round_lines.specs.Memory.{LinesMemory, end_in_round}
 use Rattle.round_lines.specs.Shifts.{with_periods}
 use Rattle.round_lines.proofs.Shifting.{lack_shifts}
-use Rattle.run_spec.specs.Run.{Run, given_in, whole_in, done_in, periods_to, periods_in}
+use Rattle.run_spec.specs.Run.{Run, given_in, whole_in, done_in}
 use Rattle.run_spec.proofs.Settling.{at_of}
 use Rattle.run_spec.proofs.SoFar.{standing_now}
-use Rattle.run_spec.proofs.Ending.{end_lacks, end_limit}
+use Rattle.run_spec.proofs.Ending.{end_lacks}
 use Rattle.run_spec.proofs.Going.{start_run}
-use Rattle.farm_run.specs.Going.{places_in, ends_within}
 use Rattle.farm_run.specs.Runs.{IsCutOff}
-use Rattle.farm_run.proofs.Rounds.Taken.{IsRound, IsTaken}
+use Rattle.farm_run.proofs.Rounds.Taken.{IsRound, IsTaken, places_in, ends_within}
 use Rattle.farm_run.proofs.Rounds.Open.{IsOpenAt, open_at, no_order}
 
 -- ---- the run's end
@@ -72,26 +70,6 @@ pub ends_there : (r : Run) (t n : ℕ) (ds : List Done) (left : List Order) (c :
 ends_there r t n ds left c h e =
     let parts = and_parts (is_open (gone_at (whole_in r) t ds) ds c) (nat_lt (places_in r ds t n c) n) e in
     ap (λ (s : ℕ). at_of (end_of (given_in r) r.periods (done_in r) c s)) (start_kept r t n ds left c h parts.0) ∙ ap at_of (end_within r t n ds left c h e)
-
--- its periods are those up to the last that its lines give
-pub periods_ended : (r : Run) (t n : ℕ) (ds : List Done) (left : List Order) (c : ℕ) → IsRound r t n ds left → ends_within r ds t n c ≡ true →
-    periods_in r c ≡ periods_to r c (t + places_in r ds t n c - start_of ds c)
-periods_ended r t n ds left c h e =
-    let parts = and_parts (is_open (gone_at (whole_in r) t ds) ds c) (nat_lt (places_in r ds t n c) n) e in
-    ap (λ (u : ℕ). periods_to r c (u - start_of (done_in r) c)) (ends_there r t n ds left c h e)
-    ∙ ap (λ (s : ℕ). periods_to r c (t + places_in r ds t n c - s)) (start_kept r t n ds left c h parts.0)
-
--- **A call that has all places of the run's last round is ended by the run.**
-pub end_at_limit : (r : Run) (t n : ℕ) (ds : List Done) (left : List Order) (c : ℕ) → IsRound r t n ds left → t + n ≡ r.periods →
-    is_open (gone_at (whole_in r) t ds) ds c ≡ true → places_in r ds t n c ≡ n →
-    end_of (given_in r) r.periods (done_in r) c (start_of ds c) ≡ record { call = c; at = r.periods; cause = Limit }
-end_at_limit r t n ds left c h e o all =
-    let at = open_at r t ds c (standing_now r t ds left h.so_far) o in
-    end_limit r t ds left c (start_of ds c) h.so_far (subst (λ (p : ℕ). IfSome (first_stamp left) (λ s. p ≤ s)) e h.clear) at.unclosed
-    (far (start_of ds c + whole_in r c) t n r.periods h.some e all)
-  where
-    far : (last t n P : ℕ) → 1 ≤ n → t + n ≡ P → min n (last - t) ≡ n → P ≤ last
-    far last t n P s e f = omega arith
 
 -- ---- the round's end
 

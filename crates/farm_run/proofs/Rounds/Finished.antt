@@ -1,26 +1,18 @@
--- The finished job of a round leaves a call as the run has it, and its octets are the next of its outgoing lines.
-use Rattle.std.proofs.Common.{◌≡◌, sym, ap, ◌∙◌, subst, ℕ, ◌+◌, ◌-◌, ◌*◌, ◌≤◌, true, Some, None, List, ◌++◌, take, drop}
+-- A round's job has its call's octets, and when it is finished, its octets are the next of the call's outgoing lines.
+use Rattle.std.proofs.Common.{◌≡◌, sym, ap, ◌∙◌, ℕ, ◌+◌, ◌-◌, ◌*◌, ◌≤◌, true, List, ◌++◌, take, drop}
 use Rattle.std.proofs.Common.{arith}
 use Rattle.std.proofs.lemmas.List.{take_at, take-take, drop-drop, drop-take}
 use Rattle.trau_orders.specs.declared.order.Order.{Order}
-use Rattle.switchboard.specs.declared.table.Bridge.{Bridge}
 use Rattle.switchboard.specs.Calls.{Done, is_open, gone_at}
-use Rattle.switchboard.specs.Bridges.{other, bridge_of}
 use Rattle.switchboard.specs.Ends.{start_of}
 use Rattle.round_lines.specs.Memory as round_lines
 use Rattle.round_lines.specs.Memory.{LinesMemory}
-use Rattle.call_leg.specs.Periods.{CallPeriod}
-use Rattle.call_leg.specs.Settings.{Settings}
-use Rattle.call_pair.specs.Memory.{IoMemory, HalfMemory}
-use Rattle.call_pair.specs.History.{outs_of, downs_of, io_after, HasWorked, settings_past, alone_periods}
-use Rattle.call_pair.specs.Finished.{HasWorkedAlone, HasWorkedBridged}
+use Rattle.call_pair.specs.Memory.{IoMemory}
+use Rattle.call_pair.specs.History.{outs_of, downs_of, io_after}
 use Rattle.call_pair.proofs.Octets.{length-outs_of, length-downs_of}
 use Rattle.run_spec.specs.Run.{Run, whole_in, periods_to, who_in}
-use Rattle.run_spec.specs.Now.{settings_now}
 use Rattle.run_spec.specs.Lines.{out_line, down_octets}
-use Rattle.farm_run.proofs.Rounds.Taken.{IsRound, IsFed, IsTaken, start_at}
-use Rattle.farm_run.proofs.Rounds.Histories.{alone_worked, alone_settings}
-use Rattle.farm_run.proofs.Rounds.Partners.{bridged_worked, bridged_settings}
+use Rattle.farm_run.proofs.Rounds.Taken.{IsRound, IsFed, IsTaken}
 use Rattle.farm_run.proofs.Rounds.Ends.{whole_taken}
 use Rattle.run_spec.proofs.LongerLines.{length-periods_to}
 use Rattle.farm_run.proofs.Rounds.Octets.{out_of_periods, down_of_periods}
@@ -52,41 +44,6 @@ fed_taken r t n ds left c p io h o k e g d =
       pcm = λ j l. taken_place p.pcm.count 160 (160 * (t - start_of ds c)) (160 * j) (160 * (t - start_of ds c + j)) io.pcm lines.pcm k.pcm_octets
           (omega arith) (omega arith);
     }
-
--- ---- a finished half
-
--- **A finished call that lies in no bridge stands at the run's periods.**
-pub alone_after : (r : Run) (t n : ℕ) (ds : List Done) (left : List Order) (c : ℕ) (io : IoMemory) (half : HalfMemory) → IsRound r t n ds left →
-    is_open (gone_at (whole_in r) t ds) ds c ≡ true → IsFed r ds t n c io →
-    bridge_of (gone_at (whole_in r) t ds) ds c ≡ None → HasWorkedAlone (start_at r ds t c io) half →
-    HasWorked (start_at r ds t c io) io.given (periods_to r c (t + io.given - start_of ds c)) (settings_now r ds (t + io.given) c) half
-alone_after r t n ds left c io half h o f b w =
-    let given = f.given in
-    subst (λ (ts : List CallPeriod). HasWorked (start_at r ds t c io) io.given ts (settings_now r ds (t + io.given) c) half)
-    (alone_worked r t n ds left c io h o f b)
-    (subst (λ (now : Settings). HasWorked (start_at r ds t c io) io.given (alone_periods io.given (start_at r ds t c io)) now half)
-    (alone_settings r t n ds left c io.given h b (omega arith)) w)
-
--- **So does one that lies in a bridge: past its partner's places the bridge is off.**
-pub bridged_half : (r : Run) (t n : ℕ) (ds : List Done) (left : List Order) (c : ℕ) (x : Bridge) (io io' : IoMemory)
-    (half : HalfMemory) → IsRound r t n ds left →
-    bridge_of (gone_at (whole_in r) t ds) ds c ≡ Some x → IsFed r ds t n c io → IsFed r ds t n (other c x) io' →
-    HasWorkedBridged (start_at r ds t c io) (start_at r ds t (other c x) io') half →
-    HasWorked (start_at r ds t c io) io.given (periods_to r c (t + io.given - start_of ds c)) (settings_past io.given io'.given (settings_now r ds t c)) half
-bridged_half r t n ds left c x io io' half h b f g w =
-    subst (λ (ts : List CallPeriod). HasWorked (start_at r ds t c io) io.given ts (settings_past io.given io'.given (settings_now r ds t c)) half)
-    (bridged_worked r t n ds left c x io io' h b f g) w
-
--- **Where it has all places of the round, that is what the run has set after it.**
-pub bridged_after : (r : Run) (t n : ℕ) (ds : List Done) (left : List Order) (c : ℕ) (x : Bridge) (io io' : IoMemory)
-    (half : HalfMemory) → IsRound r t n ds left →
-    bridge_of (gone_at (whole_in r) t ds) ds c ≡ Some x → IsFed r ds t n c io → IsFed r ds t n (other c x) io' → io.given ≡ n →
-    HasWorkedBridged (start_at r ds t c io) (start_at r ds t (other c x) io') half →
-    HasWorked (start_at r ds t c io) io.given (periods_to r c (t + io.given - start_of ds c)) (settings_now r ds (t + io.given) c) half
-bridged_after r t n ds left c x io io' half h b f g all w =
-    subst (λ (now : Settings). HasWorked (start_at r ds t c io) io.given (periods_to r c (t + io.given - start_of ds c)) now half)
-    (bridged_settings r t n ds left c x io io' h b f g all)
-    (bridged_half r t n ds left c x io io' half h b f g w)
 
 -- ---- its octets
 

@@ -1,5 +1,5 @@
 -- What a round takes of a line, whatever fails.
-use Rattle.std.proofs.Common.{◌≡◌, refl, sym, ap, ◌∙◌, ℕ, ◌+◌, ◌<◌, ◌≤◌, Bool, true, false, Option, Some, None, List, [], ◌++◌, length, take, drop, inl, inr}
+use Rattle.std.proofs.Common.{◌≡◌, refl, sym, ap, ◌∙◌, ℕ, ◌+◌, ◌<◌, ◌≤◌, Bool, true, false, Option, Some, None, List, [], ◌++◌, length, take, drop, inl, inr, ◌-◌}
 use Rattle.std.proofs.Common.{arith, append_assoc, append-nil}
 use Rattle.std.specs.Prelude.{min}
 use Rattle.std.specs.Io.KnownBytes.{Consumes, IsAtEnd}
@@ -9,7 +9,8 @@ use Rattle.std.proofs.Math.Seq.{take-append_seam, drop-append_seam}
 use Rattle.trau_io.specs.Lines.{LineState}
 use Rattle.round_lines.specs.declared.transfer.Taken.{Taken}
 use Rattle.round_lines.specs.Transfer.{Takes}
-use Rattle.farm_run.specs.Standing.{IsToCome, Meets, GaveBlock}
+use Rattle.farm_run.specs.Standing.{IsToCome}
+use Rattle.farm_run.proofs.Clocks.Meeting.{Meets}
 
 -- the octets that are to come split into those that came and the others
 split : (u v : Option (List ℕ)) (front xs : List ℕ) → Consumes u v front → u ≡ Some xs → (ys : List ℕ) × (v ≡ Some ys) × (xs ≡ front ++ ys)
@@ -102,6 +103,16 @@ came m line rest failed was now t block h long told meets = by t.failed refl fai
           | inr l ↦ full m line rest failed now t block bound long (omega arith) parts.0 all
               (parts.1 ∙ ap Some (sym (append-nil parts.0) ∙ ap (λ (xs : List ℕ). parts.0 ++ xs) (sym none)))
         ]
+
+-- What a round's read of at most m octets took of a line, after the run's first k octets of it were read.
+pub record GaveBlock (m k : ℕ) (line rest : List ℕ) (failing : Bool) (now : LineState) (t : Taken)
+    (block : List ℕ) : Type 0 where
+  -- it took the run's next octets: m of them, or as many as the line has
+  pub count : t.count ≡ min m (length line - k)
+  pub octets : take t.count block ≡ take t.count (drop k line)
+  pub left : IsToCome now (k + m) line rest
+  -- a line that gave fewer than m failed in this round exactly if it fails in the run
+  pub fails : t.count < m → t.failed ≡ failing
 
 -- **What a round took of a line is what the run says, whether the line fails in it, later or never.**
 pub gave : (m k : ℕ) (line rest : List ℕ) (failed : Bool) (was now : LineState) (t : Taken) (block : List ℕ) → Takes was now t block → length block ≡ m →

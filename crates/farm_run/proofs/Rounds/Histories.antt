@@ -17,8 +17,7 @@ use Rattle.run_spec.specs.Now.{bridge_now, handed_now, period_now, settings_now,
 use Rattle.run_spec.proofs.SoFar.{standing_now}
 use Rattle.run_spec.proofs.Bridging.{bridge_after, same_settings, next_settings}
 use Rattle.run_spec.proofs.Going.{period_by, periods_more}
-use Rattle.farm_run.specs.Going.{places_in}
-use Rattle.farm_run.proofs.Rounds.Taken.{IsRound, IsFed, start_at}
+use Rattle.farm_run.proofs.Rounds.Taken.{IsRound, IsFed, start_at, places_in}
 use Rattle.farm_run.proofs.Rounds.Open.{IsOpenAt, open_at, no_order, bridge_at_place}
 
 -- ---- what is set in the round

@@ -19,8 +19,7 @@ use Rattle.run_spec.specs.Now.{handed_now, settings_now}
 use Rattle.run_spec.proofs.SoFar.{standing_now}
 use Rattle.run_spec.proofs.Bridging.{bridge_each, joins_other}
 use Rattle.run_spec.proofs.Going.{ups_periods, item_ups}
-use Rattle.farm_run.specs.Going.{places_in}
-use Rattle.farm_run.proofs.Rounds.Taken.{IsRound, IsFed, start_at}
+use Rattle.farm_run.proofs.Rounds.Taken.{IsRound, IsFed, start_at, places_in}
 use Rattle.farm_run.proofs.Rounds.Open.{IsOpenAt, open_at, bridge_open, bridge_at_place, bridge_after_round}
 use Rattle.farm_run.proofs.Rounds.Histories.{bridge_kept, settings_kept, but_for_bridge, place_more}
 

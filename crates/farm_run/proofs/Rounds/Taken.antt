@@ -1,7 +1,7 @@
--- What a round of n periods, from the clock t on, takes of each call's lines and adds to its history. `ds` are the orders
--- that were executed so far, the oldest first, and `left` the others.
+-- A round of n periods, from the clock t on: how far each call comes in it, and what the round takes of the call's lines. `ds` are
+-- the orders that were executed so far, the oldest first, and `left` the others.
 use Rattle.std.proofs.Common.{◌≡◌, ℕ, ◌+◌, ◌-◌, ◌*◌, ◌<◌, ◌≤◌, Bool, true, List, length, take, drop}
-use Rattle.std.specs.Prelude.{min, ◌==◌, IfSome}
+use Rattle.std.specs.Prelude.{min, ◌==◌, IfSome, ◌&&◌, nat_lt}
 use Rattle.std.specs.List.{list_any}
 use Rattle.trau_orders.specs.declared.order.Order.{Order}
 use Rattle.switchboard.specs.Calls.{Done, is_open, gone_at}
@@ -14,7 +14,14 @@ use Rattle.round_lines.specs.Memory.{LinesMemory}
 use Rattle.round_lines.specs.Seats.{SeatMemory}
 use Rattle.run_spec.specs.Run.{Run, whole_in, up_in, pcm_in, periods_to, law_in}
 use Rattle.run_spec.specs.Now.{IsSoFar, settings_now}
-use Rattle.farm_run.specs.Going.{places_in}
+
+-- how many of the round's periods a call's lines give
+abbrev pub places_in : Run → List Done → ℕ → ℕ → ℕ → ℕ
+places_in r ds t n c = min n (start_of ds c + whole_in r c - t)
+
+-- a call is open at the clock, and ends within the round because of its lines
+abbrev pub ends_within : Run → List Done → ℕ → ℕ → ℕ → Bool
+ends_within r ds t n c = is_open (gone_at (whole_in r) t ds) ds c && nat_lt (places_in r ds t n c) n
 
 -- a round of at least one period: the run has all of them, and the next order doesn't come before its end
 pub record IsRound (r : Run) (t n : ℕ) (ds : List Done) (left : List Order) : Type 0 where

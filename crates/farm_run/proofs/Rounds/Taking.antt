@@ -14,9 +14,9 @@ use Rattle.round_lines.specs.Memory.{LinesMemory, fails_in}
 use Rattle.round_lines.specs.Rounds.{IsIncoming}
 use Rattle.round_lines.specs.Seats.{SeatMemory, Fills}
 use Rattle.run_spec.specs.Run.{Run}
-use Rattle.farm_run.specs.Standing.{Standing, StandingGoesOn, IsToCome, Meets, GaveBlock, never_given}
-use Rattle.farm_run.proofs.Rounds.Giving.{gave}
-use Rattle.farm_run.proofs.Clocks.Meeting.{meets}
+use Rattle.farm_run.specs.Standing.{Standing, StandingGoesOn, IsToCome, never_given}
+use Rattle.farm_run.proofs.Rounds.Giving.{gave, GaveBlock}
+use Rattle.farm_run.proofs.Clocks.Meeting.{meets, Meets}
 use Rattle.farm_run.proofs.Rounds.Taken.{IsTaken}
 
 -- a line that was told is told still

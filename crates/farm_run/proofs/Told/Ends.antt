@@ -11,9 +11,8 @@ use Rattle.switchboard.specs.State.{State, EndBefore, first_stamp, last_stamp, o
 use Rattle.switchboard.specs.Open.{open_now, partner_now, open_without}
 use Rattle.farm_rounds.specs.Calls.{Kept, call_in, partner_in}
 use Rattle.farm_rounds.specs.Numbers.{IsRising, is_among}
-use Rattle.farm_run.specs.Going.{told_after, is_told}
 use Rattle.farm_run.specs.Match.{AtClock}
-use Rattle.farm_run.specs.Ending.{AreApart, has_left, partner_past, limit_at}
+use Rattle.farm_run.specs.Ending.{AreApart, has_left, partner_past, limit_at, told_after, is_told}
 use Rattle.farm_run.proofs.Told.Boards.{told_done, told_left, told_orders, told_next, before_round}
 use Rattle.farm_run.proofs.Told.Next.{front, turn, any_next, open_more, apart_front}
 

@@ -11,7 +11,7 @@ use Rattle.round_lines.specs.Memory as round_lines
 use Rattle.round_lines.specs.Rounds.{Rising, seat_at, call_at, seat_end}
 use Rattle.farm_rounds.specs.Settling.{goes_on_in}
 use Rattle.farm_rounds.specs.Working.{goes_on_call}
-use Rattle.farm_run.specs.Going.{is_told}
+use Rattle.farm_run.specs.Ending.{is_told}
 
 -- what holds of each seat's end, if it has one, holds of all ends
 pub each_told : (Q : CallEnd → Type 0) (t : ℕ) (seats : List SeatMemory) → ((k : ℕ) → k < length seats → IfSome (seat_end t (seat_at seats k)) Q) →

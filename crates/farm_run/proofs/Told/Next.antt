@@ -9,8 +9,7 @@ use Rattle.trau_io.specs.declared.ends.CallEnd.{CallEnd}
 use Rattle.trau_io.specs.declared.ends.Cause.TheVariants.{Closed}
 use Rattle.switchboard.specs.Calls.{is_this}
 use Rattle.switchboard.specs.Open.{partner_without}
-use Rattle.farm_run.specs.Going.{is_told}
-use Rattle.farm_run.specs.Ending.{AreApart, has_left, partner_past}
+use Rattle.farm_run.specs.Ending.{AreApart, has_left, partner_past, is_told}
 
 -- stands in a list of ends where there is none
 abbrev pub no_end : CallEnd

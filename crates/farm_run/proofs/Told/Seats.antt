@@ -1,22 +1,20 @@
 -- The ends that the seats of a round tell are those of the calls that their lines ended within it.
-use Rattle.std.proofs.Common.{◌≡◌, refl, sym, ap, ◌∙◌, subst, ℕ, suc, ◌+◌, ◌<◌, ◌≤◌, Bool, true, false, Option, Some, None, List, [], ◌∷◌, length, inl, inr}
+use Rattle.std.proofs.Common.{◌≡◌, refl, sym, ap, ◌∙◌, subst, ℕ, suc, ◌+◌, ◌<◌, Bool, true, false, Option, Some, None, List, [], ◌∷◌, length, inl, inr}
 use Rattle.std.proofs.Common.{arith}
 use Rattle.std.specs.Prelude.{◌&&◌, ◌||◌, nat_lt, ◌==◌, if◌then◌else◌}
 use Rattle.std.specs.List.{AllByRecursion, filter_map, cons_option}
-use Rattle.std.proofs.lemmas.Bool.{cases_Bool, ltb-true, eqb-true, and_parts}
+use Rattle.std.proofs.lemmas.Bool.{cases_Bool, eqb-true, and_parts}
 use Rattle.trau_io.specs.declared.ends.CallEnd.{CallEnd}
 use Rattle.trau_orders.specs.declared.order.Order.{Order}
 use Rattle.switchboard.specs.Calls.{Done, is_open, gone_at}
-use Rattle.switchboard.specs.Ends.{lack_of, end_of, start_of, ends_at}
+use Rattle.switchboard.specs.Ends.{lack_of, end_of, start_of}
 use Rattle.round_lines.specs.Seats.{SeatMemory}
 use Rattle.round_lines.specs.Memory as round_lines
 use Rattle.round_lines.specs.Rounds.{Rising, call_at, seat_end}
 use Rattle.run_spec.specs.Run.{Run, given_in, whole_in, done_in}
-use Rattle.run_spec.proofs.Settling.{at_of}
-use Rattle.farm_run.specs.Going.{places_in, ends_within, is_told}
-use Rattle.farm_run.proofs.Rounds.Taken.{IsRound, IsSeat, has_seat}
-use Rattle.farm_run.specs.Ending.{AreApart}
-use Rattle.farm_run.proofs.Rounds.Ends.{end_within, ends_there, round_end}
+use Rattle.farm_run.proofs.Rounds.Taken.{IsRound, IsSeat, has_seat, places_in, ends_within}
+use Rattle.farm_run.specs.Ending.{AreApart, is_told}
+use Rattle.farm_run.proofs.Rounds.Ends.{end_within, round_end}
 
 -- the run's end of a call
 abbrev run_end : Run → List Done → ℕ → CallEnd
@@ -45,28 +43,6 @@ each_end Q r t n ds left (s ∷ seats) h a q =
         AllByRecursion Q (cons_option (if b then Some (run_end r ds s.lines.call) else None) (filter_map (seat_end t) seats))
     by true e k = (q s.lines.call e, k)
     by false e k = k
-
--- **Each end is told at the period at which the run ends its call, which lies within the round.**
-pub ends_right : (r : Run) (t n : ℕ) (ds : List Done) (left : List Order) (seats : List SeatMemory) → IsRound r t n ds left →
-    AllByRecursion (IsSeat r ds t n) seats →
-    AllByRecursion (λ e. (t ≤ e.at) × (e.at < t + n) × (e.at ≡ ends_at (given_in r) r.periods (done_in r) e.call)) (filter_map (seat_end t) seats)
-ends_right r t n ds left seats h a = each_end _ r t n ds left seats h a (λ c e. right c e)
-  where
-    right : (c : ℕ) → ends_within r ds t n c ≡ true →
-        (t ≤ at_of (run_end r ds c)) × (at_of (run_end r ds c) < t + n)
-        × (at_of (run_end r ds c) ≡ ends_at (given_in r) r.periods (done_in r) (call_of (run_end r ds c)))
-    right c e =
-        let parts = and_parts (is_open (gone_at (whole_in r) t ds) ds c) (nat_lt (places_in r ds t n c) n) e in
-        let fewer : places_in r ds t n c < n = ltb-true (places_in r ds t n c) n parts.1 in
-        let w = end_within r t n ds left c h e in
-        let at = ap at_of w in (
-          subst (λ (u : ℕ). t ≤ u) (sym at) (omega arith),
-          subst (λ (u : ℕ). u < t + n) (sym at) (more (places_in r ds t n c) fewer),
-          at ∙ sym (ap (ends_at (given_in r) r.periods (done_in r)) (ap call_of w) ∙ ends_there r t n ds left c h e),
-        )
-      where
-        more : (m : ℕ) → m < n → t + m < t + n
-        more m l = omega arith
 
 -- a call's end is told by its seat
 told_seat : (r : Run) (t n : ℕ) (ds : List Done) (left : List Order) (c : ℕ) (seats : List SeatMemory) → IsRound r t n ds left →

@@ -21,18 +21,18 @@ use Rattle.farm_rounds.specs.Working.{goes_on_call}
 use Rattle.farm_rounds.specs.RoundHistories.{history_with, worked_histories, those_that}
 use Rattle.run_spec.specs.Run.{Run, given_in, whole_in, done_in, periods_to, law_in}
 use Rattle.run_spec.specs.Now.{settings_now}
-use Rattle.farm_run.specs.Going.{places_in, ends_within, told_after, is_told}
-use Rattle.farm_run.proofs.Rounds.Taken.{IsRound}
+use Rattle.farm_run.proofs.Rounds.Taken.{IsRound, places_in, ends_within}
 use Rattle.farm_run.specs.Match.{Matches, past_if, histories_at}
-use Rattle.farm_run.specs.Standing.{Standing, standing, MeetsRun}
+use Rattle.farm_run.specs.Standing.{Standing, standing}
 use Rattle.farm_run.specs.Clock.{IsAtClock}
 use Rattle.farm_run.proofs.Rounds.Open.{open_after, shut_after}
 use Rattle.farm_run.proofs.Rounds.Ends.{end_within}
 use Rattle.farm_run.proofs.Told.Boards.{told_done, gone_round}
 use Rattle.farm_run.proofs.Told.Seats.{each_end, told_seats}
-use Rattle.farm_run.proofs.Worked.Round.{WorkedRound}
+use Rattle.farm_run.proofs.Worked.Round.{WorkedRound, MeetsRun}
 use Rattle.farm_run.proofs.Worked.Calls.{OpenSeat, open_seat, all_seats, all_have_seats, ends_filled, goes_on_is}
 use Rattle.farm_run.proofs.Worked.Past.{IsPast, worked_past}
+use Rattle.farm_run.specs.Ending.{told_after, is_told}
 
 -- the call of an end
 abbrev call_is : CallEnd → ℕ

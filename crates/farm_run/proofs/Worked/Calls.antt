@@ -25,18 +25,17 @@ use Rattle.farm_rounds.proofs.GoingOn.{goes_on_at}
 use Rattle.run_spec.specs.Run.{Run, whole_in, IsOpened}
 use Rattle.run_spec.proofs.SoFar.{standing_now}
 use Rattle.run_spec.proofs.Going.{opened_run}
-use Rattle.farm_run.specs.Going.{places_in}
-use Rattle.farm_run.proofs.Rounds.Taken.{IsRound, IsTaken, IsSeat, has_seat}
+use Rattle.farm_run.proofs.Rounds.Taken.{IsRound, IsTaken, IsSeat, has_seat, places_in}
 use Rattle.farm_run.specs.Runs.{is_listed}
 use Rattle.farm_run.specs.Match.{Matches}
-use Rattle.farm_run.specs.Standing.{Standing, standing, is_over, MeetsRun, IsToCome, never_given}
+use Rattle.farm_run.specs.Standing.{Standing, standing, is_over, IsToCome, never_given}
 use Rattle.farm_run.specs.Clock.{IsAtClock}
 use Rattle.farm_run.proofs.Rounds.Open.{open_at}
 use Rattle.farm_run.proofs.Rounds.Ends.{whole_taken}
 use Rattle.farm_run.proofs.Ordered.Due.{open_told}
 use Rattle.farm_run.proofs.Listed.Counts.{seat_cases}
 use Rattle.farm_run.proofs.Clocks.Reach.{open_before_end, worked_now}
-use Rattle.farm_run.proofs.Worked.Round.{WorkedRound, SeatFacts, filled_call, filled_periods, up_long, pcm_long}
+use Rattle.farm_run.proofs.Worked.Round.{WorkedRound, SeatFacts, filled_call, filled_periods, up_long, pcm_long, MeetsRun}
 use Rattle.farm_run.proofs.Worked.Facts.{seat_facts, up_after, pcm_after, incoming_after}
 use Rattle.farm_run.proofs.Rounds.Taking.{met}
 use Rattle.farm_run.proofs.Worked.Seats.{seat_of_at}

@@ -21,8 +21,7 @@ use Rattle.farm_rounds.specs.Calls.{call_in, partner_in}
 use Rattle.farm_rounds.specs.Memory.{FarmMemory}
 use Rattle.farm_rounds.specs.Working.{goes_on_call, that_stays}
 use Rattle.run_spec.proofs.Lists.{each_weaker}
-use Rattle.farm_run.specs.Going.{told_after, is_told}
-use Rattle.farm_run.specs.Ending.{AreOpen, AreApart, AreLate, has_left, partner_past}
+use Rattle.farm_run.specs.Ending.{AreOpen, AreApart, AreLate, has_left, partner_past, told_after, is_told}
 use Rattle.farm_run.specs.Match.{AtClock}
 use Rattle.farm_run.proofs.Told.Ends.{clock_round}
 use Rattle.farm_run.proofs.Told.Seats.{seats_apart}

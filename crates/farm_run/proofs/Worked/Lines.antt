@@ -21,21 +21,21 @@ use Rattle.farm_rounds.specs.RoundHistories.{worked_histories, those_that}
 use Rattle.run_spec.specs.Run.{Run, given_in, whole_in, done_in, end_in, IsOpened, cause_in, worked_to}
 use Rattle.run_spec.specs.Now.{IsSoFar}
 use Rattle.run_spec.proofs.SoFar.{standing_now}
-use Rattle.farm_run.specs.Going.{places_in, ends_within, told_after, is_told}
-use Rattle.farm_run.proofs.Rounds.Taken.{IsRound}
+use Rattle.farm_run.proofs.Rounds.Taken.{IsRound, places_in, ends_within}
 use Rattle.farm_run.specs.Runs.{IsCutOff, IsReadWhole}
 use Rattle.farm_run.specs.Match.{Matches, histories_at}
-use Rattle.farm_run.specs.Standing.{Standing, standing, MeetsRun, IsToCome, never_given}
+use Rattle.farm_run.specs.Standing.{Standing, standing, IsToCome, never_given}
 use Rattle.farm_run.specs.Clock.{LinesAt, IsAtClock}
 use Rattle.farm_run.proofs.Rounds.Open.{open_at}
 use Rattle.farm_run.proofs.Ordered.Following.{stand_same}
 use Rattle.farm_run.proofs.Rounds.Ends.{end_within, start_kept, not_by_lines}
 use Rattle.farm_run.proofs.Told.Boards.{told_done, told_left, round_over}
 use Rattle.farm_run.proofs.Clocks.Reach.{end_after, worked_then}
-use Rattle.farm_run.proofs.Worked.Round.{WorkedRound}
+use Rattle.farm_run.proofs.Worked.Round.{WorkedRound, MeetsRun}
 use Rattle.farm_run.proofs.Worked.Calls.{OpenSeat, open_seat, opened_is}
 use Rattle.farm_run.proofs.Worked.Board as worked_board
 use Rattle.farm_run.proofs.Worked.Written as worked_written
+use Rattle.farm_run.specs.Ending.{told_after, is_told}
 
 -- the cause of an end
 abbrev cause_of : CallEnd → Cause

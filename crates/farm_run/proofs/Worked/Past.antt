@@ -23,17 +23,16 @@ use Rattle.farm_rounds.specs.Rounds.{io_of}
 use Rattle.farm_rounds.specs.RoundHistories.{seat_of, history_with, history_alone, history_beside, history_bridged, worked_histories}
 use Rattle.run_spec.specs.Run.{Run, whole_in, periods_to, law_in}
 use Rattle.run_spec.specs.Now.{settings_now}
-use Rattle.farm_run.specs.Going.{places_in}
-use Rattle.farm_run.proofs.Rounds.Taken.{IsRound, IsFed}
+use Rattle.farm_run.proofs.Rounds.Taken.{IsRound, IsFed, places_in}
 use Rattle.farm_run.specs.Match.{Matches, past_if, histories_at}
-use Rattle.farm_run.specs.Standing.{Standing, standing, MeetsRun}
+use Rattle.farm_run.specs.Standing.{Standing, standing}
 use Rattle.farm_run.specs.Clock.{IsAtClock}
 use Rattle.farm_run.proofs.Rounds.Histories.{alone_worked, alone_settings, settings_kept}
 use Rattle.farm_run.proofs.Rounds.Open.{bridge_open}
 use Rattle.farm_run.proofs.Rounds.Partners.{bridged_worked, bridged_settings, both_calls}
 use Rattle.farm_run.proofs.Rounds.Finished.{fed_taken}
 use Rattle.farm_run.proofs.Ordered.Due.{open_told}
-use Rattle.farm_run.proofs.Worked.Round.{WorkedRound}
+use Rattle.farm_run.proofs.Worked.Round.{WorkedRound, MeetsRun}
 use Rattle.farm_run.proofs.Worked.Calls.{OpenSeat, open_seat}
 
 -- where the same calls are open, the same bridges last
@@ -48,9 +47,6 @@ bridge_same gone gone' ds c e =
 starts_past : (k others : ℕ) (now : Settings) → (settings_past k others now).starts ≡ (settings_at k now).starts
 starts_past k others now = by (nat_lt others k)
   where
-    starts_of : Settings → Bool
-    starts_of s = s.starts
-
     by : (b : Bool) → (if b then without_bridge (settings_at k now) else settings_at k now).starts ≡ (settings_at k now).starts
     by true = refl
     by false = refl

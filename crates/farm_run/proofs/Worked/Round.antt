@@ -8,7 +8,8 @@ use Rattle.trau_io.specs.declared.ends.CallEnd.{CallEnd}
 use Rattle.trau_io.specs.declared.line.Side.{Side}
 use Rattle.trau_io.specs.Lines.{LineState}
 use Rattle.round_lines.specs.Transfer.{fails_now}
-use Rattle.round_lines.specs.Memory.{LinesMemory, IsFresh, TellsFaults, outlet_before}
+use Rattle.round_lines.specs.Memory as round_lines
+use Rattle.round_lines.specs.Memory.{LinesMemory, IsFresh, TellsFaults, outlet_before, fails_in}
 use Rattle.round_lines.specs.Seats.{SeatMemory, Fills, Drains, new_seat}
 use Rattle.round_lines.specs.Rounds.{Each, KeepsButEach, IsIncoming, IsOutgoing, Rising, seat_at, call_at, seat_end}
 use Rattle.farm_rounds.specs.Calls.{Call, call_in, partner_in}
@@ -19,7 +20,9 @@ use Rattle.farm_rounds.specs.Histories.{CallHistory, CallsStand, kept_of}
 use Rattle.farm_rounds.specs.Working.{GainsFailed, goes_on_call, partner_past}
 use Rattle.farm_rounds.specs.RoundHistories.{seat_for, worked_histories, AreWorked, those_that}
 use Rattle.farm_rounds.proofs.Rising.{there}
+use Rattle.run_spec.specs.Run.{Run}
 use Rattle.farm_run.specs.Outgoing.{Settles}
+use Rattle.farm_run.specs.Standing.{Standing, StandingGoesOn, HasFlags}
 
 -- what a round of n periods from t on did to the farm and the lines, and the ends that it told
 pub record WorkedRound (t n : ℕ) (farm after : FarmMemory) (before now : ℕ → Side → LineState) (ends : List CallEnd) : Type 0 where
@@ -55,6 +58,17 @@ pub record WorkedRound (t n : ℕ) (farm after : FarmMemory) (before now : ℕ �
   pub tallies : (h : ℕ → Option CallHistory) → CallsStand h farm.calls → (c : ℕ) →
       tally_in after.tallies c ≡ (if goes_on_call worked c then tally_in farm.tallies c else kept_of (worked_histories filled (partner_in farm.calls) h c)
       (tally_in farm.tallies c))
+
+-- How a round of n periods agrees with the run: `behind` is the state of the run after the round, `last` at its end.
+pub record MeetsRun (r : Run) (n : ℕ) (seats : List SeatMemory) (behind last : Standing) : Type 0 where
+  pub on : StandingGoesOn behind last
+  pub flags : HasFlags r last
+  -- of the incoming lines of the round's calls, exactly those that failed in it are listed after it
+  pub listed : (k : ℕ) (s : Side) → k < length seats → IsIncoming s →
+      behind.listed (call_at seats k) s ≡ fails_in (seat_at seats k).lines s
+  -- a call whose lines lack one of the periods has ended after it
+  pub over : (k : ℕ) → k < length seats → round_lines.whole_in (seat_at seats k).lines < n →
+      behind.over (call_at seats k) ≡ true
 
 -- the same up to its work
 pub record FilledRound (t n : ℕ) (farm : FarmMemory) (before between : ℕ → Side → LineState) (planned filled worked : List SeatMemory)

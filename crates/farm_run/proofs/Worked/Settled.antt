@@ -1,5 +1,5 @@
--- A worked round whose octets were written, or held back.
-use Rattle.std.proofs.Common.{◌≡◌, refl, ℕ, true, false, List, length, inl, inr}
+-- A worked round whose octets were written.
+use Rattle.std.proofs.Common.{◌≡◌, ℕ, false, List, length, inl}
 use Rattle.trau_io.specs.declared.line.Side.{Side}
 use Rattle.trau_io.specs.Lines.{LineState}
 use Rattle.round_lines.specs.Seats.{SeatMemory, Drains}
@@ -22,17 +22,4 @@ drained before now worked after drains others = record {
   gains = drains.2;
   written = λ e. drains.1;
   back = λ e. cc;
-}
-
--- **They were held back.**
-pub passed : (lines : ℕ → Side → LineState) (worked : WorkedMemory) (after : FarmMemory) →
-    (GainsFailed worked.farm.failed after.failed worked.seats × KnowFailed worked.seats after.calls) → IsSettled true lines lines worked after
-passed lines worked after passes = record {
-  seats = worked.seats;
-  number = refl;
-  settles = λ k l. record { down = inr (refl, refl); out = inr (refl, refl); kept = refl; faults = λ first h. h };
-  others = λ c side none. refl;
-  gains = passes.0;
-  written = λ e. cc;
-  back = λ e. (refl, refl);
 }

@@ -15,21 +15,25 @@ use Rattle.switchboard.specs.State.{State}
 use Rattle.farm_rounds.specs.Memory.{FarmMemory}
 use Rattle.run_spec.specs.Run.{Run, given_in, whole_in, done_in, start_in, end_in, cause_in}
 use Rattle.run_spec.proofs.SoFar.{standing_now}
-use Rattle.farm_run.specs.Going.{places_in}
 use Rattle.farm_run.specs.Runs.{FailedIn, FailedBy, ReadBy, IsCutOff, IsReadTo, is_listed}
 use Rattle.farm_run.specs.Match.{Matches}
-use Rattle.farm_run.specs.Standing.{Standing, standing, MeetsRun}
-use Rattle.farm_run.specs.Clock.{IsAtClock, FailedInRound}
-use Rattle.farm_run.proofs.Rounds.Taken.{IsRound}
+use Rattle.farm_run.specs.Standing.{Standing, standing}
+use Rattle.farm_run.specs.Clock.{IsAtClock}
+use Rattle.farm_run.proofs.Rounds.Taken.{IsRound, places_in}
 use Rattle.farm_run.proofs.Rounds.Open.{open_at}
 use Rattle.farm_run.proofs.Rounds.Ends.{end_within, start_kept, not_by_lines}
 use Rattle.farm_run.proofs.Clocks.Last.{rest_of}
 use Rattle.farm_run.proofs.Clocks.Reach.{end_after, open_before_end, ended_before}
-use Rattle.farm_run.proofs.Worked.Round.{WorkedRound, up_long, pcm_long}
+use Rattle.farm_run.proofs.Worked.Round.{WorkedRound, up_long, pcm_long, MeetsRun}
 use Rattle.farm_run.proofs.Worked.Written as worked_written
 use Rattle.farm_run.proofs.Listed.Round.{listed_kept, listed_incoming}
 use Rattle.farm_rounds.proofs.Gaining.{fewer_up, fewer_pcm}
 use Rattle.farm_run.proofs.Worked.Calls.{OpenSeat, open_seat, open_is}
+
+-- Each incoming line that is listed after the round from t up to u, and wasn't before, failed in it.
+pub record FailedInRound (r : Run) (t u : ℕ) (was is : ℕ → Side → Bool) : Type 0 where
+  pub up : (c : ℕ) → was c Up ≡ false → is c Up ≡ true → FailedIn r c 40 (r.lines c).up t u
+  pub pcm : (c : ℕ) → was c Pcm ≡ false → is c Pcm ≡ true → FailedIn r c 160 (r.lines c).pcm t u
 
 module _ (r : Run) (t n : ℕ) (b : State) (farm after : FarmMemory) (first before now : ℕ → Side → LineState) (ends : List CallEnd)
     (w : WorkedRound t n farm after before now ends) (h : IsRound r t n b.done b.left) (m : Matches b farm.calls) (b' : State) (last : Standing)

@@ -20,13 +20,13 @@ use Rattle.farm_rounds.proofs.Rising.{there}
 use Rattle.run_spec.specs.Run.{Run, whole_in, periods_to, who_in, IsOpened, worked_to}
 use Rattle.run_spec.specs.Lines.{out_line, down_octets}
 use Rattle.farm_run.specs.Match.{Matches}
-use Rattle.farm_run.specs.Standing.{Standing, standing, MeetsRun}
+use Rattle.farm_run.specs.Standing.{Standing, standing}
 use Rattle.farm_run.specs.Clock.{IsAtClock}
 use Rattle.farm_run.specs.Stages.{SumsAt}
 use Rattle.farm_run.proofs.Rounds.Taken.{IsRound}
 use Rattle.farm_run.proofs.Worked.Calls.{OpenSeat, open_seat, open_is}
 use Rattle.farm_run.proofs.Worked.Written.{grown_out, grown_down, idle}
-use Rattle.farm_run.proofs.Worked.Round.{WorkedRound}
+use Rattle.farm_run.proofs.Worked.Round.{WorkedRound, MeetsRun}
 use Rattle.farm_run.proofs.Worked.Facts.{worked_at}
 
 -- the sum of a list in two parts

@@ -18,12 +18,12 @@ use Rattle.farm_rounds.specs.Working.{goes_on_call}
 use Rattle.farm_rounds.specs.RoundHistories.{history_with, worked_histories}
 use Rattle.run_spec.specs.Run.{Run, whole_in, periods_to, law_in}
 use Rattle.run_spec.specs.Now.{settings_now}
-use Rattle.farm_run.specs.Going.{places_in, ends_within}
-use Rattle.farm_run.proofs.Rounds.Taken.{IsRound}
+use Rattle.farm_run.proofs.Rounds.Taken.{IsRound, places_in, ends_within}
+use Rattle.farm_run.proofs.Rounds.Outcome.{KeepsTallies}
 use Rattle.farm_run.specs.Match.{Matches, past_if, histories_at}
-use Rattle.farm_run.specs.Standing.{Standing, standing, MeetsRun}
-use Rattle.farm_run.specs.Clock.{IsAtClock, KeepsTallies}
-use Rattle.farm_run.proofs.Worked.Round.{WorkedRound}
+use Rattle.farm_run.specs.Standing.{Standing, standing}
+use Rattle.farm_run.specs.Clock.{IsAtClock}
+use Rattle.farm_run.proofs.Worked.Round.{WorkedRound, MeetsRun}
 use Rattle.farm_run.proofs.Worked.Calls.{goes_on_is}
 use Rattle.farm_run.proofs.Worked.Past.{worked_past}
 

@@ -28,16 +28,15 @@ use Rattle.farm_rounds.specs.RoundHistories.{worked_histories}
 use Rattle.run_spec.specs.Run.{Run, whole_in, done_in, periods_to, end_in, who_in, IsOpened, worked_to}
 use Rattle.run_spec.specs.Lines.{out_line, down_octets}
 use Rattle.run_spec.proofs.SoFar.{standing_now}
-use Rattle.farm_run.specs.Going.{places_in}
-use Rattle.farm_run.proofs.Rounds.Taken.{IsRound}
+use Rattle.farm_run.proofs.Rounds.Taken.{IsRound, places_in}
 use Rattle.farm_run.specs.Runs.{HasWritten, is_listed}
 use Rattle.farm_run.specs.Match.{Matches, histories_at}
-use Rattle.farm_run.specs.Standing.{Standing, standing, MeetsRun}
+use Rattle.farm_run.specs.Standing.{Standing, standing}
 use Rattle.farm_run.specs.Clock.{WrittenFrom, IsAtClock}
 use Rattle.farm_run.proofs.Rounds.Open.{open_at}
 use Rattle.farm_run.proofs.Rounds.Finished.{out_written, down_written}
 use Rattle.farm_run.proofs.Clocks.Reach.{worked_now, worked_then, worked_idle}
-use Rattle.farm_run.proofs.Worked.Round.{WorkedRound}
+use Rattle.farm_run.proofs.Worked.Round.{WorkedRound, MeetsRun}
 use Rattle.farm_run.proofs.Worked.Facts.{lines_kept, writes_at, down_between, out_between}
 use Rattle.farm_run.proofs.Lines.Gaining.{gains}
 use Rattle.call_leg.proofs.LineLaws.{length-out_line}

@@ -12,18 +12,19 @@ use Rattle.switchboard.specs.State.{State, orders_of}
 use Rattle.run_spec.specs.Run.{Run}
 use Rattle.farm_rounds.specs.Working.{RoundMemory, GainsFailed}
 use Rattle.farm_run.proofs.Rounds.Taken.{IsRound}
-use Rattle.farm_run.specs.Clock.{IsAtClock, EndsRound}
+use Rattle.farm_run.proofs.Rounds.Outcome.{EndsRound}
+use Rattle.farm_run.specs.Clock.{IsAtClock}
 use Rattle.farm_run.specs.Outgoing.{is_held}
 use Rattle.farm_run.specs.Stages.{OpenedBefore}
 use Rattle.farm_run.proofs.Lines.Cutting.{on_err}
-use Rattle.farm_run.specs.Standing.{Standing, standing, StandingGoesOn, HasFlags, MeetsRun}
+use Rattle.farm_run.specs.Standing.{Standing, standing, StandingGoesOn, HasFlags}
 use Rattle.farm_run.proofs.Noted.Knowing.{known_round}
 use Rattle.farm_run.proofs.Listed.Round.{listed_back}
 use Rattle.farm_run.proofs.Listed.Behind.{knows_after, goes_after, meets_run}
 use Rattle.farm_run.proofs.Told.Boards.{told_done, told_left, told_orders}
 use Rattle.farm_run.proofs.Worked.Making.{IsMade, made_failed, made_octets, made_open, made_partners, made_stands, made_tallies}
 use Rattle.farm_run.proofs.Worked.Facts as parts
-use Rattle.farm_run.proofs.Worked.Round.{FilledRound, WorkedRound}
+use Rattle.farm_run.proofs.Worked.Round.{FilledRound, WorkedRound, MeetsRun}
 use Rattle.farm_run.proofs.Worked.Facts.{outgoing_between}
 use Rattle.farm_run.proofs.Listed.Counts.{fell_round, tells_round}
 use Rattle.farm_run.proofs.Lines.Sides.{sides_more, sides_filled}
