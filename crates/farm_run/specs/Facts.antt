@@ -1,11 +1,11 @@
 -- What the report of a run says (this project's profile).
-use Rattle.std.specs.Prelude.{◌≡◌, ℕ, ◌-◌, ◌==◌, if◌then◌else◌, Option, option_map, List, [], ◌∷◌, length}
+use Rattle.std.specs.Prelude.{◌≡◌, ℕ, ◌-◌, ◌==◌, if◌then◌else◌, Option, option_map, List, [], ◌∷◌, length, map}
 use Rattle.std.proofs.Common.{get_or}
 use Rattle.std.specs.List.{filter_map}
 use Rattle.call_number.specs.CallNumber.{IsCallNumber, call_numbers}
 use Rattle.switchboard.specs.declared.act.Span.{Span}
 use Rattle.switchboard.specs.Ends.{Given, start_of, spans_now, spans_of}
-use Rattle.switchboard.specs.Runs.{AllEnded}
+use Rattle.switchboard.specs.Runs.{AllEndedAt}
 use Rattle.switchboard.specs.State.{State, told_in, end_so_far, numbered}
 use Rattle.farm_report.specs.declared.report.SpanLine.{SpanLine}
 use Rattle.farm_report.specs.declared.report.CallLine.{CallLine}
@@ -50,6 +50,7 @@ pub record Reports (b : State) (farm : FarmMemory) (notes : List SentBefore) (or
   pub failed : report.failed ≡ farm.failed
   pub left : report.left ≡ orders - length b.done
   -- one line for each call that has ended, in call-number order
+  pub ends : map (λ l. l.end) report.calls ≡ filter_map (end_so_far b) call_numbers
   pub calls : (h : ℕ → Option CallHistory) → CallsStand h farm.calls →
       report.calls ≡ filter_map (call_line b (kept_in farm.tallies h)) call_numbers
   -- how many frames each call has sent in its latest bridge
@@ -58,6 +59,6 @@ pub record Reports (b : State) (farm : FarmMemory) (notes : List SentBefore) (or
       sent_in_table sent c ≡ (let kept = kept_in farm.tallies h c in kept.sent)
   -- the bridges that have ended, with the numbers of frames that their calls have sent in them
   pub spans : report.spans ≡ span_lines (sent_in_table sent) (spans_now (told_in b) b.done) notes
-  -- if each call has ended, these are all bridges
-  pub whole : (given : ℕ → Given) (periods : ℕ) → AllEnded given periods b →
+  -- if each call has ended where its lines and the run end it, these are all bridges
+  pub whole : (given : ℕ → Given) (periods : ℕ) → AllEndedAt given periods b →
       report.spans ≡ span_lines (sent_in_table sent) (spans_of given periods b.done) notes

@@ -23,10 +23,8 @@ pub record Matches (b : State) (calls : List Kept) : Type 0 where
   pub partner : (c : ℕ) → partner_in calls c ≡ partner_now b c
   pub number : (c : ℕ) → open_now b c ≡ true → IsCallNumber c
 
--- the numbers that are noted for the act are numbers of calls
+-- if the act bridges two calls, they have numbers of calls
 abbrev pub AreNumbers : Act → Type 0
-AreNumbers (act.Opened c law) = IsCallNumber c
-AreNumbers (act.Closed c p) = IsCallNumber c
 AreNumbers (act.Bridged a b) = IsCallNumber a × IsCallNumber b
 AreNumbers _ = Unit {0}
 

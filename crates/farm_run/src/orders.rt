@@ -1,12 +1,12 @@
 //! The orders of the clock.
 
-ghost use Rattle.std.specs.Prelude.{◌≡◌, ◌<◌, ◌≤◌, ◌+◌, ℕ, Option, length, IfOk, IfSome};
+ghost use Rattle.std.specs.Prelude.{◌≡◌, ◌<◌, ◌≤◌, ◌+◌, ℕ, Option, length, IfOk, IfSome, OnErr};
 ghost use Rattle.switchboard.specs.State.{first_stamp};
 ghost use Rattle.farm_rounds.specs.Histories.{CallHistory, CallsStand};
 ghost use Rattle.farm_run.specs.Match.{AreNumbers};
 ghost use Rattle.farm_run.specs.Noted.{noted_by};
 ghost use Rattle.farm_run.specs.Facts.{kept_in};
-ghost use Rattle.farm_run.specs.Orders.{IsReady, OrdersDone};
+ghost use Rattle.farm_run.specs.Orders.{IsReady, OrdersDone, KeepsBoard};
 
 use crate::notes::Notes;
 use farm_rounds::Farm;
@@ -45,6 +45,7 @@ pub(crate) fn execute_orders(
     ensures done { IfOk result (λ u.
         OrdersDone clock board.old farm.old notes.old board.new farm.new notes.new) }
     ensures next { IfOk result (λ u. IfSome (first_stamp board.new.left) (λ s. clock < s)) }
+    ensures cut { OnErr result (KeepsBoard clock board.old board.new) }
 {
     while let Some(reply) = board.turn(clock) {
         let Ok(act) = reply.result else {

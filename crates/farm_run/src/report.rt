@@ -1,8 +1,9 @@
 //! The report of a run that has ended, from what the board and the farm know and what was noted of bridges.
 
-ghost use Rattle.std.specs.Prelude.{◌≡◌, ◌<◌, ◌≤◌, ℕ, Option, length, IfOk};
+ghost use Rattle.std.specs.Prelude.{◌≡◌, ◌<◌, ◌≤◌, ℕ, Option, length, IfOk, map};
 ghost use Rattle.std.specs.List.{All, filter_map};
 ghost use Rattle.call_number.specs.CallNumber.{IsCallNumber, call_numbers};
+ghost use Rattle.switchboard.specs.State.{end_so_far};
 ghost use Rattle.farm_rounds.specs.Histories.{CallHistory, CallsStand};
 ghost use Rattle.farm_run.specs.Facts.{span_line, span_lines, sent_in_table, kept_in, call_line, Reports};
 
@@ -69,7 +70,10 @@ fn span_lines(
 
 // The report's lines of the calls that have ended, in call-number order.
 fn call_lines(alloc: Global, board: &Board, farm: &Farm) -> Result<Vec<CallLine>, AllocError>
-    ensures { IfOk result (λ lines. (h : ℕ → Option CallHistory) → CallsStand h farm.now.calls →
+    ensures ends { IfOk result (λ lines.
+        map (λ l. l.end) lines.items ≡ filter_map (end_so_far board.now) call_numbers) }
+    ensures lines { IfOk result (λ lines.
+        (h : ℕ → Option CallHistory) → CallsStand h farm.now.calls →
         lines.items ≡ filter_map (call_line board.now (kept_in farm.now.tallies h)) call_numbers) }
 {
     let mut lines = Vec::new(alloc);

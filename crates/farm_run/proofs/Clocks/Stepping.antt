@@ -20,7 +20,6 @@ use Rattle.farm_run.proofs.Worked.Short.{short_later}
 use Rattle.farm_run.proofs.Clocks.First.{fell_none}
 use Rattle.farm_run.proofs.Clocks.Idle.{clock_on, goes_on, written_on, read_on, none_alive}
 use Rattle.farm_run.proofs.Noted.Knowing.{known_idle}
-use Rattle.farm_run.proofs.Noted.Openings.{opened_by}
 use Rattle.farm_run.proofs.Clocks.Meeting.{stays, ordered}
 use Rattle.farm_run.proofs.Noted.Truly.{truly_same}
 use Rattle.farm_run.proofs.Lines.Sides.{sides_none}
@@ -50,13 +49,13 @@ module _ (s : Stage) (b : State) (farm : FarmMemory) (ns : List SentBefore) (sta
   orders_more batch u before now less h = record {
     later = omega (arith, less);
     stage = h.stage;
-    kept = h.kept ∙ o.kept;
+    kept = h.kept ∙ o.board.kept;
     way = h.way;
-    openings = λ n l openings. let ready = o.ready in h.openings n l (opened_by s.clock n b farm.calls ready.clock (omega (arith, less, l)));
+    openings = λ n l openings. h.openings n l (o.board.openings n (omega (arith, less, l)) openings);
     fell = h.fell;
     failed = λ first fell failed. h.failed first fell (subst (λ (ls : List Line). TellsFailed first before ls) (sym o.failed) failed);
     sides = h.sides;
-    goes = ordered s.board b s.farm.failed farm.failed before (standing u.board u.farm.failed now) o.over o.failed h.goes;
+    goes = ordered s.board b s.farm.failed farm.failed before (standing u.board u.farm.failed now) o.board.over o.failed h.goes;
     back = λ held. let k = h.back held in record {
       lines = k.lines;
       listed = λ c side i. k.listed c side i ∙ ap (λ (ls : List Line). is_listed ls c side) o.failed;
@@ -64,7 +63,7 @@ module _ (s : Stage) (b : State) (farm : FarmMemory) (ns : List SentBefore) (sta
     run = λ r first last flags within on at. h.run r first last flags within on (here r first last within at);
     known = λ r first last flags within on at known.
         h.known r first last flags within on (here r first last within at) (record {
-          truly = truly_same r s.board b o.told known.truly;
+          truly = truly_same r s.board b o.board.told known.truly;
           noted = o.noted r (under r within) at.follows known.noted;
         });
     wrote = λ held from l r first last flags within on at wrote.

@@ -3,12 +3,11 @@ use Rattle.std.proofs.Common.{◌≡◌, ap, ℕ, suc, ◌<◌, ◌≤◌, Optio
 use Rattle.std.specs.Prelude.{unwrap_or, IfSome}
 use Rattle.std.specs.List.{AllByRecursion}
 use Rattle.trau_orders.specs.declared.order.Order.{Order}
+use Rattle.trau_orders.specs.Lists.{AreOrders}
 use Rattle.switchboard.specs.Calls.{Done, opened_at}
 use Rattle.switchboard.specs.Ends.{start_of}
-use Rattle.switchboard.specs.State.{State, last_stamp}
-use Rattle.farm_rounds.specs.Calls.{Kept}
+use Rattle.switchboard.specs.State.{State, last_stamp, orders_of}
 use Rattle.run_spec.proofs.Settling.{found_stamp}
-use Rattle.farm_run.specs.Match.{AtClock}
 use Rattle.farm_run.specs.Stages.{OpenedBefore}
 
 -- before the first order no call was opened
@@ -31,9 +30,9 @@ stamps_past t (d ∷ e ∷ ds) left rise h =
     (omega (arith, first, second), rest)
 
 -- **Each call that an order opened was opened before a period past the clock.**
-pub opened_by : (t n : ℕ) (b : State) (calls : List Kept) → AtClock t b calls → t < n → OpenedBefore n b.done
-opened_by t n b calls a less c =
-    by (opened_at c b.done) (found_stamp (λ s. s ≤ t) _ b.done (stamps_past t b.done b.left (let orders = a.orders in orders.rising) a.past))
+pub opened_by : (t n : ℕ) (b : State) → AreOrders (orders_of b) → last_stamp b.done ≤ t → t < n → OpenedBefore n b.done
+opened_by t n b orders past less c =
+    by (opened_at c b.done) (found_stamp (λ s. s ≤ t) _ b.done (stamps_past t b.done b.left orders.rising past))
   where
     by : (o : Option ℕ) → IfSome o (λ s. s ≤ t) → unwrap_or o 0 < n
     by None h = omega (arith, less)

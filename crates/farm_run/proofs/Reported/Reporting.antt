@@ -34,43 +34,52 @@ kept_value f h calls tallies c r g live ended = by (h c) refl
 
 -- ---- the lines of calls, in call-number order
 
--- the line of a call with this end, if it has one
-abbrev line_of : State → (ℕ → Tally) → ℕ → Option CallEnd → Option CallLine
-line_of b kept c o = option_map (λ (e : CallEnd). record { end = e; from = start_of b.done c; counts = (kept c).counts }) o
-
 -- one number more
 range_more : (a n j : ℕ) → a + n ≡ j → range_with_len a (suc n) ≡ range_with_len a n ++ j ∷ []
 range_more a zero j e = let q : a ≡ j = omega arith in ap (λ (x : ℕ). x ∷ []) q
 range_more a (suc n) j e = ap (λ xs. a ∷ xs) (range_more (a + 1) n j (omega arith))
 
--- the lines up to a number, and that of the next one
-lines_next : (f : ℕ → Option CallLine) (c : ℕ) → 1 ≤ c →
+-- what is made of the numbers up to one, and of the next
+made_next : {X : Type 0} (f : ℕ → Option X) (c : ℕ) → 1 ≤ c →
     filter_map f (range_with_len 1 (c + 1 - 1)) ≡ filter_map f (range_with_len 1 (c - 1)) ++ cons_option (f c) []
-lines_next f c first =
+made_next f c first =
     ap (λ (n : ℕ). filter_map f (range_with_len 1 n)) (let e : c + 1 - 1 ≡ suc (c - 1) = omega arith in e)
     ∙ ap (filter_map f) (range_more 1 (c - 1) c (omega arith)) ∙ filter_map-append f (range_with_len 1 (c - 1)) (c ∷ [])
 
--- **A call that hasn't ended has no line,**
-pub line_none : (b : State) (kept : ℕ → Tally) (c : ℕ) (lines : List CallLine) → 1 ≤ c → end_so_far b c ≡ None →
-    lines ≡ filter_map (call_line b kept) (range_with_len 1 (c - 1)) → lines ≡ filter_map (call_line b kept) (range_with_len 1 (c + 1 - 1))
-line_none b kept c lines first none so_far =
-    so_far ∙ sym (lines_next (call_line b kept) c first
-    ∙ ap (λ (o : Option CallEnd). filter_map (call_line b kept) (range_with_len 1 (c - 1)) ++ cons_option (line_of b kept c o) []) none
-    ∙ append-nil (filter_map (call_line b kept) (range_with_len 1 (c - 1))))
+-- **A number of which nothing is made adds nothing.**
+pub none_made : {X : Type 0} (f : ℕ → Option X) (c : ℕ) (xs : List X) → 1 ≤ c → f c ≡ None →
+    xs ≡ filter_map f (range_with_len 1 (c - 1)) → xs ≡ filter_map f (range_with_len 1 (c + 1 - 1))
+none_made f c xs first none so_far =
+    so_far ∙ sym (made_next f c first
+    ∙ ap (λ o. filter_map f (range_with_len 1 (c - 1)) ++ cons_option o []) none
+    ∙ append-nil (filter_map f (range_with_len 1 (c - 1))))
 
--- **and one that has ended has one.**
-pub line_more : (b : State) (kept : ℕ → Tally) (c : ℕ) (e : CallEnd) (from : ℕ) (counts : Counts) (old new : List CallLine) → 1 ≤ c →
+-- **What is made of a number is added.**
+pub one_made : {X : Type 0} (f : ℕ → Option X) (c : ℕ) (x : X) (old new : List X) → 1 ≤ c → f c ≡ Some x →
+    new ≡ old ++ x ∷ [] → old ≡ filter_map f (range_with_len 1 (c - 1)) →
+    new ≡ filter_map f (range_with_len 1 (c + 1 - 1))
+one_made f c x old new first some is so_far =
+    is ∙ ap (λ xs. xs ++ x ∷ []) so_far
+    ∙ sym (made_next f c first
+    ∙ ap (λ o. filter_map f (range_with_len 1 (c - 1)) ++ cons_option o []) some)
+
+-- a line with these parts
+abbrev pub line_with : CallEnd → ℕ → Counts → CallLine
+line_with e from counts = record { end = e; from = from; counts = counts }
+
+-- **A call that hasn't ended has no line.**
+pub line_none : (b : State) (kept : ℕ → Tally) (c : ℕ) → end_so_far b c ≡ None → call_line b kept c ≡ None
+line_none b kept c none =
+    ap (option_map (λ (e : CallEnd). line_with e (start_of b.done c) (kept c).counts)) none
+
+-- **The line of a call that has ended.**
+pub line_is : (b : State) (kept : ℕ → Tally) (c : ℕ) (e : CallEnd) (from : ℕ) (counts : Counts) →
     end_so_far b c ≡ Some e → from ≡ start_of b.done c → counts ≡ (kept c).counts →
-    new ≡ old ++ record { end = e; from = from; counts = counts } ∷ [] → old ≡ filter_map (call_line b kept) (range_with_len 1 (c - 1)) →
-    new ≡ filter_map (call_line b kept) (range_with_len 1 (c + 1 - 1))
-line_more b kept c e from counts old new first ended begins counted is so_far =
-    is ∙ ap (λ (ls : List CallLine). ls ++ record { end = e; from = from; counts = counts } ∷ []) so_far
-    ∙ ap (λ (m : ℕ). before ++ record { end = e; from = m; counts = counts } ∷ []) begins
-    ∙ ap (λ (m : Counts). before ++ record { end = e; from = start_of b.done c; counts = m } ∷ []) counted
-    ∙ sym (lines_next (call_line b kept) c first ∙ ap (λ (o : Option CallEnd). before ++ cons_option (line_of b kept c o) []) ended)
-  where
-    before : List CallLine
-    before = filter_map (call_line b kept) (range_with_len 1 (c - 1))
+    call_line b kept c ≡ Some (line_with e from counts)
+line_is b kept c e from counts ended begins counted =
+    ap (option_map (λ (e : CallEnd). line_with e (start_of b.done c) (kept c).counts)) ended
+    ∙ sym (ap (λ (m : ℕ). Some (line_with e m counts)) begins
+    ∙ ap (λ (m : Counts). Some (line_with e (start_of b.done c) m)) counted)
 
 pub length-numbered : (n : ℕ) (ds : List Done) → length (numbered n ds) ≡ length ds
 length-numbered n [] = refl

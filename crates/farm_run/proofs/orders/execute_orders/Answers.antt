@@ -11,12 +11,13 @@ use Rattle.farm_run.specs.Standing.{KnowsListed}
 use Rattle.farm_run.specs.Noted.{Noted}
 use Rattle.farm_run.proofs.Noted.Orders.{noted_quiet}
 use Rattle.farm_run.proofs.Noted.Accepted.{noted_accepted}
-use Rattle.farm_run.proofs.Ordered.Doing.{done_then}
-use Rattle.farm_run.proofs.Ordered.Due.{due_of, told_kept, left_fewer, ahead_more}
+use Rattle.farm_run.proofs.Ordered.Doing.{done_then, board_turned, board_then}
+use Rattle.farm_run.proofs.Ordered.Due.{due_of, left_fewer, ahead_more}
 use Rattle.farm_run.proofs.Ordered.Following.{follows_more, follows_same}
 use Rattle.farm_run.proofs.Ordered.Matching.{fits, matches_more, matches_same}
 use Rattle.farm_run.proofs.Told.Few.{one_more}
-use Rattle.farm_run.proofs.Listed.Boards.{over_turned, new_unlisted, knows_turned}
+use Rattle.farm_run.proofs.Lines.Cutting.{on_err}
+use Rattle.farm_run.proofs.Listed.Boards.{new_unlisted, knows_turned}
 use Rattle.farm_run.proofs.orders.execute_orders.Goals as goal
 
 pub apply-requires-clause-fresh : goal.apply-requires-clause-fresh
@@ -65,11 +66,9 @@ loop-reply-preserved c =
         bridges = omega (arith, more.1, ready.bridges, c.note.ensures.bridges);
         knows = subst (λ (ls : List Line). KnowsListed n ls) (sym c.apply.ensures.failed) (knows_turned b n _ farm.failed c.turn.ensures.state ready.knows);
       };
-      kept = c.turn.ensures.kept;
-      told = told_kept b n _ c.turn.ensures.state;
+      board = board_turned t b n _ c.turn.ensures.state c.turn.ensures.kept ready.clock.orders (omega (arith, e.last refl));
       ended = c.apply.ensures.ended;
       failed = c.apply.ensures.failed;
-      over = over_turned b n _ c.turn.ensures.state;
       follows = follows;
       noted = λ r under f noted.
           let h = histories_at r b.done t in
@@ -106,13 +105,20 @@ loop-reply-preserved-in_default-result c =
         bridges = omega (arith, more.1, ready.bridges);
         knows = knows_turned b n _ farm.failed c.turn.ensures.state ready.knows;
       };
-      kept = c.turn.ensures.kept;
-      told = told_kept b n _ c.turn.ensures.state;
+      board = board_turned t b n _ c.turn.ensures.state c.turn.ensures.kept ready.clock.orders (omega (arith, e.last refl));
       ended = refl;
       failed = refl;
-      over = over_turned b n _ c.turn.ensures.state;
       follows = follows;
       noted = λ r under f noted.
           noted_quiet r t b n c.in-Some.reply farm.calls farm.calls due under f (follows r under f) (Err c.in_default-result.field-0) ns farm.tallies farm.tallies
           c.in_default-result.is refl same.opened same.is_open (λ d. refl) noted;
     })
+
+pub returns-in_err-apply-clause-cut : goal.returns-in_err-apply-clause-cut
+returns-in_err-apply-clause-cut c =
+    let t = c.args.clock in
+    let b = c.loop-reply.board in
+    let n = c.turn.new.self in
+    let inv = c.loop-reply.invariant in
+    let orders = inv.ready.clock.orders in
+    on_err _ (board_then t _ b n inv.board (board_turned t b n _ c.turn.ensures.state c.turn.ensures.kept orders (omega (arith, c.in-Some.ensures.last refl))))

@@ -2,7 +2,6 @@ use Rattle.std.proofs.Common.{arith, ap, ◌∙◌, List, length}
 use Rattle.switchboard.specs.declared.act.Span.{Span}
 use Rattle.switchboard.specs.State.{told_in}
 use Rattle.switchboard.specs.Ends.{spans_now, spans_of}
-use Rattle.switchboard.proofs.Whole.{all_ended_at}
 use Rattle.farm_run.specs.declared.notes.SentBefore.{SentBefore}
 use Rattle.farm_run.specs.Facts.{span_lines, sent_in_table}
 use Rattle.farm_run.proofs.Reported.Reporting.{length-numbered}
@@ -17,14 +16,16 @@ returns c =
       replies = c.in_ok-to_vec.ensures.items_if_clones_equal (λ x y h. h) ∙ c.replies.ensures;
       failed = c.in_ok-to_vec-2.ensures.items_if_clones_equal (λ x y h. h) ∙ c.failed.ensures.value;
       left = omega (arith, c.saturating_sub.ensures, ap length c.replies-2.ensures, length-numbered 0 b.done);
-      calls = c.in_ok-call_lines.ensures;
+      ends = c.in_ok-call_lines.ensures.ends;
+      calls = c.in_ok-call_lines.ensures.lines;
       sent = c.in_ok-sent.sent.items;
       sent_is = c.in_ok-sent.ensures.sent;
       spans =
           c.in_ok-span_lines.ensures ∙ ap (λ (ss : List Span). span_lines sent ss c.bridges.result.now) c.spans.ensures.now
           ∙ ap (λ (ns : List SentBefore). span_lines sent (spans_now (told_in b) b.done) ns) c.bridges.ensures;
       whole = λ given periods all.
-          c.in_ok-span_lines.ensures ∙ ap (λ (ss : List Span). span_lines sent ss c.bridges.result.now) (c.spans.ensures.whole given periods (all_ended_at given periods b all))
+          c.in_ok-span_lines.ensures ∙ ap (λ (ss : List Span). span_lines sent ss c.bridges.result.now)
+          (c.spans.ensures.whole given periods all)
           ∙ ap (λ (ns : List SentBefore). span_lines sent (spans_of given periods b.done) ns) c.bridges.ensures;
     }
 
