@@ -35,7 +35,8 @@ has_left (Some p) ends = is_told p ends
 
 -- the partner of a call after these ends: none if one of the two has ended
 abbrev pub partner_past : List CallEnd → (ℕ → Option ℕ) → ℕ → Option ℕ
-partner_past ends partner c = if is_told c ends || has_left (partner c) ends then None else partner c
+partner_past ends partner c =
+    if is_told c ends || has_left (partner c) ends then None else partner c
 
 -- the end of a call that is open when the run ends
 abbrev pub limit_at : ℕ → ℕ → CallEnd

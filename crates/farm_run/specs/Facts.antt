@@ -17,7 +17,8 @@ use Rattle.farm_run.specs.declared.notes.SentBefore.{SentBefore}
 
 -- what a call has sent in its latest bridge before these ones: the note of the first of them that is its own, or what it has sent so far
 abbrev pub sent_until : (ℕ → ℕ) → List Span → List SentBefore → ℕ → ℕ
-sent_until sent (x ∷ xs) (n ∷ ns) c = if c == x.a then n.by_a else if c == x.b then n.by_b else sent_until sent xs ns c
+sent_until sent (x ∷ xs) (n ∷ ns) c =
+    if c == x.a then n.by_a else if c == x.b then n.by_b else sent_until sent xs ns c
 sent_until sent _ _ c = sent c
 
 -- The report's line of a bridge in which its calls have sent so many frames: each sends the other's frames, and for each period of the
@@ -25,11 +26,18 @@ sent_until sent _ _ c = sent c
 abbrev pub span_line : Span → ℕ → ℕ → SpanLine
 span_line s by_a by_b =
     let periods = s.to - s.from in
-    record { span = s; sent_a = by_b; sent_b = by_a; lost_a = periods - by_b; lost_b = periods - by_a }
+    record {
+      span = s;
+      sent_a = by_b;
+      sent_b = by_a;
+      lost_a = periods - by_b;
+      lost_b = periods - by_a;
+    }
 
 -- The lines of all bridges: what a call sent in one is what its next bridge notes, or what it has sent so far.
 abbrev pub span_lines : (ℕ → ℕ) → List Span → List SentBefore → List SpanLine
-span_lines sent (x ∷ xs) (n ∷ ns) = span_line x (sent_until sent xs ns x.a) (sent_until sent xs ns x.b) ∷ span_lines sent xs ns
+span_lines sent (x ∷ xs) (n ∷ ns) =
+    span_line x (sent_until sent xs ns x.a) (sent_until sent xs ns x.b) ∷ span_lines sent xs ns
 span_lines sent _ _ = []
 
 -- how many frames each call has sent in its latest bridge, in a table by number
@@ -42,10 +50,13 @@ kept_in tallies h c = kept_of (h c) (tally_in tallies c)
 
 -- the report's line of a call, if it has ended
 abbrev pub call_line : State → (ℕ → Tally) → ℕ → Option CallLine
-call_line b kept c = option_map (λ e. record { end = e; from = start_of b.done c; counts = (kept c).counts }) (end_so_far b c)
+call_line b kept c =
+    option_map (λ e. record { end = e; from = start_of b.done c; counts = (kept c).counts })
+    (end_so_far b c)
 
 -- The report of a run of so many orders, from board, farm and notes, after the end of each call was reported to the board.
-pub record Reports (b : State) (farm : FarmMemory) (notes : List SentBefore) (orders : ℕ) (report : ReportView) : Type 0 where
+pub record Reports (b : State) (farm : FarmMemory) (notes : List SentBefore) (orders : ℕ)
+    (report : ReportView) : Type 0 where
   pub replies : report.replies ≡ numbered 0 b.done
   pub failed : report.failed ≡ farm.failed
   pub left : report.left ≡ orders - length b.done

@@ -8,4 +8,9 @@ use Rattle.farm_run.specs.Outgoing.{sum_to}
 
 -- what a mark says of a call: its number, its first period, and the sums of its outgoing lines so far
 abbrev pub entry_of : Stage → ℕ → MarkCall
-entry_of s c = record { call = c; from = start_of s.board.done c; out = sum_to s.outgoing c Out; down = sum_to s.outgoing c Down }
+entry_of s c = record {
+  call = c;
+  from = start_of s.board.done c;
+  out = sum_to s.outgoing c Out;
+  down = sum_to s.outgoing c Down;
+}

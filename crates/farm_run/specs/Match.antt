@@ -46,7 +46,8 @@ past_if false law ts now = None
 
 -- the history of each open call at the clock t, after these orders
 abbrev pub histories_at : Run → List Done → ℕ → ℕ → Option CallHistory
-histories_at r ds t c = past_if (is_open (gone_at (whole_in r) t ds) ds c) (law_in r c) (periods_to r c (t - start_of ds c)) (settings_now r ds t c)
+histories_at r ds t c = past_if (is_open (gone_at (whole_in r) t ds) ds c) (law_in r c)
+    (periods_to r c (t - start_of ds c)) (settings_now r ds t c)
 
 pub record FollowsRun (r : Run) (t : ℕ) (b : State) (calls : List Kept) : Type 0 where
   pub so_far : IsSoFar r t b.done b.left

@@ -59,7 +59,8 @@ sent_before c x n = if c == x.a then n.by_a else n.by_b
 -- it. `sent_in` says what a call sends in the bridge at an index.
 abbrev pub AreNotes : (ℕ → ℕ → ℕ) → List Bridge → List Bridge → List SentBefore → Type 0
 AreNotes sent_in front (x ∷ xs) (n ∷ ns) =
-    ((c k : ℕ) → joins c x ≡ true → IsLatest front c (Some k) → sent_before c x n ≡ sent_in k c) × AreNotes sent_in (front ++ x ∷ []) xs ns
+    ((c k : ℕ) → joins c x ≡ true → IsLatest front c (Some k) → sent_before c x n ≡ sent_in k c)
+    × AreNotes sent_in (front ++ x ∷ []) xs ns
 AreNotes sent_in front [] [] = Unit {0}
 AreNotes sent_in front _ _ = ⊥
 
@@ -69,7 +70,8 @@ pub record IsKept (r : Run) (ds : List Done) (c : ℕ) (kept : Tally) : Type 0 w
   pub sent : (k : ℕ) → IsLatest (bridges ds) c (Some k) → kept.sent ≡ sent_in_bridge r k c
 
 -- The notes and the tallies of a run in which these calls have ended.
-pub record IsNoted (r : Run) (ds : List Done) (ended : ℕ → Bool) (notes : List SentBefore) (tally : ℕ → Tally) : Type 0 where
+pub record IsNoted (r : Run) (ds : List Done) (ended : ℕ → Bool) (notes : List SentBefore)
+    (tally : ℕ → Tally) : Type 0 where
   pub numbers : (c : ℕ) → is_opened ds c ≡ true → IsCallNumber c
   pub bridges : AreNotes (sent_in_bridge r) [] (bridges ds) notes
   pub kept : (c : ℕ) → ended c ≡ true → IsKept r ds c (tally c)
@@ -87,13 +89,15 @@ abbrev pub TellsTruly : Run → State → Type 0
 TellsTruly r s = (c : ℕ) (e : CallEnd) → end_told s c ≡ Some e → e ≡ call_end_in r c
 
 -- The ends that the board knows, the notes and the tallies are right at the clock t.
-pub record IsKnown (r : Run) (t : ℕ) (b : State) (tallies : List Tally) (notes : List SentBefore) : Type 0 where
+pub record IsKnown (r : Run) (t : ℕ) (b : State) (tallies : List Tally)
+    (notes : List SentBefore) : Type 0 where
   pub truly : TellsTruly r b
   pub noted : Noted r b.done t notes tallies
 
 -- A run that has come to its end at the clock t: no order before the run's end remains, and if a call is open, t is the run's
 -- end. The board, the farm and the notes are right.
-pub record IsAtEnd (r : Run) (t : ℕ) (b : State) (calls : List Kept) (tallies : List Tally) (notes : List SentBefore) : Type 0 where
+pub record IsAtEnd (r : Run) (t : ℕ) (b : State) (calls : List Kept) (tallies : List Tally)
+    (notes : List SentBefore) : Type 0 where
   pub follows : FollowsRun r t b calls
   pub none_left : IfSome (first_stamp b.left) (λ s. r.periods ≤ s)
   pub clock : (c : ℕ) → open_now b c ≡ true → t ≡ r.periods

@@ -34,6 +34,8 @@ pub record OrdersDone (t : ℕ) (b : State) (farm : FarmMemory) (notes : List Se
   pub ended : farm'.ended ≡ farm.ended
   pub failed : farm'.failed ≡ farm.failed
   -- board and farm follow the run as before, and what is noted and kept stays right
-  pub follows : (r : Run) → t < r.periods → FollowsRun r t b farm.calls → FollowsRun r t b' farm'.calls
-  pub noted : (r : Run) → t < r.periods → FollowsRun r t b farm.calls → Noted r b.done t notes farm.tallies →
+  pub follows : (r : Run) → t < r.periods → FollowsRun r t b farm.calls →
+      FollowsRun r t b' farm'.calls
+  pub noted : (r : Run) → t < r.periods → FollowsRun r t b farm.calls →
+      Noted r b.done t notes farm.tallies →
       Noted r b'.done t notes' farm'.tallies

@@ -39,7 +39,8 @@ pub record IsSameWay (before now : Outgoing) : Type 0 where
 
 -- an outgoing line was given the octets, or it and its state in its seat are unchanged
 abbrev pub PassesOn : LineState → LineState → Outlet → Outlet → List ℕ → Type 0
-PassesOn before now was stands octets = LineGives before now was stands octets ⊎ ((now ≡ before) × (stands ≡ was))
+PassesOn before now was stands octets =
+    LineGives before now was stands octets ⊎ ((now ≡ before) × (stands ≡ was))
 
 -- This holds for both outgoing lines of a call, and only their states in its seat changed. If the seat said which fault counts
 -- had risen since `first`, it still does.
@@ -47,10 +48,12 @@ pub record Settles (before now : Side → LineState) (s t : SeatMemory) : Type 0
   pub down : PassesOn (before Down) (now Down) s.lines.down t.lines.down (down_given s)
   pub out : PassesOn (before Out) (now Out) s.lines.out t.lines.out (out_given s)
   pub kept : t ≡ record s { lines = record s.lines { down = t.lines.down; out = t.lines.out } }
-  pub faults : (first : Side → LineState) → TellsFaults first before s.lines → TellsFaults first now t.lines
+  pub faults : (first : Side → LineState) → TellsFaults first before s.lines →
+      TellsFaults first now t.lines
 
 -- The octets of a processed round were written or held back, and the farm lists the lines that failed.
-pub record IsSettled (held : Bool) (before now : ℕ → Side → LineState) (worked : WorkedMemory) (after : FarmMemory) : Type 0 where
+pub record IsSettled (held : Bool) (before now : ℕ → Side → LineState) (worked : WorkedMemory)
+    (after : FarmMemory) : Type 0 where
   -- the seats after it
   pub seats : List SeatMemory
   pub number : length seats ≡ length worked.seats

@@ -52,12 +52,14 @@ pub record KeepsSides (before now : ℕ → Side → LineState) : Type 0 where
 
 -- If the contents of an incoming line were known, some octets at its start were read, and the others are known.
 abbrev pub ReadsOn : (ℕ → Side → LineState) → (ℕ → Side → LineState) → Type 0
-ReadsOn before now = (c : ℕ) (s : Side) (octets : List ℕ) → IsIncoming s → (before c s).to_come ≡ Some octets →
+ReadsOn before now =
+    (c : ℕ) (s : Side) (octets : List ℕ) → IsIncoming s → (before c s).to_come ≡ Some octets →
     (k : ℕ) × ((now c s).to_come ≡ Some (drop k octets))
 
 -- the contents of the incoming lines of all calls are known
 abbrev pub AreTold : (ℕ → Side → LineState) → Type 0
-AreTold lines = (c : ℕ) (s : Side) → IsCallNumber c → IsIncoming s → (octets : List ℕ) × ((lines c s).to_come ≡ Some octets)
+AreTold lines = (c : ℕ) (s : Side) → IsCallNumber c → IsIncoming s →
+    (octets : List ℕ) × ((lines c s).to_come ≡ Some octets)
 
 -- ---- the run of the definition; `fails` says which lines failed in it
 
@@ -65,15 +67,18 @@ AreTold lines = (c : ℕ) (s : Side) → IsCallNumber c → IsIncoming s → (oc
 -- a line that failed isn't read again, so the others are still to come.
 abbrev pub IsGiven : Bool → LineState → LineState → List ℕ → Type 0
 IsGiven false before now octets = before.to_come ≡ Some octets
-IsGiven true before now octets = (rest : List ℕ) × (before.to_come ≡ Some (octets ++ rest)) × (now.to_come ≡ Some rest)
+IsGiven true before now octets =
+    (rest : List ℕ) × (before.to_come ≡ Some (octets ++ rest)) × (now.to_come ≡ Some rest)
 
 -- The run of these orders, up to this number of periods, over what these lines gave until they ended or failed.
-pub record IsRunOver (orders : List Order) (periods : ℕ) (fails : ℕ → Side → Bool) (before now : ℕ → Side → LineState) (r : Run) : Type 0 where
+pub record IsRunOver (orders : List Order) (periods : ℕ) (fails : ℕ → Side → Bool)
+    (before now : ℕ → Side → LineState) (r : Run) : Type 0 where
   pub same_orders : r.orders ≡ orders
   pub same_periods : r.periods ≡ periods
   -- the incoming lines of the calls that it opens
   pub up : (c : ℕ) → IsOpened r c → IsGiven (fails c Up) (before c Up) (now c Up) (r.lines c).up
-  pub pcm : (c : ℕ) → IsOpened r c → IsGiven (fails c Pcm) (before c Pcm) (now c Pcm) (r.lines c).pcm
+  pub pcm : (c : ℕ) → IsOpened r c →
+      IsGiven (fails c Pcm) (before c Pcm) (now c Pcm) (r.lines c).pcm
   pub up_failed : (c : ℕ) → (r.lines c).up_failed ≡ fails c Up
   pub pcm_failed : (c : ℕ) → (r.lines c).pcm_failed ≡ fails c Pcm
 
@@ -93,13 +98,18 @@ abbrev pub IsReadTo : LineState → ℕ → List ℕ → Type 0
 IsReadTo now n octets = now.to_come ≡ Some (drop n octets)
 
 -- What a run leaves on the lines.
-pub record Leaves (r : Run) (fails : ℕ → Side → Bool) (before now : ℕ → Side → LineState) : Type 0 where
+pub record Leaves (r : Run) (fails : ℕ → Side → Bool)
+    (before now : ℕ → Side → LineState) : Type 0 where
   -- the outgoing lines of each call that it opened have gained what the run gives them
-  pub out : (c : ℕ) → IsOpened r c → HasWritten (fails c Out) (before c Out) (now c Out) (out_of_call r c)
-  pub down : (c : ℕ) → IsOpened r c → HasWritten (fails c Down) (before c Down) (now c Down) (down_of_call r c)
+  pub out : (c : ℕ) → IsOpened r c →
+      HasWritten (fails c Out) (before c Out) (now c Out) (out_of_call r c)
+  pub down : (c : ℕ) → IsOpened r c →
+      HasWritten (fails c Down) (before c Down) (now c Down) (down_of_call r c)
   -- if its lines didn't end a call, exactly the octets of its periods were read of its incoming lines
-  pub up_read : (c : ℕ) → IsOpened r c → fails c Up ≡ false → IsCutOff (cause_in r c) → IsReadTo (now c Up) (40 * length (periods_in r c)) (r.lines c).up
-  pub pcm_read : (c : ℕ) → IsOpened r c → fails c Pcm ≡ false → IsCutOff (cause_in r c) → IsReadTo (now c Pcm) (160 * length (periods_in r c)) (r.lines c).pcm
+  pub up_read : (c : ℕ) → IsOpened r c → fails c Up ≡ false → IsCutOff (cause_in r c) →
+      IsReadTo (now c Up) (40 * length (periods_in r c)) (r.lines c).up
+  pub pcm_read : (c : ℕ) → IsOpened r c → fails c Pcm ≡ false → IsCutOff (cause_in r c) →
+      IsReadTo (now c Pcm) (160 * length (periods_in r c)) (r.lines c).pcm
   -- the lines of all other calls are unchanged, their counts included
   pub others : (c : ℕ) (s : Side) → (IsOpened r c → ⊥) → now c s ≡ before c s
 
@@ -118,9 +128,11 @@ pub record FailedIn (r : Run) (c octets : ℕ) (line : List ℕ) (from until : �
 -- each incoming line that failed is such a line, for some `from` and `until`, at most `batch` periods apart and not after period t
 pub record FailedBy (r : Run) (batch t : ℕ) (fails : ℕ → Side → Bool) : Type 0 where
   pub up : (c : ℕ) → fails c Up ≡ true →
-      (from : ℕ) × (until : ℕ) × (until ≤ from + batch) × (until ≤ t) × FailedIn r c 40 (r.lines c).up from until
+      (from : ℕ) × (until : ℕ) × (until ≤ from + batch) × (until ≤ t)
+      × FailedIn r c 40 (r.lines c).up from until
   pub pcm : (c : ℕ) → fails c Pcm ≡ true →
-      (from : ℕ) × (until : ℕ) × (until ≤ from + batch) × (until ≤ t) × FailedIn r c 160 (r.lines c).pcm from until
+      (from : ℕ) × (until : ℕ) × (until ≤ from + batch) × (until ≤ t)
+      × FailedIn r c 160 (r.lines c).pcm from until
 
 -- the same in a run that came to its end
 abbrev pub FailedShort : Run → ℕ → (ℕ → Side → Bool) → Type 0
@@ -128,40 +140,52 @@ FailedShort r batch fails = FailedBy r batch r.periods fails
 
 -- A call ended from period `from` of the run on and before `until`. Of its incoming lines that didn't fail exactly the octets of its
 -- periods before `until` were read; of a line that has fewer, all.
-pub record ReadIn (r : Run) (c : ℕ) (fails : ℕ → Side → Bool) (now : ℕ → Side → LineState) (from until : ℕ) : Type 0 where
+pub record ReadIn (r : Run) (c : ℕ) (fails : ℕ → Side → Bool) (now : ℕ → Side → LineState)
+    (from until : ℕ) : Type 0 where
   pub begun : from ≤ end_in r c
   pub over : end_in r c < until
   pub up : fails c Up ≡ false → IsReadTo (now c Up) (40 * (until - start_in r c)) (r.lines c).up
-  pub pcm : fails c Pcm ≡ false → IsReadTo (now c Pcm) (160 * (until - start_in r c)) (r.lines c).pcm
+  pub pcm : fails c Pcm ≡ false →
+      IsReadTo (now c Pcm) (160 * (until - start_in r c)) (r.lines c).pcm
 
 -- the same for some `from` and `until`, at most `batch` periods apart and not after period t
 abbrev pub ReadPast : Run → ℕ → ℕ → (ℕ → Side → Bool) → (ℕ → Side → LineState) → ℕ → Type 0
-ReadPast r batch t fails now c = (from : ℕ) × (until : ℕ) × (until ≤ from + batch) × (until ≤ t) × ReadIn r c fails now from until
+ReadPast r batch t fails now c =
+    (from : ℕ) × (until : ℕ) × (until ≤ from + batch) × (until ≤ t)
+    × ReadIn r c fails now from until
 
 -- the same of each call that its lines ended before period t
 abbrev pub ReadBy : Run → ℕ → ℕ → (ℕ → Side → Bool) → (ℕ → Side → LineState) → Type 0
-ReadBy r batch t fails now = (c : ℕ) → IsOpened r c → end_in r c < t → (IsCutOff (cause_in r c) → ⊥) → ReadPast r batch t fails now c
+ReadBy r batch t fails now = (c : ℕ) → IsOpened r c → end_in r c < t →
+    (IsCutOff (cause_in r c) → ⊥) → ReadPast r batch t fails now c
 
 -- the same of each call that its lines ended, in a run that came to its end
 abbrev pub ReadToEnd : Run → ℕ → (ℕ → Side → Bool) → (ℕ → Side → LineState) → Type 0
-ReadToEnd r batch fails now = (c : ℕ) → IsOpened r c → (IsCutOff (cause_in r c) → ⊥) → ReadPast r batch r.periods fails now c
+ReadToEnd r batch fails now = (c : ℕ) → IsOpened r c → (IsCutOff (cause_in r c) → ⊥) →
+    ReadPast r batch r.periods fails now c
 
 -- A run of these orders, whatever fails.
-pub record Runs (orders : List Order) (pace : Pace) (before now : ℕ → Side → LineState) (report : ReportView) : Type 0 where
+pub record Runs (orders : List Order) (pace : Pace) (before now : ℕ → Side → LineState)
+    (report : ReportView) : Type 0 where
   -- the report lists the lines that failed
   pub failed : TellsFailed before now report.failed
   -- incoming lines are only read, from the start, and outgoing lines only written
   pub sides : KeepsSides before now
   pub reads : ReadsOn before now
   -- lines and report are those of the run of these orders over what the lines gave
-  pub leaves : (r : Run) → IsRunOver orders pace.periods (is_listed report.failed) before now r → Leaves r (is_listed report.failed) before now
-  pub reports : (r : Run) → IsRunOver orders pace.periods (is_listed report.failed) before now r → report ≡ report_of r report.failed
+  pub leaves : (r : Run) → IsRunOver orders pace.periods (is_listed report.failed) before now r →
+      Leaves r (is_listed report.failed) before now
+  pub reports : (r : Run) → IsRunOver orders pace.periods (is_listed report.failed) before now r →
+      report ≡ report_of r report.failed
   -- each line that failed is one of a call that the run opened; an incoming one gave fewer octets than its call takes up to some
   -- period, at most a batch after the call's end
-  pub opened : (r : Run) → IsRunOver orders pace.periods (is_listed report.failed) before now r → OnlyOpenedFail r (is_listed report.failed)
-  pub short : (r : Run) → IsRunOver orders pace.periods (is_listed report.failed) before now r → FailedShort r pace.batch (is_listed report.failed)
+  pub opened : (r : Run) → IsRunOver orders pace.periods (is_listed report.failed) before now r →
+      OnlyOpenedFail r (is_listed report.failed)
+  pub short : (r : Run) → IsRunOver orders pace.periods (is_listed report.failed) before now r →
+      FailedShort r pace.batch (is_listed report.failed)
   -- of a call that its lines ended, exactly the octets up to such a period were read of its incoming lines that didn't fail
   pub read_past : (r : Run) → IsRunOver orders pace.periods (is_listed report.failed) before now r →
       ReadToEnd r pace.batch (is_listed report.failed) now
   -- if the orders are in range and the contents of the incoming lines are known, such a run exists
-  pub there : AreOrders orders → AreTold before → (r : Run) × IsRunOver orders pace.periods (is_listed report.failed) before now r
+  pub there : AreOrders orders → AreTold before →
+      (r : Run) × IsRunOver orders pace.periods (is_listed report.failed) before now r

@@ -50,8 +50,10 @@ OpenedBefore n ds = (c : ℕ) → start_of ds c < n
 
 -- the sums of the outgoing lines of the run's calls are those of all octets that their periods before the clock t give
 pub record SumsAt (r : Run) (t : ℕ) (sums : ℕ → Side → ℕ) : Type 0 where
-  pub out : (c : ℕ) → IsOpened r c → sums c Out ≡ sum_of (out_line (who_in r c) (periods_to r c (worked_to r t c)))
-  pub down : (c : ℕ) → IsOpened r c → sums c Down ≡ sum_of (down_octets (who_in r c) (periods_to r c (worked_to r t c)))
+  pub out : (c : ℕ) → IsOpened r c →
+      sums c Out ≡ sum_of (out_line (who_in r c) (periods_to r c (worked_to r t c)))
+  pub down : (c : ℕ) → IsOpened r c →
+      sums c Down ≡ sum_of (down_octets (who_in r c) (periods_to r c (worked_to r t c)))
 
 -- ---- from one clock to a later one
 
@@ -60,8 +62,16 @@ pub record HoldsBack (was is : ℕ → Side → Bool) (before now : ℕ → Side
   pub lines : (c : ℕ) (s : Side) → IsOutgoing s → now c s ≡ before c s
   pub listed : (c : ℕ) (s : Side) → IsOutgoing s → is c s ≡ was c s
 
--- From a clock of a run to a later one, with rounds of at most `batch` periods. `first` are the lines before the run, and `last`
--- is the state of the run at its end.
+-- This holds of each run that was at the clock of s, and goes on from u to its end. `first` are the lines before the run, and
+-- `last` is its state at its end.
+abbrev pub InEachRun : Stage → Stage → (ℕ → Side → LineState) → (ℕ → Side → LineState) →
+    (Run → (ℕ → Side → LineState) → Standing → Type 0) → Type 0
+InEachRun s u before now Holds =
+    (r : Run) (first : ℕ → Side → LineState) (last : Standing) → HasFlags r last →
+    u.clock ≤ r.periods → StandingGoesOn (standing u.board u.farm.failed now) last →
+    IsAtClock r s.clock s.board s.farm.calls last first before → Holds r first last
+
+-- From a clock of a run to a later one, with rounds of at most `batch` periods.
 pub record Reaches (batch : ℕ) (s u : Stage) (before now : ℕ → Side → LineState) : Type 0 where
   pub later : s.clock ≤ u.clock
   pub stage : IsStage u
@@ -70,34 +80,32 @@ pub record Reaches (batch : ℕ) (s u : Stage) (before now : ℕ → Side → Li
   pub openings : (n : ℕ) → u.clock ≤ n → OpenedBefore n s.board.done → OpenedBefore n u.board.done
   -- the farm still lists exactly the lines whose fault counts rose; incoming lines are only read, and outgoing lines only written
   pub fell : NeverFell before now
-  pub failed : (first : ℕ → Side → LineState) → NeverFell first before → TellsFailed first before s.farm.failed → TellsFailed first now u.farm.failed
+  pub failed : (first : ℕ → Side → LineState) → NeverFell first before →
+      TellsFailed first before s.farm.failed → TellsFailed first now u.farm.failed
   pub sides : KeepsSides before now
-  pub goes : StandingGoesOn (standing s.board s.farm.failed before) (standing u.board u.farm.failed now)
-  pub back : is_held s.outgoing ≡ true → HoldsBack (is_listed s.farm.failed) (is_listed u.farm.failed) before now
-  -- If it goes on to the run's end, these are still the run's: board, farm and incoming lines.
-  pub run : (r : Run) (first : ℕ → Side → LineState) (last : Standing) → HasFlags r last → u.clock ≤ r.periods →
-      StandingGoesOn (standing u.board u.farm.failed now) last →
-      IsAtClock r s.clock s.board s.farm.calls last first before → IsAtClock r u.clock u.board u.farm.calls last first now
+  pub goes : StandingGoesOn (standing s.board s.farm.failed before)
+      (standing u.board u.farm.failed now)
+  pub back : is_held s.outgoing ≡ true →
+      HoldsBack (is_listed s.farm.failed) (is_listed u.farm.failed) before now
+  -- board, farm and incoming lines are still the run's
+  pub run : InEachRun s u before now
+      (λ r first last. IsAtClock r u.clock u.board u.farm.calls last first now)
   -- what is noted and kept
-  pub known : (r : Run) (first : ℕ → Side → LineState) (last : Standing) → HasFlags r last → u.clock ≤ r.periods →
-      StandingGoesOn (standing u.board u.farm.failed now) last →
-      IsAtClock r s.clock s.board s.farm.calls last first before → IsKnown r s.clock s.board s.farm.tallies s.notes →
-      IsKnown r u.clock u.board u.farm.tallies u.notes
+  pub known : InEachRun s u before now (λ r first last.
+      IsKnown r s.clock s.board s.farm.tallies s.notes →
+      IsKnown r u.clock u.board u.farm.tallies u.notes)
   -- what is written from any earlier period on
-  pub wrote : is_held s.outgoing ≡ false → (from : ℕ) → from ≤ s.clock → (r : Run) (first : ℕ → Side → LineState) (last : Standing) → HasFlags r last →
-      u.clock ≤ r.periods → StandingGoesOn (standing u.board u.farm.failed now) last →
-      IsAtClock r s.clock s.board s.farm.calls last first before → WrittenFrom r from s.clock (is_listed s.farm.failed) first before →
-      WrittenFrom r from u.clock (is_listed u.farm.failed) first now
+  pub wrote : is_held s.outgoing ≡ false → (from : ℕ) → from ≤ s.clock →
+      InEachRun s u before now (λ r first last.
+      WrittenFrom r from s.clock (is_listed s.farm.failed) first before →
+      WrittenFrom r from u.clock (is_listed u.farm.failed) first now)
   -- the sums
-  pub sums : is_summed s.outgoing ≡ true → (r : Run) (first : ℕ → Side → LineState) (last : Standing) → HasFlags r last → u.clock ≤ r.periods →
-      StandingGoesOn (standing u.board u.farm.failed now) last →
-      IsAtClock r s.clock s.board s.farm.calls last first before → SumsAt r s.clock (sum_to s.outgoing) → SumsAt r u.clock (sum_to u.outgoing)
+  pub sums : is_summed s.outgoing ≡ true → InEachRun s u before now (λ r first last.
+      SumsAt r s.clock (sum_to s.outgoing) → SumsAt r u.clock (sum_to u.outgoing))
   -- where incoming lines failed
-  pub short : (r : Run) (first : ℕ → Side → LineState) (last : Standing) → HasFlags r last → u.clock ≤ r.periods →
-      StandingGoesOn (standing u.board u.farm.failed now) last →
-      IsAtClock r s.clock s.board s.farm.calls last first before → FailedBy r batch s.clock (is_listed s.farm.failed) →
-      FailedBy r batch u.clock (is_listed u.farm.failed)
+  pub short : InEachRun s u before now (λ r first last.
+      FailedBy r batch s.clock (is_listed s.farm.failed) →
+      FailedBy r batch u.clock (is_listed u.farm.failed))
   -- what was read of the incoming lines of calls that their lines ended
-  pub read_past : (r : Run) (first : ℕ → Side → LineState) (last : Standing) → HasFlags r last → u.clock ≤ r.periods →
-      StandingGoesOn (standing u.board u.farm.failed now) last →
-      IsAtClock r s.clock s.board s.farm.calls last first before → ReadBy r batch s.clock last.listed before → ReadBy r batch u.clock last.listed now
+  pub read_past : InEachRun s u before now (λ r first last.
+      ReadBy r batch s.clock last.listed before → ReadBy r batch u.clock last.listed now)

@@ -36,8 +36,10 @@ pub record StandingGoesOn (before now : Standing) : Type 0 where
   -- incoming lines are only read, from the start
   pub read_on : ReadsOn before.lines now.lines
   -- the incoming lines of a call that has ended are neither read again nor newly listed
-  pub lines : (c : ℕ) (s : Side) → IsIncoming s → before.over c ≡ true → (now.lines c s).to_come ≡ (before.lines c s).to_come
-  pub listed : (c : ℕ) (s : Side) → IsIncoming s → before.over c ≡ true → now.listed c s ≡ before.listed c s
+  pub lines : (c : ℕ) (s : Side) → IsIncoming s → before.over c ≡ true →
+      (now.lines c s).to_come ≡ (before.lines c s).to_come
+  pub listed : (c : ℕ) (s : Side) → IsIncoming s → before.over c ≡ true →
+      now.listed c s ≡ before.listed c s
 
 -- What the board knows of the lines that are listed as failed. So an incoming line that failed isn't read in a later round.
 pub record KnowsListed (b : State) (failed : List Line) : Type 0 where

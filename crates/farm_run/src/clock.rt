@@ -54,7 +54,8 @@ fn work_round<R: Threads + Wait + Sync, T: Trunk, G: Gate + Sync>(
     ensures clock { IfOk result (λ after. after.clock ≡ stage.clock + periods) }
     ensures ended { IfOk result (λ after. after.farm.ended ≡ stage.clock + periods) }
     ensures left { IfOk result (λ after. after.board.left ≡ stage.board.left) }
-    ensures reaches { IfOk result (λ after. Reaches pace.now.batch stage after (T.lines trunk.old) (T.lines trunk.new)) }
+    ensures reaches { IfOk result (λ after.
+        Reaches pace.now.batch stage after (T.lines trunk.old) (T.lines trunk.new)) }
     ensures cut { OnErr result (T.lines trunk.new ≡ T.lines trunk.old) }
 {
     let Stage {
@@ -109,10 +110,12 @@ fn step<R: Threads + Wait + Sync, T: Trunk, G: Gate + Sync>(
     ensures idle { IfOk result (λ after. after.farm.ended ≡ stage.farm.ended →
         after.clock ≡ min (unwrap_or (first_stamp after.board.left) until) until) }
     ensures round { IfOk result (λ after. after.farm.ended ≢ stage.farm.ended →
-        after.clock ≡ stage.clock + min pace.now.batch (min (unwrap_or (first_stamp after.board.left) until) until - stage.clock)) }
+        after.clock ≡ stage.clock + min pace.now.batch
+        (min (unwrap_or (first_stamp after.board.left) until) until - stage.clock)) }
     ensures later { IfOk result (λ after. stage.clock < after.clock) }
     ensures within { IfOk result (λ after. after.clock ≤ until) }
-    ensures reaches { IfOk result (λ after. Reaches pace.now.batch stage after (T.lines trunk.old) (T.lines trunk.new)) }
+    ensures reaches { IfOk result (λ after.
+        Reaches pace.now.batch stage after (T.lines trunk.old) (T.lines trunk.new)) }
     ensures cut { OnErr result (T.lines trunk.new ≡ T.lines trunk.old) }
 {
     let clock = stage.clock;
@@ -146,10 +149,12 @@ pub(crate) fn work_until<R: Threads + Wait + Sync, T: Trunk, G: Gate + Sync>(
     requires stage { IsStage stage }
     requires before { stage.clock ≤ until }
     ensures clock { IfOk result (λ after. after.clock ≡ until) }
-    ensures reaches { IfOk result (λ after. Reaches pace.now.batch stage after (T.lines trunk.old) (T.lines trunk.new)) }
+    ensures reaches { IfOk result (λ after.
+        Reaches pace.now.batch stage after (T.lines trunk.old) (T.lines trunk.new)) }
 
     // If it runs out of memory, it has come to some clock, at most `until`.
-    ensures cut { OnErr result ((after : AnyStage) × (after.clock ≤ until) × Reaches pace.now.batch stage after (T.lines trunk.old) (T.lines trunk.new)) }
+    ensures cut { OnErr result ((after : AnyStage) × (after.clock ≤ until)
+        × Reaches pace.now.batch stage after (T.lines trunk.old) (T.lines trunk.new)) }
 {
     while stage.clock < until {
         stage = step(rt, alloc, pace, stage, until, trunk, gate)?;

@@ -20,7 +20,8 @@ pub(crate) fn finish(alloc: Global, mut last: Stage, orders: usize) -> Result<Re
     ensures failed { IfOk result (λ report. report.failed ≡ last.farm.failed) }
 
     // The report is the one that the definition gives for the run (`report_of`), with the lines that failed.
-    ensures reports { IfOk result (λ report. (r : Run) (t : ℕ) → IsAtEnd r t last.board last.farm.calls last.farm.tallies last.notes →
+    ensures reports { IfOk result (λ report. (r : Run) (t : ℕ) →
+        IsAtEnd r t last.board last.farm.calls last.farm.tallies last.notes →
         r.periods ≡ last.clock → length r.orders ≡ orders → report ≡ report_of r report.failed) }
 {
     end_all(&mut last.board, last.farm.live_calls(), last.clock);

@@ -34,10 +34,12 @@ fn mark_call(stage: &Stage, call: u32) -> MarkCall
 /// The calls that are live at a clock of a run, each with its first period and the sums of its outgoing lines so far.
 pub(crate) fn mark_calls(alloc: Global, stage: &Stage) -> Result<Vec<MarkCall>, AllocError>
     requires { IsStage stage.now }
-    ensures calls { IfOk result (λ calls. calls.items ≡ map (entry_of stage.now) stage.now.farm.live) }
+    ensures calls { IfOk result (λ calls.
+        calls.items ≡ map (entry_of stage.now) stage.now.farm.live) }
 
     // They are the farm's, in rising order of their numbers.
-    ensures live { (c : ℕ) → is_among stage.now.farm.live c ≡ is_some (call_in stage.now.farm.calls c) }
+    ensures live { (c : ℕ) →
+        is_among stage.now.farm.live c ≡ is_some (call_in stage.now.farm.calls c) }
     ensures rising { IsRising stage.now.farm.live }
 {
     let live = stage.farm.live_calls();

@@ -32,8 +32,10 @@ pub(crate) fn run_to<R: Threads + Wait + Sync, T: Trunk, G: Gate + Sync>(
     gate: &G,
 ) -> Result<Stage, AllocError>
     requires { IsPace pace.now }
-    ensures comes { IfOk result (λ stage. ComesTo orders outgoing pace.now.batch until (T.lines trunk.old) (T.lines trunk.new) stage) }
-    ensures cut { OnErr result (StopsShort orders outgoing pace.now.batch until (T.lines trunk.old) (T.lines trunk.new)) }
+    ensures comes { IfOk result (λ stage. ComesTo orders outgoing pace.now.batch until
+        (T.lines trunk.old) (T.lines trunk.new) stage) }
+    ensures cut { OnErr result (StopsShort orders outgoing pace.now.batch until
+        (T.lines trunk.old) (T.lines trunk.new)) }
     ensures sides { KeepsSides (T.lines trunk.old) (T.lines trunk.new) }
 {
     let first = Stage::new(alloc, orders, outgoing)?;
@@ -55,10 +57,12 @@ pub(crate) fn run_to_end<R: Threads + Wait + Sync, T: Trunk, G: Gate + Sync>(
     requires stage { IsStage stage }
     requires before { stage.clock ≤ periods }
     requires few { count ≤ 65536 }
-    ensures ends { IfOk result (λ report. RunsToEnd pace.now.batch stage count periods (T.lines trunk.old) (T.lines trunk.new) report) }
+    ensures ends { IfOk result (λ report. RunsToEnd pace.now.batch stage count periods
+        (T.lines trunk.old) (T.lines trunk.new) report) }
 
     // If it runs out of memory, it has come to some clock, at most `periods`.
-    ensures cut { OnErr result ((after : AnyStage) × (after.clock ≤ periods) × Reaches pace.now.batch stage after (T.lines trunk.old) (T.lines trunk.new)) }
+    ensures cut { OnErr result ((after : AnyStage) × (after.clock ≤ periods)
+        × Reaches pace.now.batch stage after (T.lines trunk.old) (T.lines trunk.new)) }
     ensures sides { KeepsSides (T.lines trunk.old) (T.lines trunk.new) }
 {
     let last = work_until(rt, alloc, pace, stage, periods, trunk, gate)?;

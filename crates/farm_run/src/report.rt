@@ -32,7 +32,8 @@ fn span_line(span: &Span, by_a: u32, by_b: u32) -> SpanLine
 // How many handed frames each call has sent in its latest bridge, by number.
 fn sent_by_all(alloc: Global, farm: &Farm) -> Result<Vec<u32>, AllocError>
     ensures long { IfOk result (λ sent. length sent.items ≡ NUMBERS) }
-    ensures sent { IfOk result (λ sent. (h : ℕ → Option CallHistory) → CallsStand h farm.now.calls → (c : ℕ) → IsCallNumber c →
+    ensures sent { IfOk result (λ sent.
+        (h : ℕ → Option CallHistory) → CallsStand h farm.now.calls → (c : ℕ) → IsCallNumber c →
         sent_in_table sent.items c ≡ (kept_in farm.now.tallies h c).sent) }
 {
     let mut sent = vec![in alloc; 0; NUMBERS]?;

@@ -60,8 +60,10 @@ fn go_on<R: Threads + Wait + Sync, T: Trunk, G: Gate + Sync>(
     requires stage { IsStage marked }
     requires clock { marked.clock ≡ mark.now.period }
     requires few { count ≤ 65536 }
-    ensures resumes { IfOk result (λ resumed. ResumesOn pace.now mark.now count marked (T.lines trunk.old) (T.lines trunk.new) resumed) }
-    ensures cut { OnErr result (StopsOn pace.now mark.now marked (T.lines trunk.old) (T.lines trunk.new)) }
+    ensures resumes { IfOk result (λ resumed. ResumesOn pace.now mark.now count marked
+        (T.lines trunk.old) (T.lines trunk.new) resumed) }
+    ensures cut { OnErr result (StopsOn pace.now mark.now marked
+        (T.lines trunk.old) (T.lines trunk.new)) }
     ensures sides { KeepsSides (T.lines trunk.old) (T.lines trunk.new) }
 {
     let found = difference(alloc, mark, &marked)?;
@@ -89,12 +91,14 @@ pub fn resume<R: Threads + Wait + Sync, T: Trunk, G: Gate + Sync>(
 ) -> Result<Resumed, AllocError>
     requires pace { IsPace pace.now }
     requires rising { NumbersRise mark.now.calls }
-    ensures resumes { IfOk result (λ resumed. Resumes orders pace.now mark.now (T.lines trunk.old) (T.lines trunk.new) resumed) }
+    ensures resumes { IfOk result (λ resumed. Resumes orders pace.now mark.now
+        (T.lines trunk.old) (T.lines trunk.new) resumed) }
 
     // If memory ran out, the run stopped at one period. Each outgoing line that didn't fail has gained exactly the octets of the
     // periods from the mark's on and before that one; a line that failed, a proper prefix of them. If the mark isn't the run's, all
     // outgoing lines are unchanged.
-    ensures cut { OnErr result (IsResumeCutShort orders pace.now.batch (max mark.now.period pace.now.periods) mark.now (T.lines trunk.old) (T.lines trunk.new)) }
+    ensures cut { OnErr result (IsResumeCutShort orders pace.now.batch
+        (max mark.now.period pace.now.periods) mark.now (T.lines trunk.old) (T.lines trunk.new)) }
 
     // Incoming lines are only read and outgoing lines only written, even if memory runs out.
     ensures sides { KeepsSides (T.lines trunk.old) (T.lines trunk.new) }

@@ -29,11 +29,13 @@ pub fn run<R: Threads + Wait + Sync, T: Trunk, G: Gate + Sync>(
     gate: &G,
 ) -> Result<Report, AllocError>
     requires { IsPace pace.now }
-    ensures runs { IfOk result (λ report. Runs orders pace.now (T.lines trunk.old) (T.lines trunk.new) report) }
+    ensures runs { IfOk result (λ report. Runs orders pace.now
+        (T.lines trunk.old) (T.lines trunk.new) report) }
 
     // If memory ran out, the run stopped at one period. Each outgoing line that didn't fail has gained exactly the octets of the
     // periods before it; a line that failed, a proper prefix of them.
-    ensures cut { OnErr result (IsCutShort orders pace.now.batch pace.now.periods (T.lines trunk.old) (T.lines trunk.new)) }
+    ensures cut { OnErr result (IsCutShort orders pace.now.batch pace.now.periods
+        (T.lines trunk.old) (T.lines trunk.new)) }
 
     // Incoming lines are only read and outgoing lines only written, even if memory runs out.
     ensures sides { KeepsSides (T.lines trunk.old) (T.lines trunk.new) }

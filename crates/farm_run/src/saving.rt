@@ -65,11 +65,13 @@ pub fn save<R: Threads + Wait + Sync, T: Trunk, G: Gate + Sync>(
     gate: &G,
 ) -> Result<Saved, AllocError>
     requires { IsPace pace.now }
-    ensures saves { IfOk result (λ saved. Saves orders pace.now (T.lines trunk.old) (T.lines trunk.new) saved) }
+    ensures saves { IfOk result (λ saved. Saves orders pace.now
+        (T.lines trunk.old) (T.lines trunk.new) saved) }
 
     // If memory ran out, the run stopped at one period. Each outgoing line that didn't fail has gained exactly the octets of the
     // periods before it; a line that failed, a proper prefix of them.
-    ensures cut { OnErr result (IsCutShort orders pace.now.batch pace.now.periods (T.lines trunk.old) (T.lines trunk.new)) }
+    ensures cut { OnErr result (IsCutShort orders pace.now.batch pace.now.periods
+        (T.lines trunk.old) (T.lines trunk.new)) }
 
     // Incoming lines are only read and outgoing lines only written, even if memory runs out.
     ensures sides { KeepsSides (T.lines trunk.old) (T.lines trunk.new) }
