@@ -2,7 +2,6 @@
 pub mod Noting
 mod Opened
 pub mod Orders
-pub mod Accepted
 pub mod Rounds
 pub mod Truly
 pub mod Latest

@@ -1,6 +1,5 @@
 -- What the report of a run says (this project's profile).
-use Rattle.std.specs.Prelude.{◌≡◌, ℕ, ◌-◌, ◌==◌, if◌then◌else◌, Option, option_map, List, [], ◌∷◌, length, map}
-use Rattle.std.proofs.Common.{get_or}
+use Rattle.std.specs.Prelude.{◌≡◌, ℕ, ◌-◌, ◌==◌, if◌then◌else◌, Option, option_map, List, [], ◌∷◌, length, map, slice_index_or}
 use Rattle.std.specs.List.{filter_map}
 use Rattle.call_number.specs.CallNumber.{IsCallNumber, call_numbers}
 use Rattle.switchboard.specs.declared.act.Span.{Span}
@@ -42,7 +41,7 @@ span_lines sent _ _ = []
 
 -- how many frames each call has sent in its latest bridge, in a table by number
 abbrev pub sent_in_table : List ℕ → ℕ → ℕ
-sent_in_table sent c = get_or sent c 0
+sent_in_table sent c = slice_index_or sent c 0
 
 -- the tally of a call: of an open call over its periods, of an ended call the one that is kept
 abbrev pub kept_in : List Tally → (ℕ → Option CallHistory) → ℕ → Tally

@@ -1,7 +1,6 @@
 -- What is noted so far for the report of a run (this project's profile). `ds` are the orders that were executed, the oldest
 -- first.
-use Rattle.std.specs.Prelude.{◌≡◌, ℕ, ◌==◌, if◌then◌else◌, ◌≤◌, true, Bool, Some, is_some, IfSome, List, [], ◌∷◌, ◌++◌}
-use Rattle.std.proofs.Common.{get_or}
+use Rattle.std.specs.Prelude.{◌≡◌, ℕ, ◌==◌, if◌then◌else◌, ◌≤◌, true, Bool, Some, is_some, IfSome, List, [], ◌∷◌, ◌++◌, slice_index_or}
 use Rattle.trau_io.specs.declared.ends.CallEnd.{CallEnd}
 use Rattle.switchboard.specs.declared.act.Act.{Act}
 use Rattle.switchboard.specs.declared.act.Act.TheVariants as act
@@ -34,7 +33,7 @@ no_span = record { a = 0; b = 0; from = 0; to = 0 }
 
 -- the span of the bridge at this index
 abbrev pub span_numbered : Run → ℕ → Span
-span_numbered r k = get_or (spans_in r) k no_span
+span_numbered r k = slice_index_or (spans_in r) k no_span
 
 abbrev pub is_opened : List Done → ℕ → Bool
 is_opened ds c = is_some (opened_at c ds)
@@ -81,8 +80,8 @@ abbrev pub ended_at : Run → List Done → ℕ → ℕ → Bool
 ended_at r ds t = has_ended (gone_at (whole_in r) t ds) ds
 
 -- The notes and the farm's tallies at the clock t are right.
-abbrev pub Noted : Run → List Done → ℕ → List SentBefore → List Tally → Type 0
-Noted r ds t notes tallies = IsNoted r ds (ended_at r ds t) notes (tally_in tallies)
+abbrev pub IsNotedAt : Run → List Done → ℕ → List SentBefore → List Tally → Type 0
+IsNotedAt r ds t notes tallies = IsNoted r ds (ended_at r ds t) notes (tally_in tallies)
 
 -- The ends that the board knows are the run's.
 abbrev pub TellsTruly : Run → State → Type 0
@@ -92,7 +91,7 @@ TellsTruly r s = (c : ℕ) (e : CallEnd) → end_told s c ≡ Some e → e ≡ c
 pub record IsKnown (r : Run) (t : ℕ) (b : State) (tallies : List Tally)
     (notes : List SentBefore) : Type 0 where
   pub truly : TellsTruly r b
-  pub noted : Noted r b.done t notes tallies
+  pub noted : IsNotedAt r b.done t notes tallies
 
 -- A run that has come to its end at the clock t: no order before the run's end remains, and if a call is open, t is the run's
 -- end. The board, the farm and the notes are right.
@@ -102,4 +101,4 @@ pub record IsAtEnd (r : Run) (t : ℕ) (b : State) (calls : List Kept) (tallies 
   pub none_left : IfSome (first_stamp b.left) (λ s. r.periods ≤ s)
   pub clock : (c : ℕ) → open_now b c ≡ true → t ≡ r.periods
   pub truly : TellsTruly r b
-  pub noted : Noted r b.done t notes tallies
+  pub noted : IsNotedAt r b.done t notes tallies

@@ -5,7 +5,7 @@ use Rattle.farm_rounds.specs.Memory.{FarmMemory}
 use Rattle.run_spec.specs.Run.{Run}
 use Rattle.farm_run.specs.declared.notes.SentBefore.{SentBefore}
 use Rattle.farm_run.specs.Match.{AtClock, FollowsRun}
-use Rattle.farm_run.specs.Noted.{Noted}
+use Rattle.farm_run.specs.Noted.{IsNotedAt}
 use Rattle.farm_run.specs.Standing.{is_over, KnowsListed}
 use Rattle.farm_run.specs.Stages.{OpenedBefore}
 
@@ -37,5 +37,5 @@ pub record OrdersDone (t : ℕ) (b : State) (farm : FarmMemory) (notes : List Se
   pub follows : (r : Run) → t < r.periods → FollowsRun r t b farm.calls →
       FollowsRun r t b' farm'.calls
   pub noted : (r : Run) → t < r.periods → FollowsRun r t b farm.calls →
-      Noted r b.done t notes farm.tallies →
-      Noted r b'.done t notes' farm'.tallies
+      IsNotedAt r b.done t notes farm.tallies →
+      IsNotedAt r b'.done t notes' farm'.tallies

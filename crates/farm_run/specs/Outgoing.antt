@@ -32,7 +32,7 @@ sum_to Written = no_sums
 sum_to (Summed sums) = sum_in sums
 sum_to (Held sums) = sum_in sums
 
--- the same is done with them, whatever the sums are
+-- octets go the same way, whatever the sums are
 pub record IsSameWay (before now : Outgoing) : Type 0 where
   pub held : is_held now ≡ is_held before
   pub summed : is_summed now ≡ is_summed before

@@ -97,7 +97,7 @@ ResumesOn pace mark count marked before now resumed =
     HeldTo orders pace.batch first before marked → count ≡ length orders →
     Resumes orders pace mark first now resumed
 
--- or runs out of memory from there on
+-- a run that has come to the mark's period so runs out of memory from there on
 abbrev pub StopsOn : Pace → MarkView → Stage →
     (ℕ → Side → LineState) → (ℕ → Side → LineState) → Type 0
 StopsOn pace mark marked before now =

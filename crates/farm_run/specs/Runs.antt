@@ -134,7 +134,7 @@ pub record FailedBy (r : Run) (batch t : ℕ) (fails : ℕ → Side → Bool) : 
       (from : ℕ) × (until : ℕ) × (until ≤ from + batch) × (until ≤ t)
       × FailedIn r c 160 (r.lines c).pcm from until
 
--- the same in a run that came to its end
+-- in a run that came to its end, each incoming line that failed is such a line
 abbrev pub FailedShort : Run → ℕ → (ℕ → Side → Bool) → Type 0
 FailedShort r batch fails = FailedBy r batch r.periods fails
 
@@ -148,18 +148,18 @@ pub record ReadIn (r : Run) (c : ℕ) (fails : ℕ → Side → Bool) (now : ℕ
   pub pcm : fails c Pcm ≡ false →
       IsReadTo (now c Pcm) (160 * (until - start_in r c)) (r.lines c).pcm
 
--- the same for some `from` and `until`, at most `batch` periods apart and not after period t
+-- a call ended so for some `from` and `until`, at most `batch` periods apart and not after period t
 abbrev pub ReadPast : Run → ℕ → ℕ → (ℕ → Side → Bool) → (ℕ → Side → LineState) → ℕ → Type 0
 ReadPast r batch t fails now c =
     (from : ℕ) × (until : ℕ) × (until ≤ from + batch) × (until ≤ t)
     × ReadIn r c fails now from until
 
--- the same of each call that its lines ended before period t
+-- each call that its lines ended before period t was read so
 abbrev pub ReadBy : Run → ℕ → ℕ → (ℕ → Side → Bool) → (ℕ → Side → LineState) → Type 0
 ReadBy r batch t fails now = (c : ℕ) → IsOpened r c → end_in r c < t →
     (IsCutOff (cause_in r c) → ⊥) → ReadPast r batch t fails now c
 
--- the same of each call that its lines ended, in a run that came to its end
+-- in a run that came to its end, each call that its lines ended was read so
 abbrev pub ReadToEnd : Run → ℕ → (ℕ → Side → Bool) → (ℕ → Side → LineState) → Type 0
 ReadToEnd r batch fails now = (c : ℕ) → IsOpened r c → (IsCutOff (cause_in r c) → ⊥) →
     ReadPast r batch r.periods fails now c

@@ -48,7 +48,7 @@ none_worked r c = by (end_in r c) (start_of (done_in r) c)
     by : (e s : ℕ) → min 0 e - s ≡ 0
     by e s = omega arith
 
--- so no octet has gone out
+-- no period gives no octet
 pub no_octets : (who : Who) → down_octets who [] ≡ []
 no_octets who = by (octets_of []) (length-octets_of [] 0 refl)
   where

@@ -75,7 +75,7 @@ open_before_end r t n ds left c h o = by (end_in r c) (places_in r ds t n c) (en
     by : (e m : ℕ) → min (t + n) e ≡ t + m → t ≤ e
     by e m q = omega arith
 
--- an open call has had the periods since it began,
+-- an open call has had the periods since it began
 pub worked_now : (r : Run) (t n : ℕ) (ds : List Done) (left : List Order) (c : ℕ) → IsRound r t n ds left → is_open (gone_at (whole_in r) t ds) ds c ≡ true →
     worked_to r t c ≡ t - start_of ds c
 worked_now r t n ds left c h o = by (end_in r c) (open_before_end r t n ds left c h o) ∙ ap (λ (s : ℕ). t - s) (start_kept r t n ds left c h o)
@@ -86,7 +86,7 @@ worked_now r t n ds left c h o = by (end_in r c) (open_before_end r t n ds left 
         least : (e : ℕ) → t ≤ e → min t e ≡ t
         least e l = omega arith
 
--- and behind the round those too that its lines gave in it
+-- after a round an open call has had also the periods that its lines gave in it
 pub worked_then : (r : Run) (t n : ℕ) (ds : List Done) (left : List Order) (c : ℕ) → IsRound r t n ds left → is_open (gone_at (whole_in r) t ds) ds c ≡ true →
     worked_to r (t + n) c ≡ t + places_in r ds t n c - start_of ds c
 worked_then r t n ds left c h o = ap (λ (m : ℕ). m - start_of (done_in r) c) (end_after r t n ds left c h o)
@@ -125,7 +125,7 @@ closed_past r t ds left c e so q =
     let past : e ≤ t = subst (λ (v : Option ℕ). IfSome v (λ e. e ≤ t)) q (closed_stamp (λ e. e ≤ t) c ds (recursion_from_All _ ds so.past)) in
     subst (λ (m : ℕ). m ≤ t) (sym (ap at_of (end_closed r t ds left c (start_of (done_in r) c) e so q))) past
 
--- so has one that is gone
+-- a call that is gone has ended at or before the clock
 gone_past : (r : Run) (t : ℕ) (ds : List Done) (left : List Order) (c s : ℕ) → IsSoFar r t ds left → t ≤ r.periods →
     opened_at c ds ≡ Some s → closed_at c ds ≡ None →
     gone_at (whole_in r) t ds c ≡ true → end_in r c ≤ t

@@ -95,7 +95,7 @@ named c (Ok (act.LevelSet m v)) h e = cc
 named c (Ok (act.DtxSet m v)) h e = cc
 named c (Err r) h e = cc
 
--- so a call that some order opened has such a number
+-- a call that some order opened has a call's number
 some_named : (c : ℕ) (ds : List Done) → AllByRecursion IsDoneInRange ds → is_some (opened_at c ds) ≡ true → IsCallNumber c
 some_named c [] h o = cc
 some_named c (d ∷ ds) h o = elim (cases_Bool (is_this c (opened_by d.result))) [
@@ -105,7 +105,7 @@ some_named c (d ∷ ds) h o = elim (cases_Bool (is_this c (opened_by d.result)))
       (sym e) ∙ o)
 ]
 
--- and each call of the run
+-- each call of the run has a call's number
 opened_named : (r : Run) (c : ℕ) → AreOrders r.orders → IsOpened r c → IsCallNumber c
 opened_named r c are o = some_named c (done_in r) (executed_in_range (whole_in r) [] (filter (λ o. nat_lt o.stamp r.periods) r.orders) tt
     (each_filter IsOrdered _ r.orders (ordered r.orders are.calls are.levels))) o

@@ -95,7 +95,7 @@ cut_at os batch periods t b calls failed first now within knows tells sides read
 abbrev pub none_yet : (ℕ → Side → LineState) → Standing
 none_yet lines = record { over = λ c. false; listed = is_listed []; lines = lines }
 
--- **So is one that didn't begin.**
+-- **A run that didn't begin is cut short.**
 pub cut_first : (os : List Order) (batch periods : ℕ) (lines : ℕ → Side → LineState) → IsCutShort os batch periods lines lines
 cut_first os batch periods lines = record {
   fails = is_listed [];
@@ -118,7 +118,7 @@ cut_first os batch periods lines = record {
 
 -- ---- a resumed run
 
--- **So is one that wrote nothing yet.**
+-- **A resumed run that wrote nothing yet is cut short.**
 pub cut_before : (os : List Order) (batch periods t : ℕ) (mark : MarkView) (over : ℕ → Bool) (failed : List Line) (first now : ℕ → Side → LineState) →
     t ≤ periods → t ≤ mark.period → TellsFailed first now failed → KeepsSides first now → ReadsOn first now →
     HoldsBack (is_listed []) (is_listed failed) first now →
@@ -155,7 +155,7 @@ cut_before os batch periods t mark over failed first now within early tells side
         subst (λ (x : Bool). HasFront x was is octets) (sym f)
         (0, subst (λ (l : LineState). Appends was.written l.written []) (sym e) (Appends-nil was.written))
 
--- **So is one that stops at a clock behind the mark's period, where the mark is the run's.**
+-- **A resumed run that stops at a clock behind the mark's period is cut short there, if the mark is the run's.**
 pub cut_behind : (os : List Order) (batch periods : ℕ) (mark : MarkView) (t : ℕ) (b : State) (calls : List Kept) (failed : List Line)
     (first now : ℕ → Side → LineState) → mark.period ≤ t → t ≤ periods → KnowsListed b failed →
     TellsFailed first now failed → KeepsSides first now → ReadsOn first now →

@@ -61,14 +61,14 @@ out_front r c m n fails first now l w =
     let more = out_more r c m (n - m) n (omega (arith, l)) in
     subst (HasFront fails first now) (sym more.1) (front_of fails first now (out_line (who_in r c) (periods_to r c m)) more.0 w)
 
--- the same of the downlink
+-- what was written of the first m periods on the Down line is such a prefix too
 pub down_front : (r : Run) (c m n : ℕ) (fails : Bool) (first now : LineState) → m ≤ n →
     HasWritten fails first now (down_octets (who_in r c) (periods_to r c m)) → HasFront fails first now (down_octets (who_in r c) (periods_to r c n))
 down_front r c m n fails first now l w =
     let more = down_on r c m (n - m) n (omega (arith, l)) in
     subst (HasFront fails first now) (sym more.1) (front_of fails first now (down_octets (who_in r c) (periods_to r c m)) more.0 w)
 
--- **So it is where what the first k periods give was held back.**
+-- **If what the first k periods give was held back, what was written of the first m is a prefix of what any more give.**
 pub out_front_from : (r : Run) (c k m n : ℕ) (fails : Bool) (first now : LineState) → k ≤ m → m ≤ n →
     HasWritten fails first now (drop (160 * k) (out_line (who_in r c) (periods_to r c m))) →
     HasFront fails first now (drop (160 * k) (out_line (who_in r c) (periods_to r c n)))
@@ -79,7 +79,7 @@ out_front_from r c k m n fails first now back l w =
     subst (HasFront fails first now) (sym (ap (drop (160 * k)) more.1 ∙ drop-append-le (160 * k) old more.0 fits))
     (front_of fails first now (drop (160 * k) old) more.0 w)
 
--- the same of the downlink
+-- if what the first k periods give was held back, that holds of the Down line too
 pub down_front_from : (r : Run) (c k m n : ℕ) (fails : Bool) (first now : LineState) → k ≤ m → m ≤ n →
     HasWritten fails first now (drop (40 * k) (down_octets (who_in r c) (periods_to r c m))) →
     HasFront fails first now (drop (40 * k) (down_octets (who_in r c) (periods_to r c n)))
@@ -99,7 +99,7 @@ out_taken r c m n l =
     let long : length old ≡ 160 * m = omega (arith, length-out_line (who_in r c) (periods_to r c m), length-periods_to r c m) in
     sym (ap (take (160 * m)) more.1 ∙ take-append-le (160 * m) old more.0 (omega (arith, long)) ∙ take_all (160 * m) old (omega (arith, long)))
 
--- the same of the downlink
+-- what the first m periods give the Down line are the first octets of what any more give
 pub down_taken : (r : Run) (c m n : ℕ) → m ≤ n →
     down_octets (who_in r c) (periods_to r c m) ≡ take (40 * m) (down_octets (who_in r c) (periods_to r c n))
 down_taken r c m n l =

@@ -9,11 +9,11 @@ use Rattle.round_lines.specs.Seats.{SeatMemory, Fills, Drains}
 use Rattle.round_lines.specs.Rounds.{Each, KeepsButEach, IsIncoming, IsOutgoing, seat_at, call_at}
 use Rattle.farm_run.specs.Runs.{KeepsSides}
 
--- **So it is where nothing has happened yet, and after what comes next too.**
+-- **If nothing has happened yet, no incoming line was written, and no outgoing one read.**
 pub sides_none : (lines : ℕ → Side → LineState) → KeepsSides lines lines
 sides_none lines = record { incoming = λ c s i. refl; outgoing = λ c s o. refl }
 
--- nor in two steps
+-- In two steps no incoming line was written, and no outgoing one read, if that holds of each.
 pub sides_more : (first before now : ℕ → Side → LineState) → KeepsSides first before → KeepsSides before now → KeepsSides first now
 sides_more first before now was is = record {
   incoming = λ c s i. is.incoming c s i ∙ was.incoming c s i;

@@ -90,7 +90,7 @@ module _ (r : Run) (t : ℕ) (last : Standing) (first now : ℕ → Side → Lin
   pcm_to : (c : ℕ) → IsOpened r c → last.listed c Pcm ≡ false → IsReadWhole r t c → IsReadTo (now c Pcm) (160 * worked_to r t c) (r.lines c).pcm
   pcm_to c i f q = rest_of (last.listed c Pcm) (now c Pcm) (last.lines c Pcm) (160 * worked_to r t c) (r.lines c).pcm f (at.pcm_read c i q)
 
-  -- **A run that wrote what lies before the clock stops there,**
+  -- **A run that wrote what lies before the clock stops there.**
   pub stops_at : WrittenFrom r 0 t last.listed first now → StopsAt r t last.listed first now
   stops_at wrote = record {
     out = λ c i. subst (HasWritten (last.listed c Out) (first c Out) (now c Out))
@@ -102,7 +102,7 @@ module _ (r : Run) (t : ℕ) (last : Standing) (first now : ℕ → Side → Lin
     over = fail;
   }
 
-  -- **and so does one that wrote only what lies behind an earlier period,**
+  -- **A run that wrote only what lies behind an earlier period stops at the clock.**
   pub stops_from : (from : ℕ) → WrittenFrom r from t last.listed first now → StopsFrom r from t last.listed first now
   stops_from from wrote = record {
     out = λ c i. subst (λ (xs : List ℕ). HasWritten (last.listed c Out) (first c Out) (now c Out) (drop (160 * worked_to r from c) xs))
@@ -114,7 +114,7 @@ module _ (r : Run) (t : ℕ) (last : Standing) (first now : ℕ → Side → Lin
     over = fail;
   }
 
-  -- **and one that hasn't come past that period, and wrote nothing.**
+  -- **A run that hasn't come past that period, and wrote nothing, stops at the clock.**
   pub stops_before : (from : ℕ) → t ≤ from → HoldsBack (is_listed []) last.listed first now → StopsFrom r from t last.listed first now
   stops_before from l back = record {
     out = λ c i. none (last.listed c Out) (first c Out) (now c Out) _ (back.listed c Out tt) (back.lines c Out tt)
@@ -154,14 +154,14 @@ module _ (r : Run) (are : AreOrders r.orders) where
   abbrev count : ℕ → ℕ
   count c = end_in r c - start_of (done_in r) c
 
-  -- all of them lie before it,
+  -- all periods of a call lie before the run's end
   all : (c : ℕ) → worked_to r r.periods c ≡ count c
   all c = worked_all r 0 [] r.orders c (so_far_at_first r are)
 
   long : (c : ℕ) → length (periods_to r c (count c)) ≡ worked_to r r.periods c
   long c = length-periods_to r c (count c) ∙ sym (all c)
 
-  -- and all that they give
+  -- all that a call's periods give lies before the run's end
   out_all : (c : ℕ) → out_of_call r c ≡ take (160 * worked_to r r.periods c) (out_of_call r c)
   out_all c = subst (λ (k : ℕ). out_of_call r c ≡ take (160 * k) (out_of_call r c)) (sym (all c)) (out_taken r c (count c) (count c) (same (count c)))
 
@@ -198,7 +198,7 @@ module _ (r : Run) (are : AreOrders r.orders) where
     failed_in : FailBefore r r.periods fails
     failed_in c side i e = (before c side i e, by_lines r batch r.periods fails c side short i e)
 
-    -- **A run that left all that it gives stopped at its end,**
+    -- **A run that left all that it gives stopped at its end.**
     pub stops_all : Leaves r fails first now → StopsAt r r.periods fails first now
     stops_all left = record {
       out = λ c i. subst (HasWritten (fails c Out) (first c Out) (now c Out)) (out_all c) (left.out c i);
@@ -208,7 +208,7 @@ module _ (r : Run) (are : AreOrders r.orders) where
       over = failed_in;
     }
 
-    -- **and one that left all from a period on.**
+    -- **A run that left all that it gives from a period on stopped at its end.**
     pub stops_all_from : (from : ℕ) → LeavesFrom r from fails first now → StopsFrom r from r.periods fails first now
     stops_all_from from left = record {
       out = λ c i. subst (λ (xs : List ℕ). HasWritten (fails c Out) (first c Out) (now c Out) (drop (160 * worked_to r from c) xs)) (out_all c) (left.out c i);

@@ -62,21 +62,21 @@ module _ (t n : ℕ) (b : State) (farm after : FarmMemory) (before now : ℕ →
 
   -- ---- the seats
 
-  -- there are as many seats as open calls,
-  long : length w.filled ≡ length farm.live
+  -- there are as many seats as open calls
+  long : length w.filled_seats ≡ length farm.live
   long = w.filled_number ∙ w.number
 
   -- what is known of the seat at a place
-  record Seated (k c : ℕ) : Type 0 where
+  record KnownSeat (k c : ℕ) : Type 0 where
     call : Call
     called : call_in farm.calls c ≡ Some call
-    facts : SeatFacts n (before c) (w.between c) (now c) c call (seat_at w.planned k) (seat_at w.filled k) (seat_at w.worked k) (seat_at w.drained k)
-    filled_at : call_at w.filled k ≡ c
+    facts : SeatFacts n (before c) (w.between c) (now c) c call (seat_at w.planned_seats k) (seat_at w.filled_seats k) (seat_at w.worked_seats k) (seat_at w.drained_seats k)
+    filled_at : call_at w.filled_seats k ≡ c
     is_open : open_now b c ≡ true
 
   -- the seat of an open call, by where its number stands
-  seated : (k c : ℕ) → k < length farm.live → slice_index farm.live k ≡ c → Seated k c
-  seated k c l e =
+  known_seat : (k c : ℕ) → k < length farm.live → slice_index farm.live k ≡ c → KnownSeat k c
+  known_seat k c l e =
       let f = seat_facts t n farm after before now ends w k c l e in
       let open_is : open_now b c ≡ true = sym (a.matches.is_open c) ∙ ap is_some f.1 in
       record {
@@ -94,59 +94,59 @@ module _ (t n : ℕ) (b : State) (farm after : FarmMemory) (before now : ℕ →
   over_on c e = subst (λ (s : State). is_over s c ≡ true) (sym told) (over_told b ends c e)
 
   -- **A call is over behind the round where its seat lacks one of the periods.**
-  lacks : (k c : ℕ) → k < length farm.live → slice_index farm.live k ≡ c → round_lines.whole_in (seat_at w.filled k).lines < n → is_over b' c ≡ true
+  lacks : (k c : ℕ) → k < length farm.live → slice_index farm.live k ≡ c → round_lines.whole_in (seat_at w.filled_seats k).lines < n → is_over b' c ≡ true
   lacks k c l e less =
       over_by (opened_now b c) (is_some (closed_at c b.done)) (gone_in b c) (opened_now b' c) (is_some (closed_at c b'.done)) (gone_in b' c)
       (ap (λ (ds : List Done). is_some (opened_at c ds)) done_is) (ap (λ (ds : List Done). is_some (closed_at c ds)) done_is) s.is_open
       (o c ∙ ap (λ (x : Bool). open_now b c && not x) ended ∙ shut (open_now b c))
     where
-      s : Seated k c
-      s = seated k c l e
+      s : KnownSeat k c
+      s = known_seat k c l e
 
       shut : (x : Bool) → (x && false) ≡ false
       shut true = refl
       shut false = refl
 
-      place : (seat_at w.worked k).lines ≡ (seat_at w.filled k).lines
+      place : (seat_at w.worked_seats k).lines ≡ (seat_at w.filled_seats k).lines
       place = s.facts.front.lines
 
-      apart : round_lines.whole_in (seat_at w.filled k).lines ≡ (seat_at w.filled k).lines.periods → ⊥
+      apart : round_lines.whole_in (seat_at w.filled_seats k).lines ≡ (seat_at w.filled_seats k).lines.periods → ⊥
       apart q = absurd (omega (arith, q, less, filled_periods _ _ _ _ _ _ _ _ s.facts.front))
 
-      goes : goes_on_call w.worked c ≡ false
+      goes : goes_on_call w.worked_seats c ≡ false
       goes =
-          ap (goes_on_call w.worked) (sym (worked_call _ _ _ _ _ _ _ _ s.facts.front))
-          ∙ goes_on_at w.worked k w.worked_rising (omega (arith, l, long, w.worked_number))
+          ap (goes_on_call w.worked_seats) (sym (worked_call _ _ _ _ _ _ _ _ s.facts.front))
+          ∙ goes_on_at w.worked_seats k w.worked_rising (omega (arith, l, long, w.worked_number))
           ∙ ap (λ (p : LinesMemory). round_lines.whole_in p == p.periods) place
-          ∙ ne_eqb (round_lines.whole_in (seat_at w.filled k).lines) (seat_at w.filled k).lines.periods apart
+          ∙ ne_eqb (round_lines.whole_in (seat_at w.filled_seats k).lines) (seat_at w.filled_seats k).lines.periods apart
 
       ended : is_told c ends ≡ true
       ended = told_is t n b farm after before now ends w a c (ap is_some s.called) ∙ ap not goes
 
   -- an incoming line that failed in the round gave less than all of it
   failed_short : (k c : ℕ) (side : Side) → k < length farm.live → slice_index farm.live k ≡ c → IsIncoming side →
-      fails_in (seat_at w.filled k).lines side ≡ true → round_lines.whole_in (seat_at w.filled k).lines < n
+      fails_in (seat_at w.filled_seats k).lines side ≡ true → round_lines.whole_in (seat_at w.filled_seats k).lines < n
   failed_short k c Up l e i f =
-      let s = seated k c l e in
+      let s = known_seat k c l e in
       let short = s.facts.front.fills.up.short f in
-      fewer_up (seat_at w.filled k).lines n (omega (arith, short, up_long _ _ _ _ _ _ _ _ s.facts.front))
+      fewer_up (seat_at w.filled_seats k).lines n (omega (arith, short, up_long _ _ _ _ _ _ _ _ s.facts.front))
   failed_short k c Pcm l e i f =
-      let s = seated k c l e in
+      let s = known_seat k c l e in
       let short = s.facts.front.fills.pcm.short f in
-      fewer_pcm (seat_at w.filled k).lines n (omega (arith, short, pcm_long _ _ _ _ _ _ _ _ s.facts.front))
+      fewer_pcm (seat_at w.filled_seats k).lines n (omega (arith, short, pcm_long _ _ _ _ _ _ _ _ s.facts.front))
   failed_short k c Down l e i f = absurd i
   failed_short k c Out l e i f = absurd i
 
   -- ---- the listed lines, and the run
 
-  -- **The same is known of the listed lines.**
+  -- **After the round the board knows of the listed lines what it is to know.**
   pub knows_after : KnowsListed b' after.failed
   knows_after = record { opened = opened; ended = ended }
     where
       opened : (c : ℕ) (side : Side) → is_listed after.failed c side ≡ true → opened_now b' c ≡ true
       opened c side q = ap (λ (ds : List Done). is_some (opened_at c ds)) done_is ∙ elim (listed_cases t n farm after before now ends w c side q) [
         | inl m ↦ knows.opened c side m
-        | inr m ↦ let p = marked t n farm after before now ends w c side m in let z = seated m.k c p.0 p.1 in open_opened b c z.is_open
+        | inr m ↦ let p = marked t n farm after before now ends w c side m in let z = known_seat m.k c p.0 p.1 in open_opened b c z.is_open
       ]
 
       ended : (c : ℕ) (side : Side) → IsIncoming side → is_listed after.failed c side ≡ true → gone_in b' c ≡ true
@@ -154,7 +154,7 @@ module _ (t n : ℕ) (b : State) (farm after : FarmMemory) (before now : ℕ →
         | inl m ↦ subst (λ (s : State). gone_in s c ≡ true) (sym told) (gone_told b ends c (knows.ended c side i m))
         | inr m ↦
             let p = marked t n farm after before now ends w c side m in
-            let z = seated m.k c p.0 p.1 in
+            let z = known_seat m.k c p.0 p.1 in
             open_gone b b' c done_is z.is_open (lacks m.k c p.0 p.1 (failed_short m.k c side p.0 p.1 i (sym (marks_kept t n farm after before now ends w m.k c side p.0 p.1 i) ∙ p.2)))
       ]
 
@@ -173,9 +173,9 @@ module _ (t n : ℕ) (b : State) (farm after : FarmMemory) (before now : ℕ →
     where
       given : (c : ℕ) (side : Side) (octets : List ℕ) → IsIncoming side → (before c side).to_come ≡ Some octets → (k : ℕ) → k < length farm.live →
           slice_index farm.live k ≡ c → (i : ℕ) × ((w.between c side).to_come ≡ Some (drop i octets))
-      given c Up octets i e k l q = let s = seated k c l q in front_read (before c Up).to_come (w.between c Up).to_come _ octets s.facts.front.fills.up.given e
+      given c Up octets i e k l q = let s = known_seat k c l q in front_read (before c Up).to_come (w.between c Up).to_come _ octets s.facts.front.fills.up.given e
       given c Pcm octets i e k l q = let s =
-          seated k c l q in front_read (before c Pcm).to_come (w.between c Pcm).to_come _ octets s.facts.front.fills.pcm.given e
+          known_seat k c l q in front_read (before c Pcm).to_come (w.between c Pcm).to_come _ octets s.facts.front.fills.pcm.given e
       given c Down octets i e k l q = absurd i
       given c Out octets i e k l q = absurd i
 
@@ -188,16 +188,16 @@ module _ (t n : ℕ) (b : State) (farm after : FarmMemory) (before now : ℕ →
 
   -- **So the round meets a run that goes on from behind it.**
   pub meets_run : (r : Run) (last : Standing) → HasFlags r last → StandingGoesOn (standing b' after.failed now) last →
-      MeetsRun r n w.filled (standing b' after.failed now) last
+      MeetsRun r n w.filled_seats (standing b' after.failed now) last
   meets_run r last flags on = record {
     on = on;
     flags = flags;
     listed = λ k side l i.
         let within : k < length farm.live = omega (arith, l, long) in
-        let s = seated k (slice_index farm.live k) within refl in
+        let s = known_seat k (slice_index farm.live k) within refl in
         ap (λ (d : ℕ). is_listed after.failed d side) s.filled_at ∙ listed_incoming t n farm after before now ends w k (slice_index farm.live k) side within refl i;
     over = λ k l less.
         let within : k < length farm.live = omega (arith, l, long) in
-        let s = seated k (slice_index farm.live k) within refl in
+        let s = known_seat k (slice_index farm.live k) within refl in
         ap (is_over b') s.filled_at ∙ lacks k (slice_index farm.live k) within refl less;
   }

@@ -48,7 +48,7 @@ open_gone b n c same o h =
     by true true g q' g' o e h = cc
     by false q g q' g' o e h = cc
 
--- nor is a call open that is over
+-- a call that is over isn't open
 pub over_shut : (b : State) (c : ℕ) → is_over b c ≡ true → open_now b c ≡ false
 over_shut b c e = is_false (open_now b c) (λ o. true≢false (sym e ∙ not_over b c o))
 
@@ -79,7 +79,7 @@ gone_one s e c g = elim (cases_Bool (c == e.call)) [
     set_past (x ∷ xs) zero l = absurd (omega arith)
     set_past (x ∷ xs) (suc i) l = ap (λ (ys : List (Option CallEnd)). x ∷ ys) (set_past xs i (omega arith))
 
--- and when several are
+-- a call that is gone stays so when several ends are told
 pub gone_told : (s : State) (ends : List CallEnd) (c : ℕ) → gone_in s c ≡ true → gone_in (told_after s ends) c ≡ true
 gone_told s [] c e = e
 gone_told s (d ∷ ends) c e = gone_told (told_more s d) ends c (gone_one s d c e)

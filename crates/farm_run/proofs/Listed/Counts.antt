@@ -42,7 +42,7 @@ moved_later before now was stands octets (inr e) = let same = ap (λ (l : LineSt
 
 module _ (t n : ℕ) (farm after : FarmMemory) (before now : ℕ → Side → LineState) (ends : List CallEnd) (w : WorkedRound t n farm after before now ends) where
   -- there are as many seats as open calls
-  pub long : length w.drained ≡ length farm.live
+  pub long : length w.drained_seats ≡ length farm.live
   long = w.drained_number ∙ w.worked_number ∙ w.filled_number ∙ w.number
 
   -- a call is open, and then it has a seat, or it isn't
@@ -72,12 +72,12 @@ module _ (t n : ℕ) (farm after : FarmMemory) (before now : ℕ → Side → Li
   tells_round first l h = record { failures = record { rose = rose; kept = kept }; order = (let g = w.gains in g.order) }
     where
       rose : (c : ℕ) (s : Side) → is_listed after.failed c s ≡ true → Rose (first c s).faults (now c s).faults
-      rose c s k = elim (listed_after farm.failed after.failed w.drained (c, s) w.gains (listed_name after.failed c s k)) [
+      rose c s k = elim (listed_after farm.failed after.failed w.drained_seats (c, s) w.gains (listed_name after.failed c s k)) [
         | inl a ↦ rose_after (first c s).faults (before c s).faults (now c s).faults (fell_round c s) (h.failures.rose c s (name_listed farm.failed c s a))
-        | inr b ↦ rose_before (first c s).faults (before c s).faults (now c s).faults (l c s) (by (listed_seat w.drained (c, s) b))
+        | inr b ↦ rose_before (first c s).faults (before c s).faults (now c s).faults (l c s) (by (listed_seat w.drained_seats (c, s) b))
       ]
         where
-          by : Lists w.drained (c, s) → Rose (before c s).faults (now c s).faults
+          by : Lists w.drained_seats (c, s) → Rose (before c s).faults (now c s).faults
           by m =
               let f = seat_facts t n farm after before now ends w m.k (slice_index farm.live m.k) (omega (arith, m.within, long)) refl in
               let called : slice_index farm.live m.k ≡ c = sym (drained_call _ _ _ _ _ _ _ _ _ _ f.2) ∙ sym (ap (λ (y : Name). y.0) m.name) in
@@ -88,7 +88,7 @@ module _ (t n : ℕ) (farm after : FarmMemory) (before now : ℕ → Side → Li
       kept : (c : ℕ) (s : Side) → is_listed after.failed c s ≡ false → (now c s).faults ≡ (first c s).faults
       kept c s not = same ∙ h.failures.kept c s
           (is_false (is_listed farm.failed c s) (λ a. none
-          (listed_before farm.failed after.failed w.drained (c, s) w.gains (inl (listed_name farm.failed c s a)))))
+          (listed_before farm.failed after.failed w.drained_seats (c, s) w.gains (inl (listed_name farm.failed c s a)))))
         where
           none : Contains (map line_name after.failed) (c, s) → ⊥
           none m = true≢false (sym (name_listed after.failed c s m) ∙ not)
@@ -97,10 +97,10 @@ module _ (t n : ℕ) (farm after : FarmMemory) (before now : ℕ → Side → Li
           same = elim (seat_cases c) [
             | inl m ↦
                 let f = seat_facts t n farm after before now ends w m.0 c m.1 m.2 in
-                elim (cases_Bool (fails_in (seat_at w.drained m.0).lines s)) [
-                  | inl q ↦ absurd (none (listed_before farm.failed after.failed w.drained (c, s) w.gains
-                      (inr (subst (λ d. Contains (names w.drained) (d, s)) (drained_call _ _ _ _ _ _ _ _ _ _ f.2)
-                      (seat_listed w.drained m.0 s (omega (arith, m.1, long)) q)))))
+                elim (cases_Bool (fails_in (seat_at w.drained_seats m.0).lines s)) [
+                  | inl q ↦ absurd (none (listed_before farm.failed after.failed w.drained_seats (c, s) w.gains
+                      (inr (subst (λ d. Contains (names w.drained_seats) (d, s)) (drained_call _ _ _ _ _ _ _ _ _ _ f.2)
+                      (seat_listed w.drained_seats m.0 s (omega (arith, m.1, long)) q)))))
                   | inr q ↦ (tells_seat _ _ _ _ _ _ _ _ _ _ f.2 s).kept q
                 ]
             | inr q ↦ ap (λ (l : LineState). l.faults) (lines_kept t n farm after before now ends w c q s)

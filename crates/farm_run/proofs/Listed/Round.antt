@@ -46,7 +46,7 @@ module _ (t n : ℕ) (farm after : FarmMemory) (before now : ℕ → Side → Li
   record Known (k c : ℕ) : Type 0 where
     call : Call
     called : call_in farm.calls c ≡ Some call
-    facts : SeatFacts n (before c) (w.between c) (now c) c call (seat_at w.planned k) (seat_at w.filled k) (seat_at w.worked k) (seat_at w.drained k)
+    facts : SeatFacts n (before c) (w.between c) (now c) c call (seat_at w.planned_seats k) (seat_at w.filled_seats k) (seat_at w.worked_seats k) (seat_at w.drained_seats k)
     knows : KnowsLines farm.failed c call
 
   known : (k c : ℕ) → k < length farm.live → slice_index farm.live k ≡ c → Known k c
@@ -56,28 +56,28 @@ module _ (t n : ℕ) (farm after : FarmMemory) (before now : ℕ → Side → Li
       record { call = f.0; called = f.1; facts = f.2; knows = failed.known c f.0 f.1 }
 
   -- the seats stand by rising numbers
-  rising : Rising w.drained
-  rising = still_rising w.worked w.drained w.worked_rising w.drained_number (λ k l. ap (λ (s : SeatMemory). s.lines.call) (w.drains k l).kept)
+  rising : Rising w.drained_seats
+  rising = still_rising w.worked_seats w.drained_seats w.worked_rising w.drained_number (λ k l. ap (λ (s : SeatMemory). s.lines.call) (w.drains k l).kept)
 
-  inside : (k : ℕ) → k < length farm.live → k < length w.drained
+  inside : (k : ℕ) → k < length farm.live → k < length w.drained_seats
   inside k l = omega (arith, l, long t n farm after before now ends w)
 
   -- writing leaves the marks of the incoming lines
   pub marks_kept : (k c : ℕ) (side : Side) → k < length farm.live → slice_index farm.live k ≡ c → IsIncoming side →
-      fails_in (seat_at w.drained k).lines side ≡ fails_in (seat_at w.filled k).lines side
+      fails_in (seat_at w.drained_seats k).lines side ≡ fails_in (seat_at w.filled_seats k).lines side
   marks_kept k c side l e i = by side i
     where
       s : Known k c
       s = known k c l e
 
-      worked : (seat_at w.drained k).lines ≡ record (seat_at w.worked k).lines {
-        down = (seat_at w.drained k).lines.down;
+      worked : (seat_at w.drained_seats k).lines ≡ record (seat_at w.worked_seats k).lines {
+        down = (seat_at w.drained_seats k).lines.down;
         out =
-            (seat_at w.drained k).lines.out;
+            (seat_at w.drained_seats k).lines.out;
       }
       worked = ap (λ (x : SeatMemory). x.lines) s.facts.drains.kept
 
-      by : (side : Side) → IsIncoming side → fails_in (seat_at w.drained k).lines side ≡ fails_in (seat_at w.filled k).lines side
+      by : (side : Side) → IsIncoming side → fails_in (seat_at w.drained_seats k).lines side ≡ fails_in (seat_at w.filled_seats k).lines side
       by Up i = ap (λ (p : LinesMemory). p.up.failed) worked ∙ ap (λ (p : LinesMemory). p.up.failed) s.facts.front.lines
       by Pcm i = ap (λ (p : LinesMemory). p.pcm.failed) worked ∙ ap (λ (p : LinesMemory). p.pcm.failed) s.facts.front.lines
       by Down i = absurd i
@@ -86,31 +86,31 @@ module _ (t n : ℕ) (farm after : FarmMemory) (before now : ℕ → Side → Li
   -- ---- the listed lines
 
   -- a line that is listed behind the round was so before, or a seat names it
-  pub listed_cases : (c : ℕ) (side : Side) → is_listed after.failed c side ≡ true → (is_listed farm.failed c side ≡ true) ⊎ Lists w.drained (c, side)
-  listed_cases = gained_cases farm.failed after.failed w.drained w.gains
+  pub listed_cases : (c : ℕ) (side : Side) → is_listed after.failed c side ≡ true → (is_listed farm.failed c side ≡ true) ⊎ Lists w.drained_seats (c, side)
+  listed_cases = gained_cases farm.failed after.failed w.drained_seats w.gains
 
   -- one that was listed still is
   listed_still : (c : ℕ) (side : Side) → is_listed farm.failed c side ≡ true → is_listed after.failed c side ≡ true
-  listed_still = gained_still farm.failed after.failed w.drained w.gains
+  listed_still = gained_still farm.failed after.failed w.drained_seats w.gains
 
   -- the call and the side that a seat's mark names
-  pub marked : (c : ℕ) (side : Side) (m : Lists w.drained (c, side)) →
-      (m.k < length farm.live) × (slice_index farm.live m.k ≡ c) × (fails_in (seat_at w.drained m.k).lines side ≡ true)
+  pub marked : (c : ℕ) (side : Side) (m : Lists w.drained_seats (c, side)) →
+      (m.k < length farm.live) × (slice_index farm.live m.k ≡ c) × (fails_in (seat_at w.drained_seats m.k).lines side ≡ true)
   marked c side m =
       let within : m.k < length farm.live = (let l = m.within in omega (arith, l, long t n farm after before now ends w)) in
       let s = known m.k (slice_index farm.live m.k) within refl in (
         within,
         sym (drained_call _ _ _ _ _ _ _ _ _ _ s.facts) ∙ sym (ap (λ (y : ℕ × Side). y.0) m.name),
-        ap (fails_in (seat_at w.drained m.k).lines) (ap (λ (y : ℕ × Side). y.1) m.name) ∙ m.fails,
+        ap (fails_in (seat_at w.drained_seats m.k).lines) (ap (λ (y : ℕ × Side). y.1) m.name) ∙ m.fails,
       )
 
   -- **Of a call with a seat a line is listed where it was, or where it failed in the round.**
   listed_seated : (k c : ℕ) (side : Side) → k < length farm.live → slice_index farm.live k ≡ c →
-      is_listed after.failed c side ≡ (is_listed farm.failed c side || fails_in (seat_at w.drained k).lines side)
+      is_listed after.failed c side ≡ (is_listed farm.failed c side || fails_in (seat_at w.drained_seats k).lines side)
   listed_seated k c side l e =
       let s = known k c l e in
-      subst (λ (d : ℕ). is_listed after.failed d side ≡ (is_listed farm.failed d side || fails_in (seat_at w.drained k).lines side))
-      (drained_call _ _ _ _ _ _ _ _ _ _ s.facts) (gained_at farm.failed after.failed w.drained w.gains k side rising (inside k l))
+      subst (λ (d : ℕ). is_listed after.failed d side ≡ (is_listed farm.failed d side || fails_in (seat_at w.drained_seats k).lines side))
+      (drained_call _ _ _ _ _ _ _ _ _ _ s.facts) (gained_at farm.failed after.failed w.drained_seats w.gains k side rising (inside k l))
 
   -- **Of a call with none the same lines are listed.**
   pub listed_kept : (c : ℕ) (side : Side) → is_some (call_in farm.calls c) ≡ false → is_listed after.failed c side ≡ is_listed farm.failed c side
@@ -122,38 +122,38 @@ module _ (t n : ℕ) (farm after : FarmMemory) (before now : ℕ → Side → Li
         | inr m ↦ let p = marked c side m in let z = known m.k c p.0 p.1 in absurd (true≢false (sym (ap is_some z.called) ∙ none))
       ]
 
-  -- an incoming line of an open call isn't listed before the round,
+  -- an incoming line of an open call isn't listed before the round
   not_listed : (k c : ℕ) (side : Side) → k < length farm.live → slice_index farm.live k ≡ c → IsIncoming side → is_listed farm.failed c side ≡ false
   not_listed k c Up l e i = let s = known k c l e in s.knows.0
   not_listed k c Pcm l e i = let s = known k c l e in s.knows.1
   not_listed k c Down l e i = absurd i
   not_listed k c Out l e i = absurd i
 
-  -- so behind it it is where it failed in the round
+  -- an incoming line of an open call is listed after the round exactly if it failed in it
   pub listed_incoming : (k c : ℕ) (side : Side) → k < length farm.live → slice_index farm.live k ≡ c → IsIncoming side →
-      is_listed after.failed c side ≡ fails_in (seat_at w.filled k).lines side
+      is_listed after.failed c side ≡ fails_in (seat_at w.filled_seats k).lines side
   listed_incoming k c side l e i =
-      listed_seated k c side l e ∙ ap (λ (x : Bool). x || fails_in (seat_at w.drained k).lines side) (not_listed k c side l e i) ∙ marks_kept k c side l e i
+      listed_seated k c side l e ∙ ap (λ (x : Bool). x || fails_in (seat_at w.drained_seats k).lines side) (not_listed k c side l e i) ∙ marks_kept k c side l e i
 
   -- **An open call's outgoing lines are listed before and after the round as they stand in its seat.**
-  pub was_down : (k c : ℕ) → k < length farm.live → slice_index farm.live k ≡ c → has_failed (seat_at w.worked k).lines.down ≡ is_listed farm.failed c Down
+  pub was_down : (k c : ℕ) → k < length farm.live → slice_index farm.live k ≡ c → has_failed (seat_at w.worked_seats k).lines.down ≡ is_listed farm.failed c Down
   was_down k c l e = let s = known k c l e in ap has_failed (worked_down _ _ _ _ _ _ _ _ s.facts.front) ∙ marks s.call.down_failed ∙ s.knows.2
 
-  pub was_out : (k c : ℕ) → k < length farm.live → slice_index farm.live k ≡ c → has_failed (seat_at w.worked k).lines.out ≡ is_listed farm.failed c Out
+  pub was_out : (k c : ℕ) → k < length farm.live → slice_index farm.live k ≡ c → has_failed (seat_at w.worked_seats k).lines.out ≡ is_listed farm.failed c Out
   was_out k c l e = let s = known k c l e in ap has_failed (worked_out _ _ _ _ _ _ _ _ s.facts.front) ∙ marks s.call.out_failed ∙ s.knows.3
 
-  -- and behind it
-  pub stands_down : (k c : ℕ) → k < length farm.live → slice_index farm.live k ≡ c → has_failed (seat_at w.drained k).lines.down ≡ is_listed after.failed c Down
+  -- an open call's Down line is listed after the round as it stands in the seat
+  pub stands_down : (k c : ℕ) → k < length farm.live → slice_index farm.live k ≡ c → has_failed (seat_at w.drained_seats k).lines.down ≡ is_listed after.failed c Down
   stands_down k c l e =
       let s = known k c l e in
-      stands_is s.call.down_failed _ _ _ (seat_at w.drained k).lines.down _ (worked_down _ _ _ _ _ _ _ _ s.facts.front) s.facts.drains.down
-      ∙ ap (λ (x : Bool). x || fails_now (seat_at w.drained k).lines.down) s.knows.2 ∙ sym (listed_seated k c Down l e)
+      stands_is s.call.down_failed _ _ _ (seat_at w.drained_seats k).lines.down _ (worked_down _ _ _ _ _ _ _ _ s.facts.front) s.facts.drains.down
+      ∙ ap (λ (x : Bool). x || fails_now (seat_at w.drained_seats k).lines.down) s.knows.2 ∙ sym (listed_seated k c Down l e)
 
-  pub stands_out : (k c : ℕ) → k < length farm.live → slice_index farm.live k ≡ c → has_failed (seat_at w.drained k).lines.out ≡ is_listed after.failed c Out
+  pub stands_out : (k c : ℕ) → k < length farm.live → slice_index farm.live k ≡ c → has_failed (seat_at w.drained_seats k).lines.out ≡ is_listed after.failed c Out
   stands_out k c l e =
       let s = known k c l e in
-      stands_is s.call.out_failed _ _ _ (seat_at w.drained k).lines.out _ (worked_out _ _ _ _ _ _ _ _ s.facts.front) s.facts.drains.out
-      ∙ ap (λ (x : Bool). x || fails_now (seat_at w.drained k).lines.out) s.knows.3 ∙ sym (listed_seated k c Out l e)
+      stands_is s.call.out_failed _ _ _ (seat_at w.drained_seats k).lines.out _ (worked_out _ _ _ _ _ _ _ _ s.facts.front) s.facts.drains.out
+      ∙ ap (λ (x : Bool). x || fails_now (seat_at w.drained_seats k).lines.out) s.knows.3 ∙ sym (listed_seated k c Out l e)
 
   -- **Where the round's octets are held back, no outgoing line more is listed.**
   pub listed_back : w.held ≡ true → (c : ℕ) (side : Side) → IsOutgoing side → is_listed after.failed c side ≡ is_listed farm.failed c side
@@ -162,7 +162,7 @@ module _ (t n : ℕ) (farm after : FarmMemory) (before now : ℕ → Side → Li
     | inr none ↦ listed_kept c side none
   ]
     where
-      same : (k : ℕ) → seat_at w.drained k ≡ seat_at w.worked k
+      same : (k : ℕ) → seat_at w.drained_seats k ≡ seat_at w.worked_seats k
       same k = ap (λ (xs : List SeatMemory). seat_at xs k) (w.back q).1
 
       by : (side : Side) → IsOutgoing side → (k : ℕ) → k < length farm.live → slice_index farm.live k ≡ c →

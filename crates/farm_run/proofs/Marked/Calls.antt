@@ -107,7 +107,7 @@ module _ (s : Stage) (live : (c : ℕ) → is_among s.farm.live c ≡ is_some (c
     left_none : IfSome (first_stamp s.board.left) (λ m. r.periods ≤ m)
     left_none = let k = stage.clock in subst (λ (t : ℕ). IfSome (first_stamp s.board.left) (λ m. t ≤ m)) e k.ahead
 
-    -- so they are all that the run executes
+    -- the executed orders are all that the run executes
     all : done_in r ≡ ds
     all = all_done r s.clock ds s.board.left at.follows.so_far left_none
 

@@ -1,11 +1,11 @@
 -- Lists of numbers that are filtered, and entries of each.
-use Rattle.std.proofs.Common.{◌≡◌, refl, sym, ap, ◌∙◌, ℕ, suc, ◌<◌, ◌≤◌, Bool, true, false, ◌&&◌, List, [], ◌∷◌, length, map, cond, arith}
+use Rattle.std.proofs.Common.{◌≡◌, refl, ap, ◌∙◌, ℕ, suc, ◌<◌, ◌≤◌, Bool, true, false, ◌&&◌, List, [], ◌∷◌, length, map, cond, arith}
 use Rattle.std.specs.Prelude.{◌==◌, ◌||◌, filter, slice_index}
 use Rattle.std.specs.List.{AllByRecursion}
-use Rattle.std.proofs.lemmas.Bool.{eqb-true, eq-eqb, ne_eqb, true≢false}
 use Rattle.farm_checkpoint.specs.declared.mark.MarkCall.{MarkCall}
 use Rattle.farm_rounds.specs.Numbers.{IsRising, is_among}
 use Rattle.farm_run.proofs.Reported.Rising.{Rises, has}
+use Rattle.farm_run.proofs.Told.Next.{eqb-sym}
 
 -- numbers of which each is below the later ones
 pub rises_of : (m : ℕ) (xs : List ℕ) → ((i : ℕ) → i < length xs → m ≤ slice_index xs i) → IsRising xs → Rises m xs
@@ -19,11 +19,7 @@ rises_of m (x ∷ xs) least rising = (
 -- two tests of whether a number is among some
 pub has_among : (c : ℕ) (xs : List ℕ) → has c xs ≡ is_among xs c
 has_among c [] = refl
-has_among c (x ∷ xs) = ap (λ (b : Bool). b || has c xs) (turn (c == x) refl) ∙ ap (λ (b : Bool). (x == c) || b) (has_among c xs)
-  where
-    turn : (b : Bool) → (c == x) ≡ b → (c == x) ≡ (x == c)
-    turn true e = e ∙ sym (eq-eqb x c (sym (eqb-true c x e)))
-    turn false e = e ∙ sym (ne_eqb x c (λ q. true≢false (sym (eq-eqb c x (sym q)) ∙ e)))
+has_among c (x ∷ xs) = ap (λ (b : Bool). b || has c xs) (eqb-sym c x) ∙ ap (λ (b : Bool). (x == c) || b) (has_among c xs)
 
 -- one test behind another
 twice_more : (p q : ℕ → Bool) (x : ℕ) (xs : List ℕ) → filter p (filter q xs) ≡ filter (λ c. q c && p c) xs → (b : Bool) →

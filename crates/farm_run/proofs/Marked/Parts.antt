@@ -14,17 +14,17 @@ use Rattle.farm_run.specs.Parts.{StopsShort}
 use Rattle.farm_run.proofs.Lines.Cutting.{cut_first}
 use Rattle.farm_run.proofs.Marked.Resumption.{part_cut, held_cut, unbegun_cut}
 
--- what follows from what a call gives, where it gives it,
+-- what follows from what a function gives, if it gives a value
 pub ok_then : {T E : Type 0} {P Q : T → Type 0} (o : Result T E) → IfOk o P → ((x : T) → P x → Q x) → IfOk o Q
 ok_then (Ok x) p h = h x p
 ok_then (Err e) p h = tt
 
--- where it fails,
+-- what follows if it gives an error
 pub err_then : {T E P Q : Type 0} (o : Result T E) → OnErr o P → (P → Q) → OnErr o Q
 err_then (Ok x) p h = tt
 err_then (Err e) p h = h p
 
--- and either way
+-- what follows from either
 pub either_way : {T E Q R : Type 0} {P : T → Type 0} (o : Result T E) → IfOk o P → OnErr o Q → ((x : T) → P x → R) → (Q → R) → R
 either_way (Ok x) p q f h = f x p
 either_way (Err e) p q f h = h q
@@ -36,7 +36,7 @@ part_short os batch periods o first now written (inl same) = subst (λ (lines : 
     (cut_first os batch periods first)
 part_short os batch periods o first now written (inr x) = part_cut os batch periods o x.first first now x.is_first written x.after
 
--- **So is a resumed one that stops short of the mark.**
+-- **A resumed run that stops short of the mark is cut short.**
 pub held_short : (os : List Order) (batch periods until : ℕ) (mark : MarkView) (o : Outgoing) (first now : ℕ → Side → LineState) → is_held o ≡ true →
     until ≤ periods → until ≤ mark.period → StopsShort os o batch until first now → IsResumeCutShort os batch periods mark first now
 held_short os batch periods until mark o first now held within early (inl same) =

@@ -82,7 +82,7 @@ module _ (os : List Order) (batch periods : ℕ) (first now : ℕ → Side → L
       let e = run.same_periods in
       at_here r (subst (λ (p : ℕ). IsRunOver os p (is_listed u.farm.failed) first now r) (sym e) run) (omega (arith, e))
 
-  -- **So is a resumed one that wrote nothing,**
+  -- **A resumed run that wrote nothing is cut short there.**
   pub cut_unwritten : (mark : MarkView) → u.clock ≤ mark.period → HoldsBack (is_listed []) (is_listed u.farm.failed) first now →
       IsResumeCutShort os batch periods mark first now
   cut_unwritten mark early back =
@@ -98,7 +98,7 @@ module _ (os : List Order) (batch periods : ℕ) (first now : ℕ → Side → L
       (λ r run. let e = run.same_periods in
       past_here r (subst (λ (p : ℕ). IsRunOver os p (is_listed u.farm.failed) first now r) (sym e) run) (omega (arith, e)))
 
-  -- **and one that wrote what lies behind the mark's period, where the mark is the run's.**
+  -- **A resumed run that wrote what lies behind the mark's period is cut short there, if the mark is the run's.**
   pub cut_written : (mark : MarkView) → mark.period ≤ u.clock →
       ((r : Run) → IsRunOver os mark.period (is_listed u.farm.failed) first now r → marked_calls r ≡ mark.calls) →
       ((r : Run) (z : Standing) → IsRunOver os r.periods z.listed first z.lines r → u.clock ≤ r.periods →
@@ -118,7 +118,7 @@ part_cut os batch periods o s first now f written after =
     cut_here os batch periods first now after.0 (gone_more os batch first first now s after.0 (gone_first os batch o s first f) after.2) after.1
     (wrote_first os batch o s after.0 first now f written after.2)
 
--- **So is a resumed one that holds back what it has come to.**
+-- **A resumed run that holds back what it has come to is cut short there.**
 pub held_cut : (os : List Order) (batch periods until : ℕ) (mark : MarkView) (o : Outgoing) (s : Stage)
     (first now : ℕ → Side → LineState) → IsFirstStage os o s →
     is_held o ≡ true → until ≤ periods → until ≤ mark.period →
@@ -131,7 +131,7 @@ held_cut os batch periods until mark o s first now f held within early after =
     (omega (arith, l, within)) mark (omega (arith, l, early))
     (subst (λ (ls : List Line). HoldsBack (is_listed ls) (is_listed u.farm.failed) first now) f.none_failed back)
 
--- **So is one that didn't begin.**
+-- **A resumed run that didn't begin is cut short.**
 pub unbegun_cut : (os : List Order) (batch periods : ℕ) (mark : MarkView) (lines : ℕ → Side → LineState) → IsResumeCutShort os batch periods mark lines lines
 unbegun_cut os batch periods mark lines =
     cut_before os batch periods 0 mark (λ c. false) [] lines lines (omega arith) (omega arith) (tells_none lines) (sides_none lines) (λ c s octets i e. (0, e))
@@ -182,10 +182,6 @@ module _ (os : List Order) (pace : Pace) (mark : MarkView) (o : Outgoing) (s m :
 
   -- ---- from there on
 
-  -- what comes next is written
-  abbrev written : Stage
-  written = record m { outgoing = Written }
-
   -- from there on octets are written
   pub stage_written : IsStage (record m { outgoing = Written })
   stage_written = let s = g.stage in record { clock = s.clock; bridges = s.bridges; ended = s.ended; knows = s.knows; few = s.few }
@@ -220,7 +216,7 @@ module _ (os : List Order) (pace : Pace) (mark : MarkView) (o : Outgoing) (s m :
           (subst (Appends was.written is.written) (sym n) (subst (λ (x : LineState). Appends was.written x.written []) (sym l) (Appends-nil was.written)))
 
   module _ (now : ℕ → Side → LineState) (u : Stage) (h : Reaches pace.batch (record m { outgoing = Written }) u mid now) where
-    -- and goes on
+    -- the run goes on to there
     pub gone_on : GoneTo os pace.batch first now u
     gone_on = gone_more os pace.batch first mid now (record m { outgoing = Written }) u gone_written h
 

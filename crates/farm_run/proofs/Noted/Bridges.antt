@@ -26,7 +26,7 @@ latest_before d bs c k h = (
     side (x ∷ bs) zero = refl
     side (x ∷ bs) (suc j) = side bs j
 
--- **An order leaves the notes right,**
+-- **An order leaves the notes right.**
 pub notes_after : (sent_in : ℕ → ℕ → ℕ) (d : Done) (front xs : List Bridge) (ns : List SentBefore) → AreNotes sent_in front xs ns →
     AreNotes sent_in (map (after d) front) (map (after d) xs) ns
 notes_after sent_in d front [] [] a = tt
@@ -38,7 +38,7 @@ notes_after sent_in d front (x ∷ xs) (n ∷ ns) a = (
       (notes_after sent_in d (front ++ x ∷ []) xs ns a.1),
 )
 
--- **and so does a note of a bridge that begins.**
+-- **A note of a bridge that begins leaves the notes right.**
 pub notes_push : (sent_in : ℕ → ℕ → ℕ) (front xs : List Bridge) (ns : List SentBefore) (y : Bridge) (n : SentBefore) → AreNotes sent_in front xs ns →
     ((c j : ℕ) → joins c y ≡ true → IsLatest (front ++ xs) c (Some j) → sent_before c y n ≡ sent_in j c) →
     AreNotes sent_in front (xs ++ y ∷ []) (ns ++ n ∷ [])

@@ -44,7 +44,7 @@ module _ (r : Run) (ds now : List Done) (ended : ℕ → Bool) (ns : List SentBe
       by true q = ap sent (sym (eqb-true c a q))
       by false q = ap sent (sym (eqb-true c b (right_true (c == a) (c == b) q e)))
 
-  -- so it is right
+  -- the notes with this one are right
   notes : AreNotes (sent_in_bridge r) [] (bridges now) (ns ++ note ∷ [])
   notes =
       subst (λ (bs : List Bridge). AreNotes (sent_in_bridge r) [] bs (ns ++ note ∷ [])) (sym h.all)

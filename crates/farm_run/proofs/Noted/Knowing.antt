@@ -12,7 +12,7 @@ use Rattle.run_spec.proofs.Lists.{each_weaker}
 use Rattle.farm_run.specs.declared.notes.SentBefore.{SentBefore}
 use Rattle.farm_run.proofs.Rounds.Taken.{IsRound, places_in}
 use Rattle.farm_run.proofs.Rounds.Outcome.{IsRoundEnd, EndsRound}
-use Rattle.farm_run.specs.Noted.{call_end_in, IsKnown, Noted, TellsTruly}
+use Rattle.farm_run.specs.Noted.{call_end_in, IsKnown, IsNotedAt, TellsTruly}
 use Rattle.farm_run.proofs.Rounds.Ends.{start_kept}
 use Rattle.farm_run.proofs.Told.Boards.{told_done}
 use Rattle.farm_run.proofs.Noted.Rounds.{noted_start, noted_jump, noted_round}
@@ -22,8 +22,8 @@ use Rattle.farm_run.proofs.Noted.Truly.{truly_start, truly_told}
 pub known_start : (r : Run) (b : State) (tallies : List Tally) (ns : List SentBefore) → EndBefore 0 b → b.done ≡ [] → ns ≡ [] → IsKnown r 0 b tallies ns
 known_start r b tallies ns ends none new = record {
   truly = truly_start r b ends;
-  noted = subst (λ (ds : List Done). Noted r ds 0 ns tallies) (sym none)
-      (subst (λ (k : List SentBefore). Noted r [] 0 k tallies) (sym new) (noted_start r 0 tallies));
+  noted = subst (λ (ds : List Done). IsNotedAt r ds 0 ns tallies) (sym none)
+      (subst (λ (k : List SentBefore). IsNotedAt r [] 0 k tallies) (sym new) (noted_start r 0 tallies));
 }
 
 -- while no call is open nothing comes to be known
@@ -47,6 +47,6 @@ known_round r t n b b' ns tallies tallies' round over known =
     record {
       truly = subst (λ (s : State). TellsTruly r s) (sym over.board)
           (truly_told r b ends (each_weaker (IsRoundEnd r b.done t n) (λ e. e ≡ call_end_in r e.call) ends (right_end r t n b round) over.each) known.truly);
-      noted = subst (λ (ds : List Done). Noted r ds (t + n) ns tallies') (sym done)
+      noted = subst (λ (ds : List Done). IsNotedAt r ds (t + n) ns tallies') (sym done)
           (noted_round r t n b.done b.left ns tallies tallies' round known.noted over.tallies);
     }

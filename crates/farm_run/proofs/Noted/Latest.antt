@@ -11,7 +11,7 @@ use Rattle.switchboard.specs.Stands.{IsLatest}
 last_or : {X : Type 0} (xs : List X) (x : X) (k : ℕ) → k < length (xs ++ x ∷ []) → (k < length xs) ⊎ (k ≡ length xs)
 last_or xs x k l = elim (cases_lt k (length xs)) [ inl m ↦ inl m | inr m ↦ inr (let e = length-append xs (x ∷ []) in omega arith) ]
 
--- **The latest bridge of a call that isn't in the new one stays,**
+-- **The latest bridge of a call that isn't in the new one stays.**
 pub latest_push : (xs : List Bridge) (y : Bridge) (c k : ℕ) → joins c y ≡ false → IsLatest xs c (Some k) → IsLatest (xs ++ y ∷ []) c (Some k)
 latest_push xs y c k f h =
     let below = h.0 in
@@ -21,7 +21,7 @@ latest_push xs y c k f h =
     at i m (inl l) = ap (joins c) (get_or_append_left xs (y ∷ []) no_bridge i l) ∙ h.2 i m l
     at i m (inr q) = ap (λ (i : ℕ). joins c (get_or (xs ++ y ∷ []) i no_bridge)) q ∙ ap (joins c) (get_or-append_seam xs y [] no_bridge) ∙ f
 
--- **and was it before.**
+-- **The latest bridge of a call that isn't in the new one was its latest before.**
 pub latest_pop : (xs : List Bridge) (y : Bridge) (c k : ℕ) → joins c y ≡ false → IsLatest (xs ++ y ∷ []) c (Some k) → IsLatest xs c (Some k)
 latest_pop xs y c k f h = elim (last_or xs y k h.0) [
   | inl l ↦ (

@@ -37,7 +37,7 @@ noted_ends r ds ended more notes tally tally' n kept same = record {
     by c true q h = kept c q
     by c false q h = subst (IsKept r ds c) (sym (same c q)) (n.kept c (left_true (ended c) (more c) q h))
 
--- **the same, where the same calls have ended and the same is kept of them**
+-- **If the same calls have ended and the same is kept of them, what is noted stays right.**
 pub noted_same : (r : Run) (ds : List Done) (ended now : ℕ → Bool) (notes : List SentBefore) (tally tally' : ℕ → Tally) → IsNoted r ds ended notes tally →
     ((c : ℕ) → now c ≡ ended c) → ((c : ℕ) → tally' c ≡ tally c) →
     IsNoted r ds now notes tally'
@@ -68,7 +68,7 @@ pub record AreSame (ds now : List Done) : Type 0 where
   pub order : Done
   pub bridges : bridges now ≡ map (after order) (bridges ds)
 
--- **It changes nothing of what is noted.**
+-- **Such an order changes nothing of what is noted.**
 pub noted_ordered : (r : Run) (ds now : List Done) (ended : ℕ → Bool) (notes : List SentBefore) (tally : ℕ → Tally) → AreSame ds now →
     IsNoted r ds ended notes tally → IsNoted r now ended notes tally
 noted_ordered r ds now ended notes tally h n = record {

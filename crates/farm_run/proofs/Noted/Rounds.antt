@@ -26,7 +26,7 @@ use Rattle.run_spec.proofs.Sent.{sent_at_end}
 use Rattle.farm_run.specs.declared.notes.SentBefore.{SentBefore}
 use Rattle.farm_run.proofs.Rounds.Taken.{IsRound, places_in, ends_within}
 use Rattle.farm_run.proofs.Rounds.Outcome.{KeepsTallies}
-use Rattle.farm_run.specs.Noted.{is_opened, ended_at, IsKept, Noted}
+use Rattle.farm_run.specs.Noted.{is_opened, ended_at, IsKept, IsNotedAt}
 use Rattle.farm_run.proofs.Rounds.Open.{shut_after}
 use Rattle.farm_run.proofs.Rounds.Ends.{ends_there}
 use Rattle.farm_run.proofs.Told.Boards.{gone_round}
@@ -35,7 +35,7 @@ use Rattle.farm_run.proofs.Noted.Noting.{noted_ends, noted_same}
 -- ---- before the first order
 
 -- **Nothing is known, and nothing is noted.**
-pub noted_start : (r : Run) (t : ℕ) (tallies : List Tally) → Noted r [] t [] tallies
+pub noted_start : (r : Run) (t : ℕ) (tallies : List Tally) → IsNotedAt r [] t [] tallies
 noted_start r t tallies = record { numbers = λ c o. cc; bridges = tt; kept = λ c h. cc }
 
 -- ---- what is kept of a call at its end
@@ -67,7 +67,7 @@ kept_at_end r t ds left c now so o e starts = by (opened_at c ds) refl o
 
 -- **While no call is open nothing comes to be known.**
 pub noted_jump : (r : Run) (t u : ℕ) (ds : List Done) (ns : List SentBefore) (tallies : List Tally) → t ≤ u →
-    ((c : ℕ) → is_open (gone_at (whole_in r) t ds) ds c ≡ false) → Noted r ds t ns tallies → Noted r ds u ns tallies
+    ((c : ℕ) → is_open (gone_at (whole_in r) t ds) ds c ≡ false) → IsNotedAt r ds t ns tallies → IsNotedAt r ds u ns tallies
 noted_jump r t u ds ns tallies l none n = noted_same r ds (ended_at r ds t) (ended_at r ds u) ns (tally_in tallies) (tally_in tallies) n
     (λ c. ap (λ (s : Bool). is_opened ds c && not s) (later c ∙ sym (none c))) (λ c. refl)
   where
@@ -125,7 +125,7 @@ sooner u v (o ∷ left) l h = omega arith
 
 -- **After a round whose tallies tell of the calls that it ended, what is noted is right again.**
 pub noted_round : (r : Run) (t n : ℕ) (ds : List Done) (left : List Order) (ns : List SentBefore) (tallies tallies' : List Tally) →
-    IsRound r t n ds left → Noted r ds t ns tallies → KeepsTallies r t n ds tallies tallies' → Noted r ds (t + n) ns tallies'
+    IsRound r t n ds left → IsNotedAt r ds t ns tallies → KeepsTallies r t n ds tallies tallies' → IsNotedAt r ds (t + n) ns tallies'
 noted_round r t n ds left ns tallies tallies' h noted keeps =
     noted_same r ds (λ c. ended_at r ds t c || ends_within r ds t n c) (ended_at r ds (t + n)) ns (tally_in tallies') (tally_in tallies')
     (noted_ends r ds (ended_at r ds t) (ends_within r ds t n) ns (tally_in tallies) (tally_in tallies') noted right keeps.others)

@@ -18,7 +18,7 @@ truly_start r s h c e q = absurd (by (end_told s c) q (h c))
     by None q h = cc
     by (Some v) q h = omega arith
 
--- **Nor does one that was told the same ends,**
+-- **A board that was told the same ends tells none that is wrong.**
 pub truly_same : (r : Run) (s now : State) → now.told ≡ s.told → TellsTruly r s → TellsTruly r now
 truly_same r s now e h c end f = h c end (ap (λ (told : List (Option CallEnd)). get_or told c None) (sym e) ∙ f)
 
@@ -40,7 +40,7 @@ truly_more r s end right h c v e = elim (cases_eq c end.call) [
     told (inr l) f =
         absurd (none _ (get_or_past (set s.told end.call (Some end)) end.call None (let k = length-set s.told end.call (Some end) in omega arith)) f)
 
--- **nor one that was told further ends, those of the run.**
+-- **A board that was told further ends, those of the run, tells none that is wrong.**
 pub truly_told : (r : Run) (s : State) (ends : List CallEnd) → AllByRecursion (λ e. e ≡ call_end_in r e.call) ends → TellsTruly r s →
     TellsTruly r (told_after s ends)
 truly_told r s [] a h = h

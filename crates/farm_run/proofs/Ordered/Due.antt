@@ -97,7 +97,7 @@ module _ (whole : ℕ → ℕ) (t : ℕ) (s n : State) (d : Done) (told : (c : �
   old_tells tells c u o e =
       told c ∙ tells c (ap is_some o) (was_open c e) ∙ sym (gone_kept whole t s.done (d ∷ []) c u o) ∙ ap (λ ds. gone_at whole t ds c) (sym done)
 
-  -- and one that the order opened
+  -- a call that the order opened
   new_tells : (c u : ℕ) → opened_at c n.done ≡ Some u → t ≤ u → gone_in n c ≡ false → gone_in n c ≡ gone_at whole t n.done c
   new_tells c u o l g = g ∙ sym (gone_is whole t n.done c u o ∙ le-ltb (u + whole c) t (omega arith))
 

@@ -29,7 +29,7 @@ some_if false g o = refl
 live_changed : (n : ℕ) (g : Call → Call) (f : ℕ → Option Call) (c : ℕ) → is_some (change_at n g f c) ≡ is_some (f c)
 live_changed n g f c = some_if (c == n) g (f c)
 
--- so does freeing a partner
+-- freeing a partner leaves which calls there are
 live_released : (p : Option ℕ) (g : Call → Call) (f : ℕ → Option Call) (c : ℕ) → is_some (change_partner p g f c) ≡ is_some (f c)
 live_released None g f c = refl
 live_released (Some n) g f c = live_changed n g f c
@@ -102,7 +102,7 @@ matches_more b b' calls calls' a m f o p c q = record {
   number = λ n e. numbered b a f m.number n (sym (o n) ∙ e);
 }
 
--- so does a refused one
+-- a refused order keeps the board and the farm together
 pub matches_same : (b b' : State) (calls : List Kept) → Matches b calls → ((c : ℕ) → open_now b' c ≡ open_now b c) →
     ((c : ℕ) → partner_now b' c ≡ partner_now b c) → Matches b' calls
 matches_same b b' calls m o p = record {

@@ -189,7 +189,7 @@ module _ (r : Run) (t : ℕ) (b : State) (farm : FarmMemory) (ns : List SentBefo
           let same : length now.done ≡ length b.done = ap length done_is in
           omega (arith, whole, mapped, same)
 
--- **The same of whatever the report gives.**
+-- **If a report is made, it is the definition's.**
 pub reported_ok : {E : Type 0} (b now : State) (farm : FarmMemory) (ns : List SentBefore) (live : List ℕ) (orders periods : ℕ) (x : Result ReportView E) →
     ((c : ℕ) → is_among live c ≡ open_now b c) → now ≡ told_after b (map (limit_at periods) live) → ((c : ℕ) → open_now now c ≡ false) →
     IfOk x (Reports now farm ns orders) →

@@ -61,7 +61,7 @@ range_rises p a (suc n) = by (p a) (range_rises p (a + 1) n)
     by true h = (omega arith, rises_from (suc a) (a + 1) _ (omega arith) h)
     by false h = rises_from a (a + 1) _ (omega arith) h
 
--- and are those that pass it, where these lie in the range
+-- the filtered numbers of a range are those that pass the test, if these lie in the range
 pub range_has : (p : ℕ → Bool) (a n c : ℕ) → (p c ≡ true → (a ≤ c) × (c < a + n)) → has c (filter p (range_with_len a n)) ≡ p c
 range_has p a zero c h = by (p c) refl
   where

@@ -84,7 +84,7 @@ record IsCut (n : ℕ) (all taken : Given) : Type 0 where
   pub up_failed : taken.up < 40 * n → taken.up_failed ≡ all.up_failed
   pub pcm_failed : taken.pcm < 160 * n → taken.pcm_failed ≡ all.pcm_failed
 
--- so many whole periods are in what was taken
+-- how many whole periods are in what was taken
 whole_cut : (n k : ℕ) (all taken : Given) → IsCut n (behind k all) taken → whole_of taken ≡ min n (whole_of all - k)
 whole_cut n k all taken h =
     let u = h.up in
@@ -125,10 +125,10 @@ with_behind : (k : ℕ) (g : Given) → k ≤ whole_of g → with_periods k (beh
 with_behind k g l =
     let up : 40 * k + (g.up - 40 * k) ≡ g.up = omega arith in
     let pcm : 160 * k + (g.pcm - 160 * k) ≡ g.pcm = omega arith in
-    ap (λ (n : ℕ). given n (160 * k + (g.pcm - 160 * k))) up ∙ ap (given g.up) pcm
+    ap (λ (n : ℕ). given_with n (160 * k + (g.pcm - 160 * k))) up ∙ ap (given_with g.up) pcm
   where
-    given : ℕ → ℕ → Given
-    given up pcm = record { up = up; pcm = pcm; up_failed = g.up_failed; pcm_failed = g.pcm_failed }
+    given_with : ℕ → ℕ → Given
+    given_with up pcm = record { up = up; pcm = pcm; up_failed = g.up_failed; pcm_failed = g.pcm_failed }
 
 -- what a seat took of its call's lines is cut out of them
 cut_of : (r : Run) (ds : List Done) (t n c : ℕ) (p : LinesMemory) (up pcm : List ℕ) → IsTaken r ds t n c p up pcm →
@@ -142,10 +142,10 @@ pub whole_taken : (r : Run) (t n : ℕ) (ds : List Done) (left : List Order) (c 
 whole_taken r t n ds left c p up pcm h o k =
     let at = open_at r t ds c (standing_now r t ds left h.so_far) o in
     whole_cut n (t - start_of ds c) (given_in r c) (round_lines.given_in p) (cut_of r ds t n c p up pcm k)
-    ∙ ap (min n) (turned (start_of ds c) (whole_in r c) t at.begun)
+    ∙ ap (min n) (minus_minus (start_of ds c) (whole_in r c) t at.begun)
   where
-    turned : (s w t : ℕ) → s ≤ t → w - (t - s) ≡ s + w - t
-    turned s w t l = omega arith
+    minus_minus : (s w t : ℕ) → s ≤ t → w - (t - s) ≡ s + w - t
+    minus_minus s w t l = omega arith
 
 -- **The end that a round tells of a call is the run's.**
 pub round_end : (r : Run) (t n : ℕ) (ds : List Done) (left : List Order) (c : ℕ) (p : LinesMemory) (up pcm : List ℕ) → IsRound r t n ds left →
@@ -160,22 +160,22 @@ round_end r t n ds left c p up pcm h o k = elim (cases_lt (places_in r ds t n c)
       let before = with_behind (t - start_of ds c) (given_in r c) (gave) in
       let cause : lack_of (round_lines.whole_in p) (round_lines.given_in p) ≡ lack_of (whole_in r c) (given_in r c) =
       lacks ∙ sym shifts ∙ ap (lack_of (t - start_of ds c + round_lines.whole_in p)) before ∙ ap (λ (w : ℕ). lack_of w (given_in r c)) (sum l) in
-      ap (λ (b : Bool). if b then None else Some (ended p.call (t + round_lines.whole_in p) (lack_of (round_lines.whole_in p) (round_lines.given_in p))))
+      ap (λ (b : Bool). if b then None else Some (end_with p.call (t + round_lines.whole_in p) (lack_of (round_lines.whole_in p) (round_lines.given_in p))))
       (ne_eqb (round_lines.whole_in p) p.periods (λ e. same_not l e))
-      ∙ ap (λ (d : ℕ). Some (ended d (t + round_lines.whole_in p) (lack_of (round_lines.whole_in p) (round_lines.given_in p)))) k.call
-      ∙ ap (λ (w : ℕ). Some (ended c (t + w) (lack_of (round_lines.whole_in p) (round_lines.given_in p)))) wholes
-      ∙ ap (λ (x : Cause). Some (ended c (t + places_in r ds t n c) x)) cause
+      ∙ ap (λ (d : ℕ). Some (end_with d (t + round_lines.whole_in p) (lack_of (round_lines.whole_in p) (round_lines.given_in p)))) k.call
+      ∙ ap (λ (w : ℕ). Some (end_with c (t + w) (lack_of (round_lines.whole_in p) (round_lines.given_in p)))) wholes
+      ∙ ap (λ (x : Cause). Some (end_with c (t + places_in r ds t n c) x)) cause
       ∙ ap Some (sym (end_within r t n ds left c h ends))
       ∙ sym (ap (λ (b : Bool). if b then Some (end_of (given_in r) r.periods (done_in r) c (start_of ds c)) else None) ends)
   | inr l ↦
-      ap (λ (b : Bool). if b then None else Some (ended p.call (t + round_lines.whole_in p) (lack_of (round_lines.whole_in p) (round_lines.given_in p))))
+      ap (λ (b : Bool). if b then None else Some (end_with p.call (t + round_lines.whole_in p) (lack_of (round_lines.whole_in p) (round_lines.given_in p))))
       (eq-eqb (round_lines.whole_in p) p.periods (full l))
       ∙ sym (ap (λ (b : Bool). if b then Some (end_of (given_in r) r.periods (done_in r) c (start_of ds c)) else None)
       (ap (λ (b : Bool). b && nat_lt (places_in r ds t n c) n) o ∙ le-ltb (places_in r ds t n c) n l))
 ]
   where
-    ended : ℕ → ℕ → Cause → CallEnd
-    ended call at cause = record { call = call; at = at; cause = cause }
+    end_with : ℕ → ℕ → Cause → CallEnd
+    end_with call at cause = record { call = call; at = at; cause = cause }
 
     at : IsOpenAt r t ds c
     at = open_at r t ds c (standing_now r t ds left h.so_far) o

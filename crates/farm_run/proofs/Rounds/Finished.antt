@@ -61,7 +61,7 @@ out_written r t k ds c io now l f =
     ∙ take_at (outs_of (who_in r c) k ts) (drop (160 * k) io.out) (160 * k)
     (length-outs_of (who_in r c) k ts (omega (arith, length-periods_to r c (t + k - start_of ds c))))))
 
--- **So is its Down line.**
+-- **With the octets of its places the Down line of a call is the run's up to there.**
 pub down_written : (r : Run) (t k : ℕ) (ds : List Done) (c : ℕ) (io now : IoMemory) → start_of ds c ≤ t →
     now ≡ io_after (who_in r c) k (periods_to r c (t + k - start_of ds c)) io →
     down_octets (who_in r c) (periods_to r c (t + k - start_of ds c)) ≡ down_octets (who_in r c) (periods_to r c (t - start_of ds c)) ++ take (40 * k) now.down

@@ -19,7 +19,7 @@ out_line-more who (suc w) (t ∷ past) =
     ap (λ (xs : List ℕ). xs ++ out_of who (t ∷ past)) (out_line-more who w past)
     ∙ append_assoc (out_line who (drop w past)) (outs_of who w past) (out_of who (t ∷ past))
 
--- **So is the Down line.**
+-- **The Down line is that of the earlier periods, and behind it the octets of the newest w.**
 pub down_octets-more : (who : Who) (w : ℕ) (ts : List CallPeriod) → down_octets who ts ≡ down_octets who (drop w ts) ++ downs_of who w ts
 down_octets-more who zero ts = sym (append-nil (down_octets who ts))
 down_octets-more who (suc w) [] = sym (append-nil (down_octets who []))
@@ -40,7 +40,7 @@ pub out_of_periods : (r : Run) (c m w : ℕ) → out_line (who_in r c) (periods_
 out_of_periods r c m w = out_line-more (who_in r c) w (periods_to r c (m + w))
     ∙ ap (λ (ts : List CallPeriod). out_line (who_in r c) ts ++ outs_of (who_in r c) w (periods_to r c (m + w))) (drop-periods_to r c m w)
 
--- the same of the downlink
+-- what w periods of a call add to its Down line
 pub down_of_periods : (r : Run) (c m w : ℕ) → down_octets (who_in r c) (periods_to r c (m + w))
     ≡ down_octets (who_in r c) (periods_to r c m) ++ downs_of (who_in r c) w (periods_to r c (m + w))
 down_of_periods r c m w = down_octets-more (who_in r c) w (periods_to r c (m + w))

@@ -64,8 +64,8 @@ record ArePartners (r : Run) (t n : ℕ) (ds : List Done) (c d : ℕ) (x : Bridg
   pub alive_other : IsOpenAt r t ds d
   pub bridge : bridge_of (gone_at (whole_in r) t ds) ds c ≡ Some x
   pub bridge_other : bridge_of (gone_at (whole_in r) t ds) ds d ≡ Some x
-  pub joined : joins c x ≡ true
-  pub joined_other : joins d x ≡ true
+  pub in_bridge : joins c x ≡ true
+  pub in_bridge_other : joins d x ≡ true
   pub partner : other c x ≡ d
   pub back : other d x ≡ c
   pub fed : IsFed r ds t n c io
@@ -79,8 +79,8 @@ swapped r t n ds c d x io io' p = record {
   alive_other = p.alive;
   bridge = p.bridge_other;
   bridge_other = p.bridge;
-  joined = p.joined_other;
-  joined_other = p.joined;
+  in_bridge = p.in_bridge_other;
+  in_bridge_other = p.in_bridge;
   partner = p.back;
   back = p.partner;
   fed = p.fed_other;
@@ -100,8 +100,8 @@ partners r t n ds left c x io io' h b f g =
       alive_other = open_at r t ds (other c x) stand opens.1;
       bridge = b;
       bridge_other = bridge_each (whole_in r) t t ds c (other c x) x stand (omega arith) b (joins_other c x);
-      joined = parts.0;
-      joined_other = joins_other c x;
+      in_bridge = parts.0;
+      in_bridge_other = joins_other c x;
       partner = refl;
       back = other_back c x parts.0;
       fed = f;
@@ -123,7 +123,7 @@ handed_is r t n ds left c d k x io io' h p l =
     let places : ℕ → Bool = λ (c : ℕ). nat_lt k (places_in r ds t n c) in
     let mine : places c ≡ true = lt-ltb k (places_in r ds t n c) (omega arith) in
     let both : (places x.a && places x.b) ≡ nat_lt k io'.given =
-    both_calls places c x p.joined ∙ ap (λ (t : Bool). t && places (other c x)) mine ∙ ap places p.partner ∙ ap (nat_lt k) (sym p.fed_other.given) in
+    both_calls places c x p.in_bridge ∙ ap (λ (t : Bool). t && places (other c x)) mine ∙ ap places p.partner ∙ ap (nat_lt k) (sym p.fed_other.given) in
     ap (option_map (λ (x : Bridge). item_in r ds (t + k) (other c x)))
     (bridge_at_place r t n ds left c k h (omega arith)
     ∙ ap (λ (o : Option Bridge). elim o [
@@ -215,11 +215,11 @@ bridged_settings r t n ds left c x io io' h b f g all =
         ∙ ap (λ (o : Option Bridge). elim o [ None ↦ None | Some x ↦ if places_in r ds t n x.a == n && places_in r ds t n x.b == n then Some x else None ]) b)
         ∙ ap (λ (t : Bool). is_some (if t then Some x else None)) (both_calls whole c x parts.0 ∙ ap (λ (t : Bool). t && whole (other c x)) mine
         ∙ ap (λ (k : ℕ). k == n) (sym g.given))
-        ∙ turned (io'.given == n) ∙ sym (ap not fewer)
+        ∙ some_if (io'.given == n) ∙ sym (ap not fewer)
       where
-        turned : (t : Bool) → is_some (if t then Some x else None) ≡ not (not t)
-        turned true = refl
-        turned false = refl
+        some_if : (t : Bool) → is_some (if t then Some x else None) ≡ not (not t)
+        some_if true = refl
+        some_if false = refl
 
     off : (s : Bool) → nat_lt io'.given n ≡ s → (if s then without_bridge (settings_at n (settings_now r ds t c)) else settings_at n (settings_now r ds t c))
         ≡ settings_now r ds (t + n) c

@@ -60,7 +60,7 @@ pub told_left : (s : State) (ends : List CallEnd) → (told_after s ends).left �
 told_left s [] = refl
 told_left s (e ∷ ends) = told_left (told_more s e) ends
 
--- so do all orders
+-- all orders stay
 pub told_orders : (s : State) (ends : List CallEnd) → orders_of (told_after s ends) ≡ orders_of s
 told_orders s [] = refl
 told_orders s (e ∷ ends) = told_orders (told_more s e) ends

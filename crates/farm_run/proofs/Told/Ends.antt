@@ -14,7 +14,7 @@ use Rattle.farm_rounds.specs.Numbers.{IsRising, is_among}
 use Rattle.farm_run.specs.Match.{AtClock}
 use Rattle.farm_run.specs.Ending.{AreApart, has_left, partner_past, limit_at, told_after, is_told}
 use Rattle.farm_run.proofs.Told.Boards.{told_done, told_left, told_orders, told_next, before_round}
-use Rattle.farm_run.proofs.Told.Next.{front, turn, any_next, open_more, apart_front}
+use Rattle.farm_run.proofs.Told.Next.{front, eqb-sym, any_next, open_more, apart_front}
 
 -- These ends were told, and their calls are open no more.
 pub record IsTold (was now : State) (ends : List CallEnd) : Type 0 where
@@ -48,7 +48,7 @@ told_late was now ends at h l = subst (λ ds. last_stamp ds ≤ at) (sym (ap (λ
 
 -- ---- before the first end and after the last one
 
--- no end is told yet,
+-- before the first end none is told
 pub none_told : (was : State) → IsTold was was []
 none_told was = record { told = refl; is_open = λ c. kept (open_now was c) }
   where
@@ -56,7 +56,7 @@ none_told was = record { told = refl; is_open = λ c. kept (open_now was c) }
     kept true = refl
     kept false = refl
 
--- and each call has its partner
+-- before the first end each call has its partner
 pub none_past : (partner : ℕ → Option ℕ) (c : ℕ) → partner c ≡ partner_past [] partner c
 none_past partner c = go (partner c)
   where
@@ -73,7 +73,7 @@ told_all was now ends i l h = subst (IsTold was now) (take_all i ends l) h
 -- the run's end is told of these calls
 pub limits_told : (at c : ℕ) (calls : List ℕ) → is_told c (map (limit_at at) calls) ≡ is_among calls c
 limits_told at c [] = refl
-limits_told at c (d ∷ calls) = ap (λ b. b || is_told c (map (limit_at at) calls)) (turn c d) ∙ ap (λ b. d == c || b) (limits_told at c calls)
+limits_told at c (d ∷ calls) = ap (λ b. b || is_told c (map (limit_at at) calls)) (eqb-sym c d) ∙ ap (λ b. d == c || b) (limits_told at c calls)
 
 -- **Calls whose numbers rise are apart.**
 pub limits_apart : (at : ℕ) (calls : List ℕ) → IsRising calls → AreApart (map (limit_at at) calls)
@@ -96,12 +96,12 @@ limit_there at [] i l = absurd (omega arith)
 limit_there at (c ∷ calls) zero l = refl
 limit_there at (c ∷ calls) (suc i) l = limit_there at calls i (omega arith)
 
--- **Their calls are open no more,**
+-- **The calls that the run's end ends are open no more.**
 pub limits_open : (was now : State) (at : ℕ) (calls : List ℕ) → IsTold was now (map (limit_at at) calls) → (c : ℕ) →
     open_now now c ≡ (open_now was c && not (is_among calls c))
 limits_open was now at calls h c = h.is_open c ∙ ap (λ b. open_now was c && not b) (limits_told at c calls)
 
--- **and where they are all that were open, no call is.**
+-- **If these calls were all that were open, no call is.**
 pub none_open : (was now : State) (at : ℕ) (calls : List ℕ) → IsTold was now (map (limit_at at) calls) → ((c : ℕ) → is_among calls c ≡ open_now was c) →
     (c : ℕ) → open_now now c ≡ false
 none_open was now at calls h e c = limits_open was now at calls h c ∙ ap (λ b. open_now was c && not b) (e c) ∙ neither (open_now was c)

@@ -27,8 +27,8 @@ is_false false h = refl
 is_false true h = absurd (h refl)
 
 -- the order of two compared numbers doesn't matter
-pub turn : (m n : ℕ) → (m == n) ≡ (n == m)
-turn m n = elim (cases_Bool (m == n)) [
+pub eqb-sym : (m n : ℕ) → (m == n) ≡ (n == m)
+eqb-sym m n = elim (cases_Bool (m == n)) [
   | inl q ↦ q ∙ sym (eq-eqb n m (sym (eqb-true m n q)))
   | inr q ↦ q ∙ sym (is_false (n == m) (λ k. let f = eq-eqb m n (sym (eqb-true n m k)) in cc))
 ]
@@ -60,9 +60,9 @@ open_more false s o false e = e
 -- a partner has left where it had before, or is the call of this end
 left_next : (o : Option ℕ) (ends : List CallEnd) (e : CallEnd) → has_left o (ends ++ e ∷ []) ≡ (has_left o ends || is_this e.call o)
 left_next None ends e = refl
-left_next (Some p) ends e = any_next (λ d. p == d.call) ends e ∙ ap (λ b. is_told p ends || b) (turn p e.call)
+left_next (Some p) ends e = any_next (λ d. p == d.call) ends e ∙ ap (λ b. is_told p ends || b) (eqb-sym p e.call)
 
--- Neither of its calls has a partner then, and the others keep theirs.
+-- After an end, neither its call nor the partner has a partner, and the others keep theirs.
 module _ (was : ℕ → Option ℕ) (both : (c p : ℕ) → was c ≡ Some p → was p ≡ Some c) (ends : List CallEnd) (e : CallEnd) (new : is_told e.call ends ≡ false) where
   -- no partner stays none
   none_if : (b : Bool) → (if b then None else None) ≡ no_number
@@ -97,7 +97,7 @@ module _ (was : ℕ → Option ℕ) (both : (c p : ℕ) → was c ≡ Some p →
           apart true f = refl
           apart false f = is_false (c == d) f
 
-  -- **So it is with one end more.**
+  -- **After one end more, partners are those that these ends leave.**
   pub partner_more : (now : ℕ → Option ℕ) → ((c : ℕ) → now c ≡ partner_past ends was c) → (c : ℕ) →
       partner_without e.call now c ≡ partner_past (ends ++ e ∷ []) was c
   partner_more now h c =

@@ -30,7 +30,7 @@ use Rattle.farm_run.proofs.Rounds.Ends.{end_within}
 use Rattle.farm_run.proofs.Told.Boards.{told_done, gone_round}
 use Rattle.farm_run.proofs.Told.Seats.{each_end, told_seats}
 use Rattle.farm_run.proofs.Worked.Round.{WorkedRound, MeetsRun}
-use Rattle.farm_run.proofs.Worked.Calls.{OpenSeat, open_seat, all_seats, all_have_seats, ends_filled, goes_on_is}
+use Rattle.farm_run.proofs.Worked.Calls.{all_seats, all_have_seats, ends_filled, goes_on_is}
 use Rattle.farm_run.proofs.Worked.Past.{IsPast, worked_past}
 use Rattle.farm_run.specs.Ending.{told_after, is_told}
 
@@ -41,26 +41,19 @@ call_is e = e.call
 module _ (r : Run) (t n : ℕ) (b : State) (farm after : FarmMemory) (first before now : ℕ → Side → LineState) (ends : List CallEnd)
     (w : WorkedRound t n farm after before now ends) (h : IsRound r t n b.done b.left) (m : Matches b farm.calls) (b' : State) (last : Standing)
     (at : IsAtClock r t b farm.calls last first before)
-    (meets : MeetsRun r n w.filled (standing b' after.failed now) last) (told : b' ≡ told_after b ends)
+    (meets : MeetsRun r n w.filled_seats (standing b' after.failed now) last) (told : b' ≡ told_after b ends)
     (open_then : (c : ℕ) → open_now b' c ≡ (open_now b c && not (is_told c ends))) where
   -- whether a call is open at the clock
   abbrev pub alive : ℕ → Bool
   alive = is_open (gone_at (whole_in r) t b.done) b.done
 
-  -- what is known of its seat
-  abbrev pub Seat : ℕ → Type 0
-  Seat c = OpenSeat r t n b farm after first before now ends w h m b' last at meets c
-
-  abbrev pub seat : (c : ℕ) → alive c ≡ true → Seat c
-  seat c o = open_seat r t n b farm after first before now ends w h m b' last at meets c o
-
   -- what each call has had before the round
   abbrev hs : ℕ → Option CallHistory
   hs = histories_at r b.done t
 
-  -- and at its end, those that end in it too
+  -- what each call has had at the round's end, those that end in it too
   abbrev worked_at_end : ℕ → Option CallHistory
-  worked_at_end = worked_histories w.filled (partner_in farm.calls) hs
+  worked_at_end = worked_histories w.filled_seats (partner_in farm.calls) hs
 
   -- what is known of the latter
   abbrev Past : ℕ → CallHistory → Type 0
@@ -70,7 +63,7 @@ module _ (r : Run) (t n : ℕ) (b : State) (farm after : FarmMemory) (first befo
   past c o = worked_past r t n b farm after first before now ends w h m b' last at meets c o
 
   -- a call goes on where its lines give all periods of the round
-  goes : (c : ℕ) → alive c ≡ true → goes_on_call w.worked c ≡ (places_in r b.done t n c == n)
+  goes : (c : ℕ) → alive c ≡ true → goes_on_call w.worked_seats c ≡ (places_in r b.done t n c == n)
   goes c o = goes_on_is r t n b farm after first before now ends w h m b' last at meets c o
 
   -- ---- the board and the farm
@@ -79,7 +72,7 @@ module _ (r : Run) (t n : ℕ) (b : State) (farm after : FarmMemory) (first befo
   pub told_is : (c : ℕ) → is_told c ends ≡ ends_within r b.done t n c
   told_is c =
       ap (is_told c) (ends_filled r t n b farm after first before now ends w h m b' last at meets)
-      ∙ told_seats r t n b.done b.left w.filled h (all_seats r t n b farm after first before now ends w h m b' last at meets)
+      ∙ told_seats r t n b.done b.left w.filled_seats h (all_seats r t n b farm after first before now ends w h m b' last at meets)
       (all_have_seats r t n b farm after first before now ends w h m b' last at meets) c
 
   -- each is the run's end of its call
@@ -89,7 +82,7 @@ module _ (r : Run) (t n : ℕ) (b : State) (farm after : FarmMemory) (first befo
       subst (AllByRecursion (λ e. (ends_within r b.done t n e.call ≡ true) × (e ≡ end_of (given_in r) r.periods (done_in r) e.call (start_of b.done e.call))))
       (sym (ends_filled r t n b farm after first before now ends w h m b' last at meets))
       (each_end (λ e. (ends_within r b.done t n e.call ≡ true) × (e ≡ end_of (given_in r) r.periods (done_in r) e.call (start_of b.done e.call))) r t n
-      b.done b.left w.filled h
+      b.done b.left w.filled_seats h
       (all_seats r t n b farm after first before now ends w h m b' last at meets) right)
     where
       right : (c : ℕ) → ends_within r b.done t n c ≡ true → let e = end_of (given_in r) r.periods (done_in r) c (start_of b.done c) in
@@ -126,7 +119,7 @@ module _ (r : Run) (t n : ℕ) (b : State) (farm after : FarmMemory) (first befo
       by true true false true g g' e h1 h2 h3 h4 k = cc
 
   -- **What each open call has had behind the round.**
-  pub histories_after : (c : ℕ) → those_that (goes_on_call w.worked) worked_at_end c ≡ histories_at r b.done (t + n) c
+  pub histories_after : (c : ℕ) → those_that (goes_on_call w.worked_seats) worked_at_end c ≡ histories_at r b.done (t + n) c
   histories_after c = by (alive c) refl
     where
       none : Option CallHistory
@@ -146,17 +139,17 @@ module _ (r : Run) (t n : ℕ) (b : State) (farm after : FarmMemory) (first befo
           (p.periods ∙ ap (λ (k : ℕ). periods_to r c (t + k - start_of b.done c)) f)
           ∙ ap (λ (s : Settings). Some (record { law = law_in r c; periods = periods_to r c (t + n - start_of b.done c); now = s })) (p.goes_on f)
 
-      by : (x : Bool) → alive c ≡ x → those_that (goes_on_call w.worked) worked_at_end c ≡ histories_at r b.done (t + n) c
+      by : (x : Bool) → alive c ≡ x → those_that (goes_on_call w.worked_seats) worked_at_end c ≡ histories_at r b.done (t + n) c
       by false o =
-          ap (λ (y : Option CallHistory). if goes_on_call w.worked c then y else None)
-          (ap (λ (x : Bool). option_map (history_with w.filled hs c (partner_in farm.calls c))
+          ap (λ (y : Option CallHistory). if goes_on_call w.worked_seats c then y else None)
+          (ap (λ (x : Bool). option_map (history_with w.filled_seats hs c (partner_in farm.calls c))
           (past_if x (law_in r c) (periods_to r c (t - start_of b.done c)) (settings_now r b.done t c))) o)
-          ∙ none_if (goes_on_call w.worked c)
+          ∙ none_if (goes_on_call w.worked_seats c)
           ∙ sym (ap (λ (x : Bool). past_if x (law_in r c) (periods_to r c (t + n - start_of b.done c)) (settings_now r b.done (t + n) c))
           (shut_after r t n b.done c o))
       by true o =
           let p = past c o in
-          ap (λ (y : Option CallHistory). if goes_on_call w.worked c then y else None) p.1
+          ap (λ (y : Option CallHistory). if goes_on_call w.worked_seats c then y else None) p.1
           ∙ ap (λ (x : Bool). if x then Some p.0 else None) (goes c o)
           ∙ all (places_in r b.done t n c == n) refl p.0 p.2
           ∙ sym (ap (λ (x : Bool). past_if x (law_in r c) (periods_to r c (t + n - start_of b.done c)) (settings_now r b.done (t + n) c))

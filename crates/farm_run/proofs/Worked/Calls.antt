@@ -53,7 +53,7 @@ same_ends t (s ∷ ss) (x ∷ ts) e h =
 module _ (r : Run) (t n : ℕ) (b : State) (farm after : FarmMemory) (first before now : ℕ → Side → LineState) (ends : List CallEnd)
     (w : WorkedRound t n farm after before now ends) (h : IsRound r t n b.done b.left) (m : Matches b farm.calls) (b' : State) (last : Standing)
     (at : IsAtClock r t b farm.calls last first before)
-    (meets : MeetsRun r n w.filled (standing b' after.failed now) last) where
+    (meets : MeetsRun r n w.filled_seats (standing b' after.failed now) last) where
   -- whether a call is open at the clock
   abbrev alive : ℕ → Bool
   alive = is_open (gone_at (whole_in r) t b.done) b.done
@@ -74,11 +74,11 @@ module _ (r : Run) (t n : ℕ) (b : State) (farm after : FarmMemory) (first befo
     pub here : slice_index farm.live k ≡ c
     pub call : Call
     pub called : call_in farm.calls c ≡ Some call
-    pub facts : SeatFacts n (before c) (w.between c) (now c) c call (seat_at w.planned k) (seat_at w.filled k) (seat_at w.worked k) (seat_at w.drained k)
-    pub found : seat_of w.filled c ≡ seat_at w.filled k
-    pub number : (seat_at w.filled k).lines.call ≡ c
-    pub taken : IsTaken r b.done t n c (seat_at w.filled k).lines (seat_at w.filled k).up (seat_at w.filled k).pcm
-    pub whole : round_lines.whole_in (seat_at w.filled k).lines ≡ places_in r b.done t n c
+    pub facts : SeatFacts n (before c) (w.between c) (now c) c call (seat_at w.planned_seats k) (seat_at w.filled_seats k) (seat_at w.worked_seats k) (seat_at w.drained_seats k)
+    pub found : seat_of w.filled_seats c ≡ seat_at w.filled_seats k
+    pub number : (seat_at w.filled_seats k).lines.call ≡ c
+    pub taken : IsTaken r b.done t n c (seat_at w.filled_seats k).lines (seat_at w.filled_seats k).up (seat_at w.filled_seats k).pcm
+    pub whole : round_lines.whole_in (seat_at w.filled_seats k).lines ≡ places_in r b.done t n c
     pub up_left : IsToCome (now c Up) (40 * (t - start_of b.done c) + 40 * n) (r.lines c).up (never_given (last.listed c Up) (last.lines c Up))
     pub pcm_left : IsToCome (now c Pcm) (160 * (t - start_of b.done c) + 160 * n) (r.lines c).pcm (never_given (last.listed c Pcm) (last.lines c Pcm))
 
@@ -90,7 +90,7 @@ module _ (r : Run) (t n : ℕ) (b : State) (farm after : FarmMemory) (first befo
       by (inr q) = absurd (true≢false (sym o ∙ sym (open_is c) ∙ q))
       by (inl p) =
           let f = seat_facts t n farm after before now ends w p.0 c p.1 p.2 in
-          let place = seat_at w.filled p.0 in
+          let place = seat_at w.filled_seats p.0 in
           let called = filled_call _ _ _ _ _ _ _ _ f.2.front in
           let whole : IsOpened r c = opened_is c o in
           let early = open_before_end r t n b.done b.left c h o in
@@ -101,8 +101,8 @@ module _ (r : Run) (t n : ℕ) (b : State) (farm after : FarmMemory) (first befo
           ∙ ap (λ (i : ℕ). Some (drop (40 * i) (r.lines c).up ++ up_rest)) now_is in
           let pcm_told : IsToCome (before c Pcm) (160 * (t - start_of b.done c)) (r.lines c).pcm pcm_rest = at.lines.pcm_read c whole (inl early)
           ∙ ap (λ (i : ℕ). Some (drop (160 * i) (r.lines c).pcm ++ pcm_rest)) now_is in
-          let long : p.0 < length w.filled = omega (arith, p.1, w.number, w.filled_number) in
-          let is_met = met r b.done t n c (before c) (w.between c) (seat_at w.planned p.0) place (standing b' after.failed now) last f.2.front.fills called
+          let long : p.0 < length w.filled_seats = omega (arith, p.1, w.number, w.filled_number) in
+          let is_met = met r b.done t n c (before c) (w.between c) (seat_at w.planned_seats p.0) place (standing b' after.failed now) last f.2.front.fills called
           (filled_periods _ _ _ _ _ _ _ _ f.2.front)
           (up_long _ _ _ _ _ _ _ _ f.2.front) (pcm_long _ _ _ _ _ _ _ _ f.2.front) meets.on (meets.flags.up c) (meets.flags.pcm c)
           (λ side i. ap (λ (d : ℕ). is_listed after.failed d side) (sym called) ∙ meets.listed p.0 side long i)
@@ -115,7 +115,7 @@ module _ (r : Run) (t n : ℕ) (b : State) (farm after : FarmMemory) (first befo
             call = f.0;
             called = f.1;
             facts = f.2;
-            found = ap (seat_of w.filled) (sym called) ∙ seat_of_at w.filled p.0 w.rising long;
+            found = ap (seat_of w.filled_seats) (sym called) ∙ seat_of_at w.filled_seats p.0 w.rising long;
             number = called;
             taken = is_met.taken;
             whole = whole_taken r t n b.done b.left c place.lines place.up place.pcm h o is_met.taken;
@@ -126,7 +126,7 @@ module _ (r : Run) (t n : ℕ) (b : State) (farm after : FarmMemory) (first befo
   -- ---- the round's seats and ends
 
   -- there are as many seats as open calls
-  long : length w.filled ≡ length farm.live
+  long : length w.filled_seats ≡ length farm.live
   long = w.filled_number ∙ w.number
 
   -- a seat that took what the run's lines give its call is one of the run's round
@@ -134,39 +134,39 @@ module _ (r : Run) (t n : ℕ) (b : State) (farm after : FarmMemory) (first befo
   seat_is c s o e k = record { open_now = ap alive e ∙ o; taken = subst (λ (d : ℕ). IsTaken r b.done t n d s.lines s.up s.pcm) (sym e) k }
 
   -- **Each seat is one of the run's round.**
-  pub all_seats : AllByRecursion (IsSeat r b.done t n) w.filled
-  all_seats = recursion_from_All (IsSeat r b.done t n) w.filled (All-from_get_or (IsSeat r b.done t n) w.filled no_seat each)
+  pub all_seats : AllByRecursion (IsSeat r b.done t n) w.filled_seats
+  all_seats = recursion_from_All (IsSeat r b.done t n) w.filled_seats (All-from_get_or (IsSeat r b.done t n) w.filled_seats no_seat each)
     where
-      each : (k : ℕ) → k < length w.filled → IsSeat r b.done t n (seat_at w.filled k)
+      each : (k : ℕ) → k < length w.filled_seats → IsSeat r b.done t n (seat_at w.filled_seats k)
       each k l =
           let c = slice_index farm.live k in
           let f = seat_facts t n farm after before now ends w k c (omega (arith, l, long)) refl in
           let o : alive c ≡ true = sym (open_is c) ∙ ap is_some f.1 in
           let s = open_seat c o in
           let called = filled_call _ _ _ _ _ _ _ _ f.2.front in
-          let same : seat_at w.filled s.k ≡ seat_at w.filled k = sym s.found ∙ ap (seat_of w.filled) (sym called) ∙ seat_of_at w.filled k w.rising l in
-          subst (IsSeat r b.done t n) same (seat_is c (seat_at w.filled s.k) o s.number s.taken)
+          let same : seat_at w.filled_seats s.k ≡ seat_at w.filled_seats k = sym s.found ∙ ap (seat_of w.filled_seats) (sym called) ∙ seat_of_at w.filled_seats k w.rising l in
+          subst (IsSeat r b.done t n) same (seat_is c (seat_at w.filled_seats s.k) o s.number s.taken)
 
   -- each open call has one
-  pub all_have_seats : (c : ℕ) → alive c ≡ true → has_seat c w.filled ≡ true
+  pub all_have_seats : (c : ℕ) → alive c ≡ true → has_seat c w.filled_seats ≡ true
   all_have_seats c o =
       let s = open_seat c o in
       let l = s.within in
-      list_any_at (λ x. c == x.lines.call) w.filled s.k no_seat (omega (arith, l, long)) (eq-eqb c (call_at w.filled s.k) (sym s.number))
+      list_any_at (λ x. c == x.lines.call) w.filled_seats s.k no_seat (omega (arith, l, long)) (eq-eqb c (call_at w.filled_seats s.k) (sym s.number))
 
   -- the ends that are told are those of the filled seats
-  pub ends_filled : ends ≡ filter_map (seat_end t) w.filled
-  ends_filled = w.told ∙ same_ends t w.worked w.filled w.worked_number w.places
+  pub ends_filled : ends ≡ filter_map (seat_end t) w.filled_seats
+  ends_filled = w.told ∙ same_ends t w.worked_seats w.filled_seats w.worked_number w.places
 
   -- **A call goes on exactly where its lines give all periods of the round.**
-  pub goes_on_is : (c : ℕ) → alive c ≡ true → goes_on_call w.worked c ≡ (places_in r b.done t n c == n)
+  pub goes_on_is : (c : ℕ) → alive c ≡ true → goes_on_call w.worked_seats c ≡ (places_in r b.done t n c == n)
   goes_on_is c o =
       let s = open_seat c o in
       let l = s.within in
-      let within : s.k < length w.worked = omega (arith, l, long, w.worked_number) in
-      let place : (seat_at w.worked s.k).lines ≡ (seat_at w.filled s.k).lines = s.facts.front.lines in
-      ap (goes_on_call w.worked) (sym (ap (λ (p : LinesMemory). p.call) place ∙ s.number))
-      ∙ goes_on_at w.worked s.k w.worked_rising within
+      let within : s.k < length w.worked_seats = omega (arith, l, long, w.worked_number) in
+      let place : (seat_at w.worked_seats s.k).lines ≡ (seat_at w.filled_seats s.k).lines = s.facts.front.lines in
+      ap (goes_on_call w.worked_seats) (sym (ap (λ (p : LinesMemory). p.call) place ∙ s.number))
+      ∙ goes_on_at w.worked_seats s.k w.worked_rising within
       ∙ ap (λ (p : LinesMemory). round_lines.whole_in p == p.periods) place
-      ∙ ap (λ (i : ℕ). i == (seat_at w.filled s.k).lines.periods) s.whole
+      ∙ ap (λ (i : ℕ). i == (seat_at w.filled_seats s.k).lines.periods) s.whole
       ∙ ap (λ (i : ℕ). places_in r b.done t n c == i) s.taken.periods

@@ -85,20 +85,20 @@ module _ (t n : ℕ) (b : State) (farm : FarmMemory) (before between : ℕ → S
       by true e = tt
       by false e = right (λ q. let g = eq-eqb (round_lines.whole_in s.lines) s.lines.periods q in cc)
 
-  -- so is each that is told
+  -- each end that is told is right
   pub ends_right : AllByRecursion (IsRight t n b) ends
   ends_right = subst (AllByRecursion (IsRight t n b)) (sym w.told) (each_told (IsRight t n b) t worked seat_right)
 
-  -- **So the board can be told of these ends: its call is open,**
+  -- **The call of each of these ends is open.**
   pub tells_open : AreOpen b ends
   tells_open =
       All-from_recursion (λ e. open_now b e.call ≡ true) ends (each_weaker (IsRight t n b) (λ e. open_now b e.call ≡ true) ends (λ e q. q.open_now) ends_right)
 
-  -- no two are of one call,
+  -- no two of these ends are of one call
   pub tells_apart : AreApart ends
   tells_apart = subst AreApart (sym w.told) (seats_apart t worked w.worked_rising)
 
-  -- and none lies below the stamp of an executed order
+  -- none of these ends lies below the stamp of an executed order
   pub tells_late : AreLate b ends
   tells_late = let past = a.past in All-from_recursion (λ e. last_stamp b.done ≤ e.at) ends
       (each_weaker (IsRight t n b) (λ e. last_stamp b.done ≤ e.at) ends (λ e q. let f = q.from in omega arith) ends_right)
@@ -108,27 +108,27 @@ module _ (t n : ℕ) (b : State) (farm after : FarmMemory) (before now : ℕ →
   -- ---- who is open after it
 
   -- **Of an open call the end is told exactly where it doesn't go on.**
-  pub told_is : (c : ℕ) → is_some (call_in farm.calls c) ≡ true → is_told c ends ≡ not (goes_on_call w.worked c)
-  told_is c o = ap (is_told c) w.told ∙ told_goes t w.worked w.worked_rising c (by (seat_cases t n farm after before now ends w c))
+  pub told_is : (c : ℕ) → is_some (call_in farm.calls c) ≡ true → is_told c ends ≡ not (goes_on_call w.worked_seats c)
+  told_is c o = ap (is_told c) w.told ∙ told_goes t w.worked_seats w.worked_rising c (by (seat_cases t n farm after before now ends w c))
     where
-      by : ((k : ℕ) × (k < length farm.live) × (slice_index farm.live k ≡ c)) ⊎ (is_some (call_in farm.calls c) ≡ false) → has_call w.worked c ≡ true
-      by (inl p) = list_any_at (λ s. s.lines.call == c) w.worked p.0 no_seat (omega (arith, p.1, w.worked_number, w.filled_number, w.number))
-          (eq-eqb (call_at w.worked p.0) c (worked_at t n farm after before now ends w p.0 p.1 ∙ p.2))
+      by : ((k : ℕ) × (k < length farm.live) × (slice_index farm.live k ≡ c)) ⊎ (is_some (call_in farm.calls c) ≡ false) → has_call w.worked_seats c ≡ true
+      by (inl p) = list_any_at (λ s. s.lines.call == c) w.worked_seats p.0 no_seat (omega (arith, p.1, w.worked_number, w.filled_number, w.number))
+          (eq-eqb (call_at w.worked_seats p.0) c (worked_at t n farm after before now ends w p.0 p.1 ∙ p.2))
       by (inr q) = cc
 
   -- the farm keeps the calls whose ends weren't told
   calls_left : (c : ℕ) → is_some (call_in after.calls c) ≡ (is_some (call_in farm.calls c) && not (is_told c ends))
-  calls_left c = w.is_open c ∙ ap (λ (x : Bool). x && goes_on_call w.worked c) (w.live c) ∙ by (is_some (call_in farm.calls c)) refl
+  calls_left c = w.is_open c ∙ ap (λ (x : Bool). x && goes_on_call w.worked_seats c) (w.live c) ∙ by (is_some (call_in farm.calls c)) refl
     where
       twice : (g : Bool) → g ≡ not (not g)
       twice true = refl
       twice false = refl
 
-      by : (x : Bool) → is_some (call_in farm.calls c) ≡ x → (x && goes_on_call w.worked c) ≡ (x && not (is_told c ends))
-      by true q = twice (goes_on_call w.worked c) ∙ sym (ap not (told_is c q))
+      by : (x : Bool) → is_some (call_in farm.calls c) ≡ x → (x && goes_on_call w.worked_seats c) ≡ (x && not (is_told c ends))
+      by true q = twice (goes_on_call w.worked_seats c) ∙ sym (ap not (told_is c q))
       by false q = refl
 
-  -- and of the partners those that both go on
+  -- the farm keeps those partners that both go on
   partners_left : ArePairs (open_now b) (partner_now b) → (c : ℕ) → partner_in after.calls c ≡ partner_past ends (partner_in farm.calls) c
   partners_left pairs c = w.partners c ∙ by (partner_in farm.calls c) refl
     where
@@ -149,15 +149,15 @@ module _ (t n : ℕ) (b : State) (farm after : FarmMemory) (before now : ℕ →
       both p true false false false e f = cc
       both p false k false v e f = cc
 
-      live : (d : ℕ) → open_now b d ≡ true → is_told d ends ≡ not (goes_on_call w.worked d)
+      live : (d : ℕ) → open_now b d ≡ true → is_told d ends ≡ not (goes_on_call w.worked_seats d)
       live d o = told_is d (a.matches.is_open d ∙ o)
 
       by : (q : Option ℕ) → partner_in farm.calls c ≡ q →
-          (if goes_on_call w.worked c then that_stays (goes_on_call w.worked) q else None) ≡ (if is_told c ends || has_left q ends then None else q)
-      by None e = empty (goes_on_call w.worked c) ∙ sym (empty (is_told c ends || false))
+          (if goes_on_call w.worked_seats c then that_stays (goes_on_call w.worked_seats) q else None) ≡ (if is_told c ends || has_left q ends then None else q)
+      by None e = empty (goes_on_call w.worked_seats c) ∙ sym (empty (is_told c ends || false))
       by (Some p) e =
           let o = pairs.both_open c p (sym (a.matches.partner c) ∙ e) in
-          both p (goes_on_call w.worked c) (goes_on_call w.worked p) (is_told c ends) (is_told p ends) (live c o.0) (live p o.1)
+          both p (goes_on_call w.worked_seats c) (goes_on_call w.worked_seats p) (is_told c ends) (is_told p ends) (live c o.0) (live p o.1)
 
   -- **After the round the board and the farm stand at the clock behind it.**
   pub clock_after : (b' : State) → ArePairs (open_now b) (partner_now b) → IfSome (first_stamp b.left) (λ s. t + n ≤ s) → b' ≡ told_after b ends →
@@ -166,5 +166,5 @@ module _ (t n : ℕ) (b : State) (farm after : FarmMemory) (before now : ℕ →
   clock_after b' pairs clear told o p =
       clock_round t n b b' farm.calls after.calls ends a
       (each_weaker (IsRight t n b) (λ e. e.at < t + n) ends (λ e q. q.before)
-      (ends_right t n b farm before w.between w.planned w.filled w.worked ends (front t n farm after before now ends w) a)) clear told o p
+      (ends_right t n b farm before w.between w.planned_seats w.filled_seats w.worked_seats ends (front t n farm after before now ends w) a)) clear told o p
       calls_left (partners_left pairs)

@@ -16,7 +16,7 @@ use Rattle.farm_run.proofs.Worked.Round.{WorkedRound, FilledRound, SeatFacts, wo
 
 module _ (t n : ℕ) (farm after : FarmMemory) (before now : ℕ → Side → LineState) (ends : List CallEnd) (w : WorkedRound t n farm after before now ends) where
   -- the round up to its work
-  pub front : FilledRound t n farm before w.between w.planned w.filled w.worked ends
+  pub front : FilledRound t n farm before w.between w.planned_seats w.filled_seats w.worked_seats ends
   front = record {
     live = w.live;
     number = w.number;
@@ -31,35 +31,35 @@ module _ (t n : ℕ) (farm after : FarmMemory) (before now : ℕ → Side → Li
 
   -- **Each open call has a seat, of which this is known.**
   pub seat_facts : (k c : ℕ) → k < length farm.live → slice_index farm.live k ≡ c →
-      (x : Call) × (call_in farm.calls c ≡ Some x) × SeatFacts n (before c) (w.between c) (now c) c x (seat_at w.planned k) (seat_at w.filled k)
-      (seat_at w.worked k) (seat_at w.drained k)
+      (x : Call) × (call_in farm.calls c ≡ Some x) × SeatFacts n (before c) (w.between c) (now c) c x (seat_at w.planned_seats k) (seat_at w.filled_seats k)
+      (seat_at w.worked_seats k) (seat_at w.drained_seats k)
   seat_facts k c l e =
-      let f = front_facts t n farm before w.between w.planned w.filled w.worked ends front k c l e in
-      let called : call_at w.worked k ≡ c = worked_call _ _ _ _ _ _ _ _ f.2 in (
+      let f = front_facts t n farm before w.between w.planned_seats w.filled_seats w.worked_seats ends front k c l e in
+      let called : call_at w.worked_seats k ≡ c = worked_call _ _ _ _ _ _ _ _ f.2 in (
         f.0,
         f.1,
         record {
           front = f.2;
-          drains = subst (λ d. Settles (w.between d) (now d) (seat_at w.worked k) (seat_at w.drained k)) called
+          drains = subst (λ d. Settles (w.between d) (now d) (seat_at w.worked_seats k) (seat_at w.drained_seats k)) called
               (w.drains k (omega (arith, w.number, w.filled_number, w.worked_number)));
         },
       )
 
   -- where the round's octets are written, its call's lines are given them
   pub writes_at : (k c : ℕ) → k < length farm.live → slice_index farm.live k ≡ c → w.held ≡ false →
-      Drains (w.between c) (now c) (seat_at w.worked k) (seat_at w.drained k)
+      Drains (w.between c) (now c) (seat_at w.worked_seats k) (seat_at w.drained_seats k)
   writes_at k c l e q =
       let f = seat_facts k c l e in
-      let called : call_at w.worked k ≡ c = worked_call _ _ _ _ _ _ _ _ f.2.front in
-      subst (λ d. Drains (w.between d) (now d) (seat_at w.worked k) (seat_at w.drained k)) called
+      let called : call_at w.worked_seats k ≡ c = worked_call _ _ _ _ _ _ _ _ f.2.front in
+      subst (λ d. Drains (w.between d) (now d) (seat_at w.worked_seats k) (seat_at w.drained_seats k)) called
       (w.writes q k (omega (arith, l, w.number, w.filled_number, w.worked_number)))
 
   -- the seats stand in the order of the open calls, behind the work
-  pub worked_at : (k : ℕ) → k < length farm.live → call_at w.worked k ≡ slice_index farm.live k
+  pub worked_at : (k : ℕ) → k < length farm.live → call_at w.worked_seats k ≡ slice_index farm.live k
   worked_at k l = let f = seat_facts k (slice_index farm.live k) l refl in worked_call _ _ _ _ _ _ _ _ f.2.front
 
-  -- and in the plan
-  pub planned_at : (k : ℕ) → k < length farm.live → call_at w.planned k ≡ slice_index farm.live k
+  -- the planned seats stand in the order of the open calls
+  pub planned_at : (k : ℕ) → k < length farm.live → call_at w.planned_seats k ≡ slice_index farm.live k
   planned_at k l = let f = seat_facts k (slice_index farm.live k) l refl in ap (λ (s : SeatMemory). s.lines.call) f.2.front.made
 
   -- ---- the lines

@@ -44,7 +44,7 @@ cause_of e = e.cause
 module _ (r : Run) (t n : ℕ) (b : State) (farm after : FarmMemory) (first before now : ℕ → Side → LineState) (ends : List CallEnd)
     (w : WorkedRound t n farm after before now ends) (h : IsRound r t n b.done b.left) (m : Matches b farm.calls) (b' : State) (last : Standing)
     (at : IsAtClock r t b farm.calls last first before)
-    (meets : MeetsRun r n w.filled (standing b' after.failed now) last) (told : b' ≡ told_after b ends)
+    (meets : MeetsRun r n w.filled_seats (standing b' after.failed now) last) (told : b' ≡ told_after b ends)
     (open_then : (c : ℕ) → open_now b' c ≡ (open_now b c && not (is_told c ends))) where
   -- whether a call is open at the clock
   abbrev pub alive : ℕ → Bool
@@ -61,9 +61,9 @@ module _ (r : Run) (t n : ℕ) (b : State) (farm after : FarmMemory) (first befo
   abbrev hs : ℕ → Option CallHistory
   hs = histories_at r b.done t
 
-  -- and at its end, those that end in it too
+  -- what each call has had at the round's end, those that end in it too
   abbrev worked_at_end : ℕ → Option CallHistory
-  worked_at_end = worked_histories w.filled (partner_in farm.calls) hs
+  worked_at_end = worked_histories w.filled_seats (partner_in farm.calls) hs
 
   -- a call that isn't open has no period in the round, and its lines stay
   idle : (c : ℕ) → IsOpened r c → alive c ≡ false → worked_to r (t + n) c ≡ worked_to r t c
@@ -76,7 +76,7 @@ module _ (r : Run) (t n : ℕ) (b : State) (farm after : FarmMemory) (first befo
   tells_after : TellsEnds (whole_in r) (t + n) b'
   tells_after = worked_board.tells_after r t n b farm after first before now ends w h m b' last at meets told open_then
 
-  histories_after : (c : ℕ) → those_that (goes_on_call w.worked) worked_at_end c ≡ histories_at r b.done (t + n) c
+  histories_after : (c : ℕ) → those_that (goes_on_call w.worked_seats) worked_at_end c ≡ histories_at r b.done (t + n) c
   histories_after = worked_board.histories_after r t n b farm after first before now ends w h m b' last at meets told open_then
 
   -- a call whose incoming lines are read whole has all periods of the round
@@ -98,7 +98,7 @@ module _ (r : Run) (t n : ℕ) (b : State) (farm after : FarmMemory) (first befo
       most : (n m : ℕ) → n ≤ min n m → min n m ≡ n
       most n m l = omega arith
 
-  -- so many octets of its line lie before the clock behind the round
+  -- so many octets of such a call's line lie before the round's end
   read_to : (c m : ℕ) → alive c ≡ true → IsReadWhole r (t + n) c → m * worked_to r (t + n) c ≡ m * (t - start_of b.done c) + m * n
   read_to c m o q =
       let begun = (open_at r t b.done c (standing_now r t b.done b.left h.so_far) o).begun in
@@ -152,7 +152,7 @@ module _ (r : Run) (t n : ℕ) (b : State) (farm after : FarmMemory) (first befo
           so_far = subst (λ (ds : List Done). IsSoFar r (t + n) ds b'.left) (sym done)
               (subst (IsSoFar r (t + n) b.done) (sym left) (round_over r t n b.done b.left h));
           tells = tells_after;
-          stands = stand_same (those_that (goes_on_call w.worked) worked_at_end) (histories_at r b'.done (t + n)) after.calls
+          stands = stand_same (those_that (goes_on_call w.worked_seats) worked_at_end) (histories_at r b'.done (t + n)) after.calls
               (λ c. histories_after c ∙ ap (λ (ds : List Done). histories_at r ds (t + n) c) (sym done)) (w.stands hs at.follows.stands);
         };
         lines = lines_after;

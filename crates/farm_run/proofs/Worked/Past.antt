@@ -54,7 +54,7 @@ starts_past k others now = by (nat_lt others k)
 module _ (r : Run) (t n : ℕ) (b : State) (farm after : FarmMemory) (first before now : ℕ → Side → LineState) (ends : List CallEnd)
     (w : WorkedRound t n farm after before now ends) (h : IsRound r t n b.done b.left) (m : Matches b farm.calls) (b' : State) (last : Standing)
     (at : IsAtClock r t b farm.calls last first before)
-    (meets : MeetsRun r n w.filled (standing b' after.failed now) last) where
+    (meets : MeetsRun r n w.filled_seats (standing b' after.failed now) last) where
   -- whether a call is open at the clock
   abbrev is_alive : ℕ → Bool
   is_alive = is_open (gone_at (whole_in r) t b.done) b.done
@@ -81,7 +81,7 @@ module _ (r : Run) (t n : ℕ) (b : State) (farm after : FarmMemory) (first befo
 
   -- what its job is given
   abbrev octets : ℕ → IoMemory
-  octets c = io_of (seat_of w.filled c)
+  octets c = io_of (seat_of w.filled_seats c)
 
   -- what it has had before the round
   past_is : (c : ℕ) → is_alive c ≡ true → histories_at r b.done t c ≡ Some (past c)
@@ -91,12 +91,12 @@ module _ (r : Run) (t n : ℕ) (b : State) (farm after : FarmMemory) (first befo
   pub fed : (c : ℕ) → is_alive c ≡ true → IsFed r b.done t n c (octets c)
   fed c o =
       let s = seat c o in
-      let x = seat_at w.filled s.k in
+      let x = seat_at w.filled_seats s.k in
       subst (λ (x : SeatMemory). IsFed r b.done t n c (io_of x)) (sym s.found)
       (fed_taken r t n b.done b.left c x.lines (io_of x) h o s.taken s.number refl refl)
 
   -- for so many periods as the run says
-  pub given : (c : ℕ) → is_alive c ≡ true → round_lines.whole_in (seat_of w.filled c).lines ≡ places_in r b.done t n c
+  pub given : (c : ℕ) → is_alive c ≡ true → round_lines.whole_in (seat_of w.filled_seats c).lines ≡ places_in r b.done t n c
   given c o = let s = seat c o in ap (λ (x : SeatMemory). round_lines.whole_in x.lines) s.found ∙ s.whole
 
   -- no more than the round has
@@ -119,7 +119,7 @@ module _ (r : Run) (t n : ℕ) (b : State) (farm after : FarmMemory) (first befo
   starts_kept c k l = ap (λ (s : Settings). s.starts) (settings_kept r t n b.done b.left c k h l)
 
   -- **Of a call that isn't bridged.**
-  alone_is : (c : ℕ) → is_alive c ≡ true → bridge_at c ≡ None → IsPast c (history_alone w.filled c (past c))
+  alone_is : (c : ℕ) → is_alive c ≡ true → bridge_at c ≡ None → IsPast c (history_alone w.filled_seats c (past c))
   alone_is c o none =
       let g = given c o in
       let k = places_in r b.done t n c in
@@ -133,15 +133,15 @@ module _ (r : Run) (t n : ℕ) (b : State) (farm after : FarmMemory) (first befo
 
   -- **Of one that is, with its partner.**
   bridged_is : (c : ℕ) (x : Bridge) → is_alive c ≡ true → is_alive (other c x) ≡ true → bridge_at c ≡ Some x →
-      IsPast c (history_bridged w.filled c (past c) (other c x) (past (other c x)))
+      IsPast c (history_bridged w.filled_seats c (past c) (other c x) (past (other c x)))
   bridged_is c x o p some =
       let d = other c x in
       let g = given c o in
       let k = places_in r b.done t n c in
       let l = at_most c in
       let now = settings_now r b.done t c in
-      let whole = round_lines.whole_in (seat_of w.filled c).lines in
-      let others = round_lines.whole_in (seat_of w.filled d).lines in
+      let whole = round_lines.whole_in (seat_of w.filled_seats c).lines in
+      let others = round_lines.whole_in (seat_of w.filled_seats d).lines in
       record {
         law = refl;
         periods = bridged_worked r t n b.done b.left c x (octets c) (octets d) h some (fed c o) (fed d p)
@@ -153,26 +153,26 @@ module _ (r : Run) (t n : ℕ) (b : State) (farm after : FarmMemory) (first befo
 
   -- **Each open call has had after the round what the run gives it.**
   pub worked_past : (c : ℕ) → is_alive c ≡ true →
-      (x : CallHistory) × (worked_histories w.filled (partner_in farm.calls) (histories_at r b.done t) c ≡ Some x) × IsPast c x
+      (x : CallHistory) × (worked_histories w.filled_seats (partner_in farm.calls) (histories_at r b.done t) c ≡ Some x) × IsPast c x
   worked_past c o = by (bridge_at c) refl
     where
       hs : ℕ → Option CallHistory
       hs = histories_at r b.done t
 
-      start : (q : Option ℕ) → partner_in farm.calls c ≡ q → worked_histories w.filled (partner_in farm.calls) hs c
-          ≡ Some (history_with w.filled hs c q (past c))
-      start q e = ap (option_map (history_with w.filled hs c (partner_in farm.calls c))) (past_is c o)
-          ∙ ap (λ (q : Option ℕ). Some (history_with w.filled hs c q (past c))) e
+      start : (q : Option ℕ) → partner_in farm.calls c ≡ q → worked_histories w.filled_seats (partner_in farm.calls) hs c
+          ≡ Some (history_with w.filled_seats hs c q (past c))
+      start q e = ap (option_map (history_with w.filled_seats hs c (partner_in farm.calls c))) (past_is c o)
+          ∙ ap (λ (q : Option ℕ). Some (history_with w.filled_seats hs c q (past c))) e
 
-      by : (v : Option Bridge) → bridge_at c ≡ v → (x : CallHistory) × (worked_histories w.filled (partner_in farm.calls) hs c ≡ Some x) × IsPast c x
-      by None e = (history_alone w.filled c (past c), start None (partner_is c ∙ ap (option_map (other c)) e), alone_is c o e)
+      by : (v : Option Bridge) → bridge_at c ≡ v → (x : CallHistory) × (worked_histories w.filled_seats (partner_in farm.calls) hs c ≡ Some x) × IsPast c x
+      by None e = (history_alone w.filled_seats c (past c), start None (partner_is c ∙ ap (option_map (other c)) e), alone_is c o e)
       by (Some x) e =
           let parts = bridge_open r t b.done c x e in
           let both =
           and_parts (is_alive c) (is_alive (other c x)) (sym (both_calls is_alive c x parts.0) ∙ and_from (is_alive x.a) (is_alive x.b) parts.1 parts.2) in
           let partner = past_is (other c x) both.1 in (
-            history_bridged w.filled c (past c) (other c x) (past (other c x)),
+            history_bridged w.filled_seats c (past c) (other c x) (past (other c x)),
             start (Some (other c x)) (partner_is c ∙ ap (option_map (other c)) e)
-                ∙ ap (λ (y : Option CallHistory). Some (history_beside w.filled c (past c) (other c x) y)) partner,
+                ∙ ap (λ (y : Option CallHistory). Some (history_beside w.filled_seats c (past c) (other c x) y)) partner,
             bridged_is c x o both.1 e,
           )

@@ -26,37 +26,37 @@ use Rattle.farm_run.specs.Standing.{Standing, StandingGoesOn, HasFlags}
 
 -- what a round of n periods from t on did to the farm and the lines, and the ends that it told
 pub record WorkedRound (t n : ℕ) (farm after : FarmMemory) (before now : ℕ → Side → LineState) (ends : List CallEnd) : Type 0 where
-  pub planned : List SeatMemory
-  pub filled : List SeatMemory
-  pub worked : List SeatMemory
-  pub drained : List SeatMemory
+  pub planned_seats : List SeatMemory
+  pub filled_seats : List SeatMemory
+  pub worked_seats : List SeatMemory
+  pub drained_seats : List SeatMemory
   pub between : ℕ → Side → LineState
   pub live : (c : ℕ) → is_among farm.live c ≡ is_some (call_in farm.calls c)
-  pub number : length planned ≡ length farm.live
-  pub seats : (k : ℕ) → k < length farm.live → seat_at planned k ≡ seat_for n (slice_index farm.live k) (call_in farm.calls (slice_index farm.live k))
-  pub fills : Each Fills before between planned filled (length planned)
-  pub filled_others : KeepsButEach IsIncoming before between planned (length planned)
-  pub filled_number : length filled ≡ length planned
-  pub rising : Rising filled
-  pub worked_number : length worked ≡ length filled
-  pub worked_rising : Rising worked
-  pub places : (k : ℕ) → k < length filled → (seat_at worked k).lines ≡ (seat_at filled k).lines
-  pub told : ends ≡ filter_map (seat_end t) worked
-  pub drains : Each Settles between now worked drained (length worked)
+  pub number : length planned_seats ≡ length farm.live
+  pub seats : (k : ℕ) → k < length farm.live → seat_at planned_seats k ≡ seat_for n (slice_index farm.live k) (call_in farm.calls (slice_index farm.live k))
+  pub fills : Each Fills before between planned_seats filled_seats (length planned_seats)
+  pub filled_others : KeepsButEach IsIncoming before between planned_seats (length planned_seats)
+  pub filled_number : length filled_seats ≡ length planned_seats
+  pub rising : Rising filled_seats
+  pub worked_number : length worked_seats ≡ length filled_seats
+  pub worked_rising : Rising worked_seats
+  pub places : (k : ℕ) → k < length filled_seats → (seat_at worked_seats k).lines ≡ (seat_at filled_seats k).lines
+  pub told : ends ≡ filter_map (seat_end t) worked_seats
+  pub drains : Each Settles between now worked_seats drained_seats (length worked_seats)
   pub held : Bool
-  pub writes : held ≡ false → Each Drains between now worked drained (length worked)
-  pub back : held ≡ true → (now ≡ between) × (drained ≡ worked)
-  pub drained_others : KeepsButEach IsOutgoing between now worked (length worked)
-  pub drained_number : length drained ≡ length worked
+  pub writes : held ≡ false → Each Drains between now worked_seats drained_seats (length worked_seats)
+  pub back : held ≡ true → (now ≡ between) × (drained_seats ≡ worked_seats)
+  pub drained_others : KeepsButEach IsOutgoing between now worked_seats (length worked_seats)
+  pub drained_number : length drained_seats ≡ length worked_seats
   pub known : AreFailed farm.failed farm.calls
-  pub gains : GainsFailed farm.failed after.failed drained
-  pub is_open : (c : ℕ) → is_some (call_in after.calls c) ≡ (is_among farm.live c && goes_on_call worked c)
-  pub partners : (c : ℕ) → partner_in after.calls c ≡ partner_past (goes_on_call worked) (partner_in farm.calls) c
-  pub octets : (h : ℕ → Option CallHistory) → CallsStand h farm.calls → AreWorked filled (worked_histories filled (partner_in farm.calls) h) worked
+  pub gains : GainsFailed farm.failed after.failed drained_seats
+  pub is_open : (c : ℕ) → is_some (call_in after.calls c) ≡ (is_among farm.live c && goes_on_call worked_seats c)
+  pub partners : (c : ℕ) → partner_in after.calls c ≡ partner_past (goes_on_call worked_seats) (partner_in farm.calls) c
+  pub octets : (h : ℕ → Option CallHistory) → CallsStand h farm.calls → AreWorked filled_seats (worked_histories filled_seats (partner_in farm.calls) h) worked_seats
   pub stands : (h : ℕ → Option CallHistory) → CallsStand h farm.calls →
-      CallsStand (those_that (goes_on_call worked) (worked_histories filled (partner_in farm.calls) h)) after.calls
+      CallsStand (those_that (goes_on_call worked_seats) (worked_histories filled_seats (partner_in farm.calls) h)) after.calls
   pub tallies : (h : ℕ → Option CallHistory) → CallsStand h farm.calls → (c : ℕ) →
-      tally_in after.tallies c ≡ (if goes_on_call worked c then tally_in farm.tallies c else kept_of (worked_histories filled (partner_in farm.calls) h c)
+      tally_in after.tallies c ≡ (if goes_on_call worked_seats c then tally_in farm.tallies c else kept_of (worked_histories filled_seats (partner_in farm.calls) h c)
       (tally_in farm.tallies c))
 
 -- How a round of n periods agrees with the run: `behind` is the state of the run after the round, `last` at its end.
@@ -70,7 +70,7 @@ pub record MeetsRun (r : Run) (n : ℕ) (seats : List SeatMemory) (behind last :
   pub over : (k : ℕ) → k < length seats → round_lines.whole_in (seat_at seats k).lines < n →
       behind.over (call_at seats k) ≡ true
 
--- the same up to its work
+-- what a round did up to its work, and the ends that it told
 pub record FilledRound (t n : ℕ) (farm : FarmMemory) (before between : ℕ → Side → LineState) (planned filled worked : List SeatMemory)
     (ends : List CallEnd) : Type 0 where
   pub live : (c : ℕ) → is_among farm.live c ≡ is_some (call_in farm.calls c)
@@ -111,7 +111,7 @@ module _ (n : ℕ) (before between : Side → LineState) (c : ℕ) (call : Call)
   pub filled_call : filled.lines.call ≡ c
   filled_call = ap (λ (p : LinesMemory). p.call) kept_place ∙ ap (λ (s : SeatMemory). s.lines.call) f.made
 
-  -- and behind it
+  -- the seat is this call's after the work
   pub worked_call : worked.lines.call ≡ c
   worked_call = ap (λ (p : LinesMemory). p.call) f.lines ∙ filled_call
 
@@ -133,7 +133,7 @@ module _ (n : ℕ) (before between : Side → LineState) (c : ℕ) (call : Call)
   pub worked_out : worked.lines.out ≡ outlet_before call.out_failed
   worked_out = ap (λ (p : LinesMemory). p.out) (f.lines ∙ kept_place) ∙ ap (λ (s : SeatMemory). s.lines.out) f.made
 
--- and up to the round's end
+-- the seat of a call in a round, up to the round's end
 pub record SeatFacts (n : ℕ) (before between now : Side → LineState) (c : ℕ) (call : Call) (planned filled worked drained : SeatMemory) : Type 0 where
   pub front : FrontFacts n before between c call planned filled worked
   pub drains : Settles between now worked drained

@@ -38,7 +38,7 @@ pub record FailedInRound (r : Run) (t u : ℕ) (was is : ℕ → Side → Bool) 
 module _ (r : Run) (t n : ℕ) (b : State) (farm after : FarmMemory) (first before now : ℕ → Side → LineState) (ends : List CallEnd)
     (w : WorkedRound t n farm after before now ends) (h : IsRound r t n b.done b.left) (m : Matches b farm.calls) (b' : State) (last : Standing)
     (at : IsAtClock r t b farm.calls last first before)
-    (meets : MeetsRun r n w.filled (standing b' after.failed now) last) where
+    (meets : MeetsRun r n w.filled_seats (standing b' after.failed now) last) where
   -- whether a call is open at the clock
   abbrev alive : ℕ → Bool
   alive = is_open (gone_at (whole_in r) t b.done) b.done
@@ -83,13 +83,13 @@ module _ (r : Run) (t n : ℕ) (b : State) (farm after : FarmMemory) (first befo
   up_failed : (c : ℕ) → alive c ≡ true → is_listed after.failed c Up ≡ true → FailedIn r c 40 (r.lines c).up t (t + n)
   up_failed c o listed =
       let s = seat c o in
-      let failed : (seat_at w.filled s.k).lines.up.failed ≡ true =
+      let failed : (seat_at w.filled_seats s.k).lines.up.failed ≡ true =
       sym (listed_incoming t n farm after before now ends w s.k c Up s.within s.here tt) ∙ listed in
-      let less : (seat_at w.filled s.k).lines.up.count < 40 * n =
+      let less : (seat_at w.filled_seats s.k).lines.up.count < 40 * n =
       (let l = s.facts.front.fills.up.short failed in omega (arith, l, up_long _ _ _ _ _ _ _ _ s.facts.front)) in
-      let lacks : places_in r b.done t n c < n = (let l = fewer_up (seat_at w.filled s.k).lines n less in omega (arith, l, s.whole)) in
+      let lacks : places_in r b.done t n c < n = (let l = fewer_up (seat_at w.filled_seats s.k).lines n less in omega (arith, l, s.whole)) in
       let start = begun c o in
-      ends_here c 40 (r.lines c).up o lacks (few_in_all 40 (seat_at w.filled s.k).lines.up.count (length (r.lines c).up)
+      ends_here c 40 (r.lines c).up o lacks (few_in_all 40 (seat_at w.filled_seats s.k).lines.up.count (length (r.lines c).up)
       (start_of b.done c) s.taken.up_count less start (spread (start_of b.done c) start))
     where
       spread : (s : ℕ) → s ≤ t → 40 * (t - s) + 40 * n ≡ 40 * (t + n - s)
@@ -98,13 +98,13 @@ module _ (r : Run) (t n : ℕ) (b : State) (farm after : FarmMemory) (first befo
   pcm_failed : (c : ℕ) → alive c ≡ true → is_listed after.failed c Pcm ≡ true → FailedIn r c 160 (r.lines c).pcm t (t + n)
   pcm_failed c o listed =
       let s = seat c o in
-      let failed : (seat_at w.filled s.k).lines.pcm.failed ≡ true =
+      let failed : (seat_at w.filled_seats s.k).lines.pcm.failed ≡ true =
       sym (listed_incoming t n farm after before now ends w s.k c Pcm s.within s.here tt) ∙ listed in
-      let less : (seat_at w.filled s.k).lines.pcm.count < 160 * n =
+      let less : (seat_at w.filled_seats s.k).lines.pcm.count < 160 * n =
       (let l = s.facts.front.fills.pcm.short failed in omega (arith, l, pcm_long _ _ _ _ _ _ _ _ s.facts.front)) in
-      let lacks : places_in r b.done t n c < n = (let l = fewer_pcm (seat_at w.filled s.k).lines n less in omega (arith, l, s.whole)) in
+      let lacks : places_in r b.done t n c < n = (let l = fewer_pcm (seat_at w.filled_seats s.k).lines n less in omega (arith, l, s.whole)) in
       let start = begun c o in
-      ends_here c 160 (r.lines c).pcm o lacks (few_in_all 160 (seat_at w.filled s.k).lines.pcm.count (length (r.lines c).pcm)
+      ends_here c 160 (r.lines c).pcm o lacks (few_in_all 160 (seat_at w.filled_seats s.k).lines.pcm.count (length (r.lines c).pcm)
       (start_of b.done c) s.taken.pcm_count less start (spread (start_of b.done c) start))
     where
       spread : (s : ℕ) → s ≤ t → 160 * (t - s) + 160 * n ≡ 160 * (t + n - s)
@@ -168,18 +168,18 @@ module _ (r : Run) (t n : ℕ) (b : State) (farm after : FarmMemory) (first befo
       kept : (c : ℕ) → alive c ≡ false → (s : Side) → now c s ≡ before c s
       kept = worked_written.kept r t n b farm after first before now ends w h m b' last at meets
 
--- **So each line that is listed by then did, in rounds of at most so many periods.**
+-- **Before the first round no line failed.**
 pub short_none : (r : Run) (batch t : ℕ) → FailedBy r batch t (is_listed [])
 short_none r batch t = record { up = λ c e. cc; pcm = λ c e. cc }
 
--- and by any later period,
+-- lines that failed short by a period did so by any later one
 pub short_later : (r : Run) (batch t u : ℕ) (fails : ℕ → Side → Bool) → t ≤ u → FailedBy r batch t fails → FailedBy r batch u fails
 short_later r batch t u fails l short = record {
   up = λ c e. let f = short.up c e in (f.0, f.1, f.2, omega (arith, f.3, l), f.4);
   pcm = λ c e. let f = short.pcm c e in (f.0, f.1, f.2, omega (arith, f.3, l), f.4);
 }
 
--- and behind each round the more
+-- **If the lines listed before a round failed short, so did those listed after it.**
 pub short_more : (r : Run) (batch t u : ℕ) (was is : List Line) → t ≤ u → u ≤ t + batch → FailedInRound r t u (is_listed was) (is_listed is) →
     FailedBy r batch t (is_listed was) → FailedBy r batch u (is_listed is)
 short_more r batch t u was is later l failed short =

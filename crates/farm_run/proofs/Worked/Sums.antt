@@ -40,7 +40,7 @@ added old more = mod-add-mod (sum old) (2 ^ 32) (sum more) ∙ ap (λ (n : ℕ).
 module _ (r : Run) (t n : ℕ) (b : State) (farm after : FarmMemory) (first before now : ℕ → Side → LineState) (ends : List CallEnd)
     (w : WorkedRound t n farm after before now ends) (h : IsRound r t n b.done b.left) (m : Matches b farm.calls) (b' : State) (last : Standing)
     (at : IsAtClock r t b farm.calls last first before)
-    (meets : MeetsRun r n w.filled (standing b' after.failed now) last) (was is : ℕ → Side → ℕ) (adds : Adds w.worked was is) where
+    (meets : MeetsRun r n w.filled_seats (standing b' after.failed now) last) (was is : ℕ → Side → ℕ) (adds : Adds w.worked_seats was is) where
   -- whether a call is open at the clock
   abbrev alive : ℕ → Bool
   alive = is_open (gone_at (whole_in r) t b.done) b.done
@@ -66,8 +66,8 @@ module _ (r : Run) (t n : ℕ) (b : State) (farm after : FarmMemory) (first befo
         | inl o ↦
             let s = seat c o in
             let l = s.within in
-            let within : s.k < length w.worked = omega (arith, l, w.number, w.filled_number, w.worked_number) in
-            let more = seats.out_given (seat_at w.worked s.k) in
+            let within : s.k < length w.worked_seats = omega (arith, l, w.number, w.filled_number, w.worked_number) in
+            let more = seats.out_given (seat_at w.worked_seats s.k) in
             subst (λ (d : ℕ). is d Out ≡ (was d Out + sum more) % 2 ^ 32)
             (worked_at t n farm after before now ends w s.k s.within ∙ s.here) (adds.out s.k within)
             ∙ ap (λ (v : ℕ). (v + sum more) % 2 ^ 32) (sums.out c i)
@@ -83,8 +83,8 @@ module _ (r : Run) (t n : ℕ) (b : State) (farm after : FarmMemory) (first befo
         | inl o ↦
             let s = seat c o in
             let l = s.within in
-            let within : s.k < length w.worked = omega (arith, l, w.number, w.filled_number, w.worked_number) in
-            let more = seats.down_given (seat_at w.worked s.k) in
+            let within : s.k < length w.worked_seats = omega (arith, l, w.number, w.filled_number, w.worked_number) in
+            let more = seats.down_given (seat_at w.worked_seats s.k) in
             subst (λ (d : ℕ). is d Down ≡ (was d Down + sum more) % 2 ^ 32)
             (worked_at t n farm after before now ends w s.k s.within ∙ s.here) (adds.down s.k within)
             ∙ ap (λ (v : ℕ). (v + sum more) % 2 ^ 32) (sums.down c i)

@@ -48,7 +48,7 @@ use Rattle.farm_run.proofs.Worked.Past.{IsPast, worked_past}
 module _ (r : Run) (t n : ℕ) (b : State) (farm after : FarmMemory) (first before now : ℕ → Side → LineState) (ends : List CallEnd)
     (w : WorkedRound t n farm after before now ends) (h : IsRound r t n b.done b.left) (m : Matches b farm.calls) (b' : State) (last : Standing)
     (at : IsAtClock r t b farm.calls last first before)
-    (meets : MeetsRun r n w.filled (standing b' after.failed now) last) where
+    (meets : MeetsRun r n w.filled_seats (standing b' after.failed now) last) where
   -- whether a call is open at the clock
   abbrev pub alive : ℕ → Bool
   alive = is_open (gone_at (whole_in r) t b.done) b.done
@@ -64,9 +64,9 @@ module _ (r : Run) (t n : ℕ) (b : State) (farm after : FarmMemory) (first befo
   abbrev hs : ℕ → Option CallHistory
   hs = histories_at r b.done t
 
-  -- and at its end, those that end in it too
+  -- what each call has had at the round's end, those that end in it too
   abbrev worked_at_end : ℕ → Option CallHistory
-  worked_at_end = worked_histories w.filled (partner_in farm.calls) hs
+  worked_at_end = worked_histories w.filled_seats (partner_in farm.calls) hs
 
   -- what is known of the latter
   abbrev Past : ℕ → CallHistory → Type 0
@@ -75,35 +75,35 @@ module _ (r : Run) (t n : ℕ) (b : State) (farm after : FarmMemory) (first befo
   abbrev past : (c : ℕ) → alive c ≡ true → (x : CallHistory) × (worked_at_end c ≡ Some x) × Past c x
   past c o = worked_past r t n b farm after first before now ends w h m b' last at meets c o
 
-  -- a call that isn't open has no seat,
+  -- a call that isn't open for the run isn't so for the farm
   shut : (c : ℕ) → alive c ≡ false → is_some (call_in farm.calls c) ≡ false
   shut c o = open_is r t n b farm after first before now ends w h m b' last at meets c ∙ o
 
-  -- no period in the round,
+  -- a call that isn't open has no period in the round
   pub idle : (c : ℕ) → IsOpened r c → alive c ≡ false → worked_to r (t + n) c ≡ worked_to r t c
   idle c i o =
       let within = h.within in
       worked_idle r t (t + n) b.done b.left c h.so_far (omega arith) (omega arith) h.clear o i
 
-  -- and its lines stay
+  -- the lines of a call that isn't open stay
   pub kept : (c : ℕ) → alive c ≡ false → (s : Side) → now c s ≡ before c s
   kept c o s = lines_kept t n farm after before now ends w c (shut c o) s
 
   -- what a call's job left in its seat
   abbrev left_io : (c : ℕ) → alive c ≡ true → IoMemory
   left_io c o = let s = seat c o in let x =
-      seat_at w.filled s.k in io_after (who_in r c) (places_in r b.done t n c) (periods_to r c (t + places_in r b.done t n c - start_of b.done c)) (io_of x)
+      seat_at w.filled_seats s.k in io_after (who_in r c) (places_in r b.done t n c) (periods_to r c (t + places_in r b.done t n c - start_of b.done c)) (io_of x)
 
   -- the seat behind the work has that
-  seat_left : (c : ℕ) (o : alive c ≡ true) → let s = seat c o in seat_at w.worked s.k ≡ seat_with (seat_at w.filled s.k).lines (left_io c o)
+  seat_left : (c : ℕ) (o : alive c ≡ true) → let s = seat c o in seat_at w.worked_seats s.k ≡ seat_with (seat_at w.filled_seats s.k).lines (left_io c o)
   seat_left c o =
       let s = seat c o in
       let p = past c o in
       let l = s.within in
-      let x = seat_at w.filled s.k in
+      let x = seat_at w.filled_seats s.k in
       w.octets hs at.follows.stands s.k p.0 (omega (arith, l, w.filled_number, w.number)) (ap worked_at_end s.number ∙ p.1)
-      ∙ ap (λ (k : ℕ). seat_with x.lines (io_after (whose (call_at w.filled s.k) p.0) k p.0.periods (io_of x))) s.whole
-      ∙ ap (λ (ts : List CallPeriod). seat_with x.lines (io_after (whose (call_at w.filled s.k) p.0) (places_in r b.done t n c) ts (io_of x))) p.2.periods
+      ∙ ap (λ (k : ℕ). seat_with x.lines (io_after (whose (call_at w.filled_seats s.k) p.0) k p.0.periods (io_of x))) s.whole
+      ∙ ap (λ (ts : List CallPeriod). seat_with x.lines (io_after (whose (call_at w.filled_seats s.k) p.0) (places_in r b.done t n c) ts (io_of x))) p.2.periods
       ∙ ap (λ (d : ℕ). seat_with x.lines (io_after (whose d p.0) (places_in r b.done t n c)
       (periods_to r c (t + places_in r b.done t n c - start_of b.done c)) (io_of x))) s.number
       ∙ ap (λ (l : Law). seat_with x.lines (io_after (record { number = c; law = l }) (places_in r b.done t n c)
@@ -112,32 +112,32 @@ module _ (r : Run) (t n : ℕ) (b : State) (farm after : FarmMemory) (first befo
   -- **What a line is to have gained grows by what goes out of the call's seat.**
   pub grown_out : (c : ℕ) (o : alive c ≡ true) → let s = seat c o in
       out_line (who_in r c) (periods_to r c (worked_to r (t + n) c)) ≡ out_line (who_in r c) (periods_to r c (worked_to r t c))
-      ++ seats.out_given (seat_at w.worked s.k)
+      ++ seats.out_given (seat_at w.worked_seats s.k)
   grown_out c o =
       let s = seat c o in
       let k = places_in r b.done t n c in
-      let x = seat_at w.filled s.k in
+      let x = seat_at w.filled_seats s.k in
       let begun = (open_at r t b.done c (standing_now r t b.done b.left h.so_far) o).begun in
       ap (λ (k : ℕ). out_line (who_in r c) (periods_to r c k)) (worked_then r t n b.done b.left c h o)
       ∙ out_written r t k b.done c (io_of x) (left_io c o) begun refl
       ∙ ap (λ (xs : List ℕ). out_line (who_in r c) (periods_to r c (t - start_of b.done c)) ++ xs)
       (sym (ap seats.out_given (seat_left c o) ∙ ap (λ (k : ℕ). take (160 * k) (left_io c o).out) s.whole))
-      ∙ sym (ap (λ (k : ℕ). out_line (who_in r c) (periods_to r c k) ++ seats.out_given (seat_at w.worked s.k)) (worked_now r t n b.done b.left c h o))
+      ∙ sym (ap (λ (k : ℕ). out_line (who_in r c) (periods_to r c k) ++ seats.out_given (seat_at w.worked_seats s.k)) (worked_now r t n b.done b.left c h o))
 
-  -- the same of the downlink
+  -- what the Down line is to have gained grows by what goes out of the call's seat
   pub grown_down : (c : ℕ) (o : alive c ≡ true) → let s = seat c o in
       down_octets (who_in r c) (periods_to r c (worked_to r (t + n) c))
-      ≡ down_octets (who_in r c) (periods_to r c (worked_to r t c)) ++ seats.down_given (seat_at w.worked s.k)
+      ≡ down_octets (who_in r c) (periods_to r c (worked_to r t c)) ++ seats.down_given (seat_at w.worked_seats s.k)
   grown_down c o =
       let s = seat c o in
       let k = places_in r b.done t n c in
-      let x = seat_at w.filled s.k in
+      let x = seat_at w.filled_seats s.k in
       let begun = (open_at r t b.done c (standing_now r t b.done b.left h.so_far) o).begun in
       ap (λ (k : ℕ). down_octets (who_in r c) (periods_to r c k)) (worked_then r t n b.done b.left c h o)
       ∙ down_written r t k b.done c (io_of x) (left_io c o) begun refl
       ∙ ap (λ (xs : List ℕ). down_octets (who_in r c) (periods_to r c (t - start_of b.done c)) ++ xs)
       (sym (ap seats.down_given (seat_left c o) ∙ ap (λ (k : ℕ). take (40 * k) (left_io c o).down) s.whole))
-      ∙ sym (ap (λ (k : ℕ). down_octets (who_in r c) (periods_to r c k) ++ seats.down_given (seat_at w.worked s.k)) (worked_now r t n b.done b.left c h o))
+      ∙ sym (ap (λ (k : ℕ). down_octets (who_in r c) (periods_to r c k) ++ seats.down_given (seat_at w.worked_seats s.k)) (worked_now r t n b.done b.left c h o))
 
   -- ---- what is written, from a period on
 
@@ -162,15 +162,15 @@ module _ (r : Run) (t n : ℕ) (b : State) (farm after : FarmMemory) (first befo
       let was = wrote.out c (opened_is r t n b farm after first before now ends w h m b' last at meets c o) in
       subst (λ (x : Bool). HasWritten x (first c Out) (now c Out) (drop k (out_line (who_in r c) (periods_to r c (worked_to r (t + n) c)))))
       (stands_out t n farm after before now ends w s.k c s.within s.here)
-      (subst (HasWritten (has_failed (seat_at w.drained s.k).lines.out) (first c Out) (now c Out))
-      (sym (ap (drop k) (grown_out c o) ∙ drop-append-le k old (seats.out_given (seat_at w.worked s.k)) fits))
-      (gains (first c Out) (w.between c Out) (now c Out) (seat_at w.worked s.k).lines.out (seat_at w.drained s.k).lines.out front
-      (seats.out_given (seat_at w.worked s.k)) (writes_at t n farm after before now ends w s.k c s.within s.here written).out
+      (subst (HasWritten (has_failed (seat_at w.drained_seats s.k).lines.out) (first c Out) (now c Out))
+      (sym (ap (drop k) (grown_out c o) ∙ drop-append-le k old (seats.out_given (seat_at w.worked_seats s.k)) fits))
+      (gains (first c Out) (w.between c Out) (now c Out) (seat_at w.worked_seats s.k).lines.out (seat_at w.drained_seats s.k).lines.out front
+      (seats.out_given (seat_at w.worked_seats s.k)) (writes_at t n farm after before now ends w s.k c s.within s.here written).out
       (subst (λ (x : Bool). HasWritten x (first c Out) (w.between c Out) front)
       (sym (was_out t n farm after before now ends w s.k c s.within s.here))
       (subst (λ (l : LineState). HasWritten (is_listed farm.failed c Out) (first c Out) l front) (sym (out_between t n farm after before now ends w c)) was))))
 
-  -- the same of the downlink
+  -- the Down line gains that, or a proper prefix of it
   wrote_down : w.held ≡ false → (from : ℕ) → from ≤ t → WrittenFrom r from t (is_listed farm.failed) first before → (c : ℕ) → alive c ≡ true →
       HasWritten (is_listed after.failed c Down) (first c Down) (now c Down)
       (drop (40 * worked_to r from c) (down_octets (who_in r c) (periods_to r c (worked_to r (t + n) c))))
@@ -184,10 +184,10 @@ module _ (r : Run) (t n : ℕ) (b : State) (farm after : FarmMemory) (first befo
       let was = wrote.down c (opened_is r t n b farm after first before now ends w h m b' last at meets c o) in
       subst (λ (x : Bool). HasWritten x (first c Down) (now c Down) (drop k (down_octets (who_in r c) (periods_to r c (worked_to r (t + n) c)))))
       (stands_down t n farm after before now ends w s.k c s.within s.here)
-      (subst (HasWritten (has_failed (seat_at w.drained s.k).lines.down) (first c Down) (now c Down))
-      (sym (ap (drop k) (grown_down c o) ∙ drop-append-le k old (seats.down_given (seat_at w.worked s.k)) fits))
-      (gains (first c Down) (w.between c Down) (now c Down) (seat_at w.worked s.k).lines.down (seat_at w.drained s.k).lines.down front
-      (seats.down_given (seat_at w.worked s.k)) (writes_at t n farm after before now ends w s.k c s.within s.here written).down
+      (subst (HasWritten (has_failed (seat_at w.drained_seats s.k).lines.down) (first c Down) (now c Down))
+      (sym (ap (drop k) (grown_down c o) ∙ drop-append-le k old (seats.down_given (seat_at w.worked_seats s.k)) fits))
+      (gains (first c Down) (w.between c Down) (now c Down) (seat_at w.worked_seats s.k).lines.down (seat_at w.drained_seats s.k).lines.down front
+      (seats.down_given (seat_at w.worked_seats s.k)) (writes_at t n farm after before now ends w s.k c s.within s.here written).down
       (subst (λ (x : Bool). HasWritten x (first c Down) (w.between c Down) front)
       (sym (was_down t n farm after before now ends w s.k c s.within s.here))
       (subst (λ (l : LineState). HasWritten (is_listed farm.failed c Down) (first c Down) l front)

@@ -58,7 +58,7 @@ work_round-requires-clause-within g c κs lives = let by = goes g c in omega (ar
 pub work_round-requires-clause-clear : goal.work_round-requires-clause-clear
 work_round-requires-clause-clear g c κs lives = let by = goes g c in by.3
 
--- the same after it
+-- how far the round went
 went : (g : Over) (c : goal.After-work_round g) → (1 ≤ c.round_periods-periods.result) × (c.round_periods-periods.result ≤ c.args.pace.now.batch)
     × (c.args.stage.clock + c.round_periods-periods.result ≤ c.args.until)
     × IfSome (first_stamp c.execute_orders.new.board.left) (λ s. c.args.stage.clock + c.round_periods-periods.result ≤ s)

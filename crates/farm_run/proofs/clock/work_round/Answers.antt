@@ -92,8 +92,8 @@ round g c =
     let plan = c.in_ok-round.ensures in
     let fill = c.fill.ensures in
     let work = c.work-worked.ensures in
-    let drain = c.settle-farm.ensures in
-    let settled = drain.settled in
+    let settle = c.settle-farm.ensures in
+    let settled = settle.settled in
     let made : IsMade c.args.stage.farm c.settle-farm.result c.in_ok-round.round c.fill.new.self c.work-worked.result = record {
       kept = fill.kept;
       farm_planned = plan.farm ∙ ap (λ (n : ℕ). record c.args.stage.farm { ended = n }) (sym (ap (λ (f : FarmMemory). f.ended) plan.farm));
@@ -101,13 +101,13 @@ round g c =
       partners_worked = work.partners;
       stands = work.stands;
       octets = work.octets;
-      passed = drain.passed;
+      passed = settle.passed;
     } in
     record {
-      planned = c.in_ok-round.round.seats;
-      filled = c.fill.new.self.seats;
-      worked = c.work-worked.result.seats;
-      drained = settled.seats;
+      planned_seats = c.in_ok-round.round.seats;
+      filled_seats = c.fill.new.self.seats;
+      worked_seats = c.work-worked.result.seats;
+      drained_seats = settled.seats;
       between = g.T.Trunk.lines c.fill.new.trunk;
       live = c.requires.live;
       number = plan.number;
@@ -152,7 +152,7 @@ in_run g c r first last l at = record { so_far = at.follows.so_far; some = c.req
 -- the round is that of a run that goes on from behind it
 meets : (g : Over) (c : goal.After-settle-farm g) (r : Run) (last : Standing) → HasFlags r last →
     StandingGoesOn (standing c.tell_ends.new.board c.settle-farm.result.failed (g.T.Trunk.lines c.settle-farm.new.trunk)) last →
-    MeetsRun r c.args.periods (round g c).filled (standing c.tell_ends.new.board c.settle-farm.result.failed (g.T.Trunk.lines c.settle-farm.new.trunk)) last
+    MeetsRun r c.args.periods (round g c).filled_seats (standing c.tell_ends.new.board c.settle-farm.result.failed (g.T.Trunk.lines c.settle-farm.new.trunk)) last
 meets g c r last flags on =
     let told = c.tell_ends.ensures in
     meets_run _ _ c.args.stage.board _ _ _ _ _ (round g c) c.requires.stage.clock c.requires.stage.knows c.tell_ends.new.board told.told

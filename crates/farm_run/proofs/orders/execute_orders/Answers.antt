@@ -8,9 +8,8 @@ use Rattle.run_spec.specs.Run.{Run}
 use Rattle.farm_run.specs.Match.{histories_at, FollowsRun}
 use Rattle.farm_run.specs.declared.notes.SentBefore.{SentBefore}
 use Rattle.farm_run.specs.Standing.{KnowsListed}
-use Rattle.farm_run.specs.Noted.{Noted}
-use Rattle.farm_run.proofs.Noted.Orders.{noted_quiet}
-use Rattle.farm_run.proofs.Noted.Accepted.{noted_accepted}
+use Rattle.farm_run.specs.Noted.{IsNotedAt}
+use Rattle.farm_run.proofs.Noted.Orders.{noted_quiet, noted_accepted}
 use Rattle.farm_run.proofs.Ordered.Doing.{done_then, board_turned, board_then}
 use Rattle.farm_run.proofs.Ordered.Due.{due_of, left_fewer, ahead_more}
 use Rattle.farm_run.proofs.Ordered.Following.{follows_more, follows_same}
@@ -72,7 +71,7 @@ loop-reply-preserved c =
       follows = follows;
       noted = λ r under f noted.
           let h = histories_at r b.done t in
-          subst (λ (k : List SentBefore). Noted r n.done t k later.tallies) (sym (c.note.ensures.noted h f.stands))
+          subst (λ (k : List SentBefore). IsNotedAt r n.done t k later.tallies) (sym (c.note.ensures.noted h f.stands))
           (noted_accepted r t b n c.in-Some.reply farm.calls later.calls due under f (follows r under f) ns farm.tallies later.tallies noted c.in-Ok.act c.in-Ok.is
           does.finds does.opened does.is_open (c.in_ok-apply.ensures.tallies h f.stands));
     })

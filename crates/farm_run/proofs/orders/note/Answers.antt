@@ -8,8 +8,8 @@ use Rattle.farm_run.proofs.Reported.Reporting.{kept_value}
 use Rattle.farm_run.proofs.orders.note.Goals as goal
 
 -- the notes with one more
-abbrev noted : List SentBefore → ℕ → ℕ → List SentBefore
-noted notes by_a by_b = notes ++ record { by_a = by_a; by_b = by_b } ∷ []
+abbrev notes_with : List SentBefore → ℕ → ℕ → List SentBefore
+notes_with notes by_a by_b = notes ++ record { by_a = by_a; by_b = by_b } ∷ []
 
 pub returns-in-Bridged-clause-noted : goal.returns-in-Bridged-clause-noted
 returns-in-Bridged-clause-noted c = λ h g.
@@ -22,6 +22,6 @@ returns-in-Bridged-clause-noted c = λ h g.
     let sent_b : c.sent-in-Bridged.result ≡ (kept_in farm.tallies h b).sent =
     kept_value (λ (t : Tally). t.sent) h farm.calls farm.tallies b c.sent-in-Bridged.result g
     (λ x. c.sent-in-Bridged.ensures.live h x g) c.sent-in-Bridged.ensures.ended in
-    c.bridge.ensures ∙ ap (λ (v : ℕ). noted start v c.sent-in-Bridged.result) sent_a
-    ∙ ap (λ (v : ℕ). noted start (kept_in farm.tallies h a).sent v) sent_b
+    c.bridge.ensures ∙ ap (λ (v : ℕ). notes_with start v c.sent-in-Bridged.result) sent_a
+    ∙ ap (λ (v : ℕ). notes_with start (kept_in farm.tallies h a).sent v) sent_b
     ∙ ap (λ (x : Act). noted_by x (λ d. (kept_in farm.tallies h d).sent) start) (sym c.in-Bridged.is)
