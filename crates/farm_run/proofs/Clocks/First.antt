@@ -99,8 +99,10 @@ clock_first b orders none untold shut alone = record {
     by (o ∷ os) = omega arith
 
 -- **A board, a farm and notes before the first order are the first stage of a run.**
-pub first_stage : (orders : List Order) (outgoing : Outgoing) (s : Stage) → AreOrders orders → s.board ≡ new_board orders → ((t : ℕ) → EndBefore t s.board) →
-    ((c : ℕ) → open_now s.board c ≡ false) → ((c : ℕ) → partner_now s.board c ≡ None) → s.farm ≡ home_memory → CallsStand (λ c. None) s.farm.calls →
+pub first_stage : (orders : List Order) (outgoing : Outgoing) (s : Stage) → AreOrders orders →
+    s.board ≡ new_board orders → ((t : ℕ) → EndBefore t s.board) →
+    ((c : ℕ) → open_now s.board c ≡ false) → ((c : ℕ) → partner_now s.board c ≡ None) →
+    s.farm ≡ home_memory → CallsStand (λ c. None) s.farm.calls →
     s.notes ≡ [] → s.outgoing ≡ outgoing → s.clock ≡ 0 → IsFirstStage orders outgoing s
 first_stage orders outgoing s are start untold shut alone farm history noted way clock = record {
   stage = record {
@@ -136,7 +138,8 @@ first_stage orders outgoing s are start untold shut alone farm history noted way
     none_failed = ap (λ (f : FarmMemory). f.failed) farm
 
 -- **A run begins with no call.**
-pub at_first : (r : Run) (b : State) (calls : List Kept) (periods : ℕ) (lines : ℕ → Side → LineState) (last : Standing) → AreOrders (orders_of b) →
+pub at_first : (r : Run) (b : State) (calls : List Kept) (periods : ℕ)
+    (lines : ℕ → Side → LineState) (last : Standing) → AreOrders (orders_of b) →
     b.done ≡ [] → CallsStand (λ c. None) calls →
     IsRunOver (orders_of b) periods last.listed lines last.lines r → IsAtClock r 0 b calls last lines lines
 at_first r b calls periods lines last a none g run =

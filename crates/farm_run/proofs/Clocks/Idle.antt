@@ -27,7 +27,8 @@ use Rattle.farm_run.proofs.Ordered.Due.{open_told}
 use Rattle.farm_run.proofs.Clocks.Reach.{worked_idle, ended_before}
 
 -- **The clock goes on to the next order, or to the run's end.**
-pub clock_on : (t u : ℕ) (b : State) (calls : List Kept) → AtClock t b calls → t ≤ u → IfSome (first_stamp b.left) (λ s. u ≤ s) → AtClock u b calls
+pub clock_on : (t u : ℕ) (b : State) (calls : List Kept) → AtClock t b calls → t ≤ u →
+    IfSome (first_stamp b.left) (λ s. u ≤ s) → AtClock u b calls
 clock_on t u b calls a l n = record {
   orders = a.orders;
   ahead = n;
@@ -41,7 +42,8 @@ clock_on t u b calls a l n = record {
     by (Some at) h = omega arith
 
 -- The lesser of the next order's stamp and the limit comes later, and passes neither.
-pub goes_to : (t until u : ℕ) (next stamp : Option ℕ) → u ≡ min (unwrap_or next until) until → next ≡ stamp → t < until → IfSome stamp (λ s. t < s) →
+pub goes_to : (t until u : ℕ) (next stamp : Option ℕ) → u ≡ min (unwrap_or next until) until →
+    next ≡ stamp → t < until → IfSome stamp (λ s. t < s) →
     (t < u) × (u ≤ until) × IfSome stamp (λ s. u ≤ s)
 goes_to t until u next stamp is same l later =
     by stamp (subst (λ (o : Option ℕ). u ≡ min (unwrap_or o until) until) same is) later
@@ -51,7 +53,8 @@ goes_to t until u next stamp is same l later =
     by (Some s) is later = (omega (arith, is, l, later), omega (arith, is), omega (arith, is))
 
 -- A round of a batch, or of the periods up to there, has some periods and doesn't pass it.
-pub goes_by : (batch t until n : ℕ) (next stamp : Option ℕ) → n ≡ min batch (min (unwrap_or next until) until - t) → next ≡ stamp → 1 ≤ batch → t < until →
+pub goes_by : (batch t until n : ℕ) (next stamp : Option ℕ) →
+    n ≡ min batch (min (unwrap_or next until) until - t) → next ≡ stamp → 1 ≤ batch → t < until →
     IfSome stamp (λ s. t < s) → (1 ≤ n) × (n ≤ batch) × (t + n ≤ until) × IfSome stamp (λ s. t + n ≤ s)
 goes_by batch t until n next stamp is same some l later =
     by stamp (subst (λ (o : Option ℕ). n ≡ min batch (min (unwrap_or o until) until - t)) same is) later
@@ -61,7 +64,8 @@ goes_by batch t until n next stamp is same some l later =
     by None is later = (omega (arith, is, l, some), omega (arith, is), omega (arith, is, l), tt)
     by (Some s) is later = (omega (arith, is, l, later, some), omega (arith, is), omega (arith, is, l), omega (arith, is, later))
 
-module _ (r : Run) (t u : ℕ) (b : State) (calls : List Kept) (last : Standing) (first now : ℕ → Side → LineState) (at : IsAtClock r t b calls last first now)
+module _ (r : Run) (t u : ℕ) (b : State) (calls : List Kept) (last : Standing)
+    (first now : ℕ → Side → LineState) (at : IsAtClock r t b calls last first now)
     (l : t ≤ u) (w : u ≤ r.periods)
     (n : IfSome (first_stamp b.left) (λ s. u ≤ s)) (shut : (c : ℕ) → is_open (gone_at (whole_in r) t b.done) b.done c ≡ false) where
   -- no call is open at the later clock

@@ -20,18 +20,21 @@ use Rattle.farm_run.proofs.Clocks.Reach.{worked_all}
 use Rattle.farm_run.proofs.Clocks.First.{none_worked}
 
 -- a line that didn't fail holds the rest of its octets
-pub rest_of : (fails : Bool) (now end : LineState) (k : ℕ) (line : List ℕ) → fails ≡ false → IsToCome now k line (never_given fails end) → IsReadTo now k line
+pub rest_of : (fails : Bool) (now end : LineState) (k : ℕ) (line : List ℕ) → fails ≡ false →
+    IsToCome now k line (never_given fails end) → IsReadTo now k line
 rest_of false now end k line e h = h ∙ ap Some (append-nil (drop k line))
 rest_of true now end k line e h = cc
 
 -- **From period 0 on is all that was written.**
-pub all_out : (r : Run) (t c : ℕ) (listed : ℕ → Side → Bool) (first now : ℕ → Side → LineState) → WrittenFrom r 0 t listed first now → IsOpened r c →
+pub all_out : (r : Run) (t c : ℕ) (listed : ℕ → Side → Bool) (first now : ℕ → Side → LineState) →
+    WrittenFrom r 0 t listed first now → IsOpened r c →
     HasWritten (listed c Out) (first c Out) (now c Out) (out_line (who_in r c) (periods_to r c (worked_to r t c)))
 all_out r t c listed first now wrote i =
     subst (λ (k : ℕ). HasWritten (listed c Out) (first c Out) (now c Out) (drop (160 * k) (out_line (who_in r c) (periods_to r c (worked_to r t c)))))
     (none_worked r c) (wrote.out c i)
 
-pub all_down : (r : Run) (t c : ℕ) (listed : ℕ → Side → Bool) (first now : ℕ → Side → LineState) → WrittenFrom r 0 t listed first now → IsOpened r c →
+pub all_down : (r : Run) (t c : ℕ) (listed : ℕ → Side → Bool) (first now : ℕ → Side → LineState) →
+    WrittenFrom r 0 t listed first now → IsOpened r c →
     HasWritten (listed c Down) (first c Down) (now c Down) (down_octets (who_in r c) (periods_to r c (worked_to r t c)))
 all_down r t c listed first now wrote i =
     subst (λ (k : ℕ). HasWritten (listed c Down) (first c Down) (now c Down) (drop (40 * k) (down_octets (who_in r c) (periods_to r c (worked_to r t c)))))

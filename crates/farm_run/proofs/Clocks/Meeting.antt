@@ -42,7 +42,8 @@ reads_more first before now g h d s octets i e =
     (k.0 + l.0, l.1 ∙ ap Some (drop-drop l.0 k.0 octets))
 
 -- **Orders come in front of what comes next.**
-pub ordered : (b b' : State) (was is : List Line) (lines : ℕ → Side → LineState) (last : Standing) → ((c : ℕ) → is_over b c ≡ true → is_over b' c ≡ true) →
+pub ordered : (b b' : State) (was is : List Line) (lines : ℕ → Side → LineState) (last : Standing) →
+    ((c : ℕ) → is_over b c ≡ true → is_over b' c ≡ true) →
     is ≡ was → StandingGoesOn (standing b' is lines) last → StandingGoesOn (standing b was lines) last
 ordered b b' was is lines last over same on = record {
   over = λ c e. on.over c (over c e);
@@ -70,7 +71,8 @@ pub record Meets (m : ℕ) (rest : List ℕ) (failing : Bool) (now : LineState) 
 
 -- **A round of a run that goes on to its end meets it.**
 pub meets : (m : ℕ) (c : ℕ) (s : Side) (now last : Standing) (t : Taken) (ys : List ℕ) → IsIncoming s → StandingGoesOn now last →
-    (now.lines c s).to_come ≡ Some ys → now.listed c s ≡ t.failed → t.count ≤ m → (t.failed ≡ true → t.count < m) → (t.count < m → now.over c ≡ true) →
+    (now.lines c s).to_come ≡ Some ys → now.listed c s ≡ t.failed → t.count ≤ m →
+    (t.failed ≡ true → t.count < m) → (t.count < m → now.over c ≡ true) →
     Meets m (never_given (last.listed c s) (last.lines c s)) (last.listed c s) (now.lines c s) t
 meets m c s now last t ys i g told listed bound short ends = record {
   whole = λ e. ap (λ (b : Bool). never_given b (last.lines c s)) e;

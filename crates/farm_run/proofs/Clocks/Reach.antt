@@ -30,7 +30,8 @@ use Rattle.farm_run.proofs.Rounds.Ends.{ends_there, start_kept}
 -- ---- a call that is open
 
 -- **In a round it gets as far as its lines give, where the run ends it if that isn't the round's end.**
-pub end_after : (r : Run) (t n : ℕ) (ds : List Done) (left : List Order) (c : ℕ) → IsRound r t n ds left → is_open (gone_at (whole_in r) t ds) ds c ≡ true →
+pub end_after : (r : Run) (t n : ℕ) (ds : List Done) (left : List Order) (c : ℕ) →
+    IsRound r t n ds left → is_open (gone_at (whole_in r) t ds) ds c ≡ true →
     min (t + n) (end_in r c) ≡ t + places_in r ds t n c
 end_after r t n ds left c h o = elim (cases_lt (places_in r ds t n c) n) [
   | inl l ↦
@@ -76,7 +77,8 @@ open_before_end r t n ds left c h o = by (end_in r c) (places_in r ds t n c) (en
     by e m q = omega arith
 
 -- an open call has had the periods since it began
-pub worked_now : (r : Run) (t n : ℕ) (ds : List Done) (left : List Order) (c : ℕ) → IsRound r t n ds left → is_open (gone_at (whole_in r) t ds) ds c ≡ true →
+pub worked_now : (r : Run) (t n : ℕ) (ds : List Done) (left : List Order) (c : ℕ) →
+    IsRound r t n ds left → is_open (gone_at (whole_in r) t ds) ds c ≡ true →
     worked_to r t c ≡ t - start_of ds c
 worked_now r t n ds left c h o = by (end_in r c) (open_before_end r t n ds left c h o) ∙ ap (λ (s : ℕ). t - s) (start_kept r t n ds left c h o)
   where
@@ -87,7 +89,8 @@ worked_now r t n ds left c h o = by (end_in r c) (open_before_end r t n ds left 
         least e l = omega arith
 
 -- after a round an open call has had also the periods that its lines gave in it
-pub worked_then : (r : Run) (t n : ℕ) (ds : List Done) (left : List Order) (c : ℕ) → IsRound r t n ds left → is_open (gone_at (whole_in r) t ds) ds c ≡ true →
+pub worked_then : (r : Run) (t n : ℕ) (ds : List Done) (left : List Order) (c : ℕ) →
+    IsRound r t n ds left → is_open (gone_at (whole_in r) t ds) ds c ≡ true →
     worked_to r (t + n) c ≡ t + places_in r ds t n c - start_of ds c
 worked_then r t n ds left c h o = ap (λ (m : ℕ). m - start_of (done_in r) c) (end_after r t n ds left c h o)
     ∙ ap (λ (s : ℕ). t + places_in r ds t n c - s) (start_kept r t n ds left c h o)
@@ -120,7 +123,8 @@ opened_later r u ds left c so none o = by (opened_at c (rest_in r ds left)) refl
         subst (λ (m : ℕ). u ≤ m) (sym (start_is (done_in r) c s (same ∙ e))) (stamp (find (λ d. is_this c (opened_by d.result)) (rest_in r ds left)) refl s e)
 
 -- a closed call has ended at or before the clock
-closed_past : (r : Run) (t : ℕ) (ds : List Done) (left : List Order) (c e : ℕ) → IsSoFar r t ds left → closed_at c ds ≡ Some e → end_in r c ≤ t
+closed_past : (r : Run) (t : ℕ) (ds : List Done) (left : List Order) (c e : ℕ) →
+    IsSoFar r t ds left → closed_at c ds ≡ Some e → end_in r c ≤ t
 closed_past r t ds left c e so q =
     let past : e ≤ t = subst (λ (v : Option ℕ). IfSome v (λ e. e ≤ t)) q (closed_stamp (λ e. e ≤ t) c ds (recursion_from_All _ ds so.past)) in
     subst (λ (m : ℕ). m ≤ t) (sym (ap at_of (end_closed r t ds left c (start_of (done_in r) c) e so q))) past
@@ -172,7 +176,8 @@ abbrev IsByLines : Run → ℕ → CallEnd → Type 0
 IsByLines r c end = (IsCutOff end.cause → ⊥) → (end.at ≡ start_in r c + whole_in r c) × (end.at < r.periods)
 
 -- **It ends after the whole periods that they give, before the run's end.**
-pub ended_by_lines : (r : Run) (c : ℕ) → (IsCutOff (cause_in r c) → ⊥) → (end_in r c ≡ start_in r c + whole_in r c) × (end_in r c < r.periods)
+pub ended_by_lines : (r : Run) (c : ℕ) → (IsCutOff (cause_in r c) → ⊥) →
+    (end_in r c ≡ start_in r c + whole_in r c) × (end_in r c < r.periods)
 ended_by_lines r c = by (closed_at c (done_in r)) refl
   where
     there : (b : Bool) → nat_le r.periods (start_in r c + whole_in r c) ≡ b →
@@ -190,7 +195,8 @@ ended_by_lines r c = by (closed_at c (done_in r)) refl
 
 -- **If it isn't open and ends before the next order, it has ended before the clock.**
 pub ended_before : (r : Run) (t u : ℕ) (ds : List Done) (left : List Order) (c : ℕ) → IsSoFar r t ds left → t ≤ u →
-    IfSome (first_stamp left) (λ s. u ≤ s) → is_open (gone_at (whole_in r) t ds) ds c ≡ false → IsOpened r c → (IsCutOff (cause_in r c) → ⊥) →
+    IfSome (first_stamp left) (λ s. u ≤ s) → is_open (gone_at (whole_in r) t ds) ds c ≡ false →
+    IsOpened r c → (IsCutOff (cause_in r c) → ⊥) →
     end_in r c < u → end_in r c < t
 ended_before r t u ds left c so l n shut o not early = by (opened_at c ds) refl
   where
@@ -204,7 +210,9 @@ ended_before r t u ds left c so l n shut o not early = by (opened_at c ds) refl
         at_order : (e : ℕ) → closed_at c ds ≡ Some e → end_in r c < t
         at_order e f = absurd (not (subst (λ (end : CallEnd). IsCutOff end.cause) (sym (end_closed r t ds left c (start_in r c) e so f)) tt))
 
-        closed : (v : Option ℕ) → closed_at c ds ≡ v → ((e : ℕ) × (closed_at c ds ≡ Some e)) ⊎ (gone_at (whole_in r) t ds c ≡ true) → end_in r c < t
+        closed : (v : Option ℕ) → closed_at c ds ≡ v →
+            ((e : ℕ) × (closed_at c ds ≡ Some e)) ⊎ (gone_at (whole_in r) t ds c ≡ true) →
+            end_in r c < t
         closed (Some e) f k = at_order e f
         closed None f (inl k) = at_order k.0 k.1
         closed None f (inr k) =

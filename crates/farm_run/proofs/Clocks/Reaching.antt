@@ -46,7 +46,8 @@ reaches_none batch s lines stage = record {
 }
 
 -- **Two parts are one.**
-pub reaches_more : (batch : ℕ) (s u v : Stage) (before between now : ℕ → Side → LineState) → Reaches batch s u before between → Reaches batch u v between now →
+pub reaches_more : (batch : ℕ) (s u v : Stage) (before between now : ℕ → Side → LineState) →
+    Reaches batch s u before between → Reaches batch u v between now →
     Reaches batch s v before now
 reaches_more batch s u v before between now g h = record {
   later = (let a = g.later in let b = h.later in omega arith);
@@ -104,7 +105,8 @@ pub record GoneTo (orders : List Order) (batch : ℕ) (first now : ℕ → Side 
       StandingGoesOn (standing u.board u.farm.failed now) last → ReadBy r batch u.clock last.listed now
 
 -- the run's clock is 0 before its first order
-at_start : (orders : List Order) (o : Outgoing) (s : Stage) (lines : ℕ → Side → LineState) (r : Run) (last : Standing) → IsFirstStage orders o s →
+at_start : (orders : List Order) (o : Outgoing) (s : Stage) (lines : ℕ → Side → LineState) (r : Run)
+    (last : Standing) → IsFirstStage orders o s →
     IsRunOver orders r.periods last.listed lines last.lines r → IsAtClock r s.clock s.board s.farm.calls last lines lines
 at_start orders o s lines r last f run =
     let clock = (let k = f.stage in k.clock) in
@@ -131,7 +133,8 @@ gone_first orders batch o s lines f = record {
 }
 
 -- **It goes on.**
-pub gone_more : (orders : List Order) (batch : ℕ) (first before now : ℕ → Side → LineState) (s u : Stage) → GoneTo orders batch first before s →
+pub gone_more : (orders : List Order) (batch : ℕ) (first before now : ℕ → Side → LineState)
+    (s u : Stage) → GoneTo orders batch first before s →
     Reaches batch s u before now → GoneTo orders batch first now u
 gone_more orders batch first before now s u g h = record {
   stage = h.stage;
@@ -157,7 +160,8 @@ gone_more orders batch first before now s u g h = record {
     at r last run within on = g.at r last run (less r within) (further _ _ _ h.goes on)
 
 -- **From its start on all is written, where nothing is held back.**
-pub wrote_first : (orders : List Order) (batch : ℕ) (o : Outgoing) (s u : Stage) (first now : ℕ → Side → LineState) → IsFirstStage orders o s →
+pub wrote_first : (orders : List Order) (batch : ℕ) (o : Outgoing) (s u : Stage)
+    (first now : ℕ → Side → LineState) → IsFirstStage orders o s →
     is_held o ≡ false → Reaches batch s u first now →
     (r : Run) (last : Standing) → IsRunOver orders r.periods last.listed first last.lines r → u.clock ≤ r.periods →
     StandingGoesOn (standing u.board u.farm.failed now) last → WrittenFrom r 0 u.clock (is_listed u.farm.failed) first now
@@ -168,7 +172,8 @@ wrote_first orders batch o s u first now f written h r last run within on =
     (subst (λ (ls : List Line). WrittenFrom r 0 0 (is_listed ls) first first) (sym f.none_failed) (written_first r 0 first)))
 
 -- **The sums are those of all octets, where there are sums.**
-pub summed_first : (orders : List Order) (batch : ℕ) (o : Outgoing) (s u : Stage) (first now : ℕ → Side → LineState) → IsFirstStage orders o s →
+pub summed_first : (orders : List Order) (batch : ℕ) (o : Outgoing) (s u : Stage)
+    (first now : ℕ → Side → LineState) → IsFirstStage orders o s →
     is_summed o ≡ true → ((c : ℕ) (side : Side) → sum_to o c side ≡ 0) → Reaches batch s u first now →
     (r : Run) (last : Standing) → IsRunOver orders r.periods last.listed first last.lines r → u.clock ≤ r.periods →
     StandingGoesOn (standing u.board u.farm.failed now) last → SumsAt r u.clock (sum_to u.outgoing)

@@ -30,7 +30,8 @@ pub ok_both : {T E : Type 0} (P Q R : T → Type 0) (o : Result T E) → ((x : T
 ok_both P Q R (Ok x) h p q = h x p q
 ok_both P Q R (Err e) h p q = tt
 
-module _ (s : Stage) (b : State) (farm : FarmMemory) (ns : List SentBefore) (stage : IsStage s) (o : OrdersDone s.clock s.board s.farm s.notes b farm ns) where
+module _ (s : Stage) (b : State) (farm : FarmMemory) (ns : List SentBefore) (stage : IsStage s)
+    (o : OrdersDone s.clock s.board s.farm s.notes b farm ns) where
   -- **What holds at a clock holds behind its orders.**
   pub stage_behind : IsStage (record s { board = b; farm = farm; notes = ns })
   stage_behind =
@@ -78,12 +79,14 @@ module _ (s : Stage) (b : State) (farm : FarmMemory) (ns : List SentBefore) (sta
       under : (r : Run) → u.clock ≤ r.periods → s.clock < r.periods
       under r within = omega (arith, less, within)
 
-      here : (r : Run) (first : ℕ → Side → LineState) (last : Standing) → u.clock ≤ r.periods → IsAtClock r s.clock s.board s.farm.calls last first before →
+      here : (r : Run) (first : ℕ → Side → LineState) (last : Standing) → u.clock ≤ r.periods →
+          IsAtClock r s.clock s.board s.farm.calls last first before →
           IsAtClock r s.clock b farm.calls last first before
       here r first last within at = record { follows = o.follows r (under r within) at.follows; lines = at.lines }
 
 -- **Where no call is open, the clock goes on up to the next order.**
-pub idle_reaches : (batch : ℕ) (s : Stage) (u : ℕ) (lines : ℕ → Side → LineState) → IsStage s → s.clock ≤ u → IfSome (first_stamp s.board.left) (λ m. u ≤ m) →
+pub idle_reaches : (batch : ℕ) (s : Stage) (u : ℕ) (lines : ℕ → Side → LineState) → IsStage s →
+    s.clock ≤ u → IfSome (first_stamp s.board.left) (λ m. u ≤ m) →
     ((c : ℕ) → is_some (call_in s.farm.calls c) ≡ false) →
     Reaches batch s (record s { clock = u }) lines lines
 idle_reaches batch s u lines stage later clear none = record {
@@ -114,6 +117,7 @@ idle_reaches batch s u lines stage later clear none = record {
       (shut r first last at) batch last.listed read;
 }
   where
-    shut : (r : Run) (first : ℕ → Side → LineState) (last : Standing) → IsAtClock r s.clock s.board s.farm.calls last first lines → (c : ℕ) →
+    shut : (r : Run) (first : ℕ → Side → LineState) (last : Standing) →
+        IsAtClock r s.clock s.board s.farm.calls last first lines → (c : ℕ) →
         is_open (gone_at (whole_in r) s.clock s.board.done) s.board.done c ≡ false
     shut r first last at = none_alive r s.clock s.board s.farm.calls stage.clock at.follows.tells none

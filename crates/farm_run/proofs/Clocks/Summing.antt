@@ -26,7 +26,9 @@ sums_first r sums none = record {
 -- **Where no call is open the sums stay those of the run.**
 pub sums_on : (r : Run) (t u : ℕ) (b : State) (calls : List Kept) (last : Standing) (first now : ℕ → Side → LineState) →
     IsAtClock r t b calls last first now → t ≤ u → u ≤ r.periods →
-    IfSome (first_stamp b.left) (λ s. u ≤ s) → ((c : ℕ) → is_open (gone_at (whole_in r) t b.done) b.done c ≡ false) → (sums : ℕ → Side → ℕ) →
+    IfSome (first_stamp b.left) (λ s. u ≤ s) →
+    ((c : ℕ) → is_open (gone_at (whole_in r) t b.done) b.done c ≡ false) →
+    (sums : ℕ → Side → ℕ) →
     SumsAt r t sums → SumsAt r u sums
 sums_on r t u b calls last first now at l w n shut sums was = record {
   out = λ c i. was.out c i ∙ ap (λ (k : ℕ). sum_of (out_line (who_in r c) (periods_to r c k))) (sym (idle r t u b calls last first now at l w n shut c i));

@@ -42,7 +42,9 @@ front k xs = elim (cases_lt (length xs) k) [
 ]
 
 -- those are the octets that the line is to give
-is_given : (fails : Bool) (before now : LineState) → ((octets : List ℕ) × (k : ℕ) × (before.to_come ≡ Some octets) × (now.to_come ≡ Some (drop k octets))) →
+is_given : (fails : Bool) (before now : LineState) →
+    ((octets : List ℕ) × (k : ℕ) × (before.to_come ≡ Some octets)
+    × (now.to_come ≡ Some (drop k octets))) →
     IsGiven fails before now (given_by fails before now)
 is_given false before now h = h.2 ∙ ap Some (sym (ap (λ (u : Option (List ℕ)). unwrap_or u []) h.2))
 is_given true before now h =

@@ -50,10 +50,13 @@ fronts_at r t b calls failed first now at wrote = record {
     least e s = omega arith
 
 -- **A run that ends at a clock is cut short there.**
-pub cut_at : (os : List Order) (batch periods t : ℕ) (b : State) (calls : List Kept) (failed : List Line) (first now : ℕ → Side → LineState) →
+pub cut_at : (os : List Order) (batch periods t : ℕ) (b : State) (calls : List Kept)
+    (failed : List Line) (first now : ℕ → Side → LineState) →
     t ≤ periods → KnowsListed b failed → TellsFailed first now failed → KeepsSides first now → ReadsOn first now →
-    ((r : Run) → IsRunOver os r.periods (is_listed failed) first now r → periods ≤ r.periods → IsAtClock r t b calls (standing b failed now) first now) →
-    ((r : Run) → IsRunOver os r.periods (is_listed failed) first now r → periods ≤ r.periods → WrittenFrom r 0 t (is_listed failed) first now) →
+    ((r : Run) → IsRunOver os r.periods (is_listed failed) first now r → periods ≤ r.periods →
+    IsAtClock r t b calls (standing b failed now) first now) →
+    ((r : Run) → IsRunOver os r.periods (is_listed failed) first now r → periods ≤ r.periods →
+    WrittenFrom r 0 t (is_listed failed) first now) →
     ((r : Run) → IsRunOver os r.periods (is_listed failed) first now r → periods ≤ r.periods → FailBefore r t (is_listed failed)) →
     ((r : Run) → IsRunOver os r.periods (is_listed failed) first now r → periods ≤ r.periods → FailedBy r batch t (is_listed failed)) →
     ((r : Run) → IsRunOver os r.periods (is_listed failed) first now r → periods ≤ r.periods → ReadBy r batch t (is_listed failed) now) →
@@ -119,7 +122,8 @@ cut_first os batch periods lines = record {
 -- ---- a resumed run
 
 -- **A resumed run that wrote nothing yet is cut short.**
-pub cut_before : (os : List Order) (batch periods t : ℕ) (mark : MarkView) (over : ℕ → Bool) (failed : List Line) (first now : ℕ → Side → LineState) →
+pub cut_before : (os : List Order) (batch periods t : ℕ) (mark : MarkView) (over : ℕ → Bool)
+    (failed : List Line) (first now : ℕ → Side → LineState) →
     t ≤ periods → t ≤ mark.period → TellsFailed first now failed → KeepsSides first now → ReadsOn first now →
     HoldsBack (is_listed []) (is_listed failed) first now →
     ((r : Run) → IsRunOver os periods (is_listed failed) first now r → OnlyOpenedFail r (is_listed failed)) →
@@ -160,8 +164,10 @@ pub cut_behind : (os : List Order) (batch periods : ℕ) (mark : MarkView) (t : 
     (first now : ℕ → Side → LineState) → mark.period ≤ t → t ≤ periods → KnowsListed b failed →
     TellsFailed first now failed → KeepsSides first now → ReadsOn first now →
     ((r : Run) → IsRunOver os mark.period (is_listed failed) first now r → marked_calls r ≡ mark.calls) →
-    ((r : Run) → IsRunOver os r.periods (is_listed failed) first now r → periods ≤ r.periods → IsAtClock r t b calls (standing b failed now) first now) →
-    ((r : Run) → IsRunOver os r.periods (is_listed failed) first now r → periods ≤ r.periods → WrittenFrom r mark.period t (is_listed failed) first now) →
+    ((r : Run) → IsRunOver os r.periods (is_listed failed) first now r → periods ≤ r.periods →
+    IsAtClock r t b calls (standing b failed now) first now) →
+    ((r : Run) → IsRunOver os r.periods (is_listed failed) first now r → periods ≤ r.periods →
+    WrittenFrom r mark.period t (is_listed failed) first now) →
     ((r : Run) → IsRunOver os r.periods (is_listed failed) first now r → periods ≤ r.periods → FailBefore r t (is_listed failed)) →
     ((r : Run) → IsRunOver os r.periods (is_listed failed) first now r → periods ≤ r.periods → FailedBy r batch t (is_listed failed)) →
     ((r : Run) → IsRunOver os r.periods (is_listed failed) first now r → periods ≤ r.periods → ReadBy r batch t (is_listed failed) now) →

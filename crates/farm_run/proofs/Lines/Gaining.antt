@@ -21,7 +21,8 @@ pub gains : (first before now : LineState) (was stands : Outlet) (front octets :
     HasWritten (has_failed was) first before front → HasWritten (has_failed stands) first now (front ++ octets)
 gains first before now was stands front octets g = by (has_failed was) refl (has_failed stands) refl
   where
-    by : (a : Bool) → has_failed was ≡ a → (b : Bool) → has_failed stands ≡ b → HasWritten a first before front → HasWritten b first now (front ++ octets)
+    by : (a : Bool) → has_failed was ≡ a → (b : Bool) → has_failed stands ≡ b →
+        HasWritten a first before front → HasWritten b first now (front ++ octets)
     by false e false f w = Appends-trans first.written before.written now.written front octets w (g.all f)
     by false e true f w =
         let part = g.front e f in
@@ -42,7 +43,8 @@ gains first before now was stands front octets g = by (has_failed was) refl (has
         )
 
 -- what was written of the first octets is a prefix of all, a proper one where the line failed inside them
-front_of : (fails : Bool) (first now : LineState) (some more : List ℕ) → HasWritten fails first now some → HasFront fails first now (some ++ more)
+front_of : (fails : Bool) (first now : LineState) (some more : List ℕ) →
+    HasWritten fails first now some → HasFront fails first now (some ++ more)
 front_of false first now some more w = (
   length some,
   subst (Appends first.written now.written)
@@ -55,7 +57,8 @@ front_of true first now some more w =
 -- ---- of more periods
 
 -- **What was written of the first m periods is a prefix of what any more give, a proper one where the line failed.**
-pub out_front : (r : Run) (c m n : ℕ) (fails : Bool) (first now : LineState) → m ≤ n → HasWritten fails first now (out_line (who_in r c) (periods_to r c m)) →
+pub out_front : (r : Run) (c m n : ℕ) (fails : Bool) (first now : LineState) → m ≤ n →
+    HasWritten fails first now (out_line (who_in r c) (periods_to r c m)) →
     HasFront fails first now (out_line (who_in r c) (periods_to r c n))
 out_front r c m n fails first now l w =
     let more = out_more r c m (n - m) n (omega (arith, l)) in
@@ -63,7 +66,8 @@ out_front r c m n fails first now l w =
 
 -- what was written of the first m periods on the Down line is such a prefix too
 pub down_front : (r : Run) (c m n : ℕ) (fails : Bool) (first now : LineState) → m ≤ n →
-    HasWritten fails first now (down_octets (who_in r c) (periods_to r c m)) → HasFront fails first now (down_octets (who_in r c) (periods_to r c n))
+    HasWritten fails first now (down_octets (who_in r c) (periods_to r c m)) →
+    HasFront fails first now (down_octets (who_in r c) (periods_to r c n))
 down_front r c m n fails first now l w =
     let more = down_on r c m (n - m) n (omega (arith, l)) in
     subst (HasFront fails first now) (sym more.1) (front_of fails first now (down_octets (who_in r c) (periods_to r c m)) more.0 w)

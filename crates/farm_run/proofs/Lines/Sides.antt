@@ -46,7 +46,8 @@ module _ (before now : ℕ → Side → LineState) (seats after : List SeatMemor
   pub sides_filled : Each Fills before now seats after n → KeepsButEach IsIncoming before now seats n → KeepsSides before now
   sides_filled fills others = record { incoming = incoming; outgoing = λ c s o. ap (λ (l : LineState). l.to_come) (others c s (λ k l e i. not_both s i o)) }
     where
-      side : (c : ℕ) (s : Side) (was is : SeatMemory) → IsIncoming s → Fills (before c) (now c) was is → (now c s).written ≡ (before c s).written
+      side : (c : ℕ) (s : Side) (was is : SeatMemory) → IsIncoming s →
+          Fills (before c) (now c) was is → (now c s).written ≡ (before c s).written
       side c Up was is i f = f.up.written
       side c Pcm was is i f = f.pcm.written
       side c Down was is i f = absurd i
@@ -63,7 +64,8 @@ module _ (before now : ℕ → Side → LineState) (seats after : List SeatMemor
   pub sides_drained : Each Drains before now seats after n → KeepsButEach IsOutgoing before now seats n → KeepsSides before now
   sides_drained drains others = record { incoming = λ c s i. ap (λ (l : LineState). l.written) (others c s (λ k l e o. not_both s i o)); outgoing = outgoing }
     where
-      side : (c : ℕ) (s : Side) (was is : SeatMemory) → IsOutgoing s → Drains (before c) (now c) was is → (now c s).to_come ≡ (before c s).to_come
+      side : (c : ℕ) (s : Side) (was is : SeatMemory) → IsOutgoing s →
+          Drains (before c) (now c) was is → (now c s).to_come ≡ (before c s).to_come
       side c Up was is o d = absurd o
       side c Pcm was is o d = absurd o
       side c Down was is o d = d.down.to_come

@@ -37,7 +37,8 @@ use Rattle.farm_run.proofs.Clocks.Reach.{worked_all}
 use Rattle.farm_run.proofs.Lines.Gaining.{out_taken, down_taken}
 
 -- **Of a call that the run opens is each line that is listed as failed.**
-pub only_opened : (r : Run) (t : ℕ) (b : State) (failed : List Line) → IsSoFar r t b.done b.left → KnowsListed b failed → OnlyOpenedFail r (is_listed failed)
+pub only_opened : (r : Run) (t : ℕ) (b : State) (failed : List Line) → IsSoFar r t b.done b.left →
+    KnowsListed b failed → OnlyOpenedFail r (is_listed failed)
 only_opened r t b failed so knows = λ c side l. by c (opened_at c b.done) refl (knows.opened c side l)
   where
     by : (c : ℕ) (v : Option ℕ) → opened_at c b.done ≡ v → is_some (opened_at c b.done) ≡ true → IsOpened r c
@@ -49,7 +50,8 @@ abbrev pub FailBefore : Run → ℕ → (ℕ → Side → Bool) → Type 0
 FailBefore r t fails = (c : ℕ) (side : Side) → IsIncoming side → fails c side ≡ true → (end_in r c < t) × (IsCutOff (cause_in r c) → ⊥)
 
 -- a line that failed short of a round's octets is one of a call that its lines ended
-by_lines : (r : Run) (batch t : ℕ) (fails : ℕ → Side → Bool) (c : ℕ) (side : Side) → FailedBy r batch t fails → IsIncoming side → fails c side ≡ true →
+by_lines : (r : Run) (batch t : ℕ) (fails : ℕ → Side → Bool) (c : ℕ) (side : Side) →
+    FailedBy r batch t fails → IsIncoming side → fails c side ≡ true →
     IsCutOff (cause_in r c) → ⊥
 by_lines r batch t fails c Up short i l = let f = short.up c l in let here = f.4 in here.by_lines
 by_lines r batch t fails c Pcm short i l = let f = short.pcm c l in let here = f.4 in here.by_lines
@@ -87,7 +89,8 @@ module _ (r : Run) (t : ℕ) (last : Standing) (first now : ℕ → Side → Lin
   up_to : (c : ℕ) → IsOpened r c → last.listed c Up ≡ false → IsReadWhole r t c → IsReadTo (now c Up) (40 * worked_to r t c) (r.lines c).up
   up_to c i f q = rest_of (last.listed c Up) (now c Up) (last.lines c Up) (40 * worked_to r t c) (r.lines c).up f (at.up_read c i q)
 
-  pcm_to : (c : ℕ) → IsOpened r c → last.listed c Pcm ≡ false → IsReadWhole r t c → IsReadTo (now c Pcm) (160 * worked_to r t c) (r.lines c).pcm
+  pcm_to : (c : ℕ) → IsOpened r c → last.listed c Pcm ≡ false → IsReadWhole r t c →
+      IsReadTo (now c Pcm) (160 * worked_to r t c) (r.lines c).pcm
   pcm_to c i f q = rest_of (last.listed c Pcm) (now c Pcm) (last.lines c Pcm) (160 * worked_to r t c) (r.lines c).pcm f (at.pcm_read c i q)
 
   -- **A run that wrote what lies before the clock stops there.**

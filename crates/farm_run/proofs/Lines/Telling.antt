@@ -43,7 +43,8 @@ module _ (os : List Order) (batch : ℕ) (first now : ℕ → Side → LineState
       (λ c s n i. let octets = told c s n i in let k = g.reads c s octets.0 i octets.1 in (octets.0, k.0, octets.1, k.1))
 
   -- a run to here has its own number of periods
-  own : (r : Run) → IsRunOver os u.clock (is_listed u.farm.failed) first now r → IsRunOver os r.periods (is_listed u.farm.failed) first now r
+  own : (r : Run) → IsRunOver os u.clock (is_listed u.farm.failed) first now r →
+      IsRunOver os r.periods (is_listed u.farm.failed) first now r
   own r run = subst (λ (p : ℕ). IsRunOver os p (is_listed u.farm.failed) first now r) (sym run.same_periods) run
 
   -- the run has the clock's periods
@@ -57,7 +58,8 @@ module _ (os : List Order) (batch : ℕ) (first now : ℕ → Side → LineState
       (g.at r last (own r run) (least r run) (stays last))
 
   -- **What is noted and kept there is the run's.**
-  pub known_end : (r : Run) → IsRunOver os u.clock (is_listed u.farm.failed) first now r → IsKnown r r.periods u.board u.farm.tallies u.notes
+  pub known_end : (r : Run) → IsRunOver os u.clock (is_listed u.farm.failed) first now r →
+      IsKnown r r.periods u.board u.farm.tallies u.notes
   known_end r run =
       subst (λ (p : ℕ). IsKnown r p u.board u.farm.tallies u.notes) (sym run.same_periods) (g.known r last (own r run) (least r run) (stays last))
 
@@ -95,7 +97,8 @@ module _ (os : List Order) (batch : ℕ) (first now : ℕ → Side → LineState
   -- **What is written by its end.**
   pub wrote_end : (from : ℕ) → ((r : Run) (z : Standing) → IsRunOver os r.periods z.listed first z.lines r → u.clock ≤ r.periods →
       StandingGoesOn (standing u.board u.farm.failed now) z → WrittenFrom r from u.clock (is_listed u.farm.failed) first now) →
-      (r : Run) → IsRunOver os u.clock (is_listed u.farm.failed) first now r → WrittenFrom r from r.periods (is_listed u.farm.failed) first now
+      (r : Run) → IsRunOver os u.clock (is_listed u.farm.failed) first now r →
+      WrittenFrom r from r.periods (is_listed u.farm.failed) first now
   wrote_end from wrote r run =
       subst (λ (p : ℕ). WrittenFrom r from p (is_listed u.farm.failed) first now) (sym run.same_periods) (wrote r last (own r run) (least r run) (stays last))
 
@@ -119,7 +122,8 @@ over_here os periods failed first now u e f r run =
 -- **A run that came to its last period leaves and reports what the run of the definition gives.**
 pub runs_told : (os : List Order) (pace : Pace) (first now : ℕ → Side → LineState) (u : Stage) (count : ℕ) (report : ReportView) →
     GoneTo os pace.batch first now u → u.clock ≡ pace.periods →
-    ((r : Run) (z : Standing) → IsRunOver os r.periods z.listed first z.lines r → u.clock ≤ r.periods → StandingGoesOn (standing u.board u.farm.failed now) z →
+    ((r : Run) (z : Standing) → IsRunOver os r.periods z.listed first z.lines r →
+    u.clock ≤ r.periods → StandingGoesOn (standing u.board u.farm.failed now) z →
     WrittenFrom r 0 u.clock (is_listed u.farm.failed) first now) →
     report.failed ≡ u.farm.failed → count ≡ length os →
     ((r : Run) (t : ℕ) → IsAtEnd r t u.board u.farm.calls u.farm.tallies u.notes → r.periods ≡ pace.periods → length r.orders ≡ count →
@@ -141,15 +145,19 @@ runs_told os pace first now u count report g e wrote f number h = record {
       (there os pace.batch first now u g are told pace.periods);
 }
   where
-    over : (r : Run) → IsRunOver os pace.periods (is_listed report.failed) first now r → IsRunOver os u.clock (is_listed u.farm.failed) first now r
+    over : (r : Run) → IsRunOver os pace.periods (is_listed report.failed) first now r →
+        IsRunOver os u.clock (is_listed u.farm.failed) first now r
     over r run = over_here os pace.periods report.failed first now u e f r run
 
 -- **Its mark is that of the definition.**
-pub saves_told : (os : List Order) (pace : Pace) (first now : ℕ → Side → LineState) (u : Stage) (saved : SavedView) → GoneTo os pace.batch first now u →
+pub saves_told : (os : List Order) (pace : Pace) (first now : ℕ → Side → LineState) (u : Stage)
+    (saved : SavedView) → GoneTo os pace.batch first now u →
     u.clock ≡ pace.periods →
-    ((r : Run) (z : Standing) → IsRunOver os r.periods z.listed first z.lines r → u.clock ≤ r.periods → StandingGoesOn (standing u.board u.farm.failed now) z →
+    ((r : Run) (z : Standing) → IsRunOver os r.periods z.listed first z.lines r →
+    u.clock ≤ r.periods → StandingGoesOn (standing u.board u.farm.failed now) z →
     WrittenFrom r 0 u.clock (is_listed u.farm.failed) first now) →
-    ((r : Run) (z : Standing) → IsRunOver os r.periods z.listed first z.lines r → u.clock ≤ r.periods → StandingGoesOn (standing u.board u.farm.failed now) z →
+    ((r : Run) (z : Standing) → IsRunOver os r.periods z.listed first z.lines r →
+    u.clock ≤ r.periods → StandingGoesOn (standing u.board u.farm.failed now) z →
     SumsAt r u.clock (sum_to u.outgoing)) →
     saved.failed ≡ u.farm.failed → saved.mark.period ≡ pace.periods → saved.mark.calls ≡ map (entry_of u) u.farm.live →
     ((c : ℕ) → is_among u.farm.live c ≡ is_some (call_in u.farm.calls c)) → IsRising u.farm.live → OpenedBefore pace.periods u.board.done →
@@ -176,9 +184,11 @@ saves_told os pace first now u saved g e wrote sums f p calls live rising openin
       (subst (AreOpenAtMark pace.periods) (sym calls) (entries_live u live rising g.stage pace.periods openings));
 }
   where
-    over : (r : Run) → IsRunOver os pace.periods (is_listed saved.failed) first now r → IsRunOver os u.clock (is_listed u.farm.failed) first now r
+    over : (r : Run) → IsRunOver os pace.periods (is_listed saved.failed) first now r →
+        IsRunOver os u.clock (is_listed u.farm.failed) first now r
     over r run = over_here os pace.periods saved.failed first now u e f r run
 
-    same : (n m : ℕ) (xs ys : List MarkCall) → n ≡ m → xs ≡ ys → ◌≡◌ {A = MarkView} (record { period = n; calls = xs }) (record { period = m; calls = ys })
+    same : (n m : ℕ) (xs ys : List MarkCall) → n ≡ m → xs ≡ ys →
+        ◌≡◌ {A = MarkView} (record { period = n; calls = xs }) (record { period = m; calls = ys })
     same n m xs ys q k = ap {B = MarkView} (λ (x : ℕ). record { period = x; calls = xs }) q
         ∙ ap {B = MarkView} (λ (x : List MarkCall). record { period = m; calls = x }) k

@@ -5,6 +5,7 @@ use Rattle.std.specs.Prelude.{is_some, slice_index, ◌==◌, ◌||◌}
 use Rattle.std.specs.Io.KnownBytes.{Consumes}
 use Rattle.std.proofs.lemmas.Bool.{ne_eqb}
 use Rattle.std.proofs.Math.Seq.{drop-append_seam}
+use Rattle.std.proofs.Math.Bool.{and-false}
 use Rattle.trau_io.specs.declared.line.Side.{Side}
 use Rattle.trau_io.specs.declared.line.Side.TheVariants.{Up, Pcm, Down, Out}
 use Rattle.trau_io.specs.declared.ends.CallEnd.{CallEnd}
@@ -70,7 +71,8 @@ module _ (t n : ℕ) (b : State) (farm after : FarmMemory) (before now : ℕ →
   record KnownSeat (k c : ℕ) : Type 0 where
     call : Call
     called : call_in farm.calls c ≡ Some call
-    facts : SeatFacts n (before c) (w.between c) (now c) c call (seat_at w.planned_seats k) (seat_at w.filled_seats k) (seat_at w.worked_seats k) (seat_at w.drained_seats k)
+    facts : SeatFacts n (before c) (w.between c) (now c) c call (seat_at w.planned_seats k)
+        (seat_at w.filled_seats k) (seat_at w.worked_seats k) (seat_at w.drained_seats k)
     filled_at : call_at w.filled_seats k ≡ c
     is_open : open_now b c ≡ true
 
@@ -94,18 +96,15 @@ module _ (t n : ℕ) (b : State) (farm after : FarmMemory) (before now : ℕ →
   over_on c e = subst (λ (s : State). is_over s c ≡ true) (sym told) (over_told b ends c e)
 
   -- **A call is over behind the round where its seat lacks one of the periods.**
-  lacks : (k c : ℕ) → k < length farm.live → slice_index farm.live k ≡ c → round_lines.whole_in (seat_at w.filled_seats k).lines < n → is_over b' c ≡ true
+  lacks : (k c : ℕ) → k < length farm.live → slice_index farm.live k ≡ c →
+      round_lines.whole_in (seat_at w.filled_seats k).lines < n → is_over b' c ≡ true
   lacks k c l e less =
       over_by (opened_now b c) (is_some (closed_at c b.done)) (gone_in b c) (opened_now b' c) (is_some (closed_at c b'.done)) (gone_in b' c)
       (ap (λ (ds : List Done). is_some (opened_at c ds)) done_is) (ap (λ (ds : List Done). is_some (closed_at c ds)) done_is) s.is_open
-      (o c ∙ ap (λ (x : Bool). open_now b c && not x) ended ∙ shut (open_now b c))
+      (o c ∙ ap (λ (x : Bool). open_now b c && not x) ended ∙ and-false (open_now b c))
     where
       s : KnownSeat k c
       s = known_seat k c l e
-
-      shut : (x : Bool) → (x && false) ≡ false
-      shut true = refl
-      shut false = refl
 
       place : (seat_at w.worked_seats k).lines ≡ (seat_at w.filled_seats k).lines
       place = s.facts.front.lines
@@ -171,7 +170,8 @@ module _ (t n : ℕ) (b : State) (farm after : FarmMemory) (before now : ℕ →
     listed = λ c s i e. listed_kept t n farm after before now ends w c s (no_seat_of c e);
   }
     where
-      given : (c : ℕ) (side : Side) (octets : List ℕ) → IsIncoming side → (before c side).to_come ≡ Some octets → (k : ℕ) → k < length farm.live →
+      given : (c : ℕ) (side : Side) (octets : List ℕ) → IsIncoming side →
+          (before c side).to_come ≡ Some octets → (k : ℕ) → k < length farm.live →
           slice_index farm.live k ≡ c → (i : ℕ) × ((w.between c side).to_come ≡ Some (drop i octets))
       given c Up octets i e k l q = let s = known_seat k c l q in front_read (before c Up).to_come (w.between c Up).to_come _ octets s.facts.front.fills.up.given e
       given c Pcm octets i e k l q = let s =

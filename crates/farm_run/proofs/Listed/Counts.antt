@@ -34,13 +34,15 @@ pub fell_more : (first before now : ℕ → Side → LineState) → NeverFell fi
 fell_more first before now l m c s = let a = l c s in let b = m c s in omega arith
 
 -- no count falls where a line is given octets, or nothing happens to it
-moved_later : (before now : LineState) (was stands : Outlet) (octets : List ℕ) → PassesOn before now was stands octets → before.faults ≤ now.faults
+moved_later : (before now : LineState) (was stands : Outlet) (octets : List ℕ) →
+    PassesOn before now was stands octets → before.faults ≤ now.faults
 moved_later before now was stands octets (inl g) = g.later
 moved_later before now was stands octets (inr e) = let same = ap (λ (l : LineState). l.faults) e.0 in omega (arith, same)
 
 -- ---- a round
 
-module _ (t n : ℕ) (farm after : FarmMemory) (before now : ℕ → Side → LineState) (ends : List CallEnd) (w : WorkedRound t n farm after before now ends) where
+module _ (t n : ℕ) (farm after : FarmMemory) (before now : ℕ → Side → LineState)
+    (ends : List CallEnd) (w : WorkedRound t n farm after before now ends) where
   -- there are as many seats as open calls
   pub long : length w.drained_seats ≡ length farm.live
   long = w.drained_number ∙ w.worked_number ∙ w.filled_number ∙ w.number
@@ -61,14 +63,16 @@ module _ (t n : ℕ) (farm after : FarmMemory) (before now : ℕ → Side → Li
       faults e = ap (λ (l : LineState). l.faults) e
 
       side : (s : Side) → (before c Up).faults ≤ (w.between c Up).faults → (before c Pcm).faults ≤ (w.between c Pcm).faults →
-          (w.between c Down).faults ≤ (now c Down).faults → (w.between c Out).faults ≤ (now c Out).faults → (before c s).faults ≤ (now c s).faults
+          (w.between c Down).faults ≤ (now c Down).faults →
+          (w.between c Out).faults ≤ (now c Out).faults → (before c s).faults ≤ (now c s).faults
       side Up u p d o = omega (arith, u, faults (up_after t n farm after before now ends w c))
       side Pcm u p d o = omega (arith, p, faults (pcm_after t n farm after before now ends w c))
       side Down u p d o = omega (arith, d, faults (down_between t n farm after before now ends w c))
       side Out u p d o = omega (arith, o, faults (out_between t n farm after before now ends w c))
 
   -- **The farm goes on listing exactly the lines whose counts rose.**
-  pub tells_round : (first : ℕ → Side → LineState) → NeverFell first before → TellsFailed first before farm.failed → TellsFailed first now after.failed
+  pub tells_round : (first : ℕ → Side → LineState) → NeverFell first before →
+      TellsFailed first before farm.failed → TellsFailed first now after.failed
   tells_round first l h = record { failures = record { rose = rose; kept = kept }; order = (let g = w.gains in g.order) }
     where
       rose : (c : ℕ) (s : Side) → is_listed after.failed c s ≡ true → Rose (first c s).faults (now c s).faults

@@ -26,7 +26,8 @@ use Rattle.farm_run.proofs.Worked.Round.{WorkedRound, SeatFacts, drained_call, w
 use Rattle.farm_run.proofs.Worked.Facts.{seat_facts}
 
 -- how an outgoing line stands after a round
-stands_is : (b : Bool) (before now : LineState) (was stands : Outlet) (octets : List ℕ) → was ≡ outlet_before b → PassesOn before now was stands octets →
+stands_is : (b : Bool) (before now : LineState) (was stands : Outlet) (octets : List ℕ) →
+    was ≡ outlet_before b → PassesOn before now was stands octets →
     has_failed stands ≡ (b || fails_now stands)
 stands_is true before now was stands octets q (inl g) = ap has_failed ((g.passed (ap has_failed q)).1 ∙ q)
 stands_is false before now was stands octets q (inl g) = elim (cases_Bool (has_failed stands)) [
@@ -41,12 +42,14 @@ stands_is false before now was stands octets q (inl g) = elim (cases_Bool (has_f
 stands_is true before now was stands octets q (inr g) = ap has_failed (g.1 ∙ q)
 stands_is false before now was stands octets q (inr g) = ap has_failed (g.1 ∙ q) ∙ sym (ap fails_now (g.1 ∙ q))
 
-module _ (t n : ℕ) (farm after : FarmMemory) (before now : ℕ → Side → LineState) (ends : List CallEnd) (w : WorkedRound t n farm after before now ends) where
+module _ (t n : ℕ) (farm after : FarmMemory) (before now : ℕ → Side → LineState)
+    (ends : List CallEnd) (w : WorkedRound t n farm after before now ends) where
   -- what is known of an open call's seat, and what the call knows of its lines
   record Known (k c : ℕ) : Type 0 where
     call : Call
     called : call_in farm.calls c ≡ Some call
-    facts : SeatFacts n (before c) (w.between c) (now c) c call (seat_at w.planned_seats k) (seat_at w.filled_seats k) (seat_at w.worked_seats k) (seat_at w.drained_seats k)
+    facts : SeatFacts n (before c) (w.between c) (now c) c call (seat_at w.planned_seats k)
+        (seat_at w.filled_seats k) (seat_at w.worked_seats k) (seat_at w.drained_seats k)
     knows : KnowsLines farm.failed c call
 
   known : (k c : ℕ) → k < length farm.live → slice_index farm.live k ≡ c → Known k c
@@ -77,7 +80,9 @@ module _ (t n : ℕ) (farm after : FarmMemory) (before now : ℕ → Side → Li
       }
       worked = ap (λ (x : SeatMemory). x.lines) s.facts.drains.kept
 
-      by : (side : Side) → IsIncoming side → fails_in (seat_at w.drained_seats k).lines side ≡ fails_in (seat_at w.filled_seats k).lines side
+      by : (side : Side) → IsIncoming side →
+          fails_in (seat_at w.drained_seats k).lines side
+          ≡ fails_in (seat_at w.filled_seats k).lines side
       by Up i = ap (λ (p : LinesMemory). p.up.failed) worked ∙ ap (λ (p : LinesMemory). p.up.failed) s.facts.front.lines
       by Pcm i = ap (λ (p : LinesMemory). p.pcm.failed) worked ∙ ap (λ (p : LinesMemory). p.pcm.failed) s.facts.front.lines
       by Down i = absurd i
@@ -86,7 +91,8 @@ module _ (t n : ℕ) (farm after : FarmMemory) (before now : ℕ → Side → Li
   -- ---- the listed lines
 
   -- a line that is listed behind the round was so before, or a seat names it
-  pub listed_cases : (c : ℕ) (side : Side) → is_listed after.failed c side ≡ true → (is_listed farm.failed c side ≡ true) ⊎ Lists w.drained_seats (c, side)
+  pub listed_cases : (c : ℕ) (side : Side) → is_listed after.failed c side ≡ true →
+      (is_listed farm.failed c side ≡ true) ⊎ Lists w.drained_seats (c, side)
   listed_cases = gained_cases farm.failed after.failed w.drained_seats w.gains
 
   -- one that was listed still is
@@ -113,7 +119,8 @@ module _ (t n : ℕ) (farm after : FarmMemory) (before now : ℕ → Side → Li
       (drained_call _ _ _ _ _ _ _ _ _ _ s.facts) (gained_at farm.failed after.failed w.drained_seats w.gains k side rising (inside k l))
 
   -- **Of a call with none the same lines are listed.**
-  pub listed_kept : (c : ℕ) (side : Side) → is_some (call_in farm.calls c) ≡ false → is_listed after.failed c side ≡ is_listed farm.failed c side
+  pub listed_kept : (c : ℕ) (side : Side) → is_some (call_in farm.calls c) ≡ false →
+      is_listed after.failed c side ≡ is_listed farm.failed c side
   listed_kept c side none = same_test (is_listed after.failed c side) (is_listed farm.failed c side) front (listed_still c side)
     where
       front : is_listed after.failed c side ≡ true → is_listed farm.failed c side ≡ true
@@ -123,7 +130,8 @@ module _ (t n : ℕ) (farm after : FarmMemory) (before now : ℕ → Side → Li
       ]
 
   -- an incoming line of an open call isn't listed before the round
-  not_listed : (k c : ℕ) (side : Side) → k < length farm.live → slice_index farm.live k ≡ c → IsIncoming side → is_listed farm.failed c side ≡ false
+  not_listed : (k c : ℕ) (side : Side) → k < length farm.live → slice_index farm.live k ≡ c →
+      IsIncoming side → is_listed farm.failed c side ≡ false
   not_listed k c Up l e i = let s = known k c l e in s.knows.0
   not_listed k c Pcm l e i = let s = known k c l e in s.knows.1
   not_listed k c Down l e i = absurd i
@@ -136,20 +144,24 @@ module _ (t n : ℕ) (farm after : FarmMemory) (before now : ℕ → Side → Li
       listed_seated k c side l e ∙ ap (λ (x : Bool). x || fails_in (seat_at w.drained_seats k).lines side) (not_listed k c side l e i) ∙ marks_kept k c side l e i
 
   -- **An open call's outgoing lines are listed before and after the round as they stand in its seat.**
-  pub was_down : (k c : ℕ) → k < length farm.live → slice_index farm.live k ≡ c → has_failed (seat_at w.worked_seats k).lines.down ≡ is_listed farm.failed c Down
+  pub was_down : (k c : ℕ) → k < length farm.live → slice_index farm.live k ≡ c →
+      has_failed (seat_at w.worked_seats k).lines.down ≡ is_listed farm.failed c Down
   was_down k c l e = let s = known k c l e in ap has_failed (worked_down _ _ _ _ _ _ _ _ s.facts.front) ∙ marks s.call.down_failed ∙ s.knows.2
 
-  pub was_out : (k c : ℕ) → k < length farm.live → slice_index farm.live k ≡ c → has_failed (seat_at w.worked_seats k).lines.out ≡ is_listed farm.failed c Out
+  pub was_out : (k c : ℕ) → k < length farm.live → slice_index farm.live k ≡ c →
+      has_failed (seat_at w.worked_seats k).lines.out ≡ is_listed farm.failed c Out
   was_out k c l e = let s = known k c l e in ap has_failed (worked_out _ _ _ _ _ _ _ _ s.facts.front) ∙ marks s.call.out_failed ∙ s.knows.3
 
   -- an open call's Down line is listed after the round as it stands in the seat
-  pub stands_down : (k c : ℕ) → k < length farm.live → slice_index farm.live k ≡ c → has_failed (seat_at w.drained_seats k).lines.down ≡ is_listed after.failed c Down
+  pub stands_down : (k c : ℕ) → k < length farm.live → slice_index farm.live k ≡ c →
+      has_failed (seat_at w.drained_seats k).lines.down ≡ is_listed after.failed c Down
   stands_down k c l e =
       let s = known k c l e in
       stands_is s.call.down_failed _ _ _ (seat_at w.drained_seats k).lines.down _ (worked_down _ _ _ _ _ _ _ _ s.facts.front) s.facts.drains.down
       ∙ ap (λ (x : Bool). x || fails_now (seat_at w.drained_seats k).lines.down) s.knows.2 ∙ sym (listed_seated k c Down l e)
 
-  pub stands_out : (k c : ℕ) → k < length farm.live → slice_index farm.live k ≡ c → has_failed (seat_at w.drained_seats k).lines.out ≡ is_listed after.failed c Out
+  pub stands_out : (k c : ℕ) → k < length farm.live → slice_index farm.live k ≡ c →
+      has_failed (seat_at w.drained_seats k).lines.out ≡ is_listed after.failed c Out
   stands_out k c l e =
       let s = known k c l e in
       stands_is s.call.out_failed _ _ _ (seat_at w.drained_seats k).lines.out _ (worked_out _ _ _ _ _ _ _ _ s.facts.front) s.facts.drains.out

@@ -48,7 +48,9 @@ use Rattle.farm_run.proofs.Marked.Numbers.{rises_of, has_among, filter_twice, ma
 not_limit : (k : ℕ) (g : Given) → is_limit (lack_of k g) ≡ false
 not_limit k g = by (nat_lt g.up (40 * (k + 1))) g.up_failed g.pcm_failed
   where
-    by : (a u p : Bool) → is_limit (if a then (if u then Fault Up else End Up (g.up - 40 * k)) else if p then Fault Pcm else End Pcm (g.pcm - 160 * k)) ≡ false
+    by : (a u p : Bool) →
+        is_limit (if a then (if u then Fault Up else End Up (g.up - 40 * k)) else if p
+        then Fault Pcm else End Pcm (g.pcm - 160 * k)) ≡ false
     by true true p = refl
     by true false p = refl
     by false u true = refl
@@ -61,14 +63,16 @@ cause_of e = e.cause
 -- ---- the entries
 
 -- one more entry
-pub entry_more : (s : Stage) (live : List ℕ) (i : ℕ) (old new : List MarkCall) (call : MarkCall) → i < length live → old ≡ map (entry_of s) (take i live) →
+pub entry_more : (s : Stage) (live : List ℕ) (i : ℕ) (old new : List MarkCall) (call : MarkCall) →
+    i < length live → old ≡ map (entry_of s) (take i live) →
     call ≡ entry_of s (get_or live i 0) → new ≡ old ++ call ∷ [] →
     new ≡ map (entry_of s) (take (i + 1) live)
 entry_more s live i old new call within front is more =
     more ∙ ap (λ (xs : List MarkCall). xs ++ call ∷ []) front ∙ ap (λ (x : MarkCall). map (entry_of s) (take i live) ++ x ∷ []) is
     ∙ sym (ap (map (entry_of s)) (take_more live i 0 within) ∙ map-append (entry_of s) (take i live) (get_or live i 0 ∷ []))
 
-module _ (s : Stage) (live : (c : ℕ) → is_among s.farm.live c ≡ is_some (call_in s.farm.calls c)) (rising : IsRising s.farm.live) (stage : IsStage s) where
+module _ (s : Stage) (live : (c : ℕ) → is_among s.farm.live c ≡ is_some (call_in s.farm.calls c))
+    (rising : IsRising s.farm.live) (stage : IsStage s) where
   -- **Their numbers rise.**
   pub numbers_rise : NumbersRise (map (entry_of s) s.farm.live)
   numbers_rise i j d less within =
@@ -142,7 +146,8 @@ module _ (s : Stage) (live : (c : ℕ) → is_among s.farm.live c ≡ is_some (c
         closed : (at_end : ℕ) → closed_at c ds ≡ Some at_end → is_limit (cause_in r c) ≡ false
         closed at_end q = ap (λ (x : CallEnd). is_limit x.cause) (end_closed r s.clock ds s.board.left c (start_of (done_in r) c) at_end at.follows.so_far q)
 
-        lacks : (begins : ℕ) → opened_at c ds ≡ Some begins → closed_at c ds ≡ None → gone_at (whole_in r) s.clock ds c ≡ true → is_limit (cause_in r c) ≡ false
+        lacks : (begins : ℕ) → opened_at c ds ≡ Some begins → closed_at c ds ≡ None →
+            gone_at (whole_in r) s.clock ds c ≡ true → is_limit (cause_in r c) ≡ false
         lacks begins q l g =
             let gone : begins + whole_in r c < s.clock = ltb-true (begins + whole_in r c) s.clock (sym (gone_is (whole_in r) s.clock ds c begins q) ∙ g) in
             let same : start_of (done_in r) c ≡ begins = start_is (done_in r) c begins (ap (opened_at c) all ∙ q) in
@@ -151,7 +156,8 @@ module _ (s : Stage) (live : (c : ℕ) → is_among s.farm.live c ≡ is_some (c
             (end_lacks r s.clock ds s.board.left c begins at.follows.so_far q l (omega (arith, e, gone)) (ahead s.board.left gone at.follows.so_far.ahead))
             ∙ not_limit (whole_in r c) (given_in r c)
           where
-            ahead : (os : List Order) → begins + whole_in r c < s.clock → IfSome (first_stamp os) (λ u. s.clock ≤ u) → NoOrderTo (begins + whole_in r c) os
+            ahead : (os : List Order) → begins + whole_in r c < s.clock →
+                IfSome (first_stamp os) (λ u. s.clock ≤ u) → NoOrderTo (begins + whole_in r c) os
             ahead [] l k = tt
             ahead (x ∷ os) l k = omega arith
 
@@ -187,7 +193,9 @@ module _ (s : Stage) (live : (c : ℕ) → is_among s.farm.live c ≡ is_some (c
             let most = number.1 in
             (number.0, omega (arith, most))
 
-        members : (c : ℕ) → has c s.farm.live ≡ has c (filter (λ c. is_opened (done_in r) c && is_limit (cause_in r c)) (range_with_len 1 4096))
+        members : (c : ℕ) →
+            has c s.farm.live ≡ has c (filter
+            (λ c. is_opened (done_in r) c && is_limit (cause_in r c)) (range_with_len 1 4096))
         members c = has_among c s.farm.live ∙ same c ∙ sym (range_has (λ c. is_opened (done_in r) c && is_limit (cause_in r c)) 1 4096 c (numbers c))
 
     -- **The entries are the mark's.**
@@ -208,7 +216,8 @@ module _ (s : Stage) (live : (c : ℕ) → is_among s.farm.live c ≡ is_some (c
             same c _ _ _ _ _ _ begins out down
           where
             same : (c from from' out out' down down' : ℕ) → from ≡ from' → out ≡ out' → down ≡ down' →
-                ◌≡◌ {A = MarkCall} (record { call = c; from = from; out = out; down = down }) (record { call = c; from = from'; out = out'; down = down' })
+                ◌≡◌ {A = MarkCall} (record { call = c; from = from; out = out; down = down })
+                (record { call = c; from = from'; out = out'; down = down' })
             same c from from' out out' down down' p q k =
                 ap {B = MarkCall} (λ (x : ℕ). record { call = c; from = x; out = out; down = down }) p
                 ∙ ap {B = MarkCall} (λ (x : ℕ). record { call = c; from = from'; out = x; down = down }) q

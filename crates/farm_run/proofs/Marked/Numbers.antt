@@ -27,7 +27,9 @@ twice_more : (p q : ℕ → Bool) (x : ℕ) (xs : List ℕ) → filter p (filter
 twice_more p q x xs rest false = rest
 twice_more p q x xs rest true = within (p x)
   where
-    within : (b : Bool) → cond b (x ∷ filter p (filter q xs)) (filter p (filter q xs)) ≡ cond b (x ∷ filter (λ c. q c && p c) xs) (filter (λ c. q c && p c) xs)
+    within : (b : Bool) →
+        cond b (x ∷ filter p (filter q xs)) (filter p (filter q xs))
+        ≡ cond b (x ∷ filter (λ c. q c && p c) xs) (filter (λ c. q c && p c) xs)
     within true = ap (λ (ys : List ℕ). x ∷ ys) rest
     within false = rest
 

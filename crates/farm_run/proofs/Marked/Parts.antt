@@ -37,7 +37,8 @@ part_short os batch periods o first now written (inl same) = subst (λ (lines : 
 part_short os batch periods o first now written (inr x) = part_cut os batch periods o x.first first now x.is_first written x.after
 
 -- **A resumed run that stops short of the mark is cut short.**
-pub held_short : (os : List Order) (batch periods until : ℕ) (mark : MarkView) (o : Outgoing) (first now : ℕ → Side → LineState) → is_held o ≡ true →
+pub held_short : (os : List Order) (batch periods until : ℕ) (mark : MarkView) (o : Outgoing)
+    (first now : ℕ → Side → LineState) → is_held o ≡ true →
     until ≤ periods → until ≤ mark.period → StopsShort os o batch until first now → IsResumeCutShort os batch periods mark first now
 held_short os batch periods until mark o first now held within early (inl same) =
     subst (λ (lines : ℕ → Side → LineState). IsResumeCutShort os batch periods mark first lines) (sym same) (unbegun_cut os batch periods mark first)

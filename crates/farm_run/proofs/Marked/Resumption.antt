@@ -45,14 +45,16 @@ use Rattle.farm_run.proofs.Lines.Telling.{there, at_end, opened_end, short_end, 
 
 -- ---- cut short
 
-module _ (os : List Order) (batch periods : ℕ) (first now : ℕ → Side → LineState) (u : Stage) (g : GoneTo os batch first now u) (l : u.clock ≤ periods) where
+module _ (os : List Order) (batch periods : ℕ) (first now : ℕ → Side → LineState) (u : Stage)
+    (g : GoneTo os batch first now u) (l : u.clock ≤ periods) where
   -- a longer run is at this clock
   at_here : (r : Run) → IsRunOver os r.periods (is_listed u.farm.failed) first now r → periods ≤ r.periods →
       IsAtClock r u.clock u.board u.farm.calls (standing u.board u.farm.failed now) first now
   at_here r run least = g.at r (standing u.board u.farm.failed now) run (omega (arith, l, least)) (stays (standing u.board u.farm.failed now))
 
   -- each incoming line that failed did so short of what its round takes
-  short_here : (r : Run) → IsRunOver os r.periods (is_listed u.farm.failed) first now r → periods ≤ r.periods → FailedBy r batch u.clock (is_listed u.farm.failed)
+  short_here : (r : Run) → IsRunOver os r.periods (is_listed u.farm.failed) first now r →
+      periods ≤ r.periods → FailedBy r batch u.clock (is_listed u.farm.failed)
   short_here r run least = g.short r (standing u.board u.farm.failed now) run (omega (arith, l, least)) (stays (standing u.board u.farm.failed now))
 
   -- of the others of calls that their lines ended so much was read
@@ -61,7 +63,8 @@ module _ (os : List Order) (batch periods : ℕ) (first now : ℕ → Side → L
   past_here r run least = g.read_past r (standing u.board u.farm.failed now) run (omega (arith, l, least)) (stays (standing u.board u.farm.failed now))
 
   -- the call of each incoming line that failed ended before it, by its lines
-  fail_here : (r : Run) → IsRunOver os r.periods (is_listed u.farm.failed) first now r → periods ≤ r.periods → FailBefore r u.clock (is_listed u.farm.failed)
+  fail_here : (r : Run) → IsRunOver os r.periods (is_listed u.farm.failed) first now r →
+      periods ≤ r.periods → FailBefore r u.clock (is_listed u.farm.failed)
   fail_here r run least =
       let known = g.known r (standing u.board u.farm.failed now) run (omega (arith, l, least)) (stays (standing u.board u.farm.failed now)) in
       let s = g.stage in
@@ -132,7 +135,8 @@ held_cut os batch periods until mark o s first now f held within early after =
     (subst (λ (ls : List Line). HoldsBack (is_listed ls) (is_listed u.farm.failed) first now) f.none_failed back)
 
 -- **A resumed run that didn't begin is cut short.**
-pub unbegun_cut : (os : List Order) (batch periods : ℕ) (mark : MarkView) (lines : ℕ → Side → LineState) → IsResumeCutShort os batch periods mark lines lines
+pub unbegun_cut : (os : List Order) (batch periods : ℕ) (mark : MarkView)
+    (lines : ℕ → Side → LineState) → IsResumeCutShort os batch periods mark lines lines
 unbegun_cut os batch periods mark lines =
     cut_before os batch periods 0 mark (λ c. false) [] lines lines (omega arith) (omega arith) (tells_none lines) (sides_none lines) (λ c s octets i e. (0, e))
     (record { lines = λ c s o. refl; listed = λ c s o. refl }) (λ r run c s l. cc) (λ r run. lines_at_first r os periods lines (none_yet lines) run)
@@ -140,7 +144,8 @@ unbegun_cut os batch periods mark lines =
 
 -- ---- where the mark is compared
 
-module _ (os : List Order) (pace : Pace) (mark : MarkView) (o : Outgoing) (s m : Stage) (first mid : ℕ → Side → LineState) (begins : IsFirstStage os o s)
+module _ (os : List Order) (pace : Pace) (mark : MarkView) (o : Outgoing) (s m : Stage)
+    (first mid : ℕ → Side → LineState) (begins : IsFirstStage os o s)
     (held : is_held o ≡ true) (summed : is_summed o ≡ true)
     (none : (c : ℕ) (side : Side) → sum_to o c side ≡ 0) (come : Reaches pace.batch s m first mid) (e : m.clock ≡ mark.period)
     (live : (c : ℕ) → is_among m.farm.live c ≡ is_some (call_in m.farm.calls c)) (rising : IsRising m.farm.live) (calls : List MarkCall)
@@ -177,7 +182,8 @@ module _ (os : List Order) (pace : Pace) (mark : MarkView) (o : Outgoing) (s m :
     there = λ are told. there os pace.batch first mid m g are told mark.period;
   }
     where
-      over : (r : Run) → IsRunOver os mark.period (is_listed m.farm.failed) first mid r → IsRunOver os m.clock (is_listed m.farm.failed) first mid r
+      over : (r : Run) → IsRunOver os mark.period (is_listed m.farm.failed) first mid r →
+          IsRunOver os m.clock (is_listed m.farm.failed) first mid r
       over r run = over_here os mark.period m.farm.failed first mid m e refl r run
 
   -- ---- from there on
@@ -210,7 +216,8 @@ module _ (os : List Order) (pace : Pace) (mark : MarkView) (o : Outgoing) (s m :
         (none_down r c (worked_to r m.clock c));
   }
     where
-      nothing : (fails : Bool) (was is : LineState) (octets : List ℕ) → fails ≡ false → is ≡ was → octets ≡ [] → HasWritten fails was is octets
+      nothing : (fails : Bool) (was is : LineState) (octets : List ℕ) → fails ≡ false → is ≡ was →
+          octets ≡ [] → HasWritten fails was is octets
       nothing fails was is octets f l n =
           subst (λ (x : Bool). HasWritten x was is octets) (sym f)
           (subst (Appends was.written is.written) (sym n) (subst (λ (x : LineState). Appends was.written x.written []) (sym l) (Appends-nil was.written)))
@@ -241,15 +248,18 @@ module _ (os : List Order) (pace : Pace) (mark : MarkView) (o : Outgoing) (s m :
         entries_are m live rising g.stage r z first mid (g.at r z here within h.goes) clock (sums r z here within h.goes)
 
     -- **Where there is no memory, it is cut short behind the mark.**
-    pub written_cut : mark.calls ≡ calls → u.clock ≤ max mark.period pace.periods → IsResumeCutShort os pace.batch (max mark.period pace.periods) mark first now
+    pub written_cut : mark.calls ≡ calls → u.clock ≤ max mark.period pace.periods →
+        IsResumeCutShort os pace.batch (max mark.period pace.periods) mark first now
     written_cut same within =
         cut_written os pace.batch (max mark.period pace.periods) first now u gone_on within mark
         (let later = h.later in omega (arith, later, e)) (λ r run. sym (same ∙ entries ∙ at_mark r run)) wrote_on
 
     -- **A resumed run that came to its last period leaves and reports what the run of the definition gives behind the mark.**
-    pub resumes_told : mark.calls ≡ calls → u.clock ≡ max mark.period pace.periods → (count : ℕ) → count ≡ length os → (report : ReportView) →
+    pub resumes_told : mark.calls ≡ calls → u.clock ≡ max mark.period pace.periods → (count : ℕ) →
+        count ≡ length os → (report : ReportView) →
         report.failed ≡ u.farm.failed →
-        ((r : Run) (t : ℕ) → IsAtEnd r t u.board u.farm.calls u.farm.tallies u.notes → r.periods ≡ max mark.period pace.periods → length r.orders ≡ count →
+        ((r : Run) (t : ℕ) → IsAtEnd r t u.board u.farm.calls u.farm.tallies u.notes →
+        r.periods ≡ max mark.period pace.periods → length r.orders ≡ count →
         report ≡ report_of r report.failed) →
         ResumesRun os pace mark first now report
     resumes_told same eu count number report f told = record {

@@ -39,7 +39,8 @@ notes_after sent_in d front (x ∷ xs) (n ∷ ns) a = (
 )
 
 -- **A note of a bridge that begins leaves the notes right.**
-pub notes_push : (sent_in : ℕ → ℕ → ℕ) (front xs : List Bridge) (ns : List SentBefore) (y : Bridge) (n : SentBefore) → AreNotes sent_in front xs ns →
+pub notes_push : (sent_in : ℕ → ℕ → ℕ) (front xs : List Bridge) (ns : List SentBefore) (y : Bridge)
+    (n : SentBefore) → AreNotes sent_in front xs ns →
     ((c j : ℕ) → joins c y ≡ true → IsLatest (front ++ xs) c (Some j) → sent_before c y n ≡ sent_in j c) →
     AreNotes sent_in front (xs ++ y ∷ []) (ns ++ n ∷ [])
 notes_push sent_in front [] [] y n a h =

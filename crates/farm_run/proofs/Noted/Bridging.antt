@@ -25,7 +25,8 @@ pub record IsBridging (ds now : List Done) (a b : ℕ) : Type 0 where
   pub calls : (last.a ≡ a) × (last.b ≡ b)
 
 -- **What its calls have sent in their bridges before it is noted.**
-module _ (r : Run) (ds now : List Done) (ended : ℕ → Bool) (ns : List SentBefore) (tally : ℕ → Tally) (a b : ℕ) (sent : ℕ → ℕ) (h : IsBridging ds now a b)
+module _ (r : Run) (ds now : List Done) (ended : ℕ → Bool) (ns : List SentBefore)
+    (tally : ℕ → Tally) (a b : ℕ) (sent : ℕ → ℕ) (h : IsBridging ds now a b)
     (f : (ended a ≡ false) × (ended b ≡ false)) (n : IsNoted r ds ended ns tally)
     (right : (c k : ℕ) → (c == a || c == b) ≡ true → IsLatest (bridges ds) c (Some k) → sent c ≡ sent_in_bridge r k c) where
   -- what is noted of it

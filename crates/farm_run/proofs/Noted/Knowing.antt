@@ -19,7 +19,8 @@ use Rattle.farm_run.proofs.Noted.Rounds.{noted_start, noted_jump, noted_round}
 use Rattle.farm_run.proofs.Noted.Truly.{truly_start, truly_told}
 
 -- nothing is known before the first order
-pub known_start : (r : Run) (b : State) (tallies : List Tally) (ns : List SentBefore) → EndBefore 0 b → b.done ≡ [] → ns ≡ [] → IsKnown r 0 b tallies ns
+pub known_start : (r : Run) (b : State) (tallies : List Tally) (ns : List SentBefore) →
+    EndBefore 0 b → b.done ≡ [] → ns ≡ [] → IsKnown r 0 b tallies ns
 known_start r b tallies ns ends none new = record {
   truly = truly_start r b ends;
   noted = subst (λ (ds : List Done). IsNotedAt r ds 0 ns tallies) (sym none)
@@ -33,7 +34,8 @@ pub known_idle : (r : Run) (t u : ℕ) (b : State) (tallies : List Tally) (ns : 
 known_idle r t u b tallies ns later shut known = record { truly = known.truly; noted = noted_jump r t u b.done ns tallies later shut known.noted }
 
 -- the end that a round tells of a call is the run's
-right_end : (r : Run) (t n : ℕ) (b : State) → IsRound r t n b.done b.left → (e : CallEnd) → IsRoundEnd r b.done t n e → e ≡ call_end_in r e.call
+right_end : (r : Run) (t n : ℕ) (b : State) → IsRound r t n b.done b.left → (e : CallEnd) →
+    IsRoundEnd r b.done t n e → e ≡ call_end_in r e.call
 right_end r t n b round e (within, is) =
     let opened = (and_parts (is_open (gone_at (whole_in r) t b.done) b.done e.call) (nat_lt (places_in r b.done t n e.call) n) within).0 in
     is ∙ ap (end_of (given_in r) r.periods (done_in r) e.call) (sym (start_kept r t n b.done b.left e.call round opened))

@@ -12,7 +12,8 @@ last_or : {X : Type 0} (xs : List X) (x : X) (k : ℕ) → k < length (xs ++ x �
 last_or xs x k l = elim (cases_lt k (length xs)) [ inl m ↦ inl m | inr m ↦ inr (let e = length-append xs (x ∷ []) in omega arith) ]
 
 -- **The latest bridge of a call that isn't in the new one stays.**
-pub latest_push : (xs : List Bridge) (y : Bridge) (c k : ℕ) → joins c y ≡ false → IsLatest xs c (Some k) → IsLatest (xs ++ y ∷ []) c (Some k)
+pub latest_push : (xs : List Bridge) (y : Bridge) (c k : ℕ) → joins c y ≡ false →
+    IsLatest xs c (Some k) → IsLatest (xs ++ y ∷ []) c (Some k)
 latest_push xs y c k f h =
     let below = h.0 in
     (let e = length-append xs (y ∷ []) in omega arith, ap (joins c) (get_or_append_left xs (y ∷ []) no_bridge k below) ∙ h.1, λ i m l. at i m (last_or xs y i l))

@@ -24,7 +24,8 @@ right_true true b e h = cc
 -- ---- ends
 
 -- **More calls have ended: what is kept of them is right.**
-pub noted_ends : (r : Run) (ds : List Done) (ended more : ℕ → Bool) (notes : List SentBefore) (tally tally' : ℕ → Tally) → IsNoted r ds ended notes tally →
+pub noted_ends : (r : Run) (ds : List Done) (ended more : ℕ → Bool) (notes : List SentBefore)
+    (tally tally' : ℕ → Tally) → IsNoted r ds ended notes tally →
     ((c : ℕ) → more c ≡ true → IsKept r ds c (tally' c)) → ((c : ℕ) → more c ≡ false → tally' c ≡ tally c) →
     IsNoted r ds (λ c. ended c || more c) notes tally'
 noted_ends r ds ended more notes tally tally' n kept same = record {
@@ -38,7 +39,8 @@ noted_ends r ds ended more notes tally tally' n kept same = record {
     by c false q h = subst (IsKept r ds c) (sym (same c q)) (n.kept c (left_true (ended c) (more c) q h))
 
 -- **If the same calls have ended and the same is kept of them, what is noted stays right.**
-pub noted_same : (r : Run) (ds : List Done) (ended now : ℕ → Bool) (notes : List SentBefore) (tally tally' : ℕ → Tally) → IsNoted r ds ended notes tally →
+pub noted_same : (r : Run) (ds : List Done) (ended now : ℕ → Bool) (notes : List SentBefore)
+    (tally tally' : ℕ → Tally) → IsNoted r ds ended notes tally →
     ((c : ℕ) → now c ≡ ended c) → ((c : ℕ) → tally' c ≡ tally c) →
     IsNoted r ds now notes tally'
 noted_same r ds ended now notes tally tally' n e f = record {
@@ -50,7 +52,8 @@ noted_same r ds ended now notes tally tally' n e f = record {
 -- ---- an order that neither opens a call nor makes a bridge
 
 -- what is kept of a call stays right where an order makes no bridge of it
-pub kept_after : (r : Run) (ds now : List Done) (d : Done) (c : ℕ) (x : Tally) → bridges now ≡ map (after d) (bridges ds) → IsKept r ds c x → IsKept r now c x
+pub kept_after : (r : Run) (ds now : List Done) (d : Done) (c : ℕ) (x : Tally) →
+    bridges now ≡ map (after d) (bridges ds) → IsKept r ds c x → IsKept r now c x
 kept_after r ds now d c x all k = record {
   counts = k.counts;
   sent = λ i l. k.sent i (latest_before d (bridges ds) c i (subst (λ (bs : List Bridge). IsLatest bs c (Some i)) all l));

@@ -20,7 +20,8 @@ pub record IsOpening (ds now : List Done) (m : ℕ) : Type 0 where
   pub bridges : bridges now ≡ map (after order) (bridges ds)
 
 -- **An order that opens a call changes nothing of what is noted.**
-pub noted_opened : (r : Run) (ds now : List Done) (ended : ℕ → Bool) (notes : List SentBefore) (tally : ℕ → Tally) (m : ℕ) → IsOpening ds now m →
+pub noted_opened : (r : Run) (ds now : List Done) (ended : ℕ → Bool) (notes : List SentBefore)
+    (tally : ℕ → Tally) (m : ℕ) → IsOpening ds now m →
     IsNoted r ds ended notes tally → IsNoted r now ended notes tally
 noted_opened r ds now ended notes tally m h n = record {
   numbers = number;

@@ -91,7 +91,8 @@ module _ (r : Run) (t : ℕ) (s n : State) (reply : Reply) (calls calls' : List 
       ap (λ (b : Bool). kept_of (past_if b (law_in r c) (periods_to r c (t - start_of s.done c)) (settings_now r s.done t c)) kept) (open_there c o)
 
   -- **An order that is refused, or that neither opens, ends nor bridges calls, changes nothing.**
-  pub noted_quiet : (x : Result Act Refusal) (ns : List SentBefore) (tallies tallies' : List Tally) → reply.result ≡ x → bridge_by due.order.stamp x [] ≡ [] →
+  pub noted_quiet : (x : Result Act Refusal) (ns : List SentBefore)
+      (tallies tallies' : List Tally) → reply.result ≡ x → bridge_by due.order.stamp x [] ≡ [] →
       ((c : ℕ) → opened_now n c ≡ opened_now s c) → ((c : ℕ) → open_now n c ≡ open_now s c) →
       ((c : ℕ) → tally_in tallies' c ≡ tally_in tallies c) → IsNotedAt r s.done t ns tallies → IsNotedAt r n.done t ns tallies'
   noted_quiet x ns tallies tallies' q e opened open_same kept noted =
@@ -104,7 +105,8 @@ module _ (r : Run) (t : ℕ) (s n : State) (reply : Reply) (calls calls' : List 
 
   module _ (ns : List SentBefore) (tallies tallies' : List Tally) (noted : IsNotedAt r s.done t ns tallies) where
     -- **A call is opened.**
-    opens_call : (m : ℕ) (law : Law) → d.result ≡ Ok (act.Opened m law) → Finds (act.Opened m law) (opened_now s) (open_now s) (partner_now s) →
+    opens_call : (m : ℕ) (law : Law) → d.result ≡ Ok (act.Opened m law) →
+        Finds (act.Opened m law) (opened_now s) (open_now s) (partner_now s) →
         ((c : ℕ) → opened_now n c ≡ (c == m || opened_now s c)) → ((c : ℕ) → open_now n c ≡ (c == m || open_now s c)) →
         ((c : ℕ) → tally_in tallies' c ≡ tally_in tallies c) → IsNotedAt r n.done t ns tallies'
     opens_call m law result finds opened open_is kept =
@@ -128,7 +130,8 @@ module _ (r : Run) (t : ℕ) (s n : State) (reply : Reply) (calls calls' : List 
             ∙ ap (λ (b : Bool). opened_now s c && not b) (open_is c ∙ ap (λ (b : Bool). b || open_now s c) e)
 
     -- **A call is closed.**
-    closes_call : (m : ℕ) (p : Option ℕ) → d.result ≡ Ok (act.Closed m p) → open_now s m ≡ true → ((c : ℕ) → opened_now n c ≡ opened_now s c) →
+    closes_call : (m : ℕ) (p : Option ℕ) → d.result ≡ Ok (act.Closed m p) → open_now s m ≡ true →
+        ((c : ℕ) → opened_now n c ≡ opened_now s c) →
         ((c : ℕ) → open_now n c ≡ (if c == m then false else open_now s c)) →
         ((c : ℕ) → tally_in tallies' c ≡ (if m == c then kept_of (h c) (tally_in tallies c) else tally_in tallies c)) →
         IsNotedAt r n.done t ns tallies'
@@ -219,7 +222,8 @@ module _ (r : Run) (t : ℕ) (s n : State) (reply : Reply) (calls calls' : List 
     -- **What is noted of an accepted order keeps all that is noted right.**
     pub noted_accepted : (a : Act) → reply.result ≡ Ok a → Finds a (opened_now s) (open_now s) (partner_now s) →
         ((c : ℕ) → opened_now n c ≡ opened_after a (opened_now s) c) → ((c : ℕ) → open_now n c ≡ open_after a (open_now s) c) →
-        ((c : ℕ) → tally_in tallies' c ≡ tallies_after a h (tally_in tallies) c) → IsNotedAt r n.done t (noted_by a (λ c. (kept_in tallies h c).sent) ns) tallies'
+        ((c : ℕ) → tally_in tallies' c ≡ tallies_after a h (tally_in tallies) c) →
+        IsNotedAt r n.done t (noted_by a (λ c. (kept_in tallies h c).sent) ns) tallies'
     noted_accepted (act.Opened m law) q finds opened open_is kept = opens_call m law (sym due.result ∙ q) finds opened open_is kept
     noted_accepted (act.Closed m p) q finds opened open_is kept = closes_call m p (sym due.result ∙ q) finds.0 opened open_is kept
     noted_accepted (act.Bridged a b) q finds opened open_is kept = bridges_calls a b (sym due.result ∙ q) finds opened open_is kept

@@ -45,7 +45,8 @@ sent_by_start : (ts : List CallPeriod) (now other : Settings) → now.starts ≡
 sent_by_start ts now other e = ap (λ (b : Bool). carried (if b then suc (bridges_begun ts) else bridges_begun ts) (frames_of ts)) e
 
 -- **What is told of it at the period at which it ends is right.**
-pub kept_at_end : (r : Run) (t : ℕ) (ds : List Done) (left : List Order) (c : ℕ) (now : Settings) → IsSoFar r t ds left → is_opened ds c ≡ true →
+pub kept_at_end : (r : Run) (t : ℕ) (ds : List Done) (left : List Order) (c : ℕ) (now : Settings) →
+    IsSoFar r t ds left → is_opened ds c ≡ true →
     ends_at (given_in r) r.periods (done_in r) c ≡ t → now.starts ≡ (settings_now r ds t c).starts →
     IsKept r ds c (tally_of (periods_to r c (t - start_of ds c)) now)
 kept_at_end r t ds left c now so o e starts = by (opened_at c ds) refl o
@@ -99,7 +100,8 @@ module _ (r : Run) (t n : ℕ) (ds : List Done) (c : ℕ) where
 
   by : (o l : Option ℕ) → opened_at c ds ≡ o → closed_at c ds ≡ l →
       (is_some o && not (is_some o && not (is_some l) && not gone_then))
-      ≡ ((is_some o && not (is_some o && not (is_some l) && not gone_before)) || ((is_some o && not (is_some l) && not gone_before) && fewer))
+      ≡ ((is_some o && not (is_some o && not (is_some l) && not gone_before))
+      || ((is_some o && not (is_some l) && not gone_before) && fewer))
   by None l p q = refl
   by (Some s) (Some e) p q = refl
   by (Some s) None p q =

@@ -22,7 +22,8 @@ set_if true g false l ts now = refl
 set_if false g o l ts now = refl
 
 -- a setting of an open call, where one of two tests says so; twice is as once
-set_twice : (t u : Bool) (g : Settings → Settings) (o : Bool) (l : Law) (ts : List CallPeriod) (now : Settings) → ((s : Settings) → g (g s) ≡ g s) →
+set_twice : (t u : Bool) (g : Settings → Settings) (o : Bool) (l : Law) (ts : List CallPeriod)
+    (now : Settings) → ((s : Settings) → g (g s) ≡ g s) →
     (let x = if u then option_map (set_now g) (past_if o l ts now) else past_if o l ts now in if t then option_map (set_now g) x else x)
     ≡ past_if o l ts (if t || u then g now else now)
 set_twice true true g true l ts now once = ap (past_if true l ts) (once now)

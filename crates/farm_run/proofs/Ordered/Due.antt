@@ -27,10 +27,12 @@ pub record Due (s : State) (t : ℕ) (reply : Reply) (n : State) : Type 0 where
   pub new : n ≡ record { left = rest; done = s.done ++ done_by s order ∷ []; told = s.told }
 
 -- a step that replied executed an order that was due
-pub due_of : (s n : State) (t : ℕ) (reply : Reply) → Some reply ≡ reply_of s (due s.left t) → n ≡ after_turn s (due s.left t) → Due s t reply n
+pub due_of : (s n : State) (t : ℕ) (reply : Reply) → Some reply ≡ reply_of s (due s.left t) →
+    n ≡ after_turn s (due s.left t) → Due s t reply n
 due_of s n t reply e f = by s.left refl
   where
-    one : (o : Order) (rest : List Order) (b : Bool) → (o.stamp == t) ≡ b → s.left ≡ o ∷ rest → Some reply ≡ reply_of s (if b then Some o else None) →
+    one : (o : Order) (rest : List Order) (b : Bool) → (o.stamp == t) ≡ b → s.left ≡ o ∷ rest →
+        Some reply ≡ reply_of s (if b then Some o else None) →
         n ≡ after_turn s (if b then Some o else None) → Due s t reply n
     one o rest true q l h k = record {
       order = o;
@@ -56,7 +58,8 @@ pub left_fewer : (s n : State) (t : ℕ) (reply : Reply) → Due s t reply n →
 left_fewer s n t reply d = omega (arith, ap (λ (m : State). length m.left) d.new, ap length d.left)
 
 -- the orders that are left after it come no earlier
-pub ahead_more : (s n : State) (t : ℕ) (reply : Reply) → AreOrders (orders_of s) → Due s t reply n → IfSome (first_stamp n.left) (λ u. t ≤ u)
+pub ahead_more : (s n : State) (t : ℕ) (reply : Reply) → AreOrders (orders_of s) → Due s t reply n →
+    IfSome (first_stamp n.left) (λ u. t ≤ u)
 ahead_more s n t reply a d = subst (λ (m : State). IfSome (first_stamp m.left) (λ u. t ≤ u)) (sym d.new)
     (by d.rest (subst AreRising (drop-left ∙ d.left) (left_rising (orders_of s) (length (map (λ (e : Done). e.order) s.done)) a)))
   where
@@ -68,7 +71,8 @@ ahead_more s n t reply a d = subst (λ (m : State). IfSome (first_stamp m.left) 
     by (p ∷ os) r = let h = r.rising 1 p (omega arith) in let e = d.stamp in omega arith
 
 -- where the ends are told in time, the same calls are open as by the definition
-pub open_told : (whole : ℕ → ℕ) (t : ℕ) (s : State) → TellsEnds whole t s → (c : ℕ) → open_now s c ≡ is_open (gone_at whole t s.done) s.done c
+pub open_told : (whole : ℕ → ℕ) (t : ℕ) (s : State) → TellsEnds whole t s → (c : ℕ) →
+    open_now s c ≡ is_open (gone_at whole t s.done) s.done c
 open_told whole t s tells c = by (opened_at c s.done) (closed_at c s.done) (tells c)
   where
     by : (o l : Option ℕ) → (is_some o ≡ true → l ≡ None → gone_in s c ≡ gone_at whole t s.done c) →
@@ -93,7 +97,8 @@ module _ (whole : ℕ → ℕ) (t : ℕ) (s n : State) (d : Done) (told : (c : �
       by (Some u) q = let k : closed_at c n.done ≡ Some u = ap (closed_at c) done ∙ closed_kept s.done (d ∷ []) c u q in cc
 
   -- a call that was opened before
-  old_tells : TellsEnds whole t s → (c u : ℕ) → opened_at c s.done ≡ Some u → closed_at c n.done ≡ None → gone_in n c ≡ gone_at whole t n.done c
+  old_tells : TellsEnds whole t s → (c u : ℕ) → opened_at c s.done ≡ Some u →
+      closed_at c n.done ≡ None → gone_in n c ≡ gone_at whole t n.done c
   old_tells tells c u o e =
       told c ∙ tells c (ap is_some o) (was_open c e) ∙ sym (gone_kept whole t s.done (d ∷ []) c u o) ∙ ap (λ ds. gone_at whole t ds c) (sym done)
 

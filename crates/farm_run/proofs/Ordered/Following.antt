@@ -57,8 +57,8 @@ cases_act (act.Unbridged a b) c = inr (λ m law e f. cc)
 cases_act (act.LevelSet n level) c = inr (λ m law e f. cc)
 cases_act (act.DtxSet n mode) c = inr (λ m law e f. cc)
 
-module _ (r : Run) (t : ℕ) (s n : State) (reply : Reply) (calls : List Kept) (due : Due s t reply n) (under : t < r.periods) (run : IsRun (whole_in r) n.done)
-    (f : FollowsRun r t s calls) where
+module _ (r : Run) (t : ℕ) (s n : State) (reply : Reply) (calls : List Kept) (due : Due s t reply n)
+    (under : t < r.periods) (run : IsRun (whole_in r) n.done) (f : FollowsRun r t s calls) where
   -- the order, executed
   abbrev d : Done
   d = done_by s due.order
@@ -140,12 +140,15 @@ module _ (r : Run) (t : ℕ) (s n : State) (reply : Reply) (calls : List Kept) (
         (omega (arith, o.1, e), g.3))
 
     -- the calls that the act leaves open are those that are open behind it
-    open_is : (c : ℕ) → open_after a (λ c. is_open (gone_at (whole_in r) t s.done) s.done c) c ≡ is_open (gone_at (whole_in r) t n.done) n.done c
+    open_is : (c : ℕ) →
+        open_after a (λ c. is_open (gone_at (whole_in r) t s.done) s.done c) c
+        ≡ is_open (gone_at (whole_in r) t n.done) n.done c
     open_is c = sym (ap (λ g. open_after a g c) (λ i. λ c. open_told (whole_in r) t s f.tells c i)) ∙ sym (changes c)
         ∙ open_told (whole_in r) t n tells c
 
     -- the call that it opens
-    begins : (c : ℕ) (law : Law) → a ≡ act.Opened c law → Some (record { law = law; periods = []; now = new_settings }) ≡ histories_at r n.done t c
+    begins : (c : ℕ) (law : Law) → a ≡ act.Opened c law →
+        Some (record { law = law; periods = []; now = new_settings }) ≡ histories_at r n.done t c
     begins c law q =
         let o : is_open (gone_at (whole_in r) t n.done) n.done c ≡ true = sym (open_told (whole_in r) t n tells c) ∙ opens_it c law q in
         let p = open_facts (gone_at (whole_in r) t n.done) n.done c o in
@@ -208,7 +211,8 @@ module _ (r : Run) (t : ℕ) (s n : State) (reply : Reply) (calls : List Kept) (
 
     -- **So farm and board follow the run behind the order, if the act carries histories over.**
     pub follows_more : (calls' : List Kept) →
-        ((h : ℕ → Option CallHistory) → NoneWaitsIn a h → CallsStand h calls → CallsStand (histories_after a h) calls') → FollowsRun r t n calls'
+        ((h : ℕ → Option CallHistory) → NoneWaitsIn a h → CallsStand h calls →
+        CallsStand (histories_after a h) calls') → FollowsRun r t n calls'
     follows_more calls' carries = record {
       so_far = far;
       tells = tells;

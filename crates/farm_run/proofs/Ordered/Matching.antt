@@ -70,12 +70,14 @@ found_open b (act.LevelSet n level) f = f
 found_open b (act.DtxSet n mode) f = f
 
 -- **What the board finds, the farm finds.**
-pub fits : (b : State) (calls : List Kept) (a : Act) → Matches b calls → Finds a (opened_now b) (open_now b) (partner_now b) → IsInRange a → ActFits calls a
+pub fits : (b : State) (calls : List Kept) (a : Act) → Matches b calls →
+    Finds a (opened_now b) (open_now b) (partner_now b) → IsInRange a → ActFits calls a
 fits b calls a m f r =
     (subst (λ g. FindsOpen a g (partner_in calls)) (sym (opens b calls m)) (subst (FindsOpen a (open_now b)) (sym (partners b calls m)) (found_open b a f)), r)
 
 -- the calls that are open after an order have numbers of calls
-numbered : (b : State) (a : Act) → Finds a (opened_now b) (open_now b) (partner_now b) → ((c : ℕ) → open_now b c ≡ true → IsCallNumber c) → (c : ℕ) →
+numbered : (b : State) (a : Act) → Finds a (opened_now b) (open_now b) (partner_now b) →
+    ((c : ℕ) → open_now b c ≡ true → IsCallNumber c) → (c : ℕ) →
     open_after a (open_now b) c ≡ true → IsCallNumber c
 numbered b (act.Opened n law) f h c e = elim (or_cases (c == n) (open_now b c) e) [
   | inl q ↦ subst IsCallNumber (sym (eqb-true c n q)) (omega (arith, f.0.0), omega (arith, f.0.1))
@@ -92,7 +94,8 @@ numbered b (act.LevelSet n level) f h c e = h c e
 numbered b (act.DtxSet n mode) f h c e = h c e
 
 -- **An accepted order keeps the board and the farm together.**
-pub matches_more : (b b' : State) (calls calls' : List Kept) (a : Act) → Matches b calls → Finds a (opened_now b) (open_now b) (partner_now b) →
+pub matches_more : (b b' : State) (calls calls' : List Kept) (a : Act) → Matches b calls →
+    Finds a (opened_now b) (open_now b) (partner_now b) →
     ((c : ℕ) → open_now b' c ≡ open_after a (open_now b) c) → ((c : ℕ) → partner_now b' c ≡ partner_after a (partner_now b) c) →
     ((c : ℕ) → call_in calls' c ≡ calls_after a (call_in calls) c) →
     ((c : ℕ) → partner_in calls' c ≡ partner_after a (partner_in calls) c) → Matches b' calls'

@@ -38,7 +38,8 @@ filter_made : {X : Type 0} (f : ℕ → Option X) (g : ℕ → X) (p : ℕ → B
 filter_made f g p [] some none = refl
 filter_made f g p (x ∷ xs) some none = by (p x) refl (filter_made f g p xs some none)
   where
-    by : (b : Bool) → p x ≡ b → filter_map f xs ≡ map g (filter p xs) → filter_map f (x ∷ xs) ≡ map g (cond (p x) (x ∷ filter p xs) (filter p xs))
+    by : (b : Bool) → p x ≡ b → filter_map f xs ≡ map g (filter p xs) →
+        filter_map f (x ∷ xs) ≡ map g (cond (p x) (x ∷ filter p xs) (filter p xs))
     by true q rest =
         cons_same (f x) (Some (g x)) (filter_map f xs) (map g (filter p xs)) (some x q) rest
         ∙ sym (ap (λ (b : Bool). map g (cond b (x ∷ filter p xs) (filter p xs))) q)
@@ -52,14 +53,19 @@ end_there : (r : Run) (now : State) (c : ℕ) → AllEnded (given_in r) r.period
 end_there r now c all o =
     ap (λ (b : Bool). if b then end_or_told now c (closed_at c now.done) else None) o ∙ by (closed_at c now.done) refl
   where
-    by : (v : Option ℕ) → closed_at c now.done ≡ v → end_or_told now c (closed_at c now.done) ≡ Some (whole_end (given_in r) r.periods now.done c)
+    by : (v : Option ℕ) → closed_at c now.done ≡ v →
+        end_or_told now c (closed_at c now.done)
+        ≡ Some (whole_end (given_in r) r.periods now.done c)
     by (Some t) q =
         ap (end_or_told now c) q ∙ sym (ap (λ (v : Option ℕ). Some (end_by (given_in r) r.periods c (start_of now.done c) v)) q)
     by None q = ap (end_or_told now c) q ∙ all c o q
 
 -- **The lines of the calls are those of the run.**
-pub calls_reported : (r : Run) (now : State) (ns : List SentBefore) (tally : ℕ → Tally) → done_in r ≡ now.done → AllEnded (given_in r) r.periods now →
-    IsNoted r now.done (is_opened now.done) ns tally → filter_map (call_line now tally) call_numbers ≡ map (defined.call_line r) (opened_calls now.done)
+pub calls_reported : (r : Run) (now : State) (ns : List SentBefore) (tally : ℕ → Tally) →
+    done_in r ≡ now.done → AllEnded (given_in r) r.periods now →
+    IsNoted r now.done (is_opened now.done) ns tally →
+    filter_map (call_line now tally) call_numbers
+    ≡ map (defined.call_line r) (opened_calls now.done)
 calls_reported r now ns tally all ended n =
     filter_made (call_line now tally) (defined.call_line r) (is_opened now.done) call_numbers line none
   where
@@ -81,7 +87,8 @@ calls_reported r now ns tally all ended n =
 -- ---- the bridges
 
 -- **The lines of the bridges are those of the run**, by a table of what each call has sent in its latest bridge.
-module _ (r : Run) (t : ℕ) (ds : List Done) (left : List Order) (ns : List SentBefore) (tally : ℕ → Tally) (so : IsSoFar r t ds left) (all : done_in r ≡ ds)
+module _ (r : Run) (t : ℕ) (ds : List Done) (left : List Order) (ns : List SentBefore)
+    (tally : ℕ → Tally) (so : IsSoFar r t ds left) (all : done_in r ≡ ds)
     (n : IsNoted r ds (is_opened ds) ns tally) where
   -- the bridges as the run says them
   abbrev spans : List Span

@@ -55,7 +55,8 @@ all_among P calls h = All-from_recursion P calls (each_among P calls h)
 
 -- ---- the calls that are open
 
-module _ (r : Run) (t : ℕ) (b : State) (farm : FarmMemory) (ns : List SentBefore) (end : IsAtEnd r t b farm.calls farm.tallies ns) (live : List ℕ)
+module _ (r : Run) (t : ℕ) (b : State) (farm : FarmMemory) (ns : List SentBefore)
+    (end : IsAtEnd r t b farm.calls farm.tallies ns) (live : List ℕ)
     (among : (c : ℕ) → is_among live c ≡ open_now b c) where
   -- the run so far
   abbrev so : IsSoFar r t b.done b.left
@@ -142,7 +143,8 @@ module _ (r : Run) (t : ℕ) (b : State) (farm : FarmMemory) (ns : List SentBefo
   -- ---- the report
 
   -- reports of the same parts are the same
-  same_report : (replies replies' : List Reply) (spans spans' : List SpanLine) (lines lines' : List CallLine) (failed : List Line) (left left' : ℕ) →
+  same_report : (replies replies' : List Reply) (spans spans' : List SpanLine)
+      (lines lines' : List CallLine) (failed : List Line) (left left' : ℕ) →
       replies ≡ replies' → spans ≡ spans' → lines ≡ lines' → left ≡ left' →
       ◌≡◌ {A = ReportView} (record { replies = replies; spans = spans; calls = lines; failed = failed; left = left }) (record {
         replies = replies';
@@ -190,10 +192,12 @@ module _ (r : Run) (t : ℕ) (b : State) (farm : FarmMemory) (ns : List SentBefo
           omega (arith, whole, mapped, same)
 
 -- **If a report is made, it is the definition's.**
-pub reported_ok : {E : Type 0} (b now : State) (farm : FarmMemory) (ns : List SentBefore) (live : List ℕ) (orders periods : ℕ) (x : Result ReportView E) →
+pub reported_ok : {E : Type 0} (b now : State) (farm : FarmMemory) (ns : List SentBefore)
+    (live : List ℕ) (orders periods : ℕ) (x : Result ReportView E) →
     ((c : ℕ) → is_among live c ≡ open_now b c) → now ≡ told_after b (map (limit_at periods) live) → ((c : ℕ) → open_now now c ≡ false) →
     IfOk x (Reports now farm ns orders) →
-    IfOk x (λ v. (r : Run) (t : ℕ) → IsAtEnd r t b farm.calls farm.tallies ns → r.periods ≡ periods → length r.orders ≡ orders → v ≡ report_of r v.failed)
+    IfOk x (λ v. (r : Run) (t : ℕ) → IsAtEnd r t b farm.calls farm.tallies ns →
+    r.periods ≡ periods → length r.orders ≡ orders → v ≡ report_of r v.failed)
 reported_ok b now farm ns live orders periods (Err e) among told none reports = tt
 reported_ok b now farm ns live orders periods (Ok v) among told none reports = λ r t end p o.
     reported r t b farm ns end live among now v (told ∙ ap (λ (n : ℕ). told_after b (map (limit_at n) live)) (sym p)) none

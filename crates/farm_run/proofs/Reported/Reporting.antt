@@ -20,8 +20,10 @@ use Rattle.farm_rounds.specs.Histories.{CallHistory, CallStands, CallsStand, kep
 use Rattle.farm_run.specs.Facts.{kept_in, call_line}
 
 -- **What a farm says of an open call and of an ended one is what is kept of it.**
-pub kept_value : {X : Type 0} (f : Tally → X) (h : ℕ → Option CallHistory) (calls : List Kept) (tallies : List Tally) (c : ℕ) (r : X) → CallsStand h calls →
-    ((x : CallHistory) → h c ≡ Some x → r ≡ f (tally_of x.periods x.now)) → (call_in calls c ≡ None → r ≡ f (tally_in tallies c)) → r ≡ f (kept_in tallies h c)
+pub kept_value : {X : Type 0} (f : Tally → X) (h : ℕ → Option CallHistory) (calls : List Kept)
+    (tallies : List Tally) (c : ℕ) (r : X) → CallsStand h calls →
+    ((x : CallHistory) → h c ≡ Some x → r ≡ f (tally_of x.periods x.now)) →
+    (call_in calls c ≡ None → r ≡ f (tally_in tallies c)) → r ≡ f (kept_in tallies h c)
 kept_value f h calls tallies c r g live ended = by (h c) refl
   where
     none_call : (x : Option Call) (p : Option ℕ) → CallStands c None x p → x ≡ None
@@ -86,7 +88,8 @@ length-numbered n [] = refl
 length-numbered n (d ∷ ds) = ap suc (length-numbered (n + 1) ds)
 
 -- **A table by number, with one entry more.**
-pub table_more : (f : ℕ → ℕ) (xs : List ℕ) (i v : ℕ) → i < length xs → v ≡ f i → ((c : ℕ) → IsCallNumber c → c < i → get_or xs c 0 ≡ f c) → (c : ℕ) →
+pub table_more : (f : ℕ → ℕ) (xs : List ℕ) (i v : ℕ) → i < length xs → v ≡ f i →
+    ((c : ℕ) → IsCallNumber c → c < i → get_or xs c 0 ≡ f c) → (c : ℕ) →
     IsCallNumber c → c < i + 1 → get_or (set xs i v) c 0 ≡ f c
 table_more f xs i v within is h c k l = elim (cases_eq c i) [
   | inl q ↦ ap (λ (c : ℕ). get_or (set xs i v) c 0) q ∙ get_or-set_same xs i v 0 within ∙ is ∙ ap f (sym q)

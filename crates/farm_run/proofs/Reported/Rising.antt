@@ -76,7 +76,9 @@ range_has p a (suc n) c h = elim (cases_eq c a) [
     above : (c a : ℕ) → a ≤ c → c ≢ a → a + 1 ≤ c
     above c a l n = omega arith
 
-    here : c ≡ a → (b : Bool) → p a ≡ b → has c (cond (p a) (a ∷ filter p (range_with_len (a + 1) n)) (filter p (range_with_len (a + 1) n))) ≡ p c
+    here : c ≡ a → (b : Bool) → p a ≡ b →
+        has c (cond (p a) (a ∷ filter p (range_with_len (a + 1) n))
+        (filter p (range_with_len (a + 1) n))) ≡ p c
     here q true e =
         ap (λ (b : Bool). has c (cond b (a ∷ filter p (range_with_len (a + 1) n)) (filter p (range_with_len (a + 1) n)))) e
         ∙ ap (λ (b : Bool). b || has c (filter p (range_with_len (a + 1) n))) (eq-eqb c a q) ∙ sym (ap p q ∙ e)

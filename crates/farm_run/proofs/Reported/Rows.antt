@@ -39,7 +39,8 @@ until_is sent_in sent to c k front (x ∷ xs) (n ∷ ns) a last l =
     by rest false false e f = rest (or_from (c == x.a) (c == x.b) e f)
 
 -- **The rows of these bridges tell what each call sent in each of them.** `tell` says what a call sends in a span.
-pub rows_are : (tell : Span → ℕ → ℕ) (d : Span) (sent : ℕ → ℕ) (to : Bridge → ℕ) (all front xs : List Bridge) (ns : List SentBefore) → all ≡ front ++ xs →
+pub rows_are : (tell : Span → ℕ → ℕ) (d : Span) (sent : ℕ → ℕ) (to : Bridge → ℕ)
+    (all front xs : List Bridge) (ns : List SentBefore) → all ≡ front ++ xs →
     AreNotes (λ j c. tell (get_or (map (span to) all) j d) c) front xs ns →
     ((c j : ℕ) → IsLatest all c (Some j) → sent c ≡ tell (get_or (map (span to) all) j d) c) →
     span_lines sent (map (span to) xs) ns ≡ map (λ s. span_line s (tell s s.a) (tell s s.b)) (map (span to) xs)
@@ -73,7 +74,8 @@ rows_are tell d sent to all front (x ∷ xs) (n ∷ ns) e a last =
 -- ---- one row more
 
 -- where a list has ended, a call has sent what it has so far, and there is no row
-pub until_none : (sent : ℕ → ℕ) (xs : List Span) (ns : List SentBefore) (c : ℕ) → (length xs ≡ 0) ⊎ (length ns ≡ 0) → sent_until sent xs ns c ≡ sent c
+pub until_none : (sent : ℕ → ℕ) (xs : List Span) (ns : List SentBefore) (c : ℕ) →
+    (length xs ≡ 0) ⊎ (length ns ≡ 0) → sent_until sent xs ns c ≡ sent c
 until_none sent [] ns c h = refl
 until_none sent (x ∷ xs) [] c h = refl
 until_none sent (x ∷ xs) (n ∷ ns) c h = elim h [ inl e ↦ absurd (omega arith) | inr e ↦ absurd (omega arith) ]
@@ -84,7 +86,8 @@ no_rows sent (x ∷ xs) [] h = refl
 no_rows sent (x ∷ xs) (n ∷ ns) h = elim h [ inl e ↦ absurd (omega arith) | inr e ↦ absurd (omega arith) ]
 
 -- **The table, once the note of a bridge was taken.**
-pub table_before : (sent : ℕ → ℕ) (x : Span) (n : SentBefore) (xs : List Span) (ns : List SentBefore) (table : List ℕ) → length table ≡ NUMBERS →
+pub table_before : (sent : ℕ → ℕ) (x : Span) (n : SentBefore) (xs : List Span)
+    (ns : List SentBefore) (table : List ℕ) → length table ≡ NUMBERS →
     x.a < NUMBERS → x.b < NUMBERS → ((c : ℕ) → c < NUMBERS → get_or table c 0 ≡ sent_until sent xs ns c) → (c : ℕ) → c < NUMBERS →
     get_or (set (set table x.b n.by_b) x.a n.by_a) c 0 ≡ sent_until sent (x ∷ xs) (n ∷ ns) c
 table_before sent x n xs ns table long a b h c l = elim (cases_eq c x.a) [
@@ -102,8 +105,11 @@ table_before sent x n xs ns table long a b h c l = elim (cases_eq c x.a) [
         ∙ sym (ap (λ (t : Bool). if t then n.by_b else sent_until sent xs ns c) (ne_eqb c x.b m))
 
 -- **One row more.**
-pub row_before : (sent : ℕ → ℕ) (x : Span) (n : SentBefore) (xs : List Span) (ns : List SentBefore) (table : List ℕ) (lines : List SpanLine) →
-    x.a < NUMBERS → x.b < NUMBERS → ((c : ℕ) → c < NUMBERS → get_or table c 0 ≡ sent_until sent xs ns c) → reverse lines ≡ span_lines sent xs ns →
+pub row_before : (sent : ℕ → ℕ) (x : Span) (n : SentBefore) (xs : List Span) (ns : List SentBefore)
+    (table : List ℕ) (lines : List SpanLine) →
+    x.a < NUMBERS → x.b < NUMBERS →
+    ((c : ℕ) → c < NUMBERS → get_or table c 0 ≡ sent_until sent xs ns c) →
+    reverse lines ≡ span_lines sent xs ns →
     reverse (lines ++ span_line x (get_or table x.a 0) (get_or table x.b 0) ∷ []) ≡ span_lines sent (x ∷ xs) (n ∷ ns)
 row_before sent x n xs ns table lines a b h is =
     reverse-append lines (span_line x (get_or table x.a 0) (get_or table x.b 0) ∷ [])

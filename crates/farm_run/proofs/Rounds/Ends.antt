@@ -53,14 +53,17 @@ end_within r t n ds left c h e =
 pub not_by_lines : (k : ℕ) (g : Given) → IsCutOff (lack_of k g) → ⊥
 not_by_lines k g = by (nat_lt g.up (40 * (k + 1))) g.up_failed g.pcm_failed
   where
-    by : (a u p : Bool) → IsCutOff (if a then (if u then Fault Up else End Up (g.up - 40 * k)) else if p then Fault Pcm else End Pcm (g.pcm - 160 * k)) → ⊥
+    by : (a u p : Bool) →
+        IsCutOff (if a then (if u then Fault Up else End Up (g.up - 40 * k)) else if p
+        then Fault Pcm else End Pcm (g.pcm - 160 * k)) → ⊥
     by true true p h = h
     by true false p h = h
     by false u true h = h
     by false u false h = h
 
 -- it was opened in the run where it was so far
-pub start_kept : (r : Run) (t n : ℕ) (ds : List Done) (left : List Order) (c : ℕ) → IsRound r t n ds left → is_open (gone_at (whole_in r) t ds) ds c ≡ true →
+pub start_kept : (r : Run) (t n : ℕ) (ds : List Done) (left : List Order) (c : ℕ) →
+    IsRound r t n ds left → is_open (gone_at (whole_in r) t ds) ds c ≡ true →
     start_of (done_in r) c ≡ start_of ds c
 start_kept r t n ds left c h o = start_run r t ds left c (start_of ds c) h.so_far (open_at r t ds c (standing_now r t ds left h.so_far) o).opened
 
@@ -136,7 +139,8 @@ cut_of : (r : Run) (ds : List Done) (t n c : ℕ) (p : LinesMemory) (up pcm : Li
 cut_of r ds t n c p up pcm h = record { up = h.up_count; pcm = h.pcm_count; up_failed = h.up_failed; pcm_failed = h.pcm_failed }
 
 -- **The whole periods of a round are the places that the call's lines give.**
-pub whole_taken : (r : Run) (t n : ℕ) (ds : List Done) (left : List Order) (c : ℕ) (p : LinesMemory) (up pcm : List ℕ) → IsRound r t n ds left →
+pub whole_taken : (r : Run) (t n : ℕ) (ds : List Done) (left : List Order) (c : ℕ) (p : LinesMemory)
+    (up pcm : List ℕ) → IsRound r t n ds left →
     is_open (gone_at (whole_in r) t ds) ds c ≡ true → IsTaken r ds t n c p up pcm →
     round_lines.whole_in p ≡ places_in r ds t n c
 whole_taken r t n ds left c p up pcm h o k =
@@ -148,7 +152,8 @@ whole_taken r t n ds left c p up pcm h o k =
     minus_minus s w t l = omega arith
 
 -- **The end that a round tells of a call is the run's.**
-pub round_end : (r : Run) (t n : ℕ) (ds : List Done) (left : List Order) (c : ℕ) (p : LinesMemory) (up pcm : List ℕ) → IsRound r t n ds left →
+pub round_end : (r : Run) (t n : ℕ) (ds : List Done) (left : List Order) (c : ℕ) (p : LinesMemory)
+    (up pcm : List ℕ) → IsRound r t n ds left →
     is_open (gone_at (whole_in r) t ds) ds c ≡ true → IsTaken r ds t n c p up pcm →
     end_in_round t p ≡ (if ends_within r ds t n c then Some (end_of (given_in r) r.periods (done_in r) c (start_of ds c)) else None)
 round_end r t n ds left c p up pcm h o k = elim (cases_lt (places_in r ds t n c) n) [

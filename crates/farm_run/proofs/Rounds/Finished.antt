@@ -20,7 +20,8 @@ use Rattle.farm_run.proofs.Rounds.Octets.{out_of_periods, down_of_periods}
 -- ---- what was taken is what the places have
 
 -- a octets at y within what was taken are those of the line at z
-taken_place : (m a x y z : ℕ) (block line : List ℕ) → take m block ≡ take m (drop x line) → y + a ≤ m → x + y ≡ z → take a (drop y block) ≡ take a (drop z line)
+taken_place : (m a x y z : ℕ) (block line : List ℕ) → take m block ≡ take m (drop x line) →
+    y + a ≤ m → x + y ≡ z → take a (drop y block) ≡ take a (drop z line)
 taken_place m a x y z block line e l f =
     sym (front block) ∙ ap (λ (xs : List ℕ). take a (drop y xs)) e ∙ front (drop x line) ∙ ap (take a) (drop-drop y x line ∙ ap (λ (i : ℕ). drop i line) f)
   where
@@ -50,7 +51,8 @@ fed_taken r t n ds left c p io h o k e g d =
 -- **With the octets of its places the Out line of a call is the run's up to there.**
 pub out_written : (r : Run) (t k : ℕ) (ds : List Done) (c : ℕ) (io now : IoMemory) → start_of ds c ≤ t →
     now ≡ io_after (who_in r c) k (periods_to r c (t + k - start_of ds c)) io →
-    out_line (who_in r c) (periods_to r c (t + k - start_of ds c)) ≡ out_line (who_in r c) (periods_to r c (t - start_of ds c)) ++ take (160 * k) now.out
+    out_line (who_in r c) (periods_to r c (t + k - start_of ds c))
+    ≡ out_line (who_in r c) (periods_to r c (t - start_of ds c)) ++ take (160 * k) now.out
 out_written r t k ds c io now l f =
     let at : t - start_of ds c + k ≡ t + k - start_of ds c = omega arith in
     let ts = periods_to r c (t + k - start_of ds c) in
@@ -64,7 +66,8 @@ out_written r t k ds c io now l f =
 -- **With the octets of its places the Down line of a call is the run's up to there.**
 pub down_written : (r : Run) (t k : ℕ) (ds : List Done) (c : ℕ) (io now : IoMemory) → start_of ds c ≤ t →
     now ≡ io_after (who_in r c) k (periods_to r c (t + k - start_of ds c)) io →
-    down_octets (who_in r c) (periods_to r c (t + k - start_of ds c)) ≡ down_octets (who_in r c) (periods_to r c (t - start_of ds c)) ++ take (40 * k) now.down
+    down_octets (who_in r c) (periods_to r c (t + k - start_of ds c))
+    ≡ down_octets (who_in r c) (periods_to r c (t - start_of ds c)) ++ take (40 * k) now.down
 down_written r t k ds c io now l f =
     let at : t - start_of ds c + k ≡ t + k - start_of ds c = omega arith in
     let ts = periods_to r c (t + k - start_of ds c) in

@@ -36,7 +36,8 @@ record Came (m : ℕ) (line rest : List ℕ) (failed : Bool) (now : LineState) (
   pub octets : take t.count block ≡ take t.count line
   pub left : now.to_come ≡ Some (drop m line ++ rest)
 
-module _ (m : ℕ) (line rest : List ℕ) (failed : Bool) (now : LineState) (t : Taken) (block : List ℕ) (bound : t.count ≤ m) (long : length block ≡ m) where
+module _ (m : ℕ) (line rest : List ℕ) (failed : Bool) (now : LineState) (t : Taken) (block : List ℕ)
+    (bound : t.count ≤ m) (long : length block ≡ m) where
   -- as many octets were taken as were counted
   taken_long : length (take t.count block) ≡ t.count
   taken_long = length-take-le t.count block (omega (arith, bound, long))
@@ -67,7 +68,8 @@ module _ (m : ℕ) (line rest : List ℕ) (failed : Bool) (now : LineState) (t :
       }
 
 -- a line gives its next octets until the round is full, or it ends or fails
-came : (m : ℕ) (line rest : List ℕ) (failed : Bool) (was now : LineState) (t : Taken) (block : List ℕ) → Takes was now t block → length block ≡ m →
+came : (m : ℕ) (line rest : List ℕ) (failed : Bool) (was now : LineState) (t : Taken)
+    (block : List ℕ) → Takes was now t block → length block ≡ m →
     was.to_come ≡ Some (line ++ rest) → Meets m rest failed now t → Came m line rest failed now t block
 came m line rest failed was now t block h long told meets = by t.failed refl failed refl
   where
@@ -115,7 +117,8 @@ pub record GaveBlock (m k : ℕ) (line rest : List ℕ) (failing : Bool) (now : 
   pub fails : t.count < m → t.failed ≡ failing
 
 -- **What a round took of a line is what the run says, whether the line fails in it, later or never.**
-pub gave : (m k : ℕ) (line rest : List ℕ) (failed : Bool) (was now : LineState) (t : Taken) (block : List ℕ) → Takes was now t block → length block ≡ m →
+pub gave : (m k : ℕ) (line rest : List ℕ) (failed : Bool) (was now : LineState) (t : Taken)
+    (block : List ℕ) → Takes was now t block → length block ≡ m →
     IsToCome was k line rest → Meets m rest failed now t →
     GaveBlock m k line rest failed now t block
 gave m k line rest failed was now t block h long told meets =

@@ -64,7 +64,8 @@ but_for_bridge x y e b = same_settings x.level y.level x.mode y.mode x.starts y.
 -- ---- a place's period
 
 -- **The period of a place is the run's, with what is handed over in it.**
-place_period : (r : Run) (t n : ℕ) (ds : List Done) (left : List Order) (c k : ℕ) (io : IoMemory) → IsRound r t n ds left → IsOpenAt r t ds c →
+place_period : (r : Run) (t n : ℕ) (ds : List Done) (left : List Order) (c k : ℕ) (io : IoMemory) →
+    IsRound r t n ds left → IsOpenAt r t ds c →
     IsFed r ds t n c io → k < io.given →
     period_at k (start_at r ds t c io) (handed_now r ds (t + k) c) ≡ period_now r ds (t + k) c
 place_period r t n ds left c k io h o f l =
@@ -85,7 +86,8 @@ place_period r t n ds left c k io h o f l =
     worked false = refl
 
 -- one place more is one period more
-pub place_more : (r : Run) (t n : ℕ) (ds : List Done) (left : List Order) (c k : ℕ) (io : IoMemory) (handed : Option (List ℕ)) (past : List CallPeriod) →
+pub place_more : (r : Run) (t n : ℕ) (ds : List Done) (left : List Order) (c k : ℕ) (io : IoMemory)
+    (handed : Option (List ℕ)) (past : List CallPeriod) →
     IsRound r t n ds left → IsOpenAt r t ds c → IsFed r ds t n c io → k < io.given →
     handed ≡ handed_now r ds (t + k) c → past ≡ periods_to r c (t + k - start_of ds c) →
     period_at k (start_at r ds t c io) handed ∷ past ≡ periods_to r c (t + suc k - start_of ds c)
@@ -104,7 +106,8 @@ place_more r t n ds left c k io handed past h o f l e p =
 -- period by period, for the first k of them
 alone_go : (r : Run) (t n : ℕ) (ds : List Done) (left : List Order) (c k : ℕ) (io : IoMemory) → IsRound r t n ds left →
     IsOpenAt r t ds c → IsFed r ds t n c io →
-    bridge_of (gone_at (whole_in r) t ds) ds c ≡ None → k ≤ io.given → alone_periods k (start_at r ds t c io) ≡ periods_to r c (t + k - start_of ds c)
+    bridge_of (gone_at (whole_in r) t ds) ds c ≡ None → k ≤ io.given →
+    alone_periods k (start_at r ds t c io) ≡ periods_to r c (t + k - start_of ds c)
 alone_go r t n ds left c zero io h o f b l = let e : t ≡ t + 0 = omega arith in ap (λ (u : ℕ). periods_to r c (u - start_of ds c)) e
 alone_go r t n ds left c (suc k) io h o f b l =
     let given = f.given in
@@ -121,7 +124,9 @@ alone_go r t n ds left c (suc k) io h o f b l =
 -- **The periods of a call that lies in no bridge.**
 pub alone_worked : (r : Run) (t n : ℕ) (ds : List Done) (left : List Order) (c : ℕ) (io : IoMemory) → IsRound r t n ds left →
     is_open (gone_at (whole_in r) t ds) ds c ≡ true → IsFed r ds t n c io →
-    bridge_of (gone_at (whole_in r) t ds) ds c ≡ None → alone_periods io.given (start_at r ds t c io) ≡ periods_to r c (t + io.given - start_of ds c)
+    bridge_of (gone_at (whole_in r) t ds) ds c ≡ None →
+    alone_periods io.given (start_at r ds t c io)
+    ≡ periods_to r c (t + io.given - start_of ds c)
 alone_worked r t n ds left c io h o f b = alone_go r t n ds left c io.given io h (open_at r t ds c (standing_now r t ds left h.so_far) o) f b (omega arith)
 
 -- **What is set for its next period.**

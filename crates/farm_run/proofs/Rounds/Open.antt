@@ -28,7 +28,8 @@ pub record IsOpenAt (r : Run) (t : ℕ) (ds : List Done) (c : ℕ) : Type 0 wher
   pub alive : t ≤ start_of ds c + whole_in r c
 
 -- what is known of a call that is open by its tests
-pub open_at : (r : Run) (t : ℕ) (ds : List Done) (c : ℕ) → Standing (whole_in r) t ds → is_open (gone_at (whole_in r) t ds) ds c ≡ true → IsOpenAt r t ds c
+pub open_at : (r : Run) (t : ℕ) (ds : List Done) (c : ℕ) → Standing (whole_in r) t ds →
+    is_open (gone_at (whole_in r) t ds) ds c ≡ true → IsOpenAt r t ds c
 open_at r t ds c stand e =
     let f = open_facts (gone_at (whole_in r) t ds) ds c e in
     let o : opened_at c ds ≡ Some (start_of ds c) = f.1 ∙ ap Some (sym (start_is ds c f.0 f.1)) in
@@ -73,7 +74,8 @@ all_or_fewer n m s = elim (cases_lt (n - 1) (min n m)) [
 ]
 
 -- **A call that is open at the clock is open after the round exactly where its lines gave all periods of it.**
-pub open_after : (r : Run) (t n : ℕ) (ds : List Done) (left : List Order) (c : ℕ) → IsRound r t n ds left → is_open (gone_at (whole_in r) t ds) ds c ≡ true →
+pub open_after : (r : Run) (t n : ℕ) (ds : List Done) (left : List Order) (c : ℕ) →
+    IsRound r t n ds left → is_open (gone_at (whole_in r) t ds) ds c ≡ true →
     is_open (gone_at (whole_in r) (t + n) ds) ds c ≡ (places_in r ds t n c == n)
 open_after r t n ds left c h o =
     let some = h.some in
@@ -118,7 +120,11 @@ bridge_at_place r t n ds left c k h l =
     bridge_later r t t (t + k) ds c stand (omega arith) (omega arith) ∙ by (bridge_of (gone_at (whole_in r) t ds) ds c) refl
   where
     by : (o : Option Bridge) → bridge_of (gone_at (whole_in r) t ds) ds c ≡ o →
-        ◌≡◌ {A = Option Bridge} (elim o [ None ↦ None | Some x ↦ if has_period r ds (t + k) x.a && has_period r ds (t + k) x.b then Some x else None ])
+        ◌≡◌ {A = Option Bridge} (elim o [
+          | None ↦ None
+          | Some x ↦ if has_period r ds (t + k) x.a && has_period r ds (t + k) x.b
+              then Some x else None
+        ])
         (elim o [ None ↦ None | Some x ↦ if nat_lt k (places_in r ds t n x.a) && nat_lt k (places_in r ds t n x.b) then Some x else None ])
     by None e = refl
     by (Some x) e =

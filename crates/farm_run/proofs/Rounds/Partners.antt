@@ -89,7 +89,8 @@ swapped r t n ds c d x io io' p = record {
 
 -- two calls of a bridge at the clock are partners in the round
 partners : (r : Run) (t n : ℕ) (ds : List Done) (left : List Order) (c : ℕ) (x : Bridge) (io io' : IoMemory) → IsRound r t n ds left →
-    bridge_of (gone_at (whole_in r) t ds) ds c ≡ Some x → IsFed r ds t n c io → IsFed r ds t n (other c x) io' → ArePartners r t n ds c (other c x) x io io'
+    bridge_of (gone_at (whole_in r) t ds) ds c ≡ Some x → IsFed r ds t n c io →
+    IsFed r ds t n (other c x) io' → ArePartners r t n ds c (other c x) x io io'
 partners r t n ds left c x io io' h b f g =
     let stand = standing_now r t ds left h.so_far in
     let parts = bridge_open r t ds c x b in
@@ -140,7 +141,8 @@ handed_is r t n ds left c d k x io io' h p l =
     by false = refl
 
 -- what a call hands over in a place is its item
-item_is : (r : Run) (t n : ℕ) (ds : List Done) (d k : ℕ) (io : IoMemory) (ts : List CallPeriod) → IsOpenAt r t ds d → IsFed r ds t n d io → k < io.given →
+item_is : (r : Run) (t n : ℕ) (ds : List Done) (d k : ℕ) (io : IoMemory) (ts : List CallPeriod) →
+    IsOpenAt r t ds d → IsFed r ds t n d io → k < io.given →
     ts ≡ periods_to r d (t + k - start_of ds d) →
     bits260 (handed_fields (effective_now io.call (period_at k (start_at r ds t d io) None ∷ ts))) ≡ item_in r ds (t + k) d
 item_is r t n ds d k io ts o f l e =
@@ -179,7 +181,8 @@ bridged_go r t n ds left c d (suc k) x io io' h p l =
     (same ∙ sym (handed_is r t n ds left c d k x io io' h p (omega arith))) (bridged_go r t n ds left c d k x io io' h p (omega arith))
 
 -- **The periods of a call that lies in a bridge.**
-pub bridged_worked : (r : Run) (t n : ℕ) (ds : List Done) (left : List Order) (c : ℕ) (x : Bridge) (io io' : IoMemory) → IsRound r t n ds left →
+pub bridged_worked : (r : Run) (t n : ℕ) (ds : List Done) (left : List Order) (c : ℕ) (x : Bridge)
+    (io io' : IoMemory) → IsRound r t n ds left →
     bridge_of (gone_at (whole_in r) t ds) ds c ≡ Some x → IsFed r ds t n c io → IsFed r ds t n (other c x) io' →
     bridged_periods io.given (start_at r ds t c io) (start_at r ds t (other c x) io') ≡ periods_to r c (t + io.given - start_of ds c)
 bridged_worked r t n ds left c x io io' h b f g =
@@ -189,7 +192,8 @@ bridged_worked r t n ds left c x io io' h b f g =
 
 -- **What is set for the next period of a call that has all places of the round: past its partner's places the bridge is
 -- off.**
-pub bridged_settings : (r : Run) (t n : ℕ) (ds : List Done) (left : List Order) (c : ℕ) (x : Bridge) (io io' : IoMemory) → IsRound r t n ds left →
+pub bridged_settings : (r : Run) (t n : ℕ) (ds : List Done) (left : List Order) (c : ℕ) (x : Bridge)
+    (io io' : IoMemory) → IsRound r t n ds left →
     bridge_of (gone_at (whole_in r) t ds) ds c ≡ Some x → IsFed r ds t n c io → IsFed r ds t n (other c x) io' → io.given ≡ n →
     settings_past io.given io'.given (settings_now r ds t c) ≡ settings_now r ds (t + io.given) c
 bridged_settings r t n ds left c x io io' h b f g all =
@@ -221,7 +225,9 @@ bridged_settings r t n ds left c x io io' h b f g all =
         some_if true = refl
         some_if false = refl
 
-    off : (s : Bool) → nat_lt io'.given n ≡ s → (if s then without_bridge (settings_at n (settings_now r ds t c)) else settings_at n (settings_now r ds t c))
+    off : (s : Bool) → nat_lt io'.given n ≡ s →
+        (if s then without_bridge (settings_at n (settings_now r ds t c))
+        else settings_at n (settings_now r ds t c))
         ≡ settings_now r ds (t + n) c
     off true e = but_for_bridge _ _ (settings_kept r t n ds left c n h (omega arith)) (sym (lasting ∙ ap not e))
     off false e =

@@ -26,9 +26,11 @@ still_told (Some zs) None front xs c e = absurd c
 still_told (Some zs) (Some ys) front xs c e = (ys, refl)
 
 -- one line
-given : (m c : ℕ) (s : Side) (k : ℕ) (line : List ℕ) (was now : LineState) (t : Taken) (block : List ℕ) (behind last : Standing) → IsIncoming s →
+given : (m c : ℕ) (s : Side) (k : ℕ) (line : List ℕ) (was now : LineState) (t : Taken)
+    (block : List ℕ) (behind last : Standing) → IsIncoming s →
     Takes was now t block → length block ≡ m →
-    IsToCome was k line (never_given (last.listed c s) (last.lines c s)) → StandingGoesOn behind last → behind.lines c s ≡ now → behind.listed c s ≡ t.failed →
+    IsToCome was k line (never_given (last.listed c s) (last.lines c s)) →
+    StandingGoesOn behind last → behind.lines c s ≡ now → behind.listed c s ≡ t.failed →
     (t.count < m → behind.over c ≡ true) →
     GaveBlock m k line (never_given (last.listed c s) (last.lines c s)) (last.listed c s) now t block
 given m c s k line was now t block behind last i h long told on here listed ends =
@@ -42,13 +44,15 @@ given m c s k line was now t block behind last i h long told on here listed ends
 pub record IsMet (r : Run) (ds : List Done) (t n c : ℕ) (now : Side → LineState) (x : SeatMemory) (last : Standing) : Type 0 where
   pub taken : IsTaken r ds t n c x.lines x.up x.pcm
   pub up_left : IsToCome (now Up) (40 * (t - start_of ds c) + 40 * n) (r.lines c).up (never_given (last.listed c Up) (last.lines c Up))
-  pub pcm_left : IsToCome (now Pcm) (160 * (t - start_of ds c) + 160 * n) (r.lines c).pcm (never_given (last.listed c Pcm) (last.lines c Pcm))
+  pub pcm_left : IsToCome (now Pcm) (160 * (t - start_of ds c) + 160 * n) (r.lines c).pcm
+      (never_given (last.listed c Pcm) (last.lines c Pcm))
 
 -- **What a round took of an open call's lines is what the run says, whether a line fails in it, later or never.**
 pub met : (r : Run) (ds : List Done) (t n c : ℕ) (before now : Side → LineState) (s x : SeatMemory) (behind last : Standing) →
     Fills before now s x → x.lines.call ≡ c → x.lines.periods ≡ n → length x.up ≡ 40 * n → length x.pcm ≡ 160 * n →
     StandingGoesOn behind last → (r.lines c).up_failed ≡ last.listed c Up → (r.lines c).pcm_failed ≡ last.listed c Pcm →
-    ((side : Side) → IsIncoming side → behind.listed c side ≡ fails_in x.lines side) → (round_lines.whole_in x.lines < n → behind.over c ≡ true) →
+    ((side : Side) → IsIncoming side → behind.listed c side ≡ fails_in x.lines side) →
+    (round_lines.whole_in x.lines < n → behind.over c ≡ true) →
     ((side : Side) → IsIncoming side → behind.lines c side ≡ now side) →
     IsToCome (before Up) (40 * (t - start_of ds c)) (r.lines c).up (never_given (last.listed c Up) (last.lines c Up)) →
     IsToCome (before Pcm) (160 * (t - start_of ds c)) (r.lines c).pcm (never_given (last.listed c Pcm) (last.lines c Pcm)) →

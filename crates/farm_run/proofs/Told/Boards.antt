@@ -28,7 +28,8 @@ pub gone_round : (r : Run) (t n : ℕ) (ds : List Done) (c : ℕ) → is_some (o
     gone_at (whole_in r) (t + n) ds c ≡ (gone_at (whole_in r) t ds c || ends_within r ds t n c)
 gone_round r t n ds c o l = by (opened_at c ds) refl o
   where
-    by : (x : Option ℕ) → opened_at c ds ≡ x → is_some x ≡ true → gone_at (whole_in r) (t + n) ds c ≡ (gone_at (whole_in r) t ds c || ends_within r ds t n c)
+    by : (x : Option ℕ) → opened_at c ds ≡ x → is_some x ≡ true →
+        gone_at (whole_in r) (t + n) ds c ≡ (gone_at (whole_in r) t ds c || ends_within r ds t n c)
     by None e k = cc
     by (Some s) e k = gone_is (whole_in r) (t + n) ds c s e ∙ elim (cases_lt (s + whole_in r c) t) [
       | inl m ↦
@@ -74,13 +75,15 @@ abbrev pub is_told_end : Option CallEnd → Bool
 is_told_end o = is_some (option_map (λ (e : CallEnd). e.at) o)
 
 -- **All ends that were told lie before the round's end.**
-pub before_round : (t n : ℕ) (s : State) (ends : List CallEnd) → EndBefore t s → AllByRecursion (λ e. e.at < t + n) ends → EndBefore (t + n) (told_after s ends)
+pub before_round : (t n : ℕ) (s : State) (ends : List CallEnd) → EndBefore t s →
+    AllByRecursion (λ e. e.at < t + n) ends → EndBefore (t + n) (told_after s ends)
 before_round t n s ends h l = go s ends (λ c. by (told_in s c) (h c)) l
   where
     by : (o : Option ℕ) → IfSome o (λ at. at < t) → IfSome o (λ at. at < t + n)
     by None k = tt
     by (Some at) k = omega arith
 
-    go : (s : State) (ends : List CallEnd) → EndBefore (t + n) s → AllByRecursion (λ e. e.at < t + n) ends → EndBefore (t + n) (told_after s ends)
+    go : (s : State) (ends : List CallEnd) → EndBefore (t + n) s →
+        AllByRecursion (λ e. e.at < t + n) ends → EndBefore (t + n) (told_after s ends)
     go s [] h l = h
     go s (e ∷ ends) h l = go (told_more s e) ends (before_more s (told_more s e) e refl (t + n) l.0 h) l.1

@@ -3,7 +3,7 @@ use Rattle.std.proofs.Common.{◌≡◌, refl, sym, ap, ◌∙◌, subst, ℕ, z
 use Rattle.std.proofs.Common.{◌∷◌, length, map, take, get_or, arith}
 use Rattle.std.specs.Prelude.{◌==◌, if◌then◌else◌, is_some, IfSome, slice_index}
 use Rattle.std.specs.List.{AllByRecursion}
-use Rattle.std.proofs.lemmas.Bool.{eqb-true}
+use Rattle.std.proofs.lemmas.Bool.{eqb-true, and_parts}
 use Rattle.std.proofs.lemmas.List.{take_all}
 use Rattle.trau_io.specs.declared.ends.CallEnd.{CallEnd}
 use Rattle.trau_orders.specs.Lists.{AreOrders}
@@ -22,7 +22,8 @@ pub record IsTold (was now : State) (ends : List CallEnd) : Type 0 where
   pub is_open : (c : ℕ) → open_now now c ≡ (open_now was c && not (is_told c ends))
 
 -- **One end more is told.**
-pub told_step : (was now new : State) (ends : List CallEnd) (i : ℕ) (e : CallEnd) → i < length ends → e ≡ get_or ends i e → new ≡ told_more now e →
+pub told_step : (was now new : State) (ends : List CallEnd) (i : ℕ) (e : CallEnd) →
+    i < length ends → e ≡ get_or ends i e → new ≡ told_more now e →
     ((c : ℕ) → open_now new c ≡ open_without e.call (open_now now) c) → IsTold was now (take i ends) → IsTold was new (take (i + 1) ends)
 told_step was now new ends i e l is n o h = subst (IsTold was new) (sym (front ends i e l is)) (record {
   told = n ∙ ap (λ s. told_more s e) h.told ∙ sym (told_next was (take i ends) e);
@@ -102,7 +103,8 @@ pub limits_open : (was now : State) (at : ℕ) (calls : List ℕ) → IsTold was
 limits_open was now at calls h c = h.is_open c ∙ ap (λ b. open_now was c && not b) (limits_told at c calls)
 
 -- **If these calls were all that were open, no call is.**
-pub none_open : (was now : State) (at : ℕ) (calls : List ℕ) → IsTold was now (map (limit_at at) calls) → ((c : ℕ) → is_among calls c ≡ open_now was c) →
+pub none_open : (was now : State) (at : ℕ) (calls : List ℕ) →
+    IsTold was now (map (limit_at at) calls) → ((c : ℕ) → is_among calls c ≡ open_now was c) →
     (c : ℕ) → open_now now c ≡ false
 none_open was now at calls h e c = limits_open was now at calls h c ∙ ap (λ b. open_now was c && not b) (e c) ∙ neither (open_now was c)
   where
@@ -114,7 +116,8 @@ none_open was now at calls h e c = limits_open was now at calls h c ∙ ap (λ b
 
 -- **After a round, whose ends were told and whose farm kept the calls that didn't end, the board and the farm stand at
 -- the clock behind it.**
-pub clock_round : (t n : ℕ) (b now : State) (calls calls' : List Kept) (ends : List CallEnd) → AtClock t b calls → AllByRecursion (λ e. e.at < t + n) ends →
+pub clock_round : (t n : ℕ) (b now : State) (calls calls' : List Kept) (ends : List CallEnd) →
+    AtClock t b calls → AllByRecursion (λ e. e.at < t + n) ends →
     IfSome (first_stamp b.left) (λ s. t + n ≤ s) →
     now ≡ told_after b ends → ((c : ℕ) → open_now now c ≡ (open_now b c && not (is_told c ends))) →
     ((c : ℕ) → partner_now now c ≡ partner_past ends (partner_now b) c) →
@@ -131,10 +134,6 @@ clock_round t n b now calls calls' ends a before clear told o p c q =
       matches = record {
         is_open = λ d. c d ∙ ap (λ s. s && not (is_told d ends)) (m.is_open d) ∙ sym (o d);
         partner = λ d. q d ∙ ap (λ s. if is_told d ends || has_left s ends then None else s) (m.partner d) ∙ sym (p d);
-        number = λ d e. m.number d (front_of (open_now b d) (not (is_told d ends)) (sym (o d) ∙ e));
+        number = λ d e. m.number d (and_parts (open_now b d) (not (is_told d ends)) (sym (o d) ∙ e)).0;
       };
     }
-  where
-    front_of : (x y : Bool) → (x && y) ≡ true → x ≡ true
-    front_of true y e = refl
-    front_of false y e = cc

@@ -12,14 +12,17 @@ use Rattle.round_lines.specs.Rounds.{Rising, seat_at, call_at, seat_end}
 use Rattle.farm_rounds.specs.Settling.{goes_on_in}
 use Rattle.farm_rounds.specs.Working.{goes_on_call}
 use Rattle.farm_run.specs.Ending.{is_told}
+use Rattle.farm_run.proofs.Listed.Tests.{no}
 
 -- what holds of each seat's end, if it has one, holds of all ends
-pub each_told : (Q : CallEnd → Type 0) (t : ℕ) (seats : List SeatMemory) → ((k : ℕ) → k < length seats → IfSome (seat_end t (seat_at seats k)) Q) →
+pub each_told : (Q : CallEnd → Type 0) (t : ℕ) (seats : List SeatMemory) →
+    ((k : ℕ) → k < length seats → IfSome (seat_end t (seat_at seats k)) Q) →
     AllByRecursion Q (filter_map (seat_end t) seats)
 each_told Q t [] h = tt
 each_told Q t (s ∷ seats) h = by (seat_end t s) (h 0 (omega arith)) (each_told Q t seats (λ k l. h (suc k) (omega arith)))
   where
-    by : (o : Option CallEnd) → IfSome o Q → AllByRecursion Q (filter_map (seat_end t) seats) → AllByRecursion Q (cons_option o (filter_map (seat_end t) seats))
+    by : (o : Option CallEnd) → IfSome o Q → AllByRecursion Q (filter_map (seat_end t) seats) →
+        AllByRecursion Q (cons_option o (filter_map (seat_end t) seats))
     by None q k = k
     by (Some e) q k = (q, k)
 
@@ -28,7 +31,7 @@ abbrev pub has_call : List SeatMemory → ℕ → Bool
 has_call seats c = list_any (λ s. s.lines.call == c) seats
 
 -- the end that a seat tells of its call
-abbrev end_of_seat : ℕ → SeatMemory → CallEnd
+abbrev pub end_of_seat : ℕ → SeatMemory → CallEnd
 end_of_seat t s = record { call = s.lines.call; at = t + round_lines.whole_in s.lines; cause = lack_of (round_lines.whole_in s.lines) (round_lines.given_in s.lines) }
 
 -- two numbers of which one is greater aren't the same
@@ -36,7 +39,7 @@ apart_test : (c d : ℕ) → c < d → ((c == d) ≡ false) × ((d == c) ≡ fal
 apart_test c d l = (ne_eqb c d (λ e. omega arith), ne_eqb d c (λ e. omega arith))
 
 -- of a call whose number lies before all seats' nothing is told, and it has no seat
-none_above : (t c : ℕ) (seats : List SeatMemory) → ((j : ℕ) → j < length seats → c < call_at seats j) →
+pub none_above : (t c : ℕ) (seats : List SeatMemory) → ((j : ℕ) → j < length seats → c < call_at seats j) →
     (is_told c (filter_map (seat_end t) seats) ≡ false) × (goes_on_call seats c ≡ false)
 none_above t c [] h = (refl, refl)
 none_above t c (x ∷ seats) h =
@@ -65,21 +68,22 @@ told_goes t (s ∷ seats) r c h = elim (cases_Bool (s.lines.call == c)) [
       (told_goes t seats (λ i j l k. r (suc i) (suc j) (omega arith) (omega arith)) c (rest (s.lines.call == c) q h))
 ]
   where
-    no : (b : Bool) → b ≡ false → b ≡ true → ⊥
-    no b p q = cc
-
     rest : (b : Bool) → b ≡ false → (b || has_call seats c) ≡ true → has_call seats c ≡ true
     rest false q e = e
     rest true q e = cc
 
-    here : (g u : Bool) → u ≡ true → (c == s.lines.call) ≡ true → is_told c (filter_map (seat_end t) seats) ≡ false → goes_on_call seats c ≡ false →
-        is_told c (cons_option (if g then None else Some (end_of_seat t s)) (filter_map (seat_end t) seats)) ≡ not ((u && g) || goes_on_call seats c)
+    here : (g u : Bool) → u ≡ true → (c == s.lines.call) ≡ true →
+        is_told c (filter_map (seat_end t) seats) ≡ false → goes_on_call seats c ≡ false →
+        is_told c (cons_option (if g then None else Some (end_of_seat t s))
+        (filter_map (seat_end t) seats)) ≡ not ((u && g) || goes_on_call seats c)
     here true true p q a b = a
     here false true p q a b = ap (λ x. x || is_told c (filter_map (seat_end t) seats)) q ∙ sym (ap not b)
     here g false p q a b = cc
 
-    there : (g u : Bool) → u ≡ false → (c == s.lines.call) ≡ false → is_told c (filter_map (seat_end t) seats) ≡ not (goes_on_call seats c) →
-        is_told c (cons_option (if g then None else Some (end_of_seat t s)) (filter_map (seat_end t) seats)) ≡ not ((u && g) || goes_on_call seats c)
+    there : (g u : Bool) → u ≡ false → (c == s.lines.call) ≡ false →
+        is_told c (filter_map (seat_end t) seats) ≡ not (goes_on_call seats c) →
+        is_told c (cons_option (if g then None else Some (end_of_seat t s))
+        (filter_map (seat_end t) seats)) ≡ not ((u && g) || goes_on_call seats c)
     there true false p q a = a
     there false false p q a = ap (λ x. x || is_told c (filter_map (seat_end t) seats)) q ∙ a
     there g true p q a = cc

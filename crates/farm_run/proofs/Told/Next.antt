@@ -3,7 +3,8 @@ use Rattle.std.proofs.Common.{◌≡◌, refl, sym, ap, ◌∙◌, ℕ, zero, su
 use Rattle.std.proofs.Common.{length, take, get_or, inl, inr, arith}
 use Rattle.std.specs.Prelude.{◌==◌, if◌then◌else◌}
 use Rattle.std.specs.List.{list_any}
-use Rattle.std.proofs.lemmas.Bool.{cases_Bool, eqb-true, eq-eqb}
+use Rattle.std.proofs.Math.Bool.{or-false}
+use Rattle.std.proofs.lemmas.Bool.{cases_Bool, eqb-true, eq-eqb, or_parts}
 use Rattle.std.proofs.lemmas.List.{take_more}
 use Rattle.trau_io.specs.declared.ends.CallEnd.{CallEnd}
 use Rattle.trau_io.specs.declared.ends.Cause.TheVariants.{Closed}
@@ -37,11 +38,7 @@ eqb-sym m n = elim (cases_Bool (m == n)) [
 
 -- **A call's end is told where it was told before, or is this one.**
 pub any_next : {A : Type 0} (p : A → Bool) (xs : List A) (x : A) → list_any p (xs ++ x ∷ []) ≡ (list_any p xs || p x)
-any_next p [] x = none (p x)
-  where
-    none : (b : Bool) → (b || false) ≡ b
-    none true = refl
-    none false = refl
+any_next p [] x = or-false (p x)
 any_next p (y ∷ xs) x = ap (λ (b : Bool). p y || b) (any_next p xs x) ∙ assoc (p y) (list_any p xs) (p x)
   where
     assoc : (a b c : Bool) → (a || (b || c)) ≡ ((a || b) || c)
@@ -63,7 +60,8 @@ left_next None ends e = refl
 left_next (Some p) ends e = any_next (λ d. p == d.call) ends e ∙ ap (λ b. is_told p ends || b) (eqb-sym p e.call)
 
 -- After an end, neither its call nor the partner has a partner, and the others keep theirs.
-module _ (was : ℕ → Option ℕ) (both : (c p : ℕ) → was c ≡ Some p → was p ≡ Some c) (ends : List CallEnd) (e : CallEnd) (new : is_told e.call ends ≡ false) where
+module _ (was : ℕ → Option ℕ) (both : (c p : ℕ) → was c ≡ Some p → was p ≡ Some c)
+    (ends : List CallEnd) (e : CallEnd) (new : is_told e.call ends ≡ false) where
   -- no partner stays none
   none_if : (b : Bool) → (if b then None else None) ≡ no_number
   none_if true = refl
@@ -129,23 +127,17 @@ module _ (was : ℕ → Option ℕ) (both : (c p : ℕ) → was c ≡ Some p →
       by (Some p) q = step p (c == e.call) (is_this c (partner_past ends was e.call)) (is_told c ends) (is_told p ends) (e.call == p) (each_other c p q)
 
 -- **No end before this one is of its call.**
-pub apart_front : (ends : List CallEnd) (i : ℕ) (e : CallEnd) → AreApart ends → i < length ends → e ≡ get_or ends i e → is_told e.call (take i ends) ≡ false
+pub apart_front : (ends : List CallEnd) (i : ℕ) (e : CallEnd) → AreApart ends → i < length ends →
+    e ≡ get_or ends i e → is_told e.call (take i ends) ≡ false
 apart_front [] i e a l is = absurd (omega arith)
 apart_front (d ∷ ends) zero e a l is = refl
 apart_front (d ∷ ends) (suc i) e a l is = by (e.call == d.call) refl (apart_front ends i e a.1 (omega arith) is)
   where
-    among : (c : ℕ) (ends : List CallEnd) (i : ℕ) (e : CallEnd) → i < length ends → e ≡ get_or ends i e → is_told c ends ≡ false → (c == e.call) ≡ false
+    among : (c : ℕ) (ends : List CallEnd) (i : ℕ) (e : CallEnd) → i < length ends →
+        e ≡ get_or ends i e → is_told c ends ≡ false → (c == e.call) ≡ false
     among c [] i e l is f = absurd (omega arith)
-    among c (d ∷ ends) zero e l is f = ap (λ (x : CallEnd). c == x.call) is ∙ first (c == d.call) (is_told c ends) f
-      where
-        first : (a b : Bool) → (a || b) ≡ false → a ≡ false
-        first false b q = refl
-        first true b q = cc
-    among c (d ∷ ends) (suc i) e l is f = among c ends i e (omega arith) is (rest (c == d.call) (is_told c ends) f)
-      where
-        rest : (a b : Bool) → (a || b) ≡ false → b ≡ false
-        rest false b q = q
-        rest true b q = cc
+    among c (d ∷ ends) zero e l is f = ap (λ (x : CallEnd). c == x.call) is ∙ (or_parts (c == d.call) (is_told c ends) f).0
+    among c (d ∷ ends) (suc i) e l is f = among c ends i e (omega arith) is (or_parts (c == d.call) (is_told c ends) f).1
 
     by : (b : Bool) → (e.call == d.call) ≡ b → is_told e.call (take i ends) ≡ false → (b || is_told e.call (take i ends)) ≡ false
     by false q h = h

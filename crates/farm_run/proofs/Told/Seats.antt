@@ -1,20 +1,22 @@
 -- The ends that the seats of a round tell are those of the calls that their lines ended within it.
-use Rattle.std.proofs.Common.{◌≡◌, refl, sym, ap, ◌∙◌, subst, ℕ, suc, ◌+◌, ◌<◌, Bool, true, false, Option, Some, None, List, [], ◌∷◌, length, inl, inr}
+use Rattle.std.proofs.Common.{◌≡◌, refl, sym, ap, ◌∙◌, subst, ℕ, suc, Bool, true, false, Option, Some, None, List, [], ◌∷◌}
 use Rattle.std.proofs.Common.{arith}
 use Rattle.std.specs.Prelude.{◌&&◌, ◌||◌, nat_lt, ◌==◌, if◌then◌else◌}
 use Rattle.std.specs.List.{AllByRecursion, filter_map, cons_option}
-use Rattle.std.proofs.lemmas.Bool.{cases_Bool, eqb-true, and_parts}
+use Rattle.std.proofs.Math.Bool.{and-false}
+use Rattle.std.proofs.lemmas.Bool.{eqb-true, and_parts}
 use Rattle.trau_io.specs.declared.ends.CallEnd.{CallEnd}
 use Rattle.trau_orders.specs.declared.order.Order.{Order}
 use Rattle.switchboard.specs.Calls.{Done, is_open, gone_at}
-use Rattle.switchboard.specs.Ends.{lack_of, end_of, start_of}
+use Rattle.switchboard.specs.Ends.{end_of, start_of}
 use Rattle.round_lines.specs.Seats.{SeatMemory}
 use Rattle.round_lines.specs.Memory as round_lines
-use Rattle.round_lines.specs.Rounds.{Rising, call_at, seat_end}
+use Rattle.round_lines.specs.Rounds.{Rising, seat_end}
 use Rattle.run_spec.specs.Run.{Run, given_in, whole_in, done_in}
 use Rattle.farm_run.proofs.Rounds.Taken.{IsRound, IsSeat, has_seat, places_in, ends_within}
 use Rattle.farm_run.specs.Ending.{AreApart, is_told}
 use Rattle.farm_run.proofs.Rounds.Ends.{end_within, round_end}
+use Rattle.farm_run.proofs.Told.Lacking.{none_above, end_of_seat}
 
 -- the run's end of a call
 abbrev run_end : Run → List Done → ℕ → CallEnd
@@ -30,7 +32,8 @@ seat_end_is : (r : Run) (t n : ℕ) (ds : List Done) (left : List Order) (s : Se
 seat_end_is r t n ds left s h k = round_end r t n ds left s.lines.call s.lines s.up s.pcm h k.open_now k.taken
 
 -- **What holds of the run's end of each call that ends within the round holds of each end that its seats tell.**
-pub each_end : (Q : CallEnd → Type 0) (r : Run) (t n : ℕ) (ds : List Done) (left : List Order) (seats : List SeatMemory) → IsRound r t n ds left →
+pub each_end : (Q : CallEnd → Type 0) (r : Run) (t n : ℕ) (ds : List Done) (left : List Order)
+    (seats : List SeatMemory) → IsRound r t n ds left →
     AllByRecursion (IsSeat r ds t n) seats →
     ((c : ℕ) → ends_within r ds t n c ≡ true → Q (end_of (given_in r) r.periods (done_in r) c (start_of ds c))) →
     AllByRecursion Q (filter_map (seat_end t) seats)
@@ -62,13 +65,10 @@ told_seat r t n ds left c (s ∷ seats) h a =
 
     none : (p q e : Bool) → (p ≡ true → e ≡ false) → (q && e) ≡ ((p || q) && e)
     none false q e f = refl
-    none true q e f = ap (λ (b : Bool). q && b) (f refl) ∙ nothing q ∙ sym (f refl)
-      where
-        nothing : (q : Bool) → (q && false) ≡ false
-        nothing true = refl
-        nothing false = refl
+    none true q e f = ap (λ (b : Bool). q && b) (f refl) ∙ and-false q ∙ sym (f refl)
 
-    by : is_told c (filter_map (seat_end t) seats) ≡ (has_seat c seats && ends_within r ds t n c) → (b : Bool) → ends_within r ds t n s.lines.call ≡ b →
+    by : is_told c (filter_map (seat_end t) seats) ≡ (has_seat c seats && ends_within r ds t n c) →
+        (b : Bool) → ends_within r ds t n s.lines.call ≡ b →
         is_told c (cons_option (if b then Some (run_end r ds s.lines.call) else None) (filter_map (seat_end t) seats))
         ≡ ((c == s.lines.call || has_seat c seats) && ends_within r ds t n c)
     by rest true e =
@@ -86,41 +86,18 @@ told_seats r t n ds left seats h a all c = told_seat r t n ds left c seats h a �
   where
     by : (b : Bool) → ends_within r ds t n c ≡ b → (has_seat c seats && b) ≡ b
     by true e = ap (λ (b : Bool). b && true) (all c (let p = and_parts (is_open (gone_at (whole_in r) t ds) ds c) (nat_lt (places_in r ds t n c) n) e in p.0))
-    by false e = nothing (has_seat c seats)
-      where
-        nothing : (q : Bool) → (q && false) ≡ false
-        nothing true = refl
-        nothing false = refl
+    by false e = and-false (has_seat c seats)
 
 -- **No call has two of the ends that seats tell.**
 pub seats_apart : (t : ℕ) (seats : List SeatMemory) → Rising seats → AreApart (filter_map (seat_end t) seats)
 seats_apart t [] r = tt
 seats_apart t (s ∷ seats) r =
-    by (round_lines.whole_in s.lines == s.lines.periods) (above s.lines.call seats (λ j l. r 0 (suc j) (omega arith) (omega arith)))
+    let above = none_above t s.lines.call seats (λ j l. r 0 (suc j) (omega arith) (omega arith)) in
+    by (round_lines.whole_in s.lines == s.lines.periods) above.0
     (seats_apart t seats (λ i j l k. r (suc i) (suc j) (omega arith) (omega arith)))
   where
-    by : (b : Bool) → is_told s.lines.call (filter_map (seat_end t) seats) ≡ false → AreApart (filter_map (seat_end t) seats) →
-        AreApart (cons_option (if b then None else Some
-        (record { call = s.lines.call; at = t + round_lines.whole_in s.lines; cause = lack_of (round_lines.whole_in s.lines) (round_lines.given_in s.lines) }))
-        (filter_map (seat_end t) seats))
+    by : (b : Bool) → is_told s.lines.call (filter_map (seat_end t) seats) ≡ false →
+        AreApart (filter_map (seat_end t) seats) →
+        AreApart (cons_option (if b then None else Some (end_of_seat t s)) (filter_map (seat_end t) seats))
     by true e k = k
     by false e k = (e, k)
-
-    above : (c : ℕ) (seats : List SeatMemory) → ((j : ℕ) → j < length seats → c < call_at seats j) → is_told c (filter_map (seat_end t) seats) ≡ false
-    above c [] h = refl
-    above c (x ∷ seats) h = more (round_lines.whole_in x.lines == x.lines.periods) (above c seats (λ j l. h (suc j) (omega arith)))
-      where
-        more : (b : Bool) → is_told c (filter_map (seat_end t) seats) ≡ false →
-            is_told c
-            (cons_option
-            (if b then None else Some (record {
-              call = x.lines.call;
-              at = t + round_lines.whole_in x.lines;
-              cause =
-                  lack_of (round_lines.whole_in x.lines) (round_lines.given_in x.lines);
-            })) (filter_map (seat_end t) seats)) ≡ false
-        more true e = e
-        more false e = elim (cases_Bool (c == x.lines.call)) [
-          | inl q ↦ let same = eqb-true c x.lines.call q in let l = h 0 (omega arith) in absurd (omega arith)
-          | inr q ↦ ap (λ (b : Bool). b || is_told c (filter_map (seat_end t) seats)) q ∙ e
-        ]

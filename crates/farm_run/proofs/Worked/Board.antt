@@ -39,7 +39,8 @@ abbrev call_is : CallEnd → ℕ
 call_is e = e.call
 
 module _ (r : Run) (t n : ℕ) (b : State) (farm after : FarmMemory) (first before now : ℕ → Side → LineState) (ends : List CallEnd)
-    (w : WorkedRound t n farm after before now ends) (h : IsRound r t n b.done b.left) (m : Matches b farm.calls) (b' : State) (last : Standing)
+    (w : WorkedRound t n farm after before now ends) (h : IsRound r t n b.done b.left)
+    (m : Matches b farm.calls) (b' : State) (last : Standing)
     (at : IsAtClock r t b farm.calls last first before)
     (meets : MeetsRun r n w.filled_seats (standing b' after.failed now) last) (told : b' ≡ told_after b ends)
     (open_then : (c : ℕ) → open_now b' c ≡ (open_now b c && not (is_told c ends))) where
@@ -130,7 +131,8 @@ module _ (r : Run) (t n : ℕ) (b : State) (farm after : FarmMemory) (first befo
       none_if false = refl
 
       all : (x : Bool) → (places_in r b.done t n c == n) ≡ x → (y : CallHistory) → Past c y →
-          (if x then Some y else None) ≡ past_if x (law_in r c) (periods_to r c (t + n - start_of b.done c)) (settings_now r b.done (t + n) c)
+          (if x then Some y else None) ≡ past_if x (law_in r c)
+          (periods_to r c (t + n - start_of b.done c)) (settings_now r b.done (t + n) c)
       all false e y p = refl
       all true e y p =
           let f = eqb-true (places_in r b.done t n c) n e in

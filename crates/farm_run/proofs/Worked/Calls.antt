@@ -41,7 +41,8 @@ use Rattle.farm_run.proofs.Rounds.Taking.{met}
 use Rattle.farm_run.proofs.Worked.Seats.{seat_of_at}
 
 -- the ends that seats tell are those of their places
-pub same_ends : (t : ℕ) (ss ts : List SeatMemory) → length ss ≡ length ts → ((k : ℕ) → k < length ts → (seat_at ss k).lines ≡ (seat_at ts k).lines) →
+pub same_ends : (t : ℕ) (ss ts : List SeatMemory) → length ss ≡ length ts →
+    ((k : ℕ) → k < length ts → (seat_at ss k).lines ≡ (seat_at ts k).lines) →
     filter_map (seat_end t) ss ≡ filter_map (seat_end t) ts
 same_ends t [] [] e h = refl
 same_ends t [] (x ∷ ts) e h = absurd (omega arith)
@@ -51,7 +52,8 @@ same_ends t (s ∷ ss) (x ∷ ts) e h =
     ∙ ap (cons_option (seat_end t x)) (same_ends t ss ts (omega arith) (λ k l. h (suc k) (omega arith)))
 
 module _ (r : Run) (t n : ℕ) (b : State) (farm after : FarmMemory) (first before now : ℕ → Side → LineState) (ends : List CallEnd)
-    (w : WorkedRound t n farm after before now ends) (h : IsRound r t n b.done b.left) (m : Matches b farm.calls) (b' : State) (last : Standing)
+    (w : WorkedRound t n farm after before now ends) (h : IsRound r t n b.done b.left)
+    (m : Matches b farm.calls) (b' : State) (last : Standing)
     (at : IsAtClock r t b farm.calls last first before)
     (meets : MeetsRun r n w.filled_seats (standing b' after.failed now) last) where
   -- whether a call is open at the clock
@@ -74,13 +76,16 @@ module _ (r : Run) (t n : ℕ) (b : State) (farm after : FarmMemory) (first befo
     pub here : slice_index farm.live k ≡ c
     pub call : Call
     pub called : call_in farm.calls c ≡ Some call
-    pub facts : SeatFacts n (before c) (w.between c) (now c) c call (seat_at w.planned_seats k) (seat_at w.filled_seats k) (seat_at w.worked_seats k) (seat_at w.drained_seats k)
+    pub facts : SeatFacts n (before c) (w.between c) (now c) c call (seat_at w.planned_seats k)
+        (seat_at w.filled_seats k) (seat_at w.worked_seats k) (seat_at w.drained_seats k)
     pub found : seat_of w.filled_seats c ≡ seat_at w.filled_seats k
     pub number : (seat_at w.filled_seats k).lines.call ≡ c
     pub taken : IsTaken r b.done t n c (seat_at w.filled_seats k).lines (seat_at w.filled_seats k).up (seat_at w.filled_seats k).pcm
     pub whole : round_lines.whole_in (seat_at w.filled_seats k).lines ≡ places_in r b.done t n c
-    pub up_left : IsToCome (now c Up) (40 * (t - start_of b.done c) + 40 * n) (r.lines c).up (never_given (last.listed c Up) (last.lines c Up))
-    pub pcm_left : IsToCome (now c Pcm) (160 * (t - start_of b.done c) + 160 * n) (r.lines c).pcm (never_given (last.listed c Pcm) (last.lines c Pcm))
+    pub up_left : IsToCome (now c Up) (40 * (t - start_of b.done c) + 40 * n) (r.lines c).up
+        (never_given (last.listed c Up) (last.lines c Up))
+    pub pcm_left : IsToCome (now c Pcm) (160 * (t - start_of b.done c) + 160 * n) (r.lines c).pcm
+        (never_given (last.listed c Pcm) (last.lines c Pcm))
 
   -- **An open call has a seat, which took what the run's lines give.**
   pub open_seat : (c : ℕ) → alive c ≡ true → OpenSeat c

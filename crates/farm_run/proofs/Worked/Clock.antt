@@ -37,7 +37,8 @@ pub record IsRight (t n : ℕ) (b : State) (e : CallEnd) : Type 0 where
   pub number : IsCallNumber e.call
   pub open_now : open_now b e.call ≡ true
 
-module _ (t n : ℕ) (b : State) (farm : FarmMemory) (before between : ℕ → Side → LineState) (planned filled worked : List SeatMemory) (ends : List CallEnd)
+module _ (t n : ℕ) (b : State) (farm : FarmMemory) (before between : ℕ → Side → LineState)
+    (planned filled worked : List SeatMemory) (ends : List CallEnd)
     (w : FilledRound t n farm before between planned filled worked ends) (a : AtClock t b farm.calls) where
   -- no seat has more whole periods than the round
   few : (k c : ℕ) → k < length farm.live → slice_index farm.live k ≡ c → round_lines.whole_in (seat_at worked k).lines ≤ n
@@ -111,7 +112,8 @@ module _ (t n : ℕ) (b : State) (farm after : FarmMemory) (before now : ℕ →
   pub told_is : (c : ℕ) → is_some (call_in farm.calls c) ≡ true → is_told c ends ≡ not (goes_on_call w.worked_seats c)
   told_is c o = ap (is_told c) w.told ∙ told_goes t w.worked_seats w.worked_rising c (by (seat_cases t n farm after before now ends w c))
     where
-      by : ((k : ℕ) × (k < length farm.live) × (slice_index farm.live k ≡ c)) ⊎ (is_some (call_in farm.calls c) ≡ false) → has_call w.worked_seats c ≡ true
+      by : ((k : ℕ) × (k < length farm.live) × (slice_index farm.live k ≡ c))
+          ⊎ (is_some (call_in farm.calls c) ≡ false) → has_call w.worked_seats c ≡ true
       by (inl p) = list_any_at (λ s. s.lines.call == c) w.worked_seats p.0 no_seat (omega (arith, p.1, w.worked_number, w.filled_number, w.number))
           (eq-eqb (call_at w.worked_seats p.0) c (worked_at t n farm after before now ends w p.0 p.1 ∙ p.2))
       by (inr q) = cc
@@ -139,7 +141,8 @@ module _ (t n : ℕ) (b : State) (farm after : FarmMemory) (before now : ℕ →
       empty true = refl
       empty false = refl
 
-      both : (p : ℕ) (g k u v : Bool) → u ≡ not g → v ≡ not k → (if g then (if k then Some p else None) else None) ≡ (if u || v then None else Some p)
+      both : (p : ℕ) (g k u v : Bool) → u ≡ not g → v ≡ not k →
+          (if g then (if k then Some p else None) else None) ≡ (if u || v then None else Some p)
       both p true true false false e f = refl
       both p true false false true e f = refl
       both p false k true v e f = refl
@@ -153,15 +156,18 @@ module _ (t n : ℕ) (b : State) (farm after : FarmMemory) (before now : ℕ →
       live d o = told_is d (a.matches.is_open d ∙ o)
 
       by : (q : Option ℕ) → partner_in farm.calls c ≡ q →
-          (if goes_on_call w.worked_seats c then that_stays (goes_on_call w.worked_seats) q else None) ≡ (if is_told c ends || has_left q ends then None else q)
+          (if goes_on_call w.worked_seats c then that_stays (goes_on_call w.worked_seats) q
+          else None) ≡ (if is_told c ends || has_left q ends then None else q)
       by None e = empty (goes_on_call w.worked_seats c) ∙ sym (empty (is_told c ends || false))
       by (Some p) e =
           let o = pairs.both_open c p (sym (a.matches.partner c) ∙ e) in
           both p (goes_on_call w.worked_seats c) (goes_on_call w.worked_seats p) (is_told c ends) (is_told p ends) (live c o.0) (live p o.1)
 
   -- **After the round the board and the farm stand at the clock behind it.**
-  pub clock_after : (b' : State) → ArePairs (open_now b) (partner_now b) → IfSome (first_stamp b.left) (λ s. t + n ≤ s) → b' ≡ told_after b ends →
-      ((c : ℕ) → open_now b' c ≡ (open_now b c && not (is_told c ends))) → ((c : ℕ) → partner_now b' c ≡ partner_past ends (partner_now b) c) →
+  pub clock_after : (b' : State) → ArePairs (open_now b) (partner_now b) →
+      IfSome (first_stamp b.left) (λ s. t + n ≤ s) → b' ≡ told_after b ends →
+      ((c : ℕ) → open_now b' c ≡ (open_now b c && not (is_told c ends))) →
+      ((c : ℕ) → partner_now b' c ≡ partner_past ends (partner_now b) c) →
       AtClock (t + n) b' after.calls
   clock_after b' pairs clear told o p =
       clock_round t n b b' farm.calls after.calls ends a

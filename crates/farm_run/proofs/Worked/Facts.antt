@@ -14,7 +14,8 @@ use Rattle.farm_run.specs.Outgoing.{Settles}
 use Rattle.farm_run.proofs.Lines.Sides.{not_both}
 use Rattle.farm_run.proofs.Worked.Round.{WorkedRound, FilledRound, SeatFacts, worked_call, front_facts}
 
-module _ (t n : ℕ) (farm after : FarmMemory) (before now : ℕ → Side → LineState) (ends : List CallEnd) (w : WorkedRound t n farm after before now ends) where
+module _ (t n : ℕ) (farm after : FarmMemory) (before now : ℕ → Side → LineState)
+    (ends : List CallEnd) (w : WorkedRound t n farm after before now ends) where
   -- the round up to its work
   pub front : FilledRound t n farm before w.between w.planned_seats w.filled_seats w.worked_seats ends
   front = record {
@@ -31,8 +32,9 @@ module _ (t n : ℕ) (farm after : FarmMemory) (before now : ℕ → Side → Li
 
   -- **Each open call has a seat, of which this is known.**
   pub seat_facts : (k c : ℕ) → k < length farm.live → slice_index farm.live k ≡ c →
-      (x : Call) × (call_in farm.calls c ≡ Some x) × SeatFacts n (before c) (w.between c) (now c) c x (seat_at w.planned_seats k) (seat_at w.filled_seats k)
-      (seat_at w.worked_seats k) (seat_at w.drained_seats k)
+      (x : Call) × (call_in farm.calls c ≡ Some x)
+      × SeatFacts n (before c) (w.between c) (now c) c x (seat_at w.planned_seats k)
+      (seat_at w.filled_seats k) (seat_at w.worked_seats k) (seat_at w.drained_seats k)
   seat_facts k c l e =
       let f = front_facts t n farm before w.between w.planned_seats w.filled_seats w.worked_seats ends front k c l e in
       let called : call_at w.worked_seats k ≡ c = worked_call _ _ _ _ _ _ _ _ f.2 in (

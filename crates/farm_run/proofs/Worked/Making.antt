@@ -21,7 +21,8 @@ pub record IsMade (farm after : FarmMemory) (planned filled : RoundMemory) (work
       AreWorked filled.seats (worked_histories filled.seats (partner_in filled.farm.calls) h) worked.seats
   pub passed : IsPassed worked after
 
-module _ (farm after : FarmMemory) (planned filled : RoundMemory) (worked : WorkedMemory) (m : IsMade farm after planned filled worked) where
+module _ (farm after : FarmMemory) (planned filled : RoundMemory) (worked : WorkedMemory)
+    (m : IsMade farm after planned filled worked) where
   -- what each part of the round keeps of the farm
   calls : filled.farm.calls ≡ farm.calls
   calls = ap (λ (p : RoundMemory). p.farm.calls) m.kept ∙ ap (λ (f : FarmMemory). f.calls) m.farm_planned
@@ -45,7 +46,8 @@ module _ (farm after : FarmMemory) (planned filled : RoundMemory) (worked : Work
   partner_worked = λ i. λ c. worked_partner c i
 
   -- the calls come to what they have had at the round's end
-  stand : (h : ℕ → Option CallHistory) → CallsStand h farm.calls → WorkedStand (worked_histories filled.seats (partner_in farm.calls) h) worked
+  stand : (h : ℕ → Option CallHistory) → CallsStand h farm.calls →
+      WorkedStand (worked_histories filled.seats (partner_in farm.calls) h) worked
   stand h = subst (λ (ks : List Kept). CallsStand h ks → WorkedStand (worked_histories filled.seats (partner_in ks) h) worked) calls (m.stands h)
 
   -- **The seats hold what the calls give in it.**

@@ -36,7 +36,8 @@ use Rattle.farm_run.proofs.Worked.Round.{WorkedRound, MeetsRun}
 use Rattle.farm_run.proofs.Worked.Calls.{OpenSeat, open_seat}
 
 -- where the same calls are open, the same bridges last
-bridge_same : (gone gone' : ℕ → Bool) (ds : List Done) (c : ℕ) → ((d : ℕ) → is_open gone ds d ≡ is_open gone' ds d) → bridge_of gone ds c ≡ bridge_of gone' ds c
+bridge_same : (gone gone' : ℕ → Bool) (ds : List Done) (c : ℕ) →
+    ((d : ℕ) → is_open gone ds d ≡ is_open gone' ds d) → bridge_of gone ds c ≡ bridge_of gone' ds c
 bridge_same gone gone' ds c e =
     let same : (x : Bridge) → (joins c x && lasts gone ds x) ≡ (joins c x && lasts gone' ds x) = λ x.
     ap (λ (p : Bool). joins c x && (is_none x.ended && p && is_open gone ds x.b)) (e x.a)
@@ -52,7 +53,8 @@ starts_past k others now = by (nat_lt others k)
     by false = refl
 
 module _ (r : Run) (t n : ℕ) (b : State) (farm after : FarmMemory) (first before now : ℕ → Side → LineState) (ends : List CallEnd)
-    (w : WorkedRound t n farm after before now ends) (h : IsRound r t n b.done b.left) (m : Matches b farm.calls) (b' : State) (last : Standing)
+    (w : WorkedRound t n farm after before now ends) (h : IsRound r t n b.done b.left)
+    (m : Matches b farm.calls) (b' : State) (last : Standing)
     (at : IsAtClock r t b farm.calls last first before)
     (meets : MeetsRun r n w.filled_seats (standing b' after.failed now) last) where
   -- whether a call is open at the clock
@@ -164,7 +166,9 @@ module _ (r : Run) (t n : ℕ) (b : State) (farm after : FarmMemory) (first befo
       start q e = ap (option_map (history_with w.filled_seats hs c (partner_in farm.calls c))) (past_is c o)
           ∙ ap (λ (q : Option ℕ). Some (history_with w.filled_seats hs c q (past c))) e
 
-      by : (v : Option Bridge) → bridge_at c ≡ v → (x : CallHistory) × (worked_histories w.filled_seats (partner_in farm.calls) hs c ≡ Some x) × IsPast c x
+      by : (v : Option Bridge) → bridge_at c ≡ v →
+          (x : CallHistory) × (worked_histories w.filled_seats (partner_in farm.calls) hs c
+          ≡ Some x) × IsPast c x
       by None e = (history_alone w.filled_seats c (past c), start None (partner_is c ∙ ap (option_map (other c)) e), alone_is c o e)
       by (Some x) e =
           let parts = bridge_open r t b.done c x e in

@@ -33,7 +33,9 @@ pub record WorkedRound (t n : ℕ) (farm after : FarmMemory) (before now : ℕ �
   pub between : ℕ → Side → LineState
   pub live : (c : ℕ) → is_among farm.live c ≡ is_some (call_in farm.calls c)
   pub number : length planned_seats ≡ length farm.live
-  pub seats : (k : ℕ) → k < length farm.live → seat_at planned_seats k ≡ seat_for n (slice_index farm.live k) (call_in farm.calls (slice_index farm.live k))
+  pub seats : (k : ℕ) → k < length farm.live →
+      seat_at planned_seats k ≡ seat_for n (slice_index farm.live k)
+      (call_in farm.calls (slice_index farm.live k))
   pub fills : Each Fills before between planned_seats filled_seats (length planned_seats)
   pub filled_others : KeepsButEach IsIncoming before between planned_seats (length planned_seats)
   pub filled_number : length filled_seats ≡ length planned_seats
@@ -52,11 +54,13 @@ pub record WorkedRound (t n : ℕ) (farm after : FarmMemory) (before now : ℕ �
   pub gains : GainsFailed farm.failed after.failed drained_seats
   pub is_open : (c : ℕ) → is_some (call_in after.calls c) ≡ (is_among farm.live c && goes_on_call worked_seats c)
   pub partners : (c : ℕ) → partner_in after.calls c ≡ partner_past (goes_on_call worked_seats) (partner_in farm.calls) c
-  pub octets : (h : ℕ → Option CallHistory) → CallsStand h farm.calls → AreWorked filled_seats (worked_histories filled_seats (partner_in farm.calls) h) worked_seats
+  pub octets : (h : ℕ → Option CallHistory) → CallsStand h farm.calls →
+      AreWorked filled_seats (worked_histories filled_seats (partner_in farm.calls) h) worked_seats
   pub stands : (h : ℕ → Option CallHistory) → CallsStand h farm.calls →
       CallsStand (those_that (goes_on_call worked_seats) (worked_histories filled_seats (partner_in farm.calls) h)) after.calls
   pub tallies : (h : ℕ → Option CallHistory) → CallsStand h farm.calls → (c : ℕ) →
-      tally_in after.tallies c ≡ (if goes_on_call worked_seats c then tally_in farm.tallies c else kept_of (worked_histories filled_seats (partner_in farm.calls) h c)
+      tally_in after.tallies c ≡ (if goes_on_call worked_seats c then tally_in farm.tallies c
+      else kept_of (worked_histories filled_seats (partner_in farm.calls) h c)
       (tally_in farm.tallies c))
 
 -- How a round of n periods agrees with the run: `behind` is the state of the run after the round, `last` at its end.
@@ -75,7 +79,9 @@ pub record FilledRound (t n : ℕ) (farm : FarmMemory) (before between : ℕ →
     (ends : List CallEnd) : Type 0 where
   pub live : (c : ℕ) → is_among farm.live c ≡ is_some (call_in farm.calls c)
   pub number : length planned ≡ length farm.live
-  pub seats : (k : ℕ) → k < length farm.live → seat_at planned k ≡ seat_for n (slice_index farm.live k) (call_in farm.calls (slice_index farm.live k))
+  pub seats : (k : ℕ) → k < length farm.live →
+      seat_at planned k ≡ seat_for n (slice_index farm.live k)
+      (call_in farm.calls (slice_index farm.live k))
   pub fills : Each Fills before between planned filled (length planned)
   pub filled_number : length filled ≡ length planned
   pub worked_number : length worked ≡ length filled
@@ -90,7 +96,8 @@ pub among_place : (xs : List ℕ) (c : ℕ) → is_among xs c ≡ true → (k : 
 among_place [] c e = cc
 among_place (x ∷ xs) c e = by (x == c) refl e (among_place xs c)
   where
-    by : (b : Bool) → (x == c) ≡ b → (b || is_among xs c) ≡ true → (is_among xs c ≡ true → (k : ℕ) × (k < length xs) × (slice_index xs k ≡ c)) →
+    by : (b : Bool) → (x == c) ≡ b → (b || is_among xs c) ≡ true →
+        (is_among xs c ≡ true → (k : ℕ) × (k < length xs) × (slice_index xs k ≡ c)) →
         (k : ℕ) × (k < length (x ∷ xs)) × (slice_index (x ∷ xs) k ≡ c)
     by true q h rest = (0, omega arith, eqb-true x c q)
     by false q h rest = let p = rest h in (suc p.0, (let l = p.1 in omega arith), p.2)
@@ -134,7 +141,8 @@ module _ (n : ℕ) (before between : Side → LineState) (c : ℕ) (call : Call)
   worked_out = ap (λ (p : LinesMemory). p.out) (f.lines ∙ kept_place) ∙ ap (λ (s : SeatMemory). s.lines.out) f.made
 
 -- the seat of a call in a round, up to the round's end
-pub record SeatFacts (n : ℕ) (before between now : Side → LineState) (c : ℕ) (call : Call) (planned filled worked drained : SeatMemory) : Type 0 where
+pub record SeatFacts (n : ℕ) (before between now : Side → LineState) (c : ℕ) (call : Call)
+    (planned filled worked drained : SeatMemory) : Type 0 where
   pub front : FrontFacts n before between c call planned filled worked
   pub drains : Settles between now worked drained
 
@@ -161,15 +169,20 @@ module _ (n : ℕ) (before between now : Side → LineState) (c : ℕ) (call : C
   pub tells_seat : TellsFaults before now drained.lines
   tells_seat = f.drains.faults before (subst (TellsFaults before between) (sym f.front.lines) (f.front.fills.faults fresh))
 
-module _ (t n : ℕ) (farm : FarmMemory) (before between : ℕ → Side → LineState) (planned filled worked : List SeatMemory) (ends : List CallEnd)
+module _ (t n : ℕ) (farm : FarmMemory) (before between : ℕ → Side → LineState)
+    (planned filled worked : List SeatMemory) (ends : List CallEnd)
     (w : FilledRound t n farm before between planned filled worked ends) where
   -- **Each open call has its seat.**
   pub front_facts : (k c : ℕ) → k < length farm.live → slice_index farm.live k ≡ c →
-      (x : Call) × (call_in farm.calls c ≡ Some x) × FrontFacts n (before c) (between c) c x (seat_at planned k) (seat_at filled k) (seat_at worked k)
+      (x : Call) × (call_in farm.calls c ≡ Some x)
+      × FrontFacts n (before c) (between c) c x (seat_at planned k) (seat_at filled k)
+      (seat_at worked k)
   front_facts k c l e = by (call_in farm.calls c) refl (sym (w.live c) ∙ there farm.live c k l e)
     where
       by : (o : Option Call) → call_in farm.calls c ≡ o → is_some o ≡ true →
-          (x : Call) × (call_in farm.calls c ≡ Some x) × FrontFacts n (before c) (between c) c x (seat_at planned k) (seat_at filled k) (seat_at worked k)
+          (x : Call) × (call_in farm.calls c ≡ Some x)
+          × FrontFacts n (before c) (between c) c x (seat_at planned k) (seat_at filled k)
+          (seat_at worked k)
       by None q h = cc
       by (Some x) q h =
           let made : seat_at planned k ≡ new_seat c n x.down_failed x.out_failed = w.seats k l ∙ ap (λ d. seat_for n d (call_in farm.calls d)) e

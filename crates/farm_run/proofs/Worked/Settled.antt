@@ -11,7 +11,8 @@ use Rattle.farm_run.specs.Outgoing.{IsSettled}
 
 -- **They were written.**
 pub drained : (before now : ℕ → Side → LineState) (worked : WorkedMemory) (after : FarmMemory) →
-    ((seats : List SeatMemory) × Each Drains before now worked.seats seats (length worked.seats) × GainsFailed worked.farm.failed after.failed seats
+    ((seats : List SeatMemory) × Each Drains before now worked.seats seats (length worked.seats)
+    × GainsFailed worked.farm.failed after.failed seats
     × KnowFailed seats after.calls × (length seats ≡ length worked.seats)) →
     KeepsButEach IsOutgoing before now worked.seats (length worked.seats) → IsSettled false before now worked after
 drained before now worked after drains others = record {

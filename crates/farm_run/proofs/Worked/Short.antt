@@ -36,7 +36,8 @@ pub record FailedInRound (r : Run) (t u : ℕ) (was is : ℕ → Side → Bool) 
   pub pcm : (c : ℕ) → was c Pcm ≡ false → is c Pcm ≡ true → FailedIn r c 160 (r.lines c).pcm t u
 
 module _ (r : Run) (t n : ℕ) (b : State) (farm after : FarmMemory) (first before now : ℕ → Side → LineState) (ends : List CallEnd)
-    (w : WorkedRound t n farm after before now ends) (h : IsRound r t n b.done b.left) (m : Matches b farm.calls) (b' : State) (last : Standing)
+    (w : WorkedRound t n farm after before now ends) (h : IsRound r t n b.done b.left)
+    (m : Matches b farm.calls) (b' : State) (last : Standing)
     (at : IsAtClock r t b farm.calls last first before)
     (meets : MeetsRun r n w.filled_seats (standing b' after.failed now) last) where
   -- whether a call is open at the clock
@@ -51,7 +52,8 @@ module _ (r : Run) (t n : ℕ) (b : State) (farm after : FarmMemory) (first befo
   seat c o = open_seat r t n b farm after first before now ends w h m b' last at meets c o
 
   -- a call that lacks a period of the round ends in it
-  ends_here : (c octets : ℕ) (line : List ℕ) → alive c ≡ true → places_in r b.done t n c < n → length line < octets * (t + n - start_of b.done c) →
+  ends_here : (c octets : ℕ) (line : List ℕ) → alive c ≡ true → places_in r b.done t n c < n →
+      length line < octets * (t + n - start_of b.done c) →
       FailedIn r c octets line t (t + n)
   ends_here c octets line o less few = record {
     begun = open_before_end r t n b.done b.left c h o;
@@ -180,7 +182,8 @@ short_later r batch t u fails l short = record {
 }
 
 -- **If the lines listed before a round failed short, so did those listed after it.**
-pub short_more : (r : Run) (batch t u : ℕ) (was is : List Line) → t ≤ u → u ≤ t + batch → FailedInRound r t u (is_listed was) (is_listed is) →
+pub short_more : (r : Run) (batch t u : ℕ) (was is : List Line) → t ≤ u → u ≤ t + batch →
+    FailedInRound r t u (is_listed was) (is_listed is) →
     FailedBy r batch t (is_listed was) → FailedBy r batch u (is_listed is)
 short_more r batch t u was is later l failed short =
     let before = short_later r batch t u (is_listed was) later short in

@@ -38,9 +38,11 @@ added : (old more : List ℕ) → (sum_of old + sum more) % 2 ^ 32 ≡ sum_of (o
 added old more = mod-add-mod (sum old) (2 ^ 32) (sum more) ∙ ap (λ (n : ℕ). n % 2 ^ 32) (sym (sum_both old more))
 
 module _ (r : Run) (t n : ℕ) (b : State) (farm after : FarmMemory) (first before now : ℕ → Side → LineState) (ends : List CallEnd)
-    (w : WorkedRound t n farm after before now ends) (h : IsRound r t n b.done b.left) (m : Matches b farm.calls) (b' : State) (last : Standing)
+    (w : WorkedRound t n farm after before now ends) (h : IsRound r t n b.done b.left)
+    (m : Matches b farm.calls) (b' : State) (last : Standing)
     (at : IsAtClock r t b farm.calls last first before)
-    (meets : MeetsRun r n w.filled_seats (standing b' after.failed now) last) (was is : ℕ → Side → ℕ) (adds : Adds w.worked_seats was is) where
+    (meets : MeetsRun r n w.filled_seats (standing b' after.failed now) last)
+    (was is : ℕ → Side → ℕ) (adds : Adds w.worked_seats was is) where
   -- whether a call is open at the clock
   abbrev alive : ℕ → Bool
   alive = is_open (gone_at (whole_in r) t b.done) b.done

@@ -28,7 +28,8 @@ use Rattle.farm_run.proofs.Worked.Calls.{goes_on_is}
 use Rattle.farm_run.proofs.Worked.Past.{worked_past}
 
 module _ (r : Run) (t n : ℕ) (b : State) (farm after : FarmMemory) (first before now : ℕ → Side → LineState) (ends : List CallEnd)
-    (w : WorkedRound t n farm after before now ends) (h : IsRound r t n b.done b.left) (m : Matches b farm.calls) (b' : State) (last : Standing)
+    (w : WorkedRound t n farm after before now ends) (h : IsRound r t n b.done b.left)
+    (m : Matches b farm.calls) (b' : State) (last : Standing)
     (at : IsAtClock r t b farm.calls last first before)
     (meets : MeetsRun r n w.filled_seats (standing b' after.failed now) last) where
   -- whether a call is open at the clock
@@ -52,7 +53,9 @@ module _ (r : Run) (t n : ℕ) (b : State) (farm after : FarmMemory) (first befo
   goes c o = goes_on_is r t n b farm after first before now ends w h m b' last at meets c o
 
   -- of a call that ends in it the counts are kept
-  ended : (c : ℕ) → ends_within r b.done t n c ≡ true → (last : Settings) × (last.starts ≡ (settings_now r b.done (t + places_in r b.done t n c) c).starts)
+  ended : (c : ℕ) → ends_within r b.done t n c ≡ true →
+      (last : Settings) × (last.starts
+      ≡ (settings_now r b.done (t + places_in r b.done t n c) c).starts)
       × (tally_in after.tallies c ≡ tally_of (periods_to r c (t + places_in r b.done t n c - start_of b.done c)) last)
   ended c e =
       let parts = and_parts (alive c) (nat_lt (places_in r b.done t n c) n) e in

@@ -46,7 +46,8 @@ use Rattle.farm_run.proofs.Worked.Calls.{OpenSeat, open_seat, open_is, opened_is
 use Rattle.farm_run.proofs.Worked.Past.{IsPast, worked_past}
 
 module _ (r : Run) (t n : ℕ) (b : State) (farm after : FarmMemory) (first before now : ℕ → Side → LineState) (ends : List CallEnd)
-    (w : WorkedRound t n farm after before now ends) (h : IsRound r t n b.done b.left) (m : Matches b farm.calls) (b' : State) (last : Standing)
+    (w : WorkedRound t n farm after before now ends) (h : IsRound r t n b.done b.left)
+    (m : Matches b farm.calls) (b' : State) (last : Standing)
     (at : IsAtClock r t b farm.calls last first before)
     (meets : MeetsRun r n w.filled_seats (standing b' after.failed now) last) where
   -- whether a call is open at the clock
@@ -95,7 +96,9 @@ module _ (r : Run) (t n : ℕ) (b : State) (farm after : FarmMemory) (first befo
       seat_at w.filled_seats s.k in io_after (who_in r c) (places_in r b.done t n c) (periods_to r c (t + places_in r b.done t n c - start_of b.done c)) (io_of x)
 
   -- the seat behind the work has that
-  seat_left : (c : ℕ) (o : alive c ≡ true) → let s = seat c o in seat_at w.worked_seats s.k ≡ seat_with (seat_at w.filled_seats s.k).lines (left_io c o)
+  seat_left : (c : ℕ) (o : alive c ≡ true) →
+      let s = seat c o in seat_at w.worked_seats s.k
+      ≡ seat_with (seat_at w.filled_seats s.k).lines (left_io c o)
   seat_left c o =
       let s = seat c o in
       let p = past c o in
@@ -149,7 +152,8 @@ module _ (r : Run) (t n : ℕ) (b : State) (farm after : FarmMemory) (first befo
       by e s = omega arith
 
   -- **A line gains that, or a proper prefix of it.**
-  wrote_out : w.held ≡ false → (from : ℕ) → from ≤ t → WrittenFrom r from t (is_listed farm.failed) first before → (c : ℕ) → alive c ≡ true →
+  wrote_out : w.held ≡ false → (from : ℕ) → from ≤ t →
+      WrittenFrom r from t (is_listed farm.failed) first before → (c : ℕ) → alive c ≡ true →
       HasWritten (is_listed after.failed c Out) (first c Out) (now c Out)
       (drop (160 * worked_to r from c) (out_line (who_in r c) (periods_to r c (worked_to r (t + n) c))))
   wrote_out written from l wrote c o =
@@ -171,7 +175,8 @@ module _ (r : Run) (t n : ℕ) (b : State) (farm after : FarmMemory) (first befo
       (subst (λ (l : LineState). HasWritten (is_listed farm.failed c Out) (first c Out) l front) (sym (out_between t n farm after before now ends w c)) was))))
 
   -- the Down line gains that, or a proper prefix of it
-  wrote_down : w.held ≡ false → (from : ℕ) → from ≤ t → WrittenFrom r from t (is_listed farm.failed) first before → (c : ℕ) → alive c ≡ true →
+  wrote_down : w.held ≡ false → (from : ℕ) → from ≤ t →
+      WrittenFrom r from t (is_listed farm.failed) first before → (c : ℕ) → alive c ≡ true →
       HasWritten (is_listed after.failed c Down) (first c Down) (now c Down)
       (drop (40 * worked_to r from c) (down_octets (who_in r c) (periods_to r c (worked_to r (t + n) c))))
   wrote_down written from l wrote c o =

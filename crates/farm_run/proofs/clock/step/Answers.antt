@@ -33,7 +33,8 @@ returns-then-is_empty-clause-reaches g c =
     (λ d. sym (c.live_calls.ensures.calls d) ∙ none_among c.live_calls.result.now d (sym c.is_empty.ensures ∙ c.if-is_empty.true)))
 
 -- how far the round goes
-goes : (g : Over) (c : goal.After-work_round-arg-1 g) → (1 ≤ c.round_periods-periods.result) × (c.round_periods-periods.result ≤ c.args.pace.now.batch)
+goes : (g : Over) (c : goal.After-work_round-arg-1 g) →
+    (1 ≤ c.round_periods-periods.result) × (c.round_periods-periods.result ≤ c.args.pace.now.batch)
     × (c.args.stage.clock + c.round_periods-periods.result ≤ c.args.until)
     × IfSome (first_stamp c.execute_orders.new.board.left) (λ s. c.args.stage.clock + c.round_periods-periods.result ≤ s)
 goes g c = goes_by c.args.pace.now.batch c.args.stage.clock c.args.until c.round_periods-periods.result c.next_stamp-next.result _
@@ -59,7 +60,8 @@ pub work_round-requires-clause-clear : goal.work_round-requires-clause-clear
 work_round-requires-clause-clear g c κs lives = let by = goes g c in by.3
 
 -- how far the round went
-went : (g : Over) (c : goal.After-work_round g) → (1 ≤ c.round_periods-periods.result) × (c.round_periods-periods.result ≤ c.args.pace.now.batch)
+went : (g : Over) (c : goal.After-work_round g) →
+    (1 ≤ c.round_periods-periods.result) × (c.round_periods-periods.result ≤ c.args.pace.now.batch)
     × (c.args.stage.clock + c.round_periods-periods.result ≤ c.args.until)
     × IfSome (first_stamp c.execute_orders.new.board.left) (λ s. c.args.stage.clock + c.round_periods-periods.result ≤ s)
 went g c = goes_by c.args.pace.now.batch c.args.stage.clock c.args.until c.round_periods-periods.result c.next_stamp-next.result _

@@ -40,8 +40,9 @@ use Rattle.farm_run.proofs.clock.work_round.Goals as goal
 use Rattle.farm_run.proofs.clock.work_round.Given.{Over}
 
 -- the round up to its work
-front : (g : Over) (c : goal.After-ends g) → FilledRound c.args.stage.clock c.args.periods c.args.stage.farm (g.T.Trunk.lines c.args.trunk.now)
-    (g.T.Trunk.lines c.fill.new.trunk)
+front : (g : Over) (c : goal.After-ends g) →
+    FilledRound c.args.stage.clock c.args.periods c.args.stage.farm
+    (g.T.Trunk.lines c.args.trunk.now) (g.T.Trunk.lines c.fill.new.trunk)
     c.in_ok-round.round.seats c.fill.new.self.seats c.work-worked.result.seats c.ends.result.now
 front g c =
     let plan = c.in_ok-round.ensures in
@@ -144,7 +145,8 @@ pub returns-clause-left : goal.returns-clause-left
 returns-clause-left g c = ap (λ (s : State). s.left) c.tell_ends.ensures.told ∙ told_left c.args.stage.board c.ends.result.now
 
 -- where the run goes on, the round is one of it
-in_run : (g : Over) (c : goal.After-settle-farm g) (r : Run) (first : _) (last : Standing) → c.args.stage.clock + c.args.periods ≤ r.periods →
+in_run : (g : Over) (c : goal.After-settle-farm g) (r : Run) (first : _) (last : Standing) →
+    c.args.stage.clock + c.args.periods ≤ r.periods →
     IsAtClock r c.args.stage.clock c.args.stage.board c.args.stage.farm.calls last first (g.T.Trunk.lines c.args.trunk.now) →
     IsRound r c.args.stage.clock c.args.periods c.args.stage.board.done c.args.stage.board.left
 in_run g c r first last l at = record { so_far = at.follows.so_far; some = c.requires.some; within = l; clear = c.requires.clear }
@@ -152,17 +154,21 @@ in_run g c r first last l at = record { so_far = at.follows.so_far; some = c.req
 -- the round is that of a run that goes on from behind it
 meets : (g : Over) (c : goal.After-settle-farm g) (r : Run) (last : Standing) → HasFlags r last →
     StandingGoesOn (standing c.tell_ends.new.board c.settle-farm.result.failed (g.T.Trunk.lines c.settle-farm.new.trunk)) last →
-    MeetsRun r c.args.periods (round g c).filled_seats (standing c.tell_ends.new.board c.settle-farm.result.failed (g.T.Trunk.lines c.settle-farm.new.trunk)) last
+    MeetsRun r c.args.periods (round g c).filled_seats
+    (standing c.tell_ends.new.board c.settle-farm.result.failed
+    (g.T.Trunk.lines c.settle-farm.new.trunk)) last
 meets g c r last flags on =
     let told = c.tell_ends.ensures in
     meets_run _ _ c.args.stage.board _ _ _ _ _ (round g c) c.requires.stage.clock c.requires.stage.knows c.tell_ends.new.board told.told
     told.open r last flags on
 
 -- what it tells and keeps of the calls that end in it
-ends : (g : Over) (c : goal.After-settle-farm g) (r : Run) (first : _) (last : Standing) → HasFlags r last → c.args.stage.clock + c.args.periods ≤ r.periods →
+ends : (g : Over) (c : goal.After-settle-farm g) (r : Run) (first : _) (last : Standing) →
+    HasFlags r last → c.args.stage.clock + c.args.periods ≤ r.periods →
     StandingGoesOn (standing c.tell_ends.new.board c.settle-farm.result.failed (g.T.Trunk.lines c.settle-farm.new.trunk)) last →
     IsAtClock r c.args.stage.clock c.args.stage.board c.args.stage.farm.calls last first (g.T.Trunk.lines c.args.trunk.now) →
-    EndsRound r c.args.stage.clock c.args.periods c.args.stage.board c.tell_ends.new.board c.args.stage.farm.tallies c.settle-farm.result.tallies
+    EndsRound r c.args.stage.clock c.args.periods c.args.stage.board c.tell_ends.new.board
+    c.args.stage.farm.tallies c.settle-farm.result.tallies
 ends g c r first last flags l on at =
     let told = c.tell_ends.ensures in
     let w = round g c in

@@ -7,7 +7,9 @@ use Rattle.farm_run.proofs.report.span_lines.Given as goal
 abbrev pub invariant-loop-k : goal.invariant-loop-k
 invariant-loop-k l = record {
   long : length l.sent.items ≡ NUMBERS;
-  sent : (c : ℕ) → c < NUMBERS → sent_in_table l.sent.items c ≡ sent_until (sent_in_table l.initial.sent.items) (drop l.k l.spans) (drop l.k l.bridges) c;
+  sent : (c : ℕ) → c < NUMBERS →
+      sent_in_table l.sent.items c ≡ sent_until (sent_in_table l.initial.sent.items)
+      (drop l.k l.spans) (drop l.k l.bridges) c;
   count : length l.lines.items + l.k ≡ l.most;
   room : l.most ≤ vec_capacity l.lines;
   lines : reverse l.lines.items ≡ span_lines (sent_in_table l.initial.sent.items) (drop l.k l.spans) (drop l.k l.bridges);
