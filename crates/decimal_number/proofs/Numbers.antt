@@ -14,11 +14,3 @@ own = numerals_by_value (AllDigits 10) tells_digits
 pub one_number : SpellsOneNumber
 one_number text low high m low' high' n small small' first second =
     decimal_injective m n (omega (arith, first.at_most)) (omega (arith, second.at_most)) (sym first.spelled ∙ second.spelled)
-
--- a number's own digits spell it
-pub IsNumber-decimal : (low high n : ℕ) → low ≤ n → n ≤ high → IsNumber low high (decimal n) n
-IsNumber-decimal low high n at_least at_most = record { at_least = at_least; at_most = at_most; spelled = refl }
-
--- they are digits and nothing else
-pub AllDigits-number : (low high : ℕ) (text : List ℕ) (n : ℕ) → high < 2 ^ 32 → IsNumber low high text n → AllDigits 10 text
-AllDigits-number low high text n small is = subst (AllDigits 10) (sym is.spelled) (digits_decimal own n (omega (arith, is.at_most)))

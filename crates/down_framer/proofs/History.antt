@@ -36,17 +36,6 @@ length-held : (bits : List PcmFrame → List ℕ) (p : PcmPeriod) (past : List P
     length s.held ≡ 160 * length past + 160 - next_start fs
 length-held bits p past fs s h = ap length h.places.held ∙ length-drop (next_start fs) (pcm_of (p ∷ past)) ∙ ap (λ n. n - next_start fs) h.pcm
 
--- a frame is to be made exactly where the next one ends in this period
-pub ready_now : (bits : List PcmFrame → List ℕ) (p : PcmPeriod) (past : List PcmPeriod) (fs : List PcmFrame) (s : FramerMemory) →
-    StandsWithin bits p past fs s →
-    nat_le 160 (length s.held) ≡ nat_le (next_start fs) (160 * length past)
-ready_now bits p past fs s h =
-    let l = length-held bits p past fs s h in
-    elim (cases_lt (160 * length past) (next_start fs)) [
-      | inl later ↦ lt-leb 160 (length s.held) (omega arith) ∙ sym (lt-leb (next_start fs) (160 * length past) later)
-      | inr now ↦ le-leb 160 (length s.held) (omega arith) ∙ sym (le-leb (next_start fs) (160 * length past) now)
-    ]
-
 -- a frame that is made is one try more
 one_more_try : (p : PcmPeriod) (past : List PcmPeriod) (fs : List PcmFrame) → next_start fs ≤ 160 * length past →
     (n : ℕ) × (fs ≡ tries n p past) → (n : ℕ) × (next_frame p past fs ∷ fs ≡ tries n p past)

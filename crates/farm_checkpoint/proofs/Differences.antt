@@ -111,10 +111,6 @@ either_first front x y back others rises rises' differ =
         IsLeastDifference (front ++ x ∷ back) (front ++ y ∷ others) (min x.call y.call)
     at same is = subst (IsLeastDifference (front ++ x ∷ back) (front ++ y ∷ others)) same is
 
--- equal lists differ nowhere
-pub not_equal : (one other : List MarkCall) (c : ℕ) → IsLeastDifference one other c → one ≡ other → ⊥
-not_equal one other c is same = is.differs (ap (λ calls. entry_of calls c) same)
-
 -- a list with an entry at a place: those in front, the entry, and those behind
 parted : (calls : List MarkCall) (n : ℕ) (x : MarkCall) → n < length calls → x ≡ get_or calls n x → calls ≡ take n calls ++ x ∷ drop (suc n) calls
 parted calls n x within is = sym (take-append-drop n calls)
@@ -152,7 +148,3 @@ one_goes_on one other n x rises same within at end =
 
     others : other ≡ take n one ++ []
     others = all_front other n end ∙ ap (λ front. front ++ []) (sym same)
-
--- two that end at the same place are equal
-pub both_end : (one other : List MarkCall) (n : ℕ) → take n one ≡ take n other → length one ≤ n → length other ≤ n → one ≡ other
-both_end one other n same end end' = all_front one n end ∙ ap (λ front. front ++ []) same ∙ sym (all_front other n end')

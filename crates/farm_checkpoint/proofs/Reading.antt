@@ -24,19 +24,6 @@ pub record HasCalls (period : ℕ) (text : List ℕ) (calls : List MarkCall) (re
   pub least : (c : MarkCall) → 1 ≤ c.call → RisesAbove calls c → last < c.call
   pub size : length calls + length rest ≤ length text
 
-pub no_calls : (period : ℕ) (text : List ℕ) → HasCalls period text [] text 0
-no_calls period text = record {
-  so_far = record {
-    are_open = record { each = All-nil (IsOpenAtMark period); rising = λ i j d less within. absurd (omega (arith, within)) };
-    sums = All-nil HasSums;
-    whole = refl;
-  };
-  low = omega arith;
-  below = All-nil (λ e. e.call ≤ 0);
-  least = λ c least follows. omega (arith, least);
-  size = omega arith;
-}
-
 pub push_call : (period : ℕ) (text : List ℕ) (calls : List MarkCall) (rest after : List ℕ) (last : ℕ) (c : MarkCall) →
     HasCalls period text calls rest last → IsOpenAtMark period c → HasSums c → last < c.call →
     rest ≡ call_text c ++ after → length after < length rest → HasCalls period text (calls ++ c ∷ []) after c.call

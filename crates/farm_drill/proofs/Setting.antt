@@ -31,9 +31,6 @@ get-other xs i j x h ne =
 
 -- ---- which calls have lines
 
-has_line : ℕ → ℕ → Bool
-has_line calls call = nat_le 1 call && nat_le call calls
-
 both_false : (a b : Bool) → b ≡ false → (a && b) ≡ false
 both_false true b e = e
 both_false false b e = refl

@@ -14,21 +14,6 @@ use Rattle.trau_num.specs.Weights.{weigh}
 use Rattle.farm_live.specs.Slot.{times, bit, number_of_callers, is_at, BeginsWith, BookTells, added, took, gave, May}
 use Rattle.farm_live.specs.Turns.{Held, Turned, HasWorkedPost}
 
--- what is told of a book that was taken, with its history
-pub held_from : (v : View) (b : BookState) → ((c : ℕ) × (0 < times c v.callers)) → BookTells v b → IsLegal b.is_of.call b.history → Held v (took v b)
-held_from v b one tells legal = record {
-  takings = refl;
-  misses = refl;
-  callers = refl;
-  is_of = sym (tells.is_of one.0 one.1);
-  begins = tells.seen;
-  legal = legal;
-  numbered = tells.posts.numbered;
-  made = tells.made;
-  few = tells.few;
-  mine = tells.mine;
-}
-
 -- it was given back with these posts more
 turned_from : (v : View) (b back : BookState) (more : List Post) → Held v (took v b) → back.is_of ≡ b.is_of → added (took v b) back ≡ more →
     Turned v (gave (took v b) back) back more

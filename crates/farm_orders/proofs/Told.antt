@@ -49,14 +49,6 @@ reads_part before now TooLong gives = record { given = gives.given; consumed = g
 reads_part before now (Line n) gives = absurd gives.cause
 reads_part before now Memory gives = record { given = gives.given; consumed = gives.consumed; bound = omega (arith, ap length gives.cause); answer = tt }
 
--- the answer isn't that the text is unread
-pub not_unread : (text : List ℕ) (result : Result (List Order) OrdersFault) → AnswersText text result → IsErrOf result Unread → ⊥
-not_unread text (Ok orders) answer = λ e. cc
-not_unread text (Err Unread) answer = absurd answer
-not_unread text (Err TooLong) answer = λ e. cc
-not_unread text (Err (Line n)) answer = λ e. cc
-not_unread text (Err Memory) answer = λ e. cc
-
 -- what was read to the end is the whole text
 pub whole : (text : List ℕ) (now : Option (List ℕ)) (given : List ℕ) → Consumes (Some text) now given → IsAtEnd now → given ≡ text
 whole text None given consumed end = absurd consumed

@@ -83,28 +83,6 @@ pub record AreTops (c tops : List ℤ) (group : ℕ) : Type 0 where
   pub bound : (g j : ℕ) → g < group → j < 8 → entry c (start_of g + j) ≤ℤ entry tops j
   pub reached : (j : ℕ) → j < 8 → Reached c (entry tops j)
 
-pub tops_none : (c : List ℤ) → AreTops c (pos 0 ∷ pos 0 ∷ pos 0 ∷ pos 0 ∷ pos 0 ∷ pos 0 ∷ pos 0 ∷ pos 0 ∷ []) 0
-tops_none c =
-    let z : FitsSigned w32 (pos 0) = omega (arith, ints) in
-    record {
-      eight = refl;
-      longs = (z, (z, (z, (z, (z, (z, (z, (z, tt))))))));
-      not_negative = λ j l. subst (λ t. pos 0 ≤ℤ t) (sym (zeros j l)) (omega (arith, ints));
-      bound = λ g j l m. absurd (omega arith);
-      reached = λ j l. inl (zeros j l);
-    }
-  where
-    zeros : (j : ℕ) → j < 8 → entry (pos 0 ∷ pos 0 ∷ pos 0 ∷ pos 0 ∷ pos 0 ∷ pos 0 ∷ pos 0 ∷ pos 0 ∷ []) j ≡ pos 0
-    zeros zero l = refl
-    zeros (suc zero) l = refl
-    zeros (suc (suc zero)) l = refl
-    zeros (suc (suc (suc zero))) l = refl
-    zeros (suc (suc (suc (suc zero)))) l = refl
-    zeros (suc (suc (suc (suc (suc zero))))) l = refl
-    zeros (suc (suc (suc (suc (suc (suc zero)))))) l = refl
-    zeros (suc (suc (suc (suc (suc (suc (suc zero))))))) l = refl
-    zeros (suc (suc (suc (suc (suc (suc (suc (suc j)))))))) l = absurd (omega arith)
-
 -- the lane after eight more
 lane_is : (c tops : List ℤ) (g j : ℕ) → length tops ≡ 8 → length c ≡ 81 → j < 8 →
     entry (zip2 int_max tops (chunk (start_of g) 8 c)) j ≡ int_max (entry tops j) (entry c (start_of g + j))

@@ -11,16 +11,6 @@ pub record Chain (before : ℤ) (so offsets : List ℤ) (offset : ℤ) (k : ℕ)
   pub last : offset ≡ get_or (before ∷ offsets) k (pos 0)
   pub last_within : IsOffset offset
 
--- no offset is made yet
-pub chain_start : (before : ℤ) (so offsets : List ℤ) → length offsets ≡ 160 → IsOffset before → Chain before so offsets before 0
-chain_start before so offsets l o = record {
-  count = l;
-  each = λ j h. absurd (omega arith);
-  within = λ j h. absurd (omega arith);
-  last = refl;
-  last_within = o;
-}
-
 -- a write at place k leaves what stands before the places up to k
 kept : (before : ℤ) (offsets : List ℤ) (k j : ℕ) (y : ℤ) → j < k + 1 → get_or (before ∷ set offsets k y) j (pos 0) ≡ get_or (before ∷ offsets) j (pos 0)
 kept before offsets k zero y h = refl

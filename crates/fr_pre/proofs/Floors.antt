@@ -16,14 +16,6 @@ pub floor : (z : ℤ) → IsFloor z (floor_shr z 15)
 floor (pos n) = record { low = omega (arith, ints); high = omega (arith, ints) }
 floor (negsuc n) = record { low = omega (arith, ints); high = omega (arith, ints) }
 
-pub one_floor : (z p q : ℤ) → IsFloor z p → IsFloor z q → p ≡ q
-one_floor z p q f g =
-    let fl = f.low in
-    let fh = f.high in
-    let gl = g.low in
-    let gh = g.high in
-    omega (arith, ints)
-
 -- the next offset is one that samples from home can give
 pub offset_stays : (offset so : ℤ) → IsOffset offset → IsDownscaled so → IsOffset (next_offset offset so)
 unfolding next_offset

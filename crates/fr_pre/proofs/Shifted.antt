@@ -36,13 +36,6 @@ pub record Downscaling (before : ℤ) (x so : List ℤ) (k : ℕ) : Type 0 where
   pub shifted : Shifted before (λ j. downscaled (get_or x j (pos 0))) so 160 k
   pub within : (j : ℕ) → j < k → IsDownscaled (get_or so (j + 1) (pos 0))
 
--- the same of the downscaled samples
-pub downscaling_start : (before : ℤ) (x so : List ℤ) → length so ≡ 161 → Downscaling before x (set so 0 before) 0
-downscaling_start before x so l = record {
-  shifted = shifted_start before (λ j. downscaled (get_or x j (pos 0))) so 160 l;
-  within = λ j h. absurd (omega arith);
-}
-
 pub downscaling_next : (before : ℤ) (x so : List ℤ) (k : ℕ) (y : ℤ) → k < 160 → Downscaling before x so k → y ≡ downscaled (get_or x k (pos 0)) →
     IsDownscaled y → Downscaling before x (set so (k + 1) y) (k + 1)
 downscaling_next before x so k y h run e w =

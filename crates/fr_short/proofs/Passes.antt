@@ -10,10 +10,7 @@ pub record Passing (rs : ℕ → ℤ) (first : ℤ) (ds0 savs0 ds savs : List �
   pub savs_over : Over (next_sav rs first ds0 savs0) savs0 savs k
   pub u_is : u ≡ u_at first savs0 k
 
--- no sample has passed the section yet, and one more
-pub passing_start : (rs : ℕ → ℤ) (first : ℤ) (ds savs : List ℤ) → length ds ≡ 160 → length savs ≡ 160 → Passing rs first ds savs ds savs first 0
-passing_start rs first ds savs ld ls = record { ds_over = over_start _ ds ld; savs_over = over_start _ savs ls; u_is = refl }
-
+-- one sample more passes the section
 pub passing_next : (rs : ℕ → ℤ) (first : ℤ) (ds0 savs0 ds savs : List ℤ) (r u : ℤ) (k : ℕ) (x y : ℤ) → k < 160 → r ≡ rs k →
     Passing rs first ds0 savs0 ds savs u k →
     x ≡ add_of (get_or ds k (pos 0)) (mult_r_of r u) → y ≡ add_of u (mult_r_of r (get_or ds k (pos 0))) →

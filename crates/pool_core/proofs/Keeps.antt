@@ -37,11 +37,6 @@ legal_steal s t v e =
     let f = and_parts (is_none (hand s t)) (not (is_empty (deque s v))) p.1 in
     record { worker = ltb-true t (length s.hands) r.0; victim = ltb-true v (length s.hands) r.1; free = none_of _ f.0 }
 
-pub legal_run : (s : PoolState) (w p : ℕ) → is_legal s (Run w p) ≡ true → w < length s.hands
-legal_run s w p e =
-    let q = and_parts (is_worker s w && is_under_way s (hand s w)) (nat_lt 0 p) e in
-    ltb-true w (length s.hands) (and_parts (is_worker s w) (is_under_way s (hand s w)) q.0).0
-
 pub legal_push : (s : PoolState) (w : ℕ) → is_legal s (Push w) ≡ true → w < length s.hands
 legal_push s w e = ltb-true w (length s.hands) (and_parts (is_worker s w) (is_under_way s (hand s w)) e).0
 

@@ -128,10 +128,6 @@ replies_back whole ds (d ∷ xs) ys h =
 pub last_reply : (whole : ℕ → ℕ) (ds : List Done) (d : Done) → IsRun whole (ds ++ d ∷ []) → d.result ≡ reply_to (gone_at whole d.order.stamp ds) ds d.order
 last_reply whole ds d r = (replies_back whole [] ds (d ∷ []) (run_replies whole (ds ++ d ∷ []) r)).0
 
--- right replies are those of a run
-pub replies_run : (whole : ℕ → ℕ) (ds : List Done) → AreReplies whole [] ds → IsRun whole ds
-replies_run whole ds h = sym (replies_executed whole [] ds h)
-
 -- ---- the whole run
 
 -- all orders so far are below the end

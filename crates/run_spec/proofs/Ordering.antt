@@ -35,9 +35,6 @@ pub mode-more : (c : ℕ) (m : DtxMode) (ds : List Done) (d : Done) → dtx_mode
 mode-more c m [] d = refl
 mode-more c m (e ∷ ds) d = mode-more c (mode_by c e.result m) ds d
 
-never : (c d : ℕ) (o : Option ℕ) (s : ℕ) → opened_at d [] ≡ Some s → ⊥
-never c d o s e = cc
-
 -- a call that isn't opened is set nothing
 not_this : (c d : ℕ) (gone : ℕ → Bool) (ds : List Done) → opened_at c ds ≡ None → is_open gone ds d ≡ true → (c == d) ≡ false
 not_this c d gone ds n e = ne_eqb c d (λ q. let f = open_facts gone ds d e in let g : opened_at c ds ≡ Some f.0 = ap (λ c. opened_at c ds) q ∙ f.1 in cc)

@@ -7,6 +7,3 @@ use Rattle.rx_noise.specs.Noise.{silent_from_fall, block_draws, noise_of, noise_
 pub noise_of-falling : (sid : Fields) (fall : ℕ) (draw : ℕ → ℕ → ℕ) → fall < silent_from_fall → noise_of sid fall draw ≡ noise_at sid fall draw
 unfolding noise_of
 noise_of-falling sid fall draw h = let e : nat_lt fall silent_from_fall ≡ true = grind arith in rw e
-
-pub noise_draws-falling : (fall : ℕ) → fall < silent_from_fall → noise_draws fall ≡ 4 * block_draws
-noise_draws-falling fall h = let e : nat_lt fall silent_from_fall ≡ true = grind arith in rw e

@@ -100,9 +100,6 @@ pub record Sent (before now : LineState) (n : ℕ) (bytes : List ℕ) : Type 0 w
   pub to_come : now.to_come ≡ before.to_come
   pub faults : now.faults ≡ before.faults
 
-pub sent_none : (s : LineState) (bytes : List ℕ) → Sent s s 0 bytes
-sent_none s bytes = record { bound = omega arith; written = Appends-nil s.written; to_come = refl; faults = refl }
-
 take_on : (n k : ℕ) (bytes piece : List ℕ) → piece ≡ drop n bytes → take (n + k) bytes ≡ take n bytes ++ take k piece
 take_on n k bytes piece is = take-add n k bytes ∙ ap (λ l. take n bytes ++ take k l) (sym is)
 

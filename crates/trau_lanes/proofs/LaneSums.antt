@@ -112,10 +112,3 @@ pub sums_given : (xs ys r : List ℤ) → EightWords xs → EightWords ys →
 sums_given xs ys r p q e =
     let is : r ≡ zip2 add_of xs ys = e ∙ (λ i. zip2 add_of (words_kept xs p i) (words_kept ys q i)) in
     (is, subst EightWords (sym is) (eight_zipped add_of add_word xs ys p.eight q.eight))
-
--- what a function of differences gives: its arguments are passed as their bits
-pub differences_given : (xs ys r : List ℤ) → EightWords xs → EightWords ys →
-    r ≡ zip2 sub_of (map (to_z w16) (map (of_z w16) xs)) (map (to_z w16) (map (of_z w16) ys)) → (r ≡ zip2 sub_of xs ys) × EightWords r
-differences_given xs ys r p q e =
-    let is : r ≡ zip2 sub_of xs ys = e ∙ (λ i. zip2 sub_of (words_kept xs p i) (words_kept ys q i)) in
-    (is, subst EightWords (sym is) (eight_zipped sub_of sub_word xs ys p.eight q.eight))

@@ -52,14 +52,6 @@ push_lines lines os line o are is follows = record {
           | inr inside ↦ rw (get_or_append_left os (o ∷ []) d k low) (rw (get_or_append_left os (o ∷ []) d (k + 1) inside) (are.rising k d inside))
         ]
 
--- nothing was read yet
-pub read_nothing : (text : List ℕ) → HasRead text text []
-read_nothing text = record {
-  lines = [];
-  whole = refl;
-  read = record { one_each = refl; spelled = λ k d within. absurd (omega (arith, within)); rising = λ k d within. absurd (omega (arith, within)) };
-}
-
 -- one more line with its order
 pub read_more : (text rest line after : List ℕ) (os : List Order) (o : Order) → HasRead text rest os → text_lines rest ≡ line ∷ text_lines after →
     IsLine line o → IsNoEarlier os o → HasRead text after (os ++ o ∷ [])

@@ -72,9 +72,6 @@ at_zip f xs ys k long_x long_y l = get_or-zip2 f xs ys k 0 0 0 (omega arith) (om
 splat_long : (f : ℕ → ℕ → ℕ) (xs : List ℕ) (m : ℕ) → length xs ≡ 16 → length (zip2 f xs (replicate 16 m)) ≡ 16
 splat_long f xs m long = length-zip2 f xs (replicate 16 m) (long ∙ sym (length-replicate 16 m)) ∙ long
 
-zip_long : (f : ℕ → ℕ → ℕ) (xs ys : List ℕ) → length xs ≡ 16 → length ys ≡ 16 → length (zip2 f xs ys) ≡ 16
-zip_long f xs ys long_x long_y = length-zip2 f xs ys (long_x ∙ sym long_y) ∙ long_x
-
 module _ (xs ys : List ℕ) (long_x : length xs ≡ 16) (long_y : length ys ≡ 16) where
   abbrev pub shifted : ℕ → ℕ → List ℕ
   shifted by mask = zip2 bit_and (zip2 down ys (replicate 16 by)) (replicate 16 mask)
