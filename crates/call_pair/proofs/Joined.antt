@@ -8,7 +8,7 @@ use Rattle.call_leg.specs.Halves.{UpMemory, joined, up_turned, down_turned, up_u
 use Rattle.call_leg.proofs.HalfSteps.{up_of-joined}
 use Rattle.call_pair.specs.Memory.{IoMemory}
 use Rattle.call_pair.specs.Periods.{up_at, pcm_at, with_out, with_period}
-use Rattle.call_pair.specs.Turn.{effective, half_turned}
+use Rattle.call_pair.specs.Turn.{effective, half_place}
 use Rattle.call_pair.specs.Phases.{up_before, down_before, item_if}
 
 -- ---- the flags
@@ -34,12 +34,13 @@ pub effective-joined : (m : ℕ) (u : UpMemory) (d : DownMemory) (io : IoMemory)
 effective-joined m u d io e = ap (λ (x : UpMemory). (up_turned (up_before m io.done x) (up_at io.done io)).0.eff) (up_of-joined u d e)
 
 -- the place itself
-pub turned-joined : (m : ℕ) (e : EffectiveFields) (u : UpMemory) (d : DownMemory) (io : IoMemory) → u.bridged ≡ d.bridged →
+pub half_place-joined : (m : ℕ) (e : EffectiveFields) (u : UpMemory) (d : DownMemory)
+    (io : IoMemory) → u.bridged ≡ d.bridged →
     let t = up_turned (up_before m io.done u) (up_at io.done io) in
     let c = down_before m io.done d in
     let w = down_turned c t.0 (item_if c.bridged e) (pcm_at io.done io) in
-    half_turned m e (record { leg = joined u d; io = io }) ≡ record { leg = joined t.2 w.1; io = with_period (with_out io t.1) (octets_of w.0) }
-turned-joined m e u d io flag =
+    half_place m e (record { leg = joined u d; io = io }) ≡ record { leg = joined t.2 w.1; io = with_period (with_out io t.1) (octets_of w.0) }
+half_place-joined m e u d io flag =
     ap (λ (x : UpMemory).
     let t = up_turned (up_before m io.done x) (up_at io.done io) in
     let c = down_before m io.done d in

@@ -8,14 +8,14 @@ use Rattle.call_leg.specs.Periods.{CallPeriod}
 use Rattle.call_leg.specs.Out.{out_of}
 use Rattle.call_leg.specs.Down.{down_now}
 use Rattle.call_pair.specs.Memory.{IoMemory}
-use Rattle.call_pair.specs.Periods.{written, with_out, with_period}
+use Rattle.call_pair.specs.Periods.{buffer_with, with_out, with_period}
 use Rattle.call_pair.specs.History.{Start, who_of, outs_of, downs_of, io_after}
 use Rattle.call_leg.proofs.LineLaws.{length-out_of}
 use Rattle.call_pair.proofs.Lengths.{length-down_octets}
 
 -- octets written behind those at the front
 pub written-seam : (front buffer octets : List ℕ) (start n : ℕ) → length front ≡ start → length octets ≡ n →
-    written (front ++ drop start buffer) start octets ≡ (front ++ octets) ++ drop (start + n) buffer
+    buffer_with (front ++ drop start buffer) start octets ≡ (front ++ octets) ++ drop (start + n) buffer
 written-seam front buffer octets start n e f =
     let xs = front ++ drop start buffer in
     let rest : drop (start + length octets) xs ≡ drop (start + n) buffer =
@@ -44,7 +44,8 @@ length-downs_of who (suc k) (t ∷ past) h =
 
 -- the octets of a place more are those of the call's newest period
 pub io_more : (s : Start) (k : ℕ) (ts : List CallPeriod) (t : CallPeriod) (out down : List ℕ) → k ≤ length ts → out ≡ out_of (who_of s) (t ∷ ts) →
-    down ≡ down_now (who_of s) (t ∷ ts) → with_period (with_out (io_after (who_of s) k ts s.io) out) (octets_of down) ≡ io_after (who_of s) (suc k) (t ∷ ts) s.io
+    down ≡ down_now (who_of s) (t ∷ ts) → with_period (with_out (io_after (who_of s) k ts s.io) out) (octets_of down)
+    ≡ io_after (who_of s) (suc k) (t ∷ ts) s.io
 io_more s k ts t out down enough e f =
     let who = who_of s in
     let io = io_after (who_of s) k ts s.io in
@@ -61,6 +62,6 @@ io_more s k ts t out down enough e f =
     ∙ ap (λ (m : ℕ). (downs_of who k ts ++ said) ++ drop m s.io.down) end' in
     ap (λ (x : List ℕ). with_period (with_out io x) (octets_of down)) e ∙
     ap (λ (x : List ℕ). with_period (with_out io heard) (octets_of x)) f ∙
-    ap (λ (x : List ℕ). shape x (written io.down (40 * k) said) (k + 1)) outs ∙
+    ap (λ (x : List ℕ). shape x (buffer_with io.down (40 * k) said) (k + 1)) outs ∙
     ap (λ (y : List ℕ). shape (outs_of who (suc k) (t ∷ ts) ++ drop (160 * suc k) s.io.out) y (k + 1)) downs ∙
     ap (λ (n : ℕ). record (io_after (who_of s) (suc k) (t ∷ ts) s.io) { done = n }) next

@@ -6,7 +6,7 @@ use Rattle.std.proofs.lemmas.List.{drop-drop, length-drop, length-take-le, with_
 use Rattle.std.specs.Vec.{with_items}
 use borrow.Rule.Slice.PartMut.{put_mid, mid_of, same_len_mid}
 use Rattle.call_pair.specs.Memory.{IoMemory, IsIo}
-use Rattle.call_pair.specs.Periods.{up_at, pcm_at, written}
+use Rattle.call_pair.specs.Periods.{up_at, pcm_at, buffer_with}
 use Rattle.call_pair.proofs.Lengths.{length-taken}
 
 pub length-up_at : (io : IoMemory) (k : ℕ) → IsIo io → k < io.given → length (up_at k io) ≡ 40
@@ -16,7 +16,7 @@ pub length-pcm_at : (io : IoMemory) (k : ℕ) → IsIo io → k < io.given → l
 length-pcm_at io k h below = length-taken io.pcm 160 (160 * k) (omega (arith, h.room.pcm_room, h.room.enough))
 
 -- what is put in the middle of a buffer
-put_mid-written : (start k : ℕ) (buffer octets : List ℕ) → length octets ≡ k → put_mid start k buffer octets ≡ written buffer start octets
+put_mid-written : (start k : ℕ) (buffer octets : List ℕ) → length octets ≡ k → put_mid start k buffer octets ≡ buffer_with buffer start octets
 put_mid-written start k buffer octets e =
     let long : start + k ≡ start + length octets = omega arith in
     sym (append_assoc (take start buffer) octets (drop k (drop start buffer))) ∙
@@ -24,13 +24,13 @@ put_mid-written start k buffer octets e =
 
 -- a buffer whose n octets from `start` on are now these
 pub with_items-written : {Z : Type 0} (v : Vec ℕ Z) (start n : ℕ) (buffer part octets : List ℕ) → buffer ≡ v.items → length part
-    ≡ length (mid_of start ((start + n) - start) buffer) →
-    part ≡ octets → length octets ≡ n → (with_items v (put_mid start ((start + n) - start) buffer part)).items ≡ written v.items start octets
+    ≡ length (mid_of start ((start + n) - start) buffer) → part ≡ octets → length octets ≡ n →
+    (with_items v (put_mid start ((start + n) - start) buffer part)).items ≡ buffer_with v.items start octets
 with_items-written v start n buffer part octets was same now long =
     let k = (start + n) - start in
     let fits = same_len_mid start k buffer part same in
     with_items_is v (put_mid start k buffer part) (omega (arith, fits, ap length was, v.ok.0)) ∙ ap (put_mid start k buffer) now ∙
-    put_mid-written start k buffer octets (omega arith) ∙ ap (λ (xs : List ℕ). written xs start octets) was
+    put_mid-written start k buffer octets (omega arith) ∙ ap (λ (xs : List ℕ). buffer_with xs start octets) was
 
 -- a buffer whose contents were lent keeps its length
 pub length-with_items : {Z : Type 0} (v : Vec ℕ Z) (xs : List ℕ) → length (with_items v xs).items ≡ length v.items
@@ -41,7 +41,8 @@ length-with_items v xs =
     length-take-le v.len (xs ++ drop (length xs) v.items) there ∙ (let e : v.len ≡ length v.items = omega (arith, v.ok.0) in e)
 
 -- octets of the same lengths are a call's as well
-pub io-stands : (io : IoMemory) (up pcm out down : List ℕ) → IsIo io → length up ≡ length io.up → length pcm ≡ length io.pcm → length out ≡ length io.out →
+pub io-stands : (io : IoMemory) (up pcm out down : List ℕ) → IsIo io → length up ≡ length io.up →
+    length pcm ≡ length io.pcm → length out ≡ length io.out →
     length down ≡ length io.down → IsIo (record io { up = up; pcm = pcm; out = out; down = down })
 io-stands io up pcm out down h u p o d = record {
   number = h.number;

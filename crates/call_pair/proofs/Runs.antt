@@ -10,24 +10,25 @@ use Rattle.call_leg.specs.Periods.{CallPeriod, effective_now}
 use Rattle.call_leg.specs.Settings.{Settings, without_bridge, settings_at}
 use Rattle.call_pair.specs.Memory.{IoMemory, HalfMemory, IsIo, places_left, Job, Two}
 use Rattle.call_pair.specs.Periods.{has_period}
-use Rattle.call_pair.specs.Turn.{effective, half_turned, half_turned_if, turned}
-use Rattle.call_pair.specs.Jobs.{job_left, after_turns, finished}
+use Rattle.call_pair.specs.Turn.{effective, half_place, half_place_if, job_place}
+use Rattle.call_pair.specs.Jobs.{job_left, after_job_places, finished_job}
 use Rattle.call_pair.specs.History.{Start, period_at, handed_at, bridged_periods, settings_past, Begins, HasWorked}
 use Rattle.call_pair.specs.Finished.{HasWorkedBridged, TwoWorked}
 use Rattle.call_pair.proofs.Places.{is_below, not_below, is_same, is_past, is_before}
-use Rattle.call_pair.proofs.Steps.{tells, bridged, left_alone, turned-alone, turned-bridged, tells-is, turned-ends, left_alone-is, effective-is, bridged-worked}
+use Rattle.call_pair.proofs.Steps.{tells, half_bridged, left_alone, half_place-alone, half_place-bridged, tells-is, half_place-ends, left_alone-is, effective-is, bridged-worked}
 use Rattle.call_pair.proofs.Steps.{first_left-worked, later_left-worked}
 use Rattle.call_pair.proofs.RunsAlone.{placed, given-is, begun, begun-left, still-bridged, many-bridged}
 
 -- ---- two calls
 
 -- by whether each has a place
-turned-two : (g h : HalfMemory) (x y : Bool) (m : ℕ) → has_period g.io ≡ x → has_period h.io ≡ y → min g.io.given h.io.given ≡ m →
-    turned (Two g h) ≡ Two (half_turned_if x m (effective m h) g) (half_turned_if y m (effective m g) h)
-turned-two g h x y m e f l =
-    ap (λ (n : ℕ). Two (half_turned_if (has_period g.io) n (effective n h) g) (half_turned_if (has_period h.io) n (effective n g) h)) l
-    ∙ ap (λ (b : Bool). Two (half_turned_if b m (effective m h) g) (half_turned_if (has_period h.io) m (effective m g) h)) e
-    ∙ ap (λ (b : Bool). Two (half_turned_if x m (effective m h) g) (half_turned_if b m (effective m g) h)) f
+job_place-two : (g h : HalfMemory) (x y : Bool) (m : ℕ) → has_period g.io ≡ x →
+    has_period h.io ≡ y → min g.io.given h.io.given ≡ m →
+    job_place (Two g h) ≡ Two (half_place_if x m (effective m h) g) (half_place_if y m (effective m g) h)
+job_place-two g h x y m e f l =
+    ap (λ (n : ℕ). Two (half_place_if (has_period g.io) n (effective n h) g) (half_place_if (has_period h.io) n (effective n g) h)) l
+    ∙ ap (λ (b : Bool). Two (half_place_if b m (effective m h) g) (half_place_if (has_period h.io) m (effective m g) h)) e
+    ∙ ap (λ (b : Bool). Two (half_place_if x m (effective m h) g) (half_place_if b m (effective m g) h)) f
 
 -- after k places of a call whose partner had fewer or as many
 abbrev Left : Start → Start → ℕ → HalfMemory → Type 0
@@ -49,25 +50,26 @@ pub handed-some : (k : ℕ) (s : Start) (ts : List CallPeriod) → k < s.io.give
 handed-some k s ts h = ap (λ (x : Bool). if x then Some (bits260 (handed_fields (effective_now s.io.call (period_at k s None ∷ ts)))) else None)
     (is_below k s.io.given h)
 
--- .. of which k are done
+-- a half that has processed k places has k of them done
 done-is : (s : Start) (k : ℕ) (ts : List CallPeriod) (now : Settings) (h : HalfMemory) → HasWorked s k ts now h → h.io.done ≡ k
 done-is s k ts now h w = ap (λ (io : IoMemory). io.done) w.io
 
 -- a place of a half whose partner has none left, whatever is told to it
-left-turned : (a b : Start) (k : ℕ) (e : EffectiveFields) (g : HalfMemory) → a.now.bridged ≡ true → b.io.given ≤ k →
-    Left a b k g → half_turned b.io.given e g ≡ left_alone g b.io.given
-left-turned a b k e g on from w =
+half_place-left : (a b : Start) (k : ℕ) (e : EffectiveFields) (g : HalfMemory) →
+    a.now.bridged ≡ true → b.io.given ≤ k →
+    Left a b k g → half_place b.io.given e g ≡ left_alone g b.io.given
+half_place-left a b k e g on from w =
     let ts = bridged_periods k a b in
     let others = b.io.given in
     let first = λ (same : k ≤ others).
     let w0 = subst (λ (set : Settings). HasWorked a k ts set g) (set-past k others a.now false (not_below others k same)) w in
     let d = done-is a k ts (settings_at k a.now) g w0 in
     let t = is_same g.io.done others (omega arith) in
-    turned-ends others e g (w0.leg.down.bridged ∙ still-bridged k a.now ∙ on) t ∙ sym (left_alone-is g others true t) in
+    half_place-ends others e g (w0.leg.down.bridged ∙ still-bridged k a.now ∙ on) t ∙ sym (left_alone-is g others true t) in
     let later = λ (past : others < k).
     let w0 = subst (λ (set : Settings). HasWorked a k ts set g) (set-past k others a.now true (is_below others k past)) w in
     let d = done-is a k ts (without_bridge (settings_at k a.now)) g w0 in
-    turned-alone others e g w0.leg.down.bridged ∙ sym (left_alone-is g others false (is_past g.io.done others (omega arith))) in
+    half_place-alone others e g w0.leg.down.bridged ∙ sym (left_alone-is g others false (is_past g.io.done others (omega arith))) in
     ⊎_elim later first (cases_lt others k)
 
 -- a place more of a call that is left alone
@@ -92,7 +94,7 @@ left-more a b k g room on from below w =
 
 -- the first goes on alone, or is at its end as the second
 first-runs : (a b : Start) (n k : ℕ) (g h : HalfMemory) → IsIo a.io → a.now.bridged ≡ true → b.io.given ≤ k → k + n ≡ a.io.given →
-    Left a b k g → HasWorkedBridged b a h → TwoWorked a b (after_turns n (Two g h))
+    Left a b k g → HasWorkedBridged b a h → TwoWorked a b (after_job_places n (Two g h))
 first-runs a b zero k g h room on from e w v =
     let last : k ≡ a.io.given = omega arith in
     record { first = g; second = h; are_two = refl; first_worked = subst (λ (i : ℕ). Left a b i g) last w; second_worked = v }
@@ -106,13 +108,13 @@ first-runs a b (suc n) k g h room on from e w v =
     let others = given-is b b.io.given (bridged_periods b.io.given b a) (settings_past b.io.given a.io.given b.now) h v in
     let own = given-is a k (bridged_periods k a b) (settings_past k b.io.given a.now) g w in
     let least : min g.io.given h.io.given ≡ b.io.given = omega arith in
-    subst (λ (job : Job). TwoWorked a b (after_turns n job))
-    (sym (turned-two g h true false b.io.given place none least ∙ ap (λ (x : HalfMemory). Two x h) (left-turned a b k (effective b.io.given h) g on from w)))
+    subst (λ (job : Job). TwoWorked a b (after_job_places n job))
+    (sym (job_place-two g h true false b.io.given place none least ∙ ap (λ (x : HalfMemory). Two x h) (half_place-left a b k (effective b.io.given h) g on from w)))
     (first-runs a b n (suc k) (left_alone g b.io.given) h room on later more (left-more a b k g room on from below w) v)
 
 -- the second goes on alone
 second-runs : (a b : Start) (n k : ℕ) (g h : HalfMemory) → IsIo b.io → b.now.bridged ≡ true → a.io.given ≤ k → k + n ≡ b.io.given →
-    HasWorkedBridged a b g → Left b a k h → TwoWorked a b (after_turns n (Two g h))
+    HasWorkedBridged a b g → Left b a k h → TwoWorked a b (after_job_places n (Two g h))
 second-runs a b zero k g h room on from e w v =
     let last : k ≡ b.io.given = omega arith in
     record { first = g; second = h; are_two = refl; first_worked = w; second_worked = subst (λ (i : ℕ). Left b a i h) last v }
@@ -126,8 +128,8 @@ second-runs a b (suc n) k g h room on from e w v =
     let others = given-is a a.io.given (bridged_periods a.io.given a b) (settings_past a.io.given b.io.given a.now) g w in
     let own = given-is b k (bridged_periods k b a) (settings_past k a.io.given b.now) h v in
     let least : min g.io.given h.io.given ≡ a.io.given = omega arith in
-    subst (λ (job : Job). TwoWorked a b (after_turns n job))
-    (sym (turned-two g h false true a.io.given none place least ∙ ap (Two g) (left-turned b a k (effective a.io.given g) h on from v)))
+    subst (λ (job : Job). TwoWorked a b (after_job_places n job))
+    (sym (job_place-two g h false true a.io.given none place least ∙ ap (Two g) (half_place-left b a k (effective a.io.given g) h on from v)))
     (second-runs a b n (suc k) g (left_alone h a.io.given) room on later more w (left-more b a k h room on from below v))
 
 -- after k places of a call and as many of its partner
@@ -141,21 +143,22 @@ both-left a b k g within w =
 
 -- a place more of a call in a bridge
 both-more : (a b : Start) (k : ℕ) (g h : HalfMemory) → IsIo a.io → IsIo b.io → a.now.bridged ≡ true → k < a.io.given → k < b.io.given →
-    Both a b k g → Both b a k h → Both a b (suc k) (bridged g (tells h))
+    Both a b k g → Both b a k h → Both a b (suc k) (half_bridged g (tells h))
 both-more a b k g h room room' on below below' w v =
     let ts = bridged_periods k a b in
     let us = bridged_periods k b a in
     let heard : tells h ≡ effective_now b.io.call (period_at k b None ∷ us) = effective-is b k us (settings_at k b.now) h room' below' v in
     let handed = ap (λ (e : EffectiveFields). Some (bits260 (handed_fields e))) heard ∙ sym (handed-some k b us below') in
-    subst (λ (x : Option (List ℕ)). HasWorked a (suc k) (period_at k a x ∷ ts) (settings_at (suc k) a.now) (bridged g (tells h))) handed
+    subst (λ (x : Option (List ℕ)). HasWorked a (suc k) (period_at k a x ∷ ts) (settings_at (suc k) a.now) (half_bridged g (tells h))) handed
     (bridged-worked a k ts (settings_at k a.now) g (tells h) room (many-bridged k a b) below (still-bridged k a.now ∙ on) w)
 
 -- a place of two halves that both have one
-both-turned : (a b : Start) (k : ℕ) (g h : HalfMemory) → a.now.bridged ≡ true → b.now.bridged ≡ true → k < a.io.given → k < b.io.given → Both a b k g →
+half_place-both : (a b : Start) (k : ℕ) (g h : HalfMemory) → a.now.bridged ≡ true →
+    b.now.bridged ≡ true → k < a.io.given → k < b.io.given → Both a b k g →
     Both b a k h →
     let m = min g.io.given h.io.given in
-    Two (half_turned m (effective m h) g) (half_turned m (effective m g) h) ≡ Two (bridged g (tells h)) (bridged h (tells g))
-both-turned a b k g h on on' below below' w v =
+    Two (half_place m (effective m h) g) (half_place m (effective m g) h) ≡ Two (half_bridged g (tells h)) (half_bridged h (tells g))
+half_place-both a b k g h on on' below below' w v =
     let m = min g.io.given h.io.given in
     let e = given-is a k (bridged_periods k a b) (settings_at k a.now) g w in
     let e' = given-is b k (bridged_periods k b a) (settings_at k b.now) h v in
@@ -165,14 +168,13 @@ both-turned a b k g h on on' below below' w v =
     let t' = is_before h.io.done m (omega arith) in
     let o = w.leg.down.bridged ∙ still-bridged k a.now ∙ on in
     let o' = v.leg.down.bridged ∙ still-bridged k b.now ∙ on' in
-    let f = turned-bridged m (effective m h) g o t ∙ ap (bridged g) (tells-is m h o' t') in
-    let f' = turned-bridged m (effective m g) h o' t' ∙ ap (bridged h) (tells-is m g o t) in
-    ap (λ (x : HalfMemory). Two x (half_turned m (effective m g) h)) f ∙ ap (Two (bridged g (tells h))) f'
+    let f = half_place-bridged m (effective m h) g o t ∙ ap (half_bridged g) (tells-is m h o' t') in
+    let f' = half_place-bridged m (effective m g) h o' t' ∙ ap (half_bridged h) (tells-is m g o t) in
+    ap (λ (x : HalfMemory). Two x (half_place m (effective m g) h)) f ∙ ap (Two (half_bridged g (tells h))) f'
 
 -- the job of two calls in a bridge, n turns long
 both-run : (a b : Start) (n k : ℕ) (g h : HalfMemory) → IsIo a.io → IsIo b.io → a.now.bridged ≡ true → b.now.bridged ≡ true →
-    k ≤ a.io.given → k ≤ b.io.given → k + n ≡ max a.io.given b.io.given →
-    Both a b k g → Both b a k h → TwoWorked a b (after_turns n (Two g h))
+    k ≤ a.io.given → k ≤ b.io.given → k + n ≡ max a.io.given b.io.given → Both a b k g → Both b a k h → TwoWorked a b (after_job_places n (Two g h))
 both-run a b zero k g h room room' on on' within within' e w v =
     let end : k ≡ b.io.given = omega arith in
     first-runs a b 0 k g h room on (omega arith) (omega arith) (both-left a b k g within' w) (subst (λ (i : ℕ). Left b a i h) end (both-left b a k h within v))
@@ -186,15 +188,16 @@ both-run a b (suc n) k g h room room' on on' within within' e w v =
     let both = λ (lt : k < a.io.given) (lt' : k < b.io.given).
     let place = placed a k (bridged_periods k a b) (settings_at k a.now) g w ∙ is_below k a.io.given lt in
     let place' = placed b k (bridged_periods k b a) (settings_at k b.now) h v ∙ is_below k b.io.given lt' in
-    subst (λ (job : Job). TwoWorked a b (after_turns n job)) (sym (turned-two g h true true (min g.io.given h.io.given) place place' refl
-    ∙ both-turned a b k g h on on' lt lt' w v))
-    (both-run a b n (suc k) (bridged g (tells h)) (bridged h (tells g)) room room' on on' (omega arith) (omega arith) (omega arith)
+    subst (λ (job : Job). TwoWorked a b (after_job_places n job)) (sym (job_place-two g h true true (min g.io.given h.io.given) place place' refl
+    ∙ half_place-both a b k g h on on' lt lt' w v))
+    (both-run a b n (suc k) (half_bridged g (tells h)) (half_bridged h (tells g)) room room' on on' (omega arith) (omega arith) (omega arith)
     (both-more a b k g h room room' on lt lt' w v) (both-more b a k h g room' room on' lt' lt v w)) in
     ⊎_elim (λ (lt' : k < b.io.given). ⊎_elim (λ (lt : k < a.io.given). both lt lt') (λ (le : a.io.given ≤ k). own le lt') (cases_lt k a.io.given)) others
     (cases_lt k b.io.given)
 
--- and at its end
-pub two-finished : (a b : Start) (g h : HalfMemory) → Begins a g → Begins b h → a.now.bridged ≡ true → b.now.bridged ≡ true → TwoWorked a b (finished (Two g h))
+-- the job of two calls in a bridge, at its end
+pub two-finished : (a b : Start) (g h : HalfMemory) → Begins a g → Begins b h →
+    a.now.bridged ≡ true → b.now.bridged ≡ true → TwoWorked a b (finished_job (Two g h))
 two-finished a b g h start start' on on' =
     let n : job_left (Two g h) ≡ max a.io.given b.io.given = ap (λ (m : ℕ). max m (places_left h.io)) (begun-left a g start)
     ∙ ap (max a.io.given) (begun-left b h start') in

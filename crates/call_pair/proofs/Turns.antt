@@ -1,36 +1,37 @@
--- What one turn keeps.
+-- What one turn keeps: a turn processes the next place, if there is one.
 use Rattle.std.proofs.Common.{◌≡◌, ℕ, zero, suc, ◌+◌, ◌-◌, ◌<◌, min, ltb, Bool, true, false, if◌then◌else◌, refl, ap, ◌∙◌, arith}
 use Rattle.std.specs.Prelude.{◌==◌, ◌||◌}
 use Rattle.std.proofs.lemmas.Bool.Decides.{nat_tests}
 use Rattle.rx_handler.specs.Origin.{EffectiveFields}
 use Rattle.call_pair.specs.Memory.{HalfMemory, Job, One, Two}
 use Rattle.call_pair.specs.Periods.{has_period}
-use Rattle.call_pair.specs.Turn.{effective, half_turned_if, turned}
-use Rattle.call_pair.specs.Jobs.{after_turns, has_call}
-use Rattle.call_pair.specs.Phases.{CallMemory, phase_place, call_turned, after_call_turns, periods_left, call_finished}
+use Rattle.call_pair.specs.Turn.{effective, half_place_if, job_place}
+use Rattle.call_pair.specs.Jobs.{after_job_places, has_call}
+use Rattle.call_pair.specs.Phases.{CallMemory, phase_place, call_place, after_call_places, periods_left, job_at_phase_end}
 use Rattle.call_pair.specs.declared.call_job.Phase.{Phase}
 use Rattle.call_pair.specs.declared.call_job.Phase.TheVariants.{First, Second}
 
 -- ---- the calls of a job
 
--- a turn keeps the call of a half ..
-half_call : (b : Bool) (m : ℕ) (e : EffectiveFields) (h : HalfMemory) → (half_turned_if b m e h).io.call ≡ h.io.call
+-- A turn keeps the call of a half.
+half_call : (b : Bool) (m : ℕ) (e : EffectiveFields) (h : HalfMemory) → (half_place_if b m e h).io.call ≡ h.io.call
 half_call true m e h = refl
 half_call false m e h = refl
 
--- .. and those of a job
-turn_keeps : (job : Job) (call : ℕ) → has_call (turned job) call ≡ has_call job call
-turn_keeps (One h) call = ap (λ n. n == call) (half_call (has_period h.io) 0 _ h)
-turn_keeps (Two a b) call =
+-- A turn keeps the calls of a job.
+job_place_keeps : (job : Job) (call : ℕ) → has_call (job_place job) call ≡ has_call job call
+job_place_keeps (One h) call = ap (λ n. n == call) (half_call (has_period h.io) 0 _ h)
+job_place_keeps (Two a b) call =
     let m = min a.io.given b.io.given in
-    let g = half_turned_if (has_period b.io) m (effective m a) b in
+    let g = half_place_if (has_period b.io) m (effective m a) b in
     ap (λ n. n == call || g.io.call == call) (half_call (has_period a.io) m (effective m b) a) ∙ ap (λ n. a.io.call == call || n == call)
     (half_call (has_period b.io) m (effective m a) b)
 
--- turns keep the calls of a job
-pub turns_keep : (n : ℕ) (job : Job) (call : ℕ) → has_call (after_turns n job) call ≡ has_call job call
-turns_keep zero job call = refl
-turns_keep (suc n) job call = turns_keep n (turned job) call ∙ turn_keeps job call
+-- Any number of turns keeps the calls of a job.
+pub job_places_keep : (n : ℕ) (job : Job) (call : ℕ) →
+    has_call (after_job_places n job) call ≡ has_call job call
+job_places_keep zero job call = refl
+job_places_keep (suc n) job call = job_places_keep n (job_place job) call ∙ job_place_keeps job call
 
 -- ---- the job of a call
 
@@ -52,30 +53,33 @@ place_call First j = refl
 place_call Second j = refl
 
 -- a turn works a place if there is one
-pub turned_is : (j : CallMemory) (b : Bool) → has_period j.io ≡ b → call_turned j ≡ (if b then phase_place j.phase j else j)
-turned_is j b e = ap (λ (x : Bool). if x then phase_place j.phase j else j) e
+pub call_place_is : (j : CallMemory) (b : Bool) → has_period j.io ≡ b →
+    call_place j ≡ (if b then phase_place j.phase j else j)
+call_place_is j b e = ap (λ (x : Bool). if x then phase_place j.phase j else j) e
 
-pub call_turn_left : (j : CallMemory) → 0 < periods_left j → periods_left (call_turned j) + 1 ≡ periods_left j
-call_turn_left j some = go (has_period j.io) refl
+pub call_place_left : (j : CallMemory) → 0 < periods_left j →
+    periods_left (call_place j) + 1 ≡ periods_left j
+call_place_left j some = go (has_period j.io) refl
   where
-    go : (b : Bool) → has_period j.io ≡ b → periods_left (call_turned j) + 1 ≡ periods_left j
-    go true e = ap (λ m. periods_left m + 1) (turned_is j true e) ∙ place_left j.phase j e
+    go : (b : Bool) → has_period j.io ≡ b → periods_left (call_place j) + 1 ≡ periods_left j
+    go true e = ap (λ m. periods_left m + 1) (call_place_is j true e) ∙ place_left j.phase j e
     go false e = absurd (omega (arith, none_left j.io.done j.io.given e))
 
-pub call_turn_call : (j : CallMemory) → (call_turned j).io.call ≡ j.io.call
-call_turn_call j = go (has_period j.io) refl
+pub call_place_call : (j : CallMemory) → (call_place j).io.call ≡ j.io.call
+call_place_call j = go (has_period j.io) refl
   where
-    go : (b : Bool) → has_period j.io ≡ b → (call_turned j).io.call ≡ j.io.call
-    go true e = ap (λ (m : CallMemory). m.io.call) (turned_is j true e) ∙ place_call j.phase j
-    go false e = ap (λ (m : CallMemory). m.io.call) (turned_is j false e)
+    go : (b : Bool) → has_period j.io ≡ b → (call_place j).io.call ≡ j.io.call
+    go true e = ap (λ (m : CallMemory). m.io.call) (call_place_is j true e) ∙ place_call j.phase j
+    go false e = ap (λ (m : CallMemory). m.io.call) (call_place_is j false e)
 
 -- a turn and n more are one more
-run_more : (n m : ℕ) (j : CallMemory) → n + 1 ≡ m → after_call_turns n (call_turned j) ≡ after_call_turns m j
+run_more : (n m : ℕ) (j : CallMemory) → n + 1 ≡ m → after_call_places n (call_place j) ≡ after_call_places m j
 run_more n zero j e = absurd (omega arith)
-run_more n (suc m) j e = let k : n ≡ m = omega arith in ap (λ (i : ℕ). after_call_turns i (call_turned j)) k
+run_more n (suc m) j e = let k : n ≡ m = omega arith in ap (λ (i : ℕ). after_call_places i (call_place j)) k
 
-pub call_turn_finish : (j : CallMemory) → 0 < periods_left j → call_finished (call_turned j) ≡ call_finished j
-call_turn_finish j some = run_more (periods_left (call_turned j)) (periods_left j) j (call_turn_left j some)
+pub phase_end-call_place : (j : CallMemory) → 0 < periods_left j →
+    job_at_phase_end (call_place j) ≡ job_at_phase_end j
+phase_end-call_place j some = run_more (periods_left (call_place j)) (periods_left j) j (call_place_left j some)
 
 -- a place is left where one is
 pub some_left : (done given : ℕ) → ltb done given ≡ true → 0 < given - done

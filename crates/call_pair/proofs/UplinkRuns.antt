@@ -9,7 +9,7 @@ use Rattle.call_leg.specs.Runs.{EndsAt, UpRun, periods_run, outs_run}
 use Rattle.call_leg.proofs.HalfLaws.{turn-stands, turn-note, turn-plays, up_off-stands}
 use Rattle.call_leg.proofs.LineLaws.{length-out_of}
 use Rattle.call_pair.specs.Memory.{IoMemory, HalfMemory}
-use Rattle.call_pair.specs.Periods.{up_at, written}
+use Rattle.call_pair.specs.Periods.{up_at, buffer_with}
 use Rattle.call_pair.specs.History.{Start, who_of, settings_past, Begins}
 use Rattle.call_pair.specs.Phases.{CallMemory, up_before, first_phase}
 use Rattle.call_pair.specs.Told.{Hears, history_of, ups_in, pcms_in}
@@ -97,7 +97,7 @@ module _ (s : Start) (h : HalfMemory) (m : ℕ) (b : Begins s h) where
     outs-told (suc k) le =
         let one = ap length (out-told k (omega arith)) ∙ length-out_of (who_of s) (seen (suc k)) in
         let end : 160 * k + 160 ≡ 160 * suc k = omega arith in
-        ap (λ (xs : List ℕ). written xs (160 * k) (told m h k).1) (outs-told k (omega arith))
+        ap (λ (xs : List ℕ). buffer_with xs (160 * k) (told m h k).1) (outs-told k (omega arith))
         ∙ written-seam (outs_told m h k) s.io.out (told m h k).1 (160 * k) 160 (long-told k (omega arith)) one
         ∙ ap (λ (n : ℕ). (outs_told m h k ++ (told m h k).1) ++ drop n s.io.out) end
 

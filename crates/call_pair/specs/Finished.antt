@@ -6,11 +6,13 @@ use Rattle.call_pair.specs.History.{Start, settings_past, alone_periods, bridged
 
 -- a half has processed all places of its call, which lies in no bridge
 abbrev pub HasWorkedAlone : Start → HalfMemory → Type 0
-HasWorkedAlone s h = HasWorked s s.io.given (alone_periods s.io.given s) (settings_at s.io.given s.now) h
+HasWorkedAlone s h =
+    HasWorked s s.io.given (alone_periods s.io.given s) (settings_at s.io.given s.now) h
 
 -- a half has processed all places of call a, whose partner is b
 abbrev pub HasWorkedBridged : Start → Start → HalfMemory → Type 0
-HasWorkedBridged a b h = HasWorked a a.io.given (bridged_periods a.io.given a b) (settings_past a.io.given b.io.given a.now) h
+HasWorkedBridged a b h = HasWorked a a.io.given (bridged_periods a.io.given a b)
+    (settings_past a.io.given b.io.given a.now) h
 
 -- the finished job of one call
 pub record OneWorked (s : Start) (job : Job) : Type 0 where

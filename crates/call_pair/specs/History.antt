@@ -20,7 +20,7 @@ pub record Start : Type 0 where
   pub now : Settings
   pub io : IoMemory
 
--- its number and law
+-- the number and law of a call
 abbrev pub who_of : Start → Who
 who_of s = record { number = s.io.call; law = s.law }
 
@@ -30,7 +30,7 @@ period_at k s handed = period_with (settings_at k s.now) (up_at k s.io) (pcm_at 
 
 -- ---- a call that lies in no bridge
 
--- its periods after the first k places
+-- the periods of such a call after the first k places
 abbrev pub alone_periods : ℕ → Start → List CallPeriod
 alone_periods zero s = s.past
 alone_periods (suc k) s = period_at k s None ∷ alone_periods k s
@@ -40,16 +40,20 @@ alone_periods (suc k) s = period_at k s None ∷ alone_periods k s
 -- What a call hands over in place k, after these periods: the bits of its effective frame, if it has that place. The effective frame
 -- depends on the octets of the Up line alone, so the period is taken with nothing handed to it.
 abbrev pub handed_at : ℕ → Start → List CallPeriod → Option (List ℕ)
-handed_at k s ts = if nat_lt k s.io.given then Some (bits260 (handed_fields (effective_now s.io.call (period_at k s None ∷ ts)))) else None
+handed_at k s ts = if nat_lt k s.io.given
+    then Some (bits260 (handed_fields (effective_now s.io.call (period_at k s None ∷ ts))))
+    else None
 
 -- the periods of call a, whose partner is b, after its first k places
 abbrev pub bridged_periods : ℕ → Start → Start → List CallPeriod
 bridged_periods zero a b = a.past
-bridged_periods (suc k) a b = period_at k a (handed_at k b (bridged_periods k b a)) ∷ bridged_periods k a b
+bridged_periods (suc k) a b =
+    period_at k a (handed_at k b (bridged_periods k b a)) ∷ bridged_periods k a b
 
 -- the settings after k places, where the partner has `others`: the bridge is off once k is greater
 abbrev pub settings_past : ℕ → ℕ → Settings → Settings
-settings_past k others now = if nat_lt others k then without_bridge (settings_at k now) else settings_at k now
+settings_past k others now =
+    if nat_lt others k then without_bridge (settings_at k now) else settings_at k now
 
 -- ---- the octets
 
@@ -88,6 +92,7 @@ pub record Begins (s : Start) (h : HalfMemory) : Type 0 where
   pub leg : Stands (who_of s) s.past s.now h.leg
 
 -- a half has processed k places, after which the call has these periods
-pub record HasWorked (s : Start) (k : ℕ) (ts : List CallPeriod) (now : Settings) (h : HalfMemory) : Type 0 where
+pub record HasWorked (s : Start) (k : ℕ) (ts : List CallPeriod) (now : Settings)
+    (h : HalfMemory) : Type 0 where
   pub io : h.io ≡ io_after (who_of s) k ts s.io
   pub leg : Stands (who_of s) ts now h.leg

@@ -1,21 +1,21 @@
 -- A job from its start to its end.
 use Rattle.std.specs.Prelude.{ℕ, zero, suc, max, Bool, ◌==◌, ◌||◌, if◌then◌else◌}
 use Rattle.call_pair.specs.Memory.{HalfMemory, places_left, Job, One, Two}
-use Rattle.call_pair.specs.Turn.{turned}
+use Rattle.call_pair.specs.Turn.{job_place}
 
 -- the remaining places; of two halves, those of the longer
 abbrev pub job_left : Job → ℕ
 job_left (One h) = places_left h.io
 job_left (Two a b) = max (places_left a.io) (places_left b.io)
 
--- the job after n turns
-abbrev pub after_turns : ℕ → Job → Job
-after_turns zero job = job
-after_turns (suc n) job = after_turns n (turned job)
+-- the job after n places
+abbrev pub after_job_places : ℕ → Job → Job
+after_job_places zero job = job
+after_job_places (suc n) job = after_job_places n (job_place job)
 
--- the finished job: after one turn for each remaining place
-abbrev pub finished : Job → Job
-finished job = after_turns (job_left job) job
+-- the finished job: after all remaining places
+abbrev pub finished_job : Job → Job
+finished_job job = after_job_places (job_left job) job
 
 -- ---- its calls
 

@@ -1,7 +1,7 @@
 -- The memory of a call in a job.
-use Rattle.std.specs.Prelude.{◌≡◌, ℕ, ◌+◌, ◌-◌, ◌*◌, ◌≤◌, List, [], length, replicate}
+use Rattle.std.specs.Prelude.{◌≡◌, ℕ, ◌-◌, ◌*◌, ◌≤◌, List, [], length, replicate}
 use Rattle.call_number.specs.CallNumber.{IsCallNumber}
-use Rattle.call_leg.specs.Memory.{LegMemory, periods_of_leg}
+use Rattle.call_leg.specs.Memory.{LegMemory}
 
 -- the octets of a call in a round: those of its Up and Pcm lines, those for its Out and Down lines; how many periods are given, and how
 -- many of them are done
@@ -60,7 +60,3 @@ pub record IsIo (io : IoMemory) : Type 0 where
   pub number : IsCallNumber io.call
   pub room : HaveRoom io.up io.pcm io.out io.down io.given
   pub within : io.done ≤ io.given
-
--- the periods of the leg and the remaining places: a call has at most 4,294,967,295 of them
-abbrev pub periods_of : HalfMemory → ℕ
-periods_of h = periods_of_leg h.leg + places_left h.io

@@ -10,15 +10,18 @@ abbrev pub pcm_at : ℕ → IoMemory → List ℕ
 pcm_at k io = take 160 (drop (160 * k) io.pcm)
 
 -- a buffer with these octets from `start` on, and its other octets unchanged
-abbrev pub written : List ℕ → ℕ → List ℕ → List ℕ
-written buffer start octets = take start buffer ++ octets ++ drop (start + length octets) buffer
+abbrev pub buffer_with : List ℕ → ℕ → List ℕ → List ℕ
+buffer_with buffer start octets = take start buffer ++ octets ++ drop (start + length octets) buffer
 
 -- the octets of the next place are written: those of Out, then those of Down, which complete the place
 abbrev pub with_out : IoMemory → List ℕ → IoMemory
-with_out io octets = record io { out = written io.out (160 * io.done) octets }
+with_out io octets = record io { out = buffer_with io.out (160 * io.done) octets }
 
 abbrev pub with_period : IoMemory → List ℕ → IoMemory
-with_period io octets = record io { down = written io.down (40 * io.done) octets; done = io.done + 1 }
+with_period io octets = record io {
+  down = buffer_with io.down (40 * io.done) octets;
+  done = io.done + 1;
+}
 
 -- a place remains
 abbrev pub has_period : IoMemory → Bool

@@ -1,5 +1,5 @@
 -- The job of a call in two phases: all its uplink halves, then all its downlink halves.
-use Rattle.std.specs.Prelude.{ℕ, zero, suc, ◌+◌, Bool, true, false, ◌&&◌, ◌==◌, if◌then◌else◌, Option, Some, None, List, [], ◌∷◌, ◌++◌, map, take, get_or}
+use Rattle.std.specs.Prelude.{ℕ, zero, suc, ◌+◌, Bool, true, false, ◌&&◌, ◌==◌, if◌then◌else◌, Option, Some, None, List, [], ◌∷◌, ◌++◌, map, take, slice_index_or}
 use Rattle.trau_bits.specs.Bits.{octets_of}
 use Rattle.rx_handler.specs.Origin.{EffectiveFields, Quiet}
 use Rattle.call_leg.specs.Memory.{DownMemory, LegMemory}
@@ -37,24 +37,35 @@ item_if false e = None
 
 -- the note of place k, and the partner's frame; the values past the lists are never used
 abbrev pub note_at : ℕ → List Note → Note
-note_at k notes = get_or notes k (record { eff = Quiet; ask = 0; dtx = None })
+note_at k notes = slice_index_or notes k (record { eff = Quiet; ask = 0; dtx = None })
 
 abbrev pub effective_in : ℕ → List EffectiveFields → EffectiveFields
-effective_in k frames = get_or frames k Quiet
+effective_in k frames = slice_index_or frames k Quiet
 
 -- a place of the uplink is done
 abbrev pub one_done : IoMemory → IoMemory
 one_done io = record io { done = io.done + 1 }
 
+-- The next place of an uplink half: its note, its octets of Out, and the half after it. A bridge ends at place m.
+abbrev pub next_up : ℕ → IoMemory → UpMemory → Note × List ℕ × UpMemory
+next_up m io u = up_turned (up_before m io.done u) (up_at io.done io)
+
+-- The next place of a downlink half, by the notes and the partner's frames: its bits of Down, and the half after it.
+abbrev pub next_down : ℕ → IoMemory → List Note → List EffectiveFields → DownMemory →
+    List ℕ × DownMemory
+next_down m io notes frames d =
+    let c = down_before m io.done d in
+    let item = item_if c.bridged (effective_in io.done frames) in
+    down_turned c (note_at io.done notes) item (pcm_at io.done io)
+
 abbrev pub up_place : CallMemory → CallMemory
 up_place j =
-    let t = up_turned (up_before j.bridge_end j.io.done j.up) (up_at j.io.done j.io) in
+    let t = next_up j.bridge_end j.io j.up in
     record j { up = t.2; io = one_done (with_out j.io t.1); notes = j.notes ++ t.0 ∷ [] }
 
 abbrev pub down_place : CallMemory → CallMemory
 down_place j =
-    let d = down_before j.bridge_end j.io.done j.down in
-    let t = down_turned d (note_at j.io.done j.notes) (item_if d.bridged (effective_in j.io.done j.partner)) (pcm_at j.io.done j.io) in
+    let t = next_down j.bridge_end j.io j.notes j.partner j.down in
     record j { down = t.1; io = with_period j.io (octets_of t.0) }
 
 abbrev pub phase_place : Phase → CallMemory → CallMemory
@@ -63,31 +74,39 @@ phase_place Second j = down_place j
 
 -- ---- a job from its start to its end
 
--- after the next place of its phase, if there is one
-abbrev pub call_turned : CallMemory → CallMemory
-call_turned j = if has_period j.io then phase_place j.phase j else j
+-- a job after the next place of its phase, if there is one
+abbrev pub call_place : CallMemory → CallMemory
+call_place j = if has_period j.io then phase_place j.phase j else j
 
--- the job after n turns
-abbrev pub after_call_turns : ℕ → CallMemory → CallMemory
-after_call_turns zero j = j
-after_call_turns (suc n) j = after_call_turns n (call_turned j)
+-- a job after n places
+abbrev pub after_call_places : ℕ → CallMemory → CallMemory
+after_call_places zero j = j
+after_call_places (suc n) j = after_call_places n (call_place j)
 
 -- the remaining places of the phase, and the job at the phase's end
 abbrev pub periods_left : CallMemory → ℕ
 periods_left j = places_left j.io
 
-abbrev pub call_finished : CallMemory → CallMemory
-call_finished j = after_call_turns (periods_left j) j
+abbrev pub job_at_phase_end : CallMemory → CallMemory
+job_at_phase_end j = after_call_places (periods_left j) j
 
 -- the second phase begins
-abbrev pub turned_down : CallMemory → CallMemory
-turned_down j = record j { io = record j.io { done = 0 }; phase = Second }
+abbrev pub turn_down : CallMemory → CallMemory
+turn_down j = record j { io = record j.io { done = 0 }; phase = Second }
 
 -- ---- a half as the job of a call
 
 -- a half at the start of its first phase; if it has a bridge, that ends at place m
-abbrev pub starting : ℕ → HalfMemory → CallMemory
-starting m h = record { up = up_of h.leg; down = h.leg.down; io = h.io; notes = []; partner = []; bridge_end = m; phase = First }
+abbrev pub job_at_start : ℕ → HalfMemory → CallMemory
+job_at_start m h = record {
+  up = up_of h.leg;
+  down = h.leg.down;
+  io = h.io;
+  notes = [];
+  partner = [];
+  bridge_end = m;
+  phase = First;
+}
 
 abbrev pub with_partner : List EffectiveFields → CallMemory → CallMemory
 with_partner frames j = record j { partner = frames }
@@ -103,17 +122,18 @@ with_leg m j = record j { up = up_of m; down = m.down }
 
 -- ---- between the rounds
 
--- at its start, without any place
+-- a job at its start, without any place
 abbrev pub at_rest : CallMemory → CallMemory
-at_rest j = starting 0 (record { leg = leg_in j; io = io_at_rest j.io })
+at_rest j = job_at_start 0 (record { leg = leg_in j; io = io_at_rest j.io })
 
--- with room for n places, all of them given, and for a bridged call for as many frames of its partner
-abbrev pub planned : ℕ → Bool → CallMemory → CallMemory
-planned n bridged j = starting (if bridged then n else 0) (record { leg = leg_in j; io = io_planned j.io.call n })
+-- a job with room for n places, all of them given, and for a bridged call for as many frames of its partner
+abbrev pub plan : ℕ → Bool → CallMemory → CallMemory
+plan n bridged j =
+    job_at_start (if bridged then n else 0) (record { leg = leg_in j; io = io_planned j.io.call n })
 
--- with this number of places given, and a bridge's end at place m
-abbrev pub begun : ℕ → ℕ → CallMemory → CallMemory
-begun given m j = record j { io = record j.io { given = given }; bridge_end = m }
+-- a job with this number of places given, and a bridge's end at place m
+abbrev pub begin : ℕ → ℕ → CallMemory → CallMemory
+begin given m j = record j { io = record j.io { given = given }; bridge_end = m }
 
 -- ---- between the phases
 
@@ -122,19 +142,19 @@ abbrev pub frames_in : List Note → List EffectiveFields
 frames_in notes = map (λ (n : Note). n.eff) notes
 
 -- a call takes over its partner's frames of the places before the bridge's end, and its second phase begins
-abbrev pub heard_from : CallMemory → CallMemory → CallMemory
-heard_from p j = turned_down (with_partner (take j.bridge_end (frames_in p.notes)) j)
+abbrev pub hear_from : CallMemory → CallMemory → CallMemory
+hear_from p j = turn_down (with_partner (take j.bridge_end (frames_in p.notes)) j)
 
 -- a half at the end of its first phase, where a bridge that it has ends at place m, and at the end of the second, with these frames of its partner
 abbrev pub first_phase : ℕ → HalfMemory → CallMemory
-first_phase m h = call_finished (starting m h)
+first_phase m h = job_at_phase_end (job_at_start m h)
 
 abbrev pub second_phase : ℕ → List EffectiveFields → HalfMemory → CallMemory
-second_phase m frames h = call_finished (turned_down (with_partner frames (first_phase m h)))
+second_phase m frames h = job_at_phase_end (turn_down (with_partner frames (first_phase m h)))
 
 -- the effective frames of a half's first m places
-abbrev pub effs : ℕ → HalfMemory → List EffectiveFields
-effs m h = take m (frames_in (first_phase m h).notes)
+abbrev pub first_effective : ℕ → HalfMemory → List EffectiveFields
+first_effective m h = take m (frames_in (first_phase m h).notes)
 
 -- a half after both phases, with these frames of its partner
 abbrev pub half_run : ℕ → List EffectiveFields → HalfMemory → HalfMemory
@@ -143,8 +163,8 @@ half_run m frames h = half_in (second_phase m frames h)
 -- ---- a round of a call: both phases, and the partner's frames between them
 
 abbrev pub round_alone : HalfMemory → CallMemory
-round_alone h = call_finished (turned_down (first_phase 0 h))
+round_alone h = job_at_phase_end (turn_down (first_phase 0 h))
 
--- .. of a call whose partner is h and whose bridge ends at place m
+-- the round of a call g whose partner is h and whose bridge ends at place m
 abbrev pub round_beside : ℕ → HalfMemory → HalfMemory → CallMemory
-round_beside m g h = call_finished (heard_from (first_phase m h) (first_phase m g))
+round_beside m g h = job_at_phase_end (hear_from (first_phase m h) (first_phase m g))

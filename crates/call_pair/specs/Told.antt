@@ -27,8 +27,10 @@ pub record Hears (s : Start) (m : ℕ) (j : CallMemory) : Type 0 where
   pub octets : List ℕ
   pub run : UpRun (history_of s) (ups_in s) m s.io.given j.notes octets
   pub out : j.io.out ≡ octets ++ drop (160 * s.io.given) s.io.out
-  pub up : (pcms : ℕ → List ℕ) (handed : ℕ → Option (List ℕ)) → EndsAt (history_of s) m s.io.given handed →
-      UpStands (who_of s) (periods_run (history_of s) (ups_in s) pcms handed s.io.given) (settings_past s.io.given m s.now) j.up
+  pub up : (pcms : ℕ → List ℕ) (handed : ℕ → Option (List ℕ)) →
+      EndsAt (history_of s) m s.io.given handed →
+      UpStands (who_of s) (periods_run (history_of s) (ups_in s) pcms handed s.io.given)
+      (settings_past s.io.given m s.now) j.up
 
 -- The second phase gives the run of the downlink half, with these frames of the partner: its octets at the start of Down. The half then has
 -- the memory after the round's periods, whatever octets of Up gave the notes.
@@ -36,8 +38,10 @@ pub record Speaks (s : Start) (items : List EffectiveFields) (j : CallMemory) : 
   pub octets : List ℕ
   pub run : DownRun (history_of s) j.notes items (pcms_in s) s.io.given octets
   pub down : j.io.down ≡ octets ++ drop (40 * s.io.given) s.io.down
-  pub stands : (ups : ℕ → List ℕ) → AreNotes (history_of s) ups (pcms_in s) items s.io.given j.notes →
-      Between (who_of s) (periods_run (history_of s) ups (pcms_in s) (handed_run (history_of s) items) s.io.given)
+  pub stands : (ups : ℕ → List ℕ) →
+      AreNotes (history_of s) ups (pcms_in s) items s.io.given j.notes →
+      Between (who_of s)
+      (periods_run (history_of s) ups (pcms_in s) (handed_run (history_of s) items) s.io.given)
       (settings_past s.io.given (length items) s.now) j.down
 
 -- ---- a job's run
@@ -55,7 +59,8 @@ io_with io outs downs = record {
 }
 
 -- A half's octets are those of the run of its uplink half, which gives these notes, and of the run of its downlink half with these items.
-pub record HalfRuns (s : Start) (m : ℕ) (notes : List Note) (items : List EffectiveFields) (h : HalfMemory) : Type 0 where
+pub record HalfRuns (s : Start) (m : ℕ) (notes : List Note) (items : List EffectiveFields)
+    (h : HalfMemory) : Type 0 where
   pub outs : List ℕ
   pub downs : List ℕ
   pub up : UpRun (history_of s) (ups_in s) m s.io.given notes outs
@@ -76,5 +81,7 @@ pub record TwoRun (a b : Start) (job : Job) : Type 0 where
   pub first_notes : List Note
   pub second_notes : List Note
   pub are_two : job ≡ Two first second
-  pub first_run : HalfRuns a (min a.io.given b.io.given) first_notes (take (min a.io.given b.io.given) (frames_in second_notes)) first
-  pub second_run : HalfRuns b (min a.io.given b.io.given) second_notes (take (min a.io.given b.io.given) (frames_in first_notes)) second
+  pub first_run : HalfRuns a (min a.io.given b.io.given) first_notes
+      (take (min a.io.given b.io.given) (frames_in second_notes)) first
+  pub second_run : HalfRuns b (min a.io.given b.io.given) second_notes
+      (take (min a.io.given b.io.given) (frames_in first_notes)) second

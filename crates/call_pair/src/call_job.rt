@@ -7,8 +7,8 @@ ghost use Rattle.call_leg.specs.Memory.{home_memory, periods_of_leg};
 ghost use Rattle.call_leg.specs.Step.{with_down, begin_bridge, bridge_over, set_level, set_mode};
 ghost use Rattle.call_pair.specs.Memory.{no_octets};
 ghost use Rattle.call_pair.specs.Periods.{has_period};
-ghost use Rattle.call_pair.specs.Phases.{note_at, up_place, down_place, call_turned, periods_left, turned_down, starting, frames_in};
-ghost use Rattle.call_pair.specs.Phases.{leg_in, with_leg, at_rest, planned, begun, heard_from};
+ghost use Rattle.call_pair.specs.Phases.{note_at, up_place, down_place, call_place, periods_left, turn_down, job_at_start, frames_in};
+ghost use Rattle.call_pair.specs.Phases.{leg_in, with_leg, at_rest, plan, begin, hear_from};
 ghost use Rattle.call_pair.specs.declared.call_job.Phase.TheVariants.{First, Second};
 
 use crate::io::LegIo;
@@ -83,7 +83,10 @@ impl CallJob {
     /// The job of a new call with this number and law, at rest.
     pub fn new(alloc: Global, call: u32, law: Law) -> Result<CallJob, AllocError>
         requires { IsCallNumber call }
-        ensures { IfOk result (λ j. j ≡ starting 0 (record { leg = home_memory (record { number = call; law = law }); io = no_octets call })) }
+        ensures { IfOk result (λ j. j ≡ job_at_start 0 (record {
+          leg = home_memory (record { number = call; law = law });
+          io = no_octets call;
+        })) }
     {
         let (up, down) = Leg::new(alloc, call, law)?.split();
         Ok(CallJob {
@@ -113,7 +116,7 @@ impl CallJob {
     /// job is at its start then, with all these places given.
     pub fn plan(&mut self, periods: u32, bridged: bool) -> Result<(), AllocError>
         requires { periods_of_leg (leg_in self.old) + periods ≤ 4294967295 }
-        ensures { IfOk result (λ u. self.new ≡ planned periods bridged self.old) }
+        ensures { IfOk result (λ u. self.new ≡ plan periods bridged self.old) }
     {
         self.rest();
         let heard = if bridged { periods } else { 0 };
@@ -130,7 +133,7 @@ impl CallJob {
         requires none { self.old.io.done ≡ 0 }
         requires given { given ≤ self.old.io.given }
         requires end { bridge_end ≤ self.old.bridge_end }
-        ensures { self.new ≡ begun given bridge_end self.old }
+        ensures { self.new ≡ begin given bridge_end self.old }
     {
         self.io.give(given);
         self.bridge_end = bridge_end;
@@ -143,7 +146,7 @@ impl CallJob {
         requires finished { periods_left self.old ≡ 0 }
         requires told { self.old.bridge_end ≤ length partner.now.notes }
         requires none { self.old.partner ≡ [] }
-        ensures { self.new ≡ heard_from partner.now self.old }
+        ensures { self.new ≡ hear_from partner.now self.old }
     {
         partner.write_frames(self.bridge_end, &mut self.partner);
         self.turn_down();
@@ -163,7 +166,8 @@ impl CallJob {
         requires first { self.old.phase ≡ First }
         requires up { self.old.up.bridged ≡ true }
         requires down { self.old.down.bridged ≡ true }
-        ensures { self.new ≡ with_leg (with_down (leg_in self.old) (bridge_over self.old.down)) self.old }
+        ensures { self.new ≡
+            with_leg (with_down (leg_in self.old) (bridge_over self.old.down)) self.old }
     {
         self.up.bridge_off();
         self.down.bridge_off();
@@ -218,7 +222,8 @@ impl CallJob {
         requires told { places ≤ length self.now.notes }
         requires empty { frames.old.items ≡ [] }
         requires room { places ≤ vec_capacity frames.old }
-        ensures frames { map effective_fields frames.new.items ≡ take places (frames_in self.now.notes) }
+        ensures frames { map effective_fields frames.new.items
+            ≡ take places (frames_in self.now.notes) }
         ensures capacity { vec_capacity frames.new ≡ vec_capacity frames.old }
     {
         for k in 0..places as usize {
@@ -231,14 +236,14 @@ impl CallJob {
         requires first { self.old.phase ≡ First }
         requires finished { periods_left self.old ≡ 0 }
         requires partner { self.old.bridge_end ≤ length self.old.partner }
-        ensures { self.new ≡ turned_down self.old }
+        ensures { self.new ≡ turn_down self.old }
     {
         self.io.start_again();
         self.phase = Phase::Second;
     }
 
     // Processes the next place of the first phase.
-    fn turn_up(&mut self)
+    fn turn_first(&mut self)
         requires place { has_period self.old.io ≡ true }
         requires first { self.old.phase ≡ First }
         ensures { self.new ≡ up_place self.old }
@@ -248,7 +253,7 @@ impl CallJob {
     }
 
     // Processes the next place of the second phase.
-    fn turn_back(&mut self)
+    fn turn_second(&mut self)
         requires place { has_period self.old.io ≡ true }
         requires second { self.old.phase ≡ Second }
         ensures { self.new ≡ down_place self.old }
@@ -264,12 +269,12 @@ impl CallJob {
 
     // Processes the next place of its phase, if there is one.
     fn turn(&mut self)
-        ensures { self.new ≡ call_turned self.old }
+        ensures { self.new ≡ call_place self.old }
     {
         if self.io.has_period() {
             match self.phase {
-                Phase::First => self.turn_up(),
-                Phase::Second => self.turn_back(),
+                Phase::First => self.turn_first(),
+                Phase::Second => self.turn_second(),
             }
         }
     }
@@ -277,15 +282,15 @@ impl CallJob {
 
 impl Work for CallJob {
     ghost use Rattle.std.proofs.Common.{ap};
-    ghost use Rattle.call_pair.specs.Phases.{CallMemory, periods_left, after_call_turns, call_finished};
+    ghost use Rattle.call_pair.specs.Phases.{CallMemory, periods_left, after_call_places, job_at_phase_end};
 
     ghost left = { periods_left };
 
-    ghost finish = { call_finished };
+    ghost finish = { job_at_phase_end };
 
     ghost number = { λ (j : CallMemory). j.io.call };
 
-    ghost stays = { λ x e. ap (λ n. after_call_turns n x) e };
+    ghost stays = { λ x e. ap (λ n. after_call_places n x) e };
 
     fn call(&self) -> u32 {
         self.io.call

@@ -1,9 +1,9 @@
 //! The octets of a call in a round.
 
-ghost use Rattle.std.specs.Prelude.{◌≡◌, ◌<◌, ◌≤◌, [], true, IfOk, IfErr, replicate, vec_capacity};
+ghost use Rattle.std.specs.Prelude.{◌≡◌, ◌<◌, ◌≤◌, true, IfOk, IfErr, replicate, vec_capacity};
 ghost use Rattle.trau_bits.specs.Bits.{bits_of, octets_of};
 ghost use Rattle.call_number.specs.CallNumber.{IsCallNumber};
-ghost use Rattle.call_pair.specs.Memory.{io_at_rest, io_planned};
+ghost use Rattle.call_pair.specs.Memory.{no_octets, io_at_rest, io_planned};
 ghost use Rattle.call_pair.specs.Periods.{up_at, pcm_at, with_out, with_period, has_period};
 ghost use Rattle.call_pair.specs.Phases.{one_done};
 
@@ -73,7 +73,7 @@ impl LegIo {
     /// No period of the call with this number, 1 to 4,096. It takes no memory.
     pub fn none(alloc: Global, call: u32) -> LegIo
         requires { IsCallNumber call }
-        ensures { result ≡ record { call = call; up = []; pcm = []; out = []; down = []; given = 0; done = 0 } }
+        ensures { result ≡ no_octets call }
     {
         LegIo {
             call,

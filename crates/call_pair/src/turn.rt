@@ -4,9 +4,9 @@ ghost use Rattle.std.specs.Prelude.{◌≡◌, ◌==◌, ◌&&◌, ◌+◌, ◌<
 ghost use Rattle.trau_bits.specs.Bits.{octets_of};
 ghost use Rattle.rx_handler.specs.State.{effective_fields};
 ghost use Rattle.call_leg.specs.Step.{bridge_over};
-ghost use Rattle.call_leg.specs.Halves.{up_turned, down_turned, up_unbridged, item_of};
-ghost use Rattle.call_pair.specs.Periods.{up_at, pcm_at, with_out, with_period, has_period};
-ghost use Rattle.call_pair.specs.Phases.{up_before, down_before, item_if, note_at, effective_in, one_done};
+ghost use Rattle.call_leg.specs.Halves.{up_unbridged, item_of};
+ghost use Rattle.call_pair.specs.Periods.{with_out, with_period, has_period};
+ghost use Rattle.call_pair.specs.Phases.{down_before, item_if, effective_in, next_up, next_down, one_done};
 
 use crate::io::LegIo;
 use call_leg::{DownLeg, UpLeg, UpNote};
@@ -33,7 +33,8 @@ fn end_down(down: &mut DownLeg, ends: bool)
 // The partner's frame of place k, if the half is bridged.
 fn item_at(partner: &[Effective], k: usize, on: bool) -> Option<&Effective>
     requires { on ≡ true → k < length partner.now }
-    ensures { item_of (option_copied result) ≡ item_if on (effective_in k (map effective_fields partner.now)) }
+    ensures { item_of (option_copied result)
+        ≡ item_if on (effective_in k (map effective_fields partner.now)) }
 {
     if on { Some(&partner[k]) } else { None }
 }
@@ -42,9 +43,9 @@ fn item_at(partner: &[Effective], k: usize, on: bool) -> Option<&Effective>
 pub(crate) fn work_up(up: &mut UpLeg, io: &mut LegIo, bridge_end: u32) -> UpNote
     requires place { has_period io.old ≡ true }
     requires periods { up.old.search.periods < 4294967295 }
-    ensures note { result ≡ (up_turned (up_before bridge_end io.old.done up.old) (up_at io.old.done io.old)).0 }
-    ensures io { io.new ≡ one_done (with_out io.old (up_turned (up_before bridge_end io.old.done up.old) (up_at io.old.done io.old)).1) }
-    ensures up { up.new ≡ (up_turned (up_before bridge_end io.old.done up.old) (up_at io.old.done io.old)).2 }
+    ensures note { result ≡ (next_up bridge_end io.old up.old).0 }
+    ensures io { io.new ≡ one_done (with_out io.old (next_up bridge_end io.old up.old).1) }
+    ensures up { up.new ≡ (next_up bridge_end io.old up.old).2 }
     ensures periods { up.new.search.periods ≡ up.old.search.periods + 1 }
 {
     end_up(up, io.done == bridge_end);
@@ -65,13 +66,12 @@ pub(crate) fn work_down(
 )
     requires place { has_period io.old ≡ true }
     requires notes { io.old.done < length notes.now }
-    requires partner { (down_before bridge_end io.old.done down.old).bridged ≡ true → io.old.done < length partner.now }
-    ensures io { let c = down_before bridge_end io.old.done down.old in
-        io.new ≡ with_period io.old (octets_of (down_turned c (note_at io.old.done notes.now)
-        (item_if c.bridged (effective_in io.old.done (map effective_fields partner.now))) (pcm_at io.old.done io.old)).0) }
-    ensures down { let c = down_before bridge_end io.old.done down.old in
-        down.new ≡ (down_turned c (note_at io.old.done notes.now) (item_if c.bridged (effective_in io.old.done (map effective_fields partner.now)))
-        (pcm_at io.old.done io.old)).1 }
+    requires partner { (down_before bridge_end io.old.done down.old).bridged ≡ true →
+        io.old.done < length partner.now }
+    ensures io { io.new ≡ with_period io.old (octets_of
+        (next_down bridge_end io.old notes.now (map effective_fields partner.now) down.old).0) }
+    ensures down { down.new ≡
+        (next_down bridge_end io.old notes.now (map effective_fields partner.now) down.old).1 }
     ensures bridged { down.new.bridged ≡ (down_before bridge_end io.old.done down.old).bridged }
 {
     end_down(down, io.done == bridge_end);

@@ -13,7 +13,7 @@ use Rattle.switchboard.specs.declared.act.Refusal.{Refusal}
 use Rattle.switchboard.specs.declared.table.Bridge.{Bridge}
 use Rattle.switchboard.specs.Calls.{Done, opened_by, is_this, opened_at, gone_at}
 use Rattle.switchboard.specs.Replies.{Known, known_of, reply_from, reply_to, act_of, tests, first_of_tests}
-use Rattle.switchboard.specs.Runs.{executed}
+use Rattle.switchboard.specs.Runs.{done_after}
 use Rattle.farm_drill.specs.Orders.{opening, bridging, unbridging, bridged_calls, drilled_orders}
 use Rattle.run_spec.specs.Run.{Run, done_in, whole_in, IsOpened}
 use Rattle.run_spec.proofs.Lists.{each_append, each_filter, each_map, each_all}
@@ -55,7 +55,7 @@ module _ (P : ℕ → Type 0) where
   DoneOnly d = (c : ℕ) → is_this c (opened_by d.result) ≡ true → P c
 
   executed_only : (whole : ℕ → ℕ) (ds : List Done) (os : List Order) → AllByRecursion DoneOnly ds → AllByRecursion OpensOnly os →
-      AllByRecursion DoneOnly (executed whole ds os)
+      AllByRecursion DoneOnly (done_after whole ds os)
   executed_only whole ds [] h k = h
   executed_only whole ds (o ∷ os) h k =
       let gone = gone_at whole o.stamp ds in

@@ -12,6 +12,7 @@ use Rattle.farm_rounds.specs.Acts.{no_kept}
 use Rattle.farm_rounds.specs.Opens.{opens_in, kept_of, IsOpenCall}
 use Rattle.farm_rounds.specs.Opened.{open_at, AreListed, IsChanged}
 use Rattle.farm_rounds.proofs.Keyed.{IsFirst, kept_found, kept_set}
+use Rattle.farm_rounds.proofs.Listed.{numbers_of, number_read}
 
 abbrev pub kepts : List (Box OpenCall) → List Kept
 kepts bs = map kept_of (opens_in bs)
@@ -35,26 +36,17 @@ opens_set [] k b = refl
 opens_set (x ∷ bs) zero b = refl
 opens_set (x ∷ bs) (suc k) b = ap (λ (os : List OpenCall). x.value ∷ os) (opens_set bs k b)
 
-abbrev numbers : List (Box OpenCall) → List ℕ
-numbers bs = map (λ (o : OpenCall). o.job.io.call) (opens_in bs)
-
-number_read : (bs : List (Box OpenCall)) (k : ℕ) → k < length bs → get_or (numbers bs) k 0 ≡ (open_at bs k).job.io.call
-number_read [] k l = absurd (omega arith)
-number_read (x ∷ bs) zero l = refl
-number_read (x ∷ bs) (suc k) l = number_read bs k (omega arith)
-
 numbers_set : (bs : List (Box OpenCall)) (k : ℕ) (b : Box OpenCall) → k < length bs → b.value.job.io.call ≡ (open_at bs k).job.io.call →
-    numbers (slice_set bs k b) ≡ numbers bs
+    numbers_of (slice_set bs k b) ≡ numbers_of bs
 numbers_set [] k b l e = absurd (omega arith)
-numbers_set (x ∷ bs) zero b l e = ap (λ (n : ℕ). n ∷ numbers bs) e
+numbers_set (x ∷ bs) zero b l e = ap (λ (n : ℕ). n ∷ numbers_of bs) e
 numbers_set (x ∷ bs) (suc k) b l e = ap (λ (ns : List ℕ). x.value.job.io.call ∷ ns) (numbers_set bs k b (omega arith) e)
 
 -- **What is seen of the call at a place has changed, and of no other.**
 pub changed_at : (bs : List (Box OpenCall)) (live : List ℕ) (k call : ℕ) (b : Box OpenCall) (f : Kept → Kept) → AreListed live (opens_in bs) →
     k < length bs → k < length live → slice_index live k ≡ call → kept_of b.value ≡ f (kept_of (open_at bs k)) →
     b.value.job.io.call ≡ (open_at bs k).job.io.call → ((most : ℕ) → IsOpenCall most (open_at bs k) → IsOpenCall most b.value) →
-    ((most : ℕ) → All (IsOpenCall most) (opens_in bs) → IsOpenCall most (open_at bs k)) →
-    IsChanged call f (opens_in bs) (opens_in (slice_set bs k b))
+    ((most : ℕ) → All (IsOpenCall most) (opens_in bs) → IsOpenCall most (open_at bs k)) → IsChanged call f (opens_in bs) (opens_in (slice_set bs k b))
 changed_at bs live k call b f listed l m e is number sound there =
     let number_at : (j : ℕ) → j < length bs → slice_index live j ≡ (open_at bs j).job.io.call = λ j lj.
     ap (λ (ns : List ℕ). slice_index ns j) listed.listed ∙ number_read bs j lj in

@@ -4,11 +4,11 @@ use Rattle.std.specs.Prelude.{slice_set, filter}
 use Rattle.std.specs.Global.{Box}
 use Rattle.std.proofs.lemmas.Bool.{cases_lt, eq-eqb, ne_eqb}
 use Rattle.farm_rounds.specs.declared.open.OpenCall.{OpenCall}
-use Rattle.call_pair.specs.Phases.{heard_from}
+use Rattle.call_pair.specs.Phases.{hear_from}
 use Rattle.round_lines.specs.Seats.{SeatMemory}
 use Rattle.round_lines.specs.Rounds.{seat_at}
 use Rattle.farm_rounds.specs.Opens.{opens_in, seats_of, seat_of_open, with_job, goes_on_open, same_seat}
-use Rattle.farm_rounds.specs.Opened.{open_at, same_seats, Standing, standing, standings, standing_of, no_standing}
+use Rattle.farm_rounds.specs.Opened.{open_at, same_seats, Standing, standing_of_open, standings, standing_of, no_standing}
 
 pub at_set : (bs : List (Box OpenCall)) (k : ℕ) (b : Box OpenCall) → k < length bs → open_at (slice_set bs k b) k ≡ b.value
 at_set [] k b l = absurd (omega arith)
@@ -66,7 +66,8 @@ front_other (x ∷ xs) ys (suc k) (suc j) b ne = front_other xs ys k j b (λ e. 
 pub back_set : (xs ys : List (Box OpenCall)) (n : ℕ) (b : Box OpenCall) → length xs ≡ n → 0 < length ys → open_at (xs ++ slice_set ys 0 b) n ≡ b.value
 back_set xs ys n b e l = at_back xs (slice_set ys 0 b) n e ∙ at_set ys 0 b l
 
-pub back_other : (xs ys : List (Box OpenCall)) (n j : ℕ) (b : Box OpenCall) → length xs ≡ n → j ≢ n → open_at (xs ++ slice_set ys 0 b) j ≡ open_at (xs ++ ys) j
+pub back_other : (xs ys : List (Box OpenCall)) (n j : ℕ) (b : Box OpenCall) → length xs ≡ n →
+    j ≢ n → open_at (xs ++ slice_set ys 0 b) j ≡ open_at (xs ++ ys) j
 back_other [] [] n j b e ne = refl
 back_other [] (y ∷ ys) n zero b e ne = absurd (ne e)
 back_other [] (y ∷ ys) n (suc j) b e ne = refl
@@ -78,11 +79,11 @@ back_other (x ∷ xs) ys (suc n) (suc j) b e ne = back_other xs ys n j b (omega 
 pub told_same : (o p o' p' : OpenCall) → o ≡ o' → p ≡ p' → o'.job.bridge_end ≤ length p'.job.notes → o.job.bridge_end ≤ length p.job.notes
 told_same o p o' p' eo ep l = omega (arith, ap (λ (x : OpenCall). x.job.bridge_end) eo, ap (λ (x : OpenCall). length x.job.notes) ep, l)
 
-pub heard_same : (o p o' p' : OpenCall) (i : OpenCall) → i ≡ with_job o (heard_from p.job o.job) → o ≡ o' → p ≡ p' →
-    i ≡ with_job o' (heard_from p'.job o'.job)
+pub heard_same : (o p o' p' : OpenCall) (i : OpenCall) → i ≡ with_job o (hear_from p.job o.job) → o ≡ o' → p ≡ p' →
+    i ≡ with_job o' (hear_from p'.job o'.job)
 heard_same o p o' p' i ej eo ep =
-    ej ∙ ap (λ (x : OpenCall). with_job x (heard_from p.job x.job)) eo
-    ∙ ap (λ (x : OpenCall). with_job o' (heard_from x.job o'.job)) ep
+    ej ∙ ap (λ (x : OpenCall). with_job x (hear_from p.job x.job)) eo
+    ∙ ap (λ (x : OpenCall). with_job o' (hear_from x.job o'.job)) ep
 
 -- those that are kept
 pub kept_values : (bs : List (Box OpenCall)) → opens_in (filter (λ b. goes_on_open b.value) bs) ≡ filter goes_on_open (opens_in bs)
@@ -127,16 +128,16 @@ pub standings_long : (bs : List (Box OpenCall)) → length (standings bs) ≡ le
 standings_long [] = refl
 standings_long (x ∷ bs) = let e = standings_long bs in omega (arith, e)
 
-pub standing_at : (bs : List (Box OpenCall)) (k : ℕ) → k < length bs → get_or (standings bs) k no_standing ≡ standing (open_at bs k)
+pub standing_at : (bs : List (Box OpenCall)) (k : ℕ) → k < length bs → get_or (standings bs) k no_standing ≡ standing_of_open (open_at bs k)
 standing_at [] k l = absurd (omega arith)
 standing_at (x ∷ bs) zero l = refl
 standing_at (x ∷ bs) (suc k) l = standing_at bs k (omega arith)
 
-pub standings_set : (bs : List (Box OpenCall)) (k : ℕ) (b : Box OpenCall) → k < length bs → standing b.value ≡ standing (open_at bs k) →
-    standings (slice_set bs k b) ≡ standings bs
+pub standings_set : (bs : List (Box OpenCall)) (k : ℕ) (b : Box OpenCall) → k < length bs →
+    standing_of_open b.value ≡ standing_of_open (open_at bs k) → standings (slice_set bs k b) ≡ standings bs
 standings_set [] k b l e = absurd (omega arith)
 standings_set (x ∷ bs) zero b l e = ap (λ (s : Standing). s ∷ standings bs) e
-standings_set (x ∷ bs) (suc k) b l e = ap (λ (ss : List Standing). standing x.value ∷ ss) (standings_set bs k b (omega arith) e)
+standings_set (x ∷ bs) (suc k) b l e = ap (λ (ss : List Standing). standing_of_open x.value ∷ ss) (standings_set bs k b (omega arith) e)
 
 -- the call with a number, by its place
 pub numbered : (ss : List Standing) (k d : ℕ) → k < length ss → (get_or ss k no_standing).number ≡ d →
@@ -152,11 +153,9 @@ pub record AreChanged (f : ℕ → OpenCall → OpenCall) (before now : List (Bo
   pub left : (k : ℕ) → n ≤ k → open_at now k ≡ open_at before k
   pub long : length now ≡ length before
 
-pub changed_none : (f : ℕ → OpenCall → OpenCall) (bs : List (Box OpenCall)) → AreChanged f bs bs 0
-changed_none f bs = record { done = λ k l. absurd (omega arith); left = λ k l. refl; long = refl }
-
 pub changed_next : (f : ℕ → OpenCall → OpenCall) (before now next : List (Box OpenCall)) (n : ℕ) → AreChanged f before now n →
-    open_at next n ≡ f n (open_at now n) → ((k : ℕ) → k ≢ n → open_at next k ≡ open_at now k) → length next ≡ length now → AreChanged f before next (n + 1)
+    open_at next n ≡ f n (open_at now n) → ((k : ℕ) → k ≢ n → open_at next k ≡ open_at now k) →
+    length next ≡ length now → AreChanged f before next (n + 1)
 changed_next f before now next n m here others long = record {
   done = λ k lk. elim (cases_lt k n) [
     | inl less ↦ others k (λ e. absurd (omega (arith, less, e))) ∙ m.done k less

@@ -22,11 +22,11 @@ use Rattle.farm_rounds.proofs.Acting.{changed_at}
 
 -- ---- one call, in its place
 
-abbrev pub kept : Call → Option ℕ → Kept
-kept x p = record { call = x; partner = p }
+abbrev pub kept_with : Call → Option ℕ → Kept
+kept_with x p = record { call = x; partner = p }
 
-pub kept_same : (x y : Call) (p q : Option ℕ) → x ≡ y → p ≡ q → kept x p ≡ kept y q
-kept_same x y p q e f = ap (λ (z : Call). kept z p) e ∙ ap (kept y) f
+pub kept_same : (x y : Call) (p q : Option ℕ) → x ≡ y → p ≡ q → kept_with x p ≡ kept_with y q
+kept_same x y p q e f = ap (λ (z : Call). kept_with z p) e ∙ ap (kept_with y) f
 
 -- what is set by an act leaves the number
 pub set_number : (a : Act) (x : Call) → (set_by a x).number ≡ x.number
@@ -43,8 +43,8 @@ listed_within bs live k listed l =
     omega (arith, l, ap length listed.listed, length-map (opens_in bs) (λ (o : OpenCall). o.job.io.call), opens_long bs)
 
 -- what holds of each call holds of the one at an index
-there_at : (P : OpenCall → Type 0) (bs : List (Box OpenCall)) (live : List ℕ) (k : ℕ) (o : OpenCall) → AreListed live (opens_in bs) → k < length live →
-    o ≡ open_at bs k → All P (opens_in bs) → P o
+there_at : (P : OpenCall → Type 0) (bs : List (Box OpenCall)) (live : List ℕ) (k : ℕ)
+    (o : OpenCall) → AreListed live (opens_in bs) → k < length live → o ≡ open_at bs k → All P (opens_in bs) → P o
 there_at P bs live k o listed l own all =
     subst P (sym own) (All-get_or P (opens_in bs) k no_open (omega (arith, listed_within bs live k listed l, opens_long bs)) all)
 
@@ -88,7 +88,8 @@ among_open (o ∷ os) c = elim (cases_Bool (o.job.io.call == c)) [
 pub listed_open : (live : List ℕ) (os : List OpenCall) (c : ℕ) → live ≡ numbers_of os → IsOpen (map kept_of os) c → is_among live c ≡ true
 listed_open live os c e isopen = ap (λ (ns : List ℕ). is_among ns c) e ∙ among_open os c ∙ isopen
 
-pub listed_from : (most : ℕ) (live : List ℕ) (os : List OpenCall) → live ≡ numbers_of os → IsRising live → All (IsOpenCall most) os → AreListed live os
+pub listed_from : (most : ℕ) (live : List ℕ) (os : List OpenCall) → live ≡ numbers_of os →
+    IsRising live → All (IsOpenCall most) os → AreListed live os
 listed_from most live os e rising each = record {
   listed = e;
   rising = rising;
@@ -148,7 +149,8 @@ opened_still call g x d isopen = elim (cases_Bool (d == call)) [ inl t ↦ simp 
 -- ---- two of them
 
 -- two that are apart may change in either order
-changed_apart : (a b : ℕ) (g : Call → Call) (x : ℕ → Option Call) (d : ℕ) → a ≢ b → change_at b g (change_at a g x) d ≡ change_at a g (change_at b g x) d
+changed_apart : (a b : ℕ) (g : Call → Call) (x : ℕ → Option Call) (d : ℕ) → a ≢ b →
+    change_at b g (change_at a g x) d ≡ change_at a g (change_at b g x) d
 changed_apart a b g x d apart = elim (cases_Bool (d == a)) [
   | inl t ↦ let f : (d == b) ≡ false = ne_eqb d b (λ q. apart (sym (eqb-true d a t) ∙ q)) in simp (t, f) refl
   | inr n ↦ simp n refl
@@ -160,7 +162,8 @@ put_apart a b p q x d apart = elim (cases_Bool (d == a)) [
   | inr n ↦ simp n refl
 ]
 
-module _ (a b : ℕ) (apart : a ≢ b) (f h : Kept → Kept) (before mid now : List OpenCall) (m : IsChanged a f before mid) (n : IsChanged b h mid now) where
+module _ (a b : ℕ) (apart : a ≢ b) (f h : Kept → Kept) (before mid now : List OpenCall)
+    (m : IsChanged a f before mid) (n : IsChanged b h mid now) where
   pub two_calls : (g : Call → Call) → ((k : Kept) → (f k).call ≡ g k.call) → ((k : Kept) → (h k).call ≡ g k.call) → (d : ℕ) →
       call_in (map kept_of now) d ≡ change_at a g (change_at b g (call_in (map kept_of before))) d
   two_calls g e q d =
@@ -187,7 +190,7 @@ one_test false t x y = refl
 
 -- two calls are bridged
 pub bridged_applied : (a b : ℕ) (before mid now : List OpenCall) → a ≢ b → IsOpen (map kept_of before) a → IsOpen (map kept_of before) b →
-    IsChanged a (λ k. kept (bridged_call k.call) (Some b)) before mid → IsChanged b (λ k. kept (bridged_call k.call) (Some a)) mid now →
+    IsChanged a (λ k. kept_with (bridged_call k.call) (Some b)) before mid → IsChanged b (λ k. kept_with (bridged_call k.call) (Some a)) mid now →
     Applied (act.Bridged a b) (map kept_of before) (map kept_of now)
 bridged_applied a b before mid now apart oa ob m n = record {
   calls = two_calls a b apart _ _ before mid now m n bridged_call (λ k. refl) (λ k. refl);
@@ -197,7 +200,7 @@ bridged_applied a b before mid now apart oa ob m n = record {
 
 -- the bridge of two calls is over
 pub unbridged_applied : (a b : ℕ) (before mid now : List OpenCall) → a ≢ b → IsOpen (map kept_of before) a → IsOpen (map kept_of before) b →
-    IsChanged a (λ k. kept (parted_call k.call) None) before mid → IsChanged b (λ k. kept (parted_call k.call) None) mid now →
+    IsChanged a (λ k. kept_with (parted_call k.call) None) before mid → IsChanged b (λ k. kept_with (parted_call k.call) None) mid now →
     Applied (act.Unbridged a b) (map kept_of before) (map kept_of now)
 unbridged_applied a b before mid now apart oa ob m n = record {
   calls = two_calls a b apart _ _ before mid now m n parted_call (λ k. refl) (λ k. refl);
@@ -209,9 +212,9 @@ unbridged_applied a b before mid now apart oa ob m n = record {
 
 -- the level of a call is set
 level_applied : (a : Act) (call : ℕ) (level : ℤ) (before now : List OpenCall) → a ≡ act.LevelSet call level →
-    IsChanged call (λ k. kept (set_by a k.call) k.partner) before now → Applied a (map kept_of before) (map kept_of now)
+    IsChanged call (λ k. kept_with (set_by a k.call) k.partner) before now → Applied a (map kept_of before) (map kept_of now)
 level_applied a call level before now e =
-    subst (λ (x : Act). IsChanged call (λ k. kept (set_by x k.call) k.partner) before now → Applied x (map kept_of before) (map kept_of now)) (sym e)
+    subst (λ (x : Act). IsChanged call (λ k. kept_with (set_by x k.call) k.partner) before now → Applied x (map kept_of before) (map kept_of now)) (sym e)
     (λ m. record {
       calls = calls_changed call _ before now m (set_by (act.LevelSet call level)) (λ k. refl);
       partners = partners_kept call _ before now m (λ k. refl);
@@ -219,9 +222,9 @@ level_applied a call level before now e =
 
 -- the DTX mode of a call is set
 mode_applied : (a : Act) (call : ℕ) (mode : DtxMode) (before now : List OpenCall) → a ≡ act.DtxSet call mode →
-    IsChanged call (λ k. kept (set_by a k.call) k.partner) before now → Applied a (map kept_of before) (map kept_of now)
+    IsChanged call (λ k. kept_with (set_by a k.call) k.partner) before now → Applied a (map kept_of before) (map kept_of now)
 mode_applied a call mode before now e =
-    subst (λ (x : Act). IsChanged call (λ k. kept (set_by x k.call) k.partner) before now → Applied x (map kept_of before) (map kept_of now)) (sym e)
+    subst (λ (x : Act). IsChanged call (λ k. kept_with (set_by x k.call) k.partner) before now → Applied x (map kept_of before) (map kept_of now)) (sym e)
     (λ m. record {
       calls = calls_changed call _ before now m (set_by (act.DtxSet call mode)) (λ k. refl);
       partners = partners_kept call _ before now m (λ k. refl);
@@ -232,7 +235,7 @@ abbrev pub IsSetting : Act → ℕ → Type 0
 IsSetting a call = ((level : ℤ) × (a ≡ act.LevelSet call level)) ⊎ ((mode : DtxMode) × (a ≡ act.DtxSet call mode))
 
 pub set_applied : (a : Act) (call : ℕ) (before now : List OpenCall) → IsSetting a call →
-    IsChanged call (λ k. kept (set_by a k.call) k.partner) before now → Applied a (map kept_of before) (map kept_of now)
+    IsChanged call (λ k. kept_with (set_by a k.call) k.partner) before now → Applied a (map kept_of before) (map kept_of now)
 set_applied a call before now (inl l) = level_applied a call l.0 before now l.1
 set_applied a call before now (inr m) = mode_applied a call m.0 before now m.1
 

@@ -12,19 +12,19 @@ use Rattle.farm_rounds.specs.declared.open.OpenCall.{OpenCall}
 use Rattle.farm_rounds.specs.Opens.{seat_of_open, same_call}
 use Rattle.farm_rounds.specs.Opened.{open_at, same_calls}
 
-abbrev unmarked : LinesMemory → LinesMemory
-unmarked p = record p { down = Sound; out = Sound }
+abbrev without_marks : LinesMemory → LinesMemory
+without_marks p = record p { down = Sound; out = Sound }
 
-abbrev opened : CallMemory → LinesMemory → Option ℕ → OpenCall
-opened j p partner = record { job = j; lines = p; partner = partner }
+abbrev open_with : CallMemory → LinesMemory → Option ℕ → OpenCall
+open_with j p partner = record { job = j; lines = p; partner = partner }
 
 pub drained_same : (a b : Side → LineState) (o q : OpenCall) → Drains a b (seat_of_open o) (seat_of_open q) → q.job ≡ o.job → q.partner ≡ o.partner →
     same_call q ≡ same_call o
 drained_same a b o q drains job partner =
-    let place : unmarked q.lines ≡ unmarked o.lines = ap (λ (s : SeatMemory). unmarked s.lines) drains.kept in
-    ap (λ (j : CallMemory). opened j (unmarked q.lines) q.partner) job
-    ∙ ap (λ (p : LinesMemory). opened o.job p q.partner) place
-    ∙ ap (λ (p : Option ℕ). opened o.job (unmarked o.lines) p) partner
+    let place : without_marks q.lines ≡ without_marks o.lines = ap (λ (s : SeatMemory). without_marks s.lines) drains.kept in
+    ap (λ (j : CallMemory). open_with j (without_marks q.lines) q.partner) job
+    ∙ ap (λ (p : LinesMemory). open_with o.job p q.partner) place
+    ∙ ap (λ (p : Option ℕ). open_with o.job (without_marks o.lines) p) partner
 
 pub same_calls_set : (bs : List (Box OpenCall)) (k : ℕ) (b : Box OpenCall) → k < length bs → same_call b.value ≡ same_call (open_at bs k) →
     same_calls (slice_set bs k b) ≡ same_calls bs

@@ -28,8 +28,9 @@ released_calls : (p : Option ℕ) (before now : List OpenCall) → IsReleased p 
 released_calls None before now e d = ap (λ (os : List OpenCall). call_in (map kept_of os) d) e
 released_calls (Some q) before now m d = calls_changed q _ before now m parted_call (λ k. refl) d
 
-released_partners : (p : Option ℕ) (before now : List OpenCall) → ((q : ℕ) → p ≡ Some q → IsOpen (map kept_of before) q) → IsReleased p before now → (d : ℕ) →
-    partner_in (map kept_of now) d ≡ (if is_this d p then None else partner_in (map kept_of before) d)
+released_partners : (p : Option ℕ) (before now : List OpenCall) →
+    ((q : ℕ) → p ≡ Some q → IsOpen (map kept_of before) q) → IsReleased p before now → (d : ℕ) → partner_in (map kept_of now) d
+    ≡ (if is_this d p then None else partner_in (map kept_of before) d)
 released_partners None before now isopen e d = ap (λ (os : List OpenCall). partner_in (map kept_of os) d) e
 released_partners (Some q) before now isopen m d = partners_put q _ before now m None (λ k. refl) (isopen q refl) d
 
@@ -37,7 +38,8 @@ pub released_numbers : (p : Option ℕ) (before now : List OpenCall) → IsRelea
 released_numbers None before now e = ap numbers_of e
 released_numbers (Some q) before now m = m.numbers
 
-released_each : (p : Option ℕ) (before now : List OpenCall) → IsReleased p before now → (most : ℕ) → All (IsOpenCall most) before → All (IsOpenCall most) now
+released_each : (p : Option ℕ) (before now : List OpenCall) → IsReleased p before now → (most : ℕ) →
+    All (IsOpenCall most) before → All (IsOpenCall most) now
 released_each None before now e most all = subst (All (IsOpenCall most)) (sym e) all
 released_each (Some q) before now m most all = m.each most all
 

@@ -27,8 +27,8 @@ module _ (lines : List Line) where
   mapped g c None x keeps h e = absurd (none_some e)
   mapped g c (Some y) x keeps h e = subst (KnowsLines lines c) (same_Some (g y) x e) (keeps y (h y refl))
 
-  know_changed : (d : ℕ) (g : Call → Call) (f : ℕ → Option Call) → ((c : ℕ) (y : Call) → KnowsLines lines c y → KnowsLines lines c (g y)) → KnowAll f →
-      KnowAll (change_at d g f)
+  know_changed : (d : ℕ) (g : Call → Call) (f : ℕ → Option Call) →
+      ((c : ℕ) (y : Call) → KnowsLines lines c y → KnowsLines lines c (g y)) → KnowAll f → KnowAll (change_at d g f)
   know_changed d g f keeps h c x e = elim (cases_Bool (c == d)) [
     | inl t ↦ let q : option_map g (f c) ≡ Some x = simp t at e in mapped g c (f c) x (keeps c) (h c) q
     | inr n ↦ let q : f c ≡ Some x = simp n at e in h c x q
@@ -62,7 +62,8 @@ module _ (lines : List Line) where
   know_after (act.DtxSet c mode) f fresh h = know_changed c (set_by (act.DtxSet c mode)) f (λ n y k. k) h
 
 -- **No act lists a line, and the calls that it leaves know theirs.**
-pub known_after : (a : Act) (lines : List Line) (before now : List Kept) → NoneListed a lines → Applied a before now → AreFailed lines before → AreFailed lines now
+pub known_after : (a : Act) (lines : List Line) (before now : List Kept) → NoneListed a lines →
+    Applied a before now → AreFailed lines before → AreFailed lines now
 known_after a lines before now fresh p k = record {
   once = k.once;
   known = λ c x e. know_after lines a (call_in before) fresh k.known c x (sym (p.calls c) ∙ e);

@@ -13,8 +13,8 @@ use Rattle.farm_rounds.specs.Opens.{opens_in, calls_of, IsOpenCall, AreOpen, Are
 abbrev pub make_farm : List (Box OpenCall) → List ℕ → List Tally → List Line → ℕ → FarmMemory
 make_farm bs live kept failed ended = record { calls = calls_of bs; live = live; tallies = kept; failed = failed; ended = ended }
 
-pub farm_new : (bs : List (Box OpenCall)) (live : List ℕ) (kept : List Tally) (failed : List Line) → bs ≡ [] → live ≡ [] → kept ≡ replicate 4097 no_tally →
-    failed ≡ [] → make_farm bs live kept failed 0 ≡ home_memory
+pub farm_new : (bs : List (Box OpenCall)) (live : List ℕ) (kept : List Tally) (failed : List Line) →
+    bs ≡ [] → live ≡ [] → kept ≡ replicate 4097 no_tally → failed ≡ [] → make_farm bs live kept failed 0 ≡ home_memory
 farm_new bs live kept failed eb el ek ef =
     ap (λ (x : List (Box OpenCall)). make_farm x live kept failed 0) eb ∙ ap (λ (x : List ℕ). make_farm [] x kept failed 0) el
     ∙ ap (λ (x : List Tally). make_farm [] [] x failed 0) ek ∙ ap (λ (x : List Line). make_farm [] [] (replicate 4097 no_tally) x 0) ef

@@ -58,8 +58,8 @@ still_open most n o s h = record {
   down = ap (λ (x : OpenCall). x.job.down.bridged) s ∙ h.down ∙ sym (ap (λ (x : OpenCall). is_some x.partner) s);
 }
 
-still_in : (start ended : ℕ) (n o : OpenCall) → same_seat n ≡ same_seat o → length n.job.io.up ≡ length o.job.io.up → length n.job.io.pcm ≡ length o.job.io.pcm →
-    IsInRound start ended o → IsInRound start ended n
+still_in : (start ended : ℕ) (n o : OpenCall) → same_seat n ≡ same_seat o →
+    length n.job.io.up ≡ length o.job.io.up → length n.job.io.pcm ≡ length o.job.io.pcm → IsInRound start ended o → IsInRound start ended n
 still_in start ended n o s up pcm r =
     let forty : 40 * o.lines.periods ≡ 40 * n.lines.periods = sym (ap (λ (x : OpenCall). 40 * x.lines.periods) s) in
     let more : 160 * o.lines.periods ≡ 160 * n.lines.periods = sym (ap (λ (x : OpenCall). 160 * x.lines.periods) s) in
@@ -83,8 +83,8 @@ pub record AreAsLong (xs ys : List OpenCall) : Type 0 where
   pub up : (k : ℕ) → k < length ys → length (get_or xs k no_open).job.io.up ≡ length (get_or ys k no_open).job.io.up
   pub pcm : (k : ℕ) → k < length ys → length (get_or xs k no_open).job.io.pcm ≡ length (get_or ys k no_open).job.io.pcm
 
-pub filled : (start ended : ℕ) (live : List ℕ) (xs ys : List OpenCall) → map same_seat xs ≡ map same_seat ys → AreAsLong xs ys → IsRound start ended live ys →
-    IsRound start ended live xs
+pub filled : (start ended : ℕ) (live : List ℕ) (xs ys : List OpenCall) →
+    map same_seat xs ≡ map same_seat ys → AreAsLong xs ys → IsRound start ended live ys → IsRound start ended live xs
 filled start ended live xs ys e long i =
     let inside : (k : ℕ) → k < length xs → k < length ys = λ k l. omega (arith, l, same_long xs ys e) in
     record {

@@ -1,16 +1,16 @@
 -- The calls of finished jobs, for all periods that they may have had.
-use Rattle.std.proofs.Common.{◌≡◌, refl, sym, ap, ◌∙◌, subst, ℕ, zero, suc, ◌≤◌, ltb, Bool, true, false, Option, Some, None, List, arith, inl, inr}
+use Rattle.std.proofs.Common.{◌≡◌, refl, sym, ap, ◌∙◌, subst, ℕ, ◌≤◌, ltb, Bool, true, false, Option, Some, None, List, arith, inl, inr}
 use Rattle.std.specs.Prelude.{if◌then◌else◌, ◌==◌, is_some}
 use Rattle.std.specs.Option.{option_map}
 use Rattle.std.proofs.lemmas.Bool.{cases_eq, eqb-true, eq-eqb, ne_eqb}
 use Rattle.call_leg.specs.Settings.{Settings, without_bridge, settings_at}
 use Rattle.call_leg.specs.Stands.{Stands}
 use Rattle.call_pair.specs.Memory.{IoMemory, HalfMemory, IsIo, Job, One, Two}
-use Rattle.call_pair.specs.Jobs.{half_of, finished}
+use Rattle.call_pair.specs.Jobs.{half_of, finished_job}
 use Rattle.call_pair.specs.History.{Start, settings_past, io_after, Begins}
 use Rattle.call_pair.specs.Finished.{HasWorkedBridged, OneWorked, TwoWorked}
 use Rattle.call_pair.proofs.Places.{is_below, not_below}
-use Rattle.call_pair.proofs.RunsAlone.{one-finished}
+use Rattle.call_pair.proofs.RunsAlone.{one-finished, still-bridged}
 use Rattle.call_pair.proofs.Runs.{two-finished}
 use Rattle.round_lines.specs.Memory.{whole_in}
 use Rattle.round_lines.specs.Seats.{SeatMemory}
@@ -28,17 +28,13 @@ pub record Seated (seats : List SeatMemory) (stays : ℕ → Bool) (periods c : 
   pub full : stays c ≡ (whole_in (seat_of seats c).lines == periods)
 
 -- A finished half has worked what the round adds to its call.
-pub record Finished (seats : List SeatMemory) (stays : ℕ → Bool) (h : ℕ → Option CallHistory) (partner : ℕ → Option ℕ) (c : ℕ) (f : HalfMemory) : Type 0 where
+pub record Finished (seats : List SeatMemory) (stays : ℕ → Bool) (h : ℕ → Option CallHistory)
+    (partner : ℕ → Option ℕ) (c : ℕ) (f : HalfMemory) : Type 0 where
   pub now : CallHistory
   pub told : worked_histories seats partner h c ≡ Some now
   pub octets : f.io ≡ io_after (whose c now) (whole_in (seat_of seats c).lines) now.periods (io_of (seat_of seats c))
   pub leg : Stands (whose c now) now.periods now.now f.leg
   pub bridged : stays c ≡ true → now.now.bridged ≡ is_some (that_stays stays (partner c))
-
--- what is set stays set for the calls of a bridge, and the others
-still_bridged : (k : ℕ) (now : Settings) → (settings_at k now).bridged ≡ now.bridged
-still_bridged zero now = refl
-still_bridged (suc k) now = still_bridged k now
 
 -- a call at the start of a round
 begins : (seats : List SeatMemory) (stays : ℕ → Bool) (periods c : ℕ) (g : HalfMemory) (x : CallHistory) → Seated seats stays periods c g →
@@ -53,13 +49,13 @@ begins seats stays periods c g x s leg = record {
 -- ---- a call that lies in no bridge
 
 -- a call that isn't bridged stands for its periods with those of the round
-pub alone_finished : (seats : List SeatMemory) (stays : ℕ → Bool) (h : ℕ → Option CallHistory) (partner : ℕ → Option ℕ) (periods c : ℕ) (g : HalfMemory)
-    (x : CallHistory) → Seated seats stays periods c g → h c ≡ Some x → partner c ≡ None → Stands (whose c x) x.periods x.now g.leg →
-    x.now.bridged ≡ false → Finished seats stays h partner c (half_of (finished (One g)) c)
+pub alone_finished : (seats : List SeatMemory) (stays : ℕ → Bool) (h : ℕ → Option CallHistory)
+    (partner : ℕ → Option ℕ) (periods c : ℕ) (g : HalfMemory) (x : CallHistory) → Seated seats stays periods c g → h c ≡ Some x → partner c ≡ None →
+    Stands (whose c x) x.periods x.now g.leg → x.now.bridged ≡ false → Finished seats stays h partner c (half_of (finished_job (One g)) c)
 alone_finished seats stays h partner periods c g x s eh ep leg off =
     let start : Start = start_with seats c x in
-    let done : OneWorked start (finished (One g)) = one-finished start g (begins seats stays periods c g x s leg) off in
-    let half : half_of (finished (One g)) c ≡ done.half = ap (λ (j : Job). half_of j c) done.is_one in
+    let done : OneWorked start (finished_job (One g)) = one-finished start g (begins seats stays periods c g x s leg) off in
+    let half : half_of (finished_job (One g)) c ≡ done.half = ap (λ (j : Job). half_of j c) done.is_one in
     record {
       now = history_alone seats c x;
       told =
@@ -68,7 +64,7 @@ alone_finished seats stays h partner periods c g x s eh ep leg off =
           ∙ ap (λ (n : ℕ). io_after (whose n x) (whole_in (seat_of seats c).lines) (history_alone seats c x).periods (io_of (seat_of seats c))) s.number;
       leg = subst (λ (f : HalfMemory). Stands (whose c x) (history_alone seats c x).periods (history_alone seats c x).now f.leg) (sym half)
           (subst (λ (n : ℕ). Stands (whose n x) (history_alone seats c x).periods (history_alone seats c x).now done.half.leg) s.number done.worked.leg);
-      bridged = λ on. still_bridged (whole_in (seat_of seats c).lines) x.now ∙ off ∙ sym (ap (λ (q : Option ℕ). is_some (that_stays stays q)) ep);
+      bridged = λ on. still-bridged (whole_in (seat_of seats c).lines) x.now ∙ off ∙ sym (ap (λ (q : Option ℕ). is_some (that_stays stays q)) ep);
     }
 
 -- ---- the calls of a bridge
@@ -78,11 +74,11 @@ past_bridged : (k others : ℕ) (now : Settings) (b : Bool) → ltb others k ≡
     (settings_past k others now).bridged ≡ (if b then false else true)
 past_bridged k others now true e on = ap (λ (x : Bool). (if x then without_bridge (settings_at k now) else settings_at k now).bridged) e
 past_bridged k others now false e on =
-    ap (λ (x : Bool). (if x then without_bridge (settings_at k now) else settings_at k now).bridged) e ∙ still_bridged k now ∙ on
+    ap (λ (x : Bool). (if x then without_bridge (settings_at k now) else settings_at k now).bridged) e ∙ still-bridged k now ∙ on
 
 -- the bridge lasts exactly if the partner goes on
-lasts : (stays : ℕ → Bool) (periods k others d : ℕ) (now : Settings) → k ≡ periods → others ≤ periods → stays d ≡ (others == periods) → now.bridged ≡ true →
-    (settings_past k others now).bridged ≡ is_some (that_stays stays (Some d))
+lasts : (stays : ℕ → Bool) (periods k others d : ℕ) (now : Settings) → k ≡ periods →
+    others ≤ periods → stays d ≡ (others == periods) → now.bridged ≡ true → (settings_past k others now).bridged ≡ is_some (that_stays stays (Some d))
 lasts stays periods k others d now ek within full on = elim (cases_eq others periods) [
   | inl e ↦
       let stay : stays d ≡ true = full ∙ eq-eqb others periods e in
@@ -97,18 +93,19 @@ first_half : (a b : HalfMemory) → half_of (Two a b) a.io.call ≡ a
 first_half a b = let e : (a.io.call == a.io.call) ≡ true = eq-eqb a.io.call a.io.call refl in rw e refl
 
 -- a call of a bridge does, seen with its partner
-pub beside_finished : (seats : List SeatMemory) (stays : ℕ → Bool) (h : ℕ → Option CallHistory) (partner : ℕ → Option ℕ) (periods c d : ℕ) (g f : HalfMemory)
+pub beside_finished : (seats : List SeatMemory) (stays : ℕ → Bool) (h : ℕ → Option CallHistory)
+    (partner : ℕ → Option ℕ) (periods c d : ℕ) (g f : HalfMemory)
     (x y : CallHistory) → Seated seats stays periods c g → Seated seats stays periods d f → h c ≡ Some x → h d ≡ Some y → partner c ≡ Some d →
     Stands (whose c x) x.periods x.now g.leg → Stands (whose d y) y.periods y.now f.leg → x.now.bridged ≡ true → y.now.bridged ≡ true →
-    Finished seats stays h partner c (half_of (finished (Two g f)) c)
+    Finished seats stays h partner c (half_of (finished_job (Two g f)) c)
 beside_finished seats stays h partner periods c d g f x y s t eh ed ep leg other on both =
     let one : Start = start_with seats c x in
     let two : Start = start_with seats d y in
-    let done : TwoWorked one two (finished (Two g f)) =
+    let done : TwoWorked one two (finished_job (Two g f)) =
     two-finished one two g f (begins seats stays periods c g x s leg) (begins seats stays periods d f y t other) on both in
     let worked : HasWorkedBridged one two done.first = done.first_worked in
     let number : done.first.io.call ≡ c = ap (λ (io : IoMemory). io.call) worked.io ∙ s.number in
-    let half : half_of (finished (Two g f)) c ≡ done.first =
+    let half : half_of (finished_job (Two g f)) c ≡ done.first =
     ap (λ (j : Job). half_of j c) done.are_two ∙ ap (λ (k : ℕ). half_of (Two done.first done.second) k) (sym number) ∙ first_half done.first done.second in
     let now : CallHistory = history_bridged seats c x d y in
     let n : ℕ = whole_in (seat_of seats c).lines in

@@ -10,7 +10,7 @@ use Rattle.farm_rounds.specs.declared.open.OpenCall.{OpenCall}
 use Rattle.farm_rounds.specs.Calls.{Kept, kept_in, partner_in}
 use Rattle.farm_rounds.specs.Numbers.{IsRising, is_among}
 use Rattle.farm_rounds.specs.Opens.{kept_of, seat_of_open}
-use Rattle.farm_rounds.specs.Opened.{Standing, standing, no_open}
+use Rattle.farm_rounds.specs.Opened.{Standing, standing_of_open, no_open}
 use Rattle.farm_rounds.proofs.Numbered.{found_map, found_is, found_same, among_found}
 
 abbrev pub number_of : OpenCall → ℕ
@@ -74,8 +74,8 @@ find_at (x ∷ os) (suc k) rising l =
 pub kept_by : (os : List OpenCall) (c : ℕ) → kept_in (map kept_of os) c ≡ option_map kept_of (open_in os c)
 kept_by os c = found_map (λ (k : Kept). k.call.number == c) kept_of os
 
-pub standing_by : (os : List OpenCall) (c : ℕ) → find (λ s. s.number == c) (map standing os) ≡ option_map standing (open_in os c)
-standing_by os c = found_map (λ (s : Standing). s.number == c) standing os
+pub standing_by : (os : List OpenCall) (c : ℕ) → find (λ s. s.number == c) (map standing_of_open os) ≡ option_map standing_of_open (open_in os c)
+standing_by os c = found_map (λ (s : Standing). s.number == c) standing_of_open os
 
 pub seat_by : (os : List OpenCall) (c : ℕ) → All (λ o. o.lines.call ≡ o.job.io.call) os →
     find (λ s. s.lines.call == c) (map seat_of_open os) ≡ option_map seat_of_open (open_in os c)

@@ -54,8 +54,8 @@ module _ (before now : List Line) (seats : List SeatMemory) (g : GainsFailed bef
   gained_still c side e = name_listed now c side (listed_before before now seats (c, side) g (inl (listed_name before c side e)))
 
   -- **A line of a seat's call is listed where it was, or where it failed in the round.**
-  pub gained_at : (k : ℕ) (side : Side) → Rising seats → k < length seats →
-      is_listed now (call_at seats k) side ≡ (is_listed before (call_at seats k) side || fails_in (seat_at seats k).lines side)
+  pub gained_at : (k : ℕ) (side : Side) → Rising seats → k < length seats → is_listed now (call_at seats k) side
+      ≡ (is_listed before (call_at seats k) side || fails_in (seat_at seats k).lines side)
   gained_at k side r l =
       same_test (is_listed now (call_at seats k) side) (is_listed before (call_at seats k) side || fails_in (seat_at seats k).lines side) front back
     where
@@ -89,7 +89,8 @@ not_again Sound e = refl
 not_again FailedBefore e = refl
 not_again FailedNow e = absurd (false≢true e)
 
-fails_once : (lines : List Line) (p : LinesMemory) (side : Side) → KnowsCallLines lines p → is_listed lines p.call side ≡ true → fails_in p side ≡ false
+fails_once : (lines : List Line) (p : LinesMemory) (side : Side) → KnowsCallLines lines p →
+    is_listed lines p.call side ≡ true → fails_in p side ≡ false
 fails_once lines p Up h q = absurd (true≢false (sym q ∙ h.up))
 fails_once lines p Pcm h q = absurd (true≢false (sym q ∙ h.pcm))
 fails_once lines p Down h q = not_again p.down (h.down ∙ q)
@@ -108,7 +109,7 @@ fewer_pcm p n l = by p.up.count p.pcm.count l
     by : (u v : ℕ) → v < 160 * n → min (u / 40) (v / 160) < n
     by u v l = omega arith
 
--- so of a call with all periods no incoming line failed in the round
+-- If a call has all periods, no incoming line of it failed in the round.
 sound_up : (p : LinesMemory) → EndsShort p → whole_in p ≡ p.periods → p.up.failed ≡ false
 sound_up p short full = false_from_ne_true p.up.failed (λ f. let less = fewer_up p p.periods (short.0 f) in absurd (omega (arith, less, full)))
 
@@ -121,7 +122,8 @@ neither false q e f = f
 
 -- ---- all calls
 
-module _ (most : ℕ) (live : List ℕ) (opens : List OpenCall) (w : IsWorkedRound most live opens) (before : List Line) (h : AreFailedBefore before opens) where
+module _ (most : ℕ) (live : List ℕ) (opens : List OpenCall) (w : IsWorkedRound most live opens)
+    (before : List Line) (h : AreFailedBefore before opens) where
   abbrev seats : List SeatMemory
   seats = map seat_of_open opens
 

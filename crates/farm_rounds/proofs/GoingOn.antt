@@ -10,7 +10,8 @@ use Rattle.farm_rounds.specs.Settling.{goes_on_in}
 use Rattle.farm_rounds.specs.Working.{goes_on_call}
 
 -- a call goes on by its own seat
-pub goes_on_at : (seats : List SeatMemory) (k : ℕ) → Rising seats → k < length seats → goes_on_call seats (call_at seats k) ≡ goes_on_in (seat_at seats k)
+pub goes_on_at : (seats : List SeatMemory) (k : ℕ) → Rising seats → k < length seats →
+    goes_on_call seats (call_at seats k) ≡ goes_on_in (seat_at seats k)
 goes_on_at seats k rising l = elim (cases_Bool (goes_on_in (seat_at seats k))) [
   | inl t ↦
       list_any_at (λ s. (s.lines.call == call_at seats k) && goes_on_in s) seats k no_seat l

@@ -17,7 +17,8 @@ abbrev pub IsFirst : List Kept → ℕ → ℕ → Type 0
 IsFirst ks k c = (j : ℕ) → j < k → (get_or ks j no_kept).call.number ≢ c
 
 -- the call with a number, by its place
-pub kept_found : (ks : List Kept) (k c : ℕ) → k < length ks → (get_or ks k no_kept).call.number ≡ c → IsFirst ks k c → kept_in ks c ≡ Some (get_or ks k no_kept)
+pub kept_found : (ks : List Kept) (k c : ℕ) → k < length ks → (get_or ks k no_kept).call.number ≡ c → IsFirst ks k c →
+    kept_in ks c ≡ Some (get_or ks k no_kept)
 kept_found [] k c l e first = absurd (omega arith)
 kept_found (x ∷ ks) zero c l e first = rw (eq-eqb x.call.number c e) refl
 kept_found (x ∷ ks) (suc k) c l e first =

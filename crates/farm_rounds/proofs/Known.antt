@@ -110,7 +110,8 @@ still_sound Sound e = refl
 still_sound FailedBefore e = absurd (true≢false e)
 still_sound FailedNow e = refl
 
-mark_kept : (before now : LineState) (was stands : Outlet) (octets : List ℕ) → LineGives before now was stands octets → was_failed stands ≡ was_failed was
+mark_kept : (before now : LineState) (was stands : Outlet) (octets : List ℕ) →
+    LineGives before now was stands octets → was_failed stands ≡ was_failed was
 mark_kept before now Sound stands octets g = elim (cases_Bool (has_failed stands)) [
   | inl e ↦ ap was_failed (g.fault refl e).0
   | inr e ↦ still_sound stands e
@@ -118,7 +119,8 @@ mark_kept before now Sound stands octets g = elim (cases_Bool (has_failed stands
 mark_kept before now FailedBefore stands octets g = ap was_failed (g.passed refl).1
 mark_kept before now FailedNow stands octets g = ap was_failed (g.passed refl).1
 
-knows_drained : (lines : List Line) (a b : Side → LineState) (s t : SeatMemory) → Drains a b s t → KnowsCallLines lines s.lines → KnowsCallLines lines t.lines
+knows_drained : (lines : List Line) (a b : Side → LineState) (s t : SeatMemory) → Drains a b s t →
+    KnowsCallLines lines s.lines → KnowsCallLines lines t.lines
 knows_drained lines a b s t d h =
     let call : t.lines.call ≡ s.lines.call = ap (λ (x : SeatMemory). x.lines.call) d.kept in
     record {

@@ -7,7 +7,8 @@ use Rattle.farm_rounds.specs.Opens.{opens_in, seats_of, seat_of_open}
 use Rattle.farm_rounds.specs.Opened.{open_at}
 
 -- the seat of the call that a loop looks at
-seat_got : (bs : List (Box OpenCall)) (k : ℕ) (b : Box OpenCall) (s : SeatMemory) → k < length bs → seat_of_open (get_or bs k b).value ≡ get_or (seats_of bs) k s
+seat_got : (bs : List (Box OpenCall)) (k : ℕ) (b : Box OpenCall) (s : SeatMemory) → k < length bs →
+    seat_of_open (get_or bs k b).value ≡ get_or (seats_of bs) k s
 seat_got [] k b s l = absurd (omega arith)
 seat_got (x ∷ bs) zero b s l = refl
 seat_got (x ∷ bs) (suc k) b s l = seat_got bs k b s (omega arith)

@@ -1,7 +1,7 @@
 -- A round that is worked, where the marks of the calls' outgoing lines have changed and nothing else.
 use Rattle.std.proofs.Common.{◌≡◌, refl, sym, ap, ◌∙◌, subst, ℕ, ◌<◌, Bool, Option, Some, None, List, length, map, get_or, arith}
 use Rattle.std.specs.Prelude.{◌==◌, ◌&&◌}
-use Rattle.std.specs.Option.{option_map, option_and_then}
+use Rattle.std.specs.Option.{option_map}
 use Rattle.std.specs.List.{All, list_any}
 use Rattle.std.proofs.lemmas.List.{length-map, get_or-map}
 use Rattle.std.proofs.lemmas.Simd.{map-map}
@@ -9,7 +9,7 @@ use Rattle.call_leg.specs.Stands.{Stands}
 use Rattle.round_lines.specs.Seats.{SeatMemory}
 use Rattle.round_lines.specs.Rounds.{Rising}
 use Rattle.farm_rounds.specs.declared.open.OpenCall.{OpenCall}
-use Rattle.farm_rounds.specs.Calls.{Call, Kept, call_in, partner_in}
+use Rattle.farm_rounds.specs.Calls.{Kept, call_in, partner_in}
 use Rattle.farm_rounds.specs.Numbers.{IsRising}
 use Rattle.farm_rounds.specs.Opens.{kept_of, seat_of_open, same_call}
 use Rattle.farm_rounds.specs.Opened.{HasBuffers}
@@ -19,26 +19,22 @@ use Rattle.farm_rounds.specs.Working.{IsWorkedCall, IsWorkedRound, StaysBridged,
 use Rattle.farm_rounds.specs.RoundHistories.{WorkedCall}
 use Rattle.farm_rounds.proofs.Found.{number_of, open_in, kept_by}
 use Rattle.farm_rounds.proofs.Numbered.{found_map, any_map}
-use Rattle.farm_rounds.proofs.Passing.{own}
+use Rattle.farm_rounds.proofs.Passing.{call_of, partner_of, own}
 use Rattle.farm_rounds.proofs.Working.{seats_rising}
 
 -- ---- one call
 
-abbrev called : Option Kept → Option Call
-called k = option_map (λ (k : Kept). k.call) k
-
-abbrev partner : Option Kept → Option ℕ
-partner k = option_and_then (λ (k : Kept). k.partner) k
-
-partner_marked : (o p : Option OpenCall) → option_map same_call o ≡ option_map same_call p → partner (option_map kept_of o) ≡ partner (option_map kept_of p)
+partner_marked : (o p : Option OpenCall) → option_map same_call o ≡ option_map same_call p →
+    partner_of (option_map kept_of o) ≡ partner_of (option_map kept_of p)
 partner_marked None None e = refl
 partner_marked None (Some y) e = absurd (cc)
 partner_marked (Some x) None e = absurd (cc)
 partner_marked (Some x) (Some y) e = let same : same_call x ≡ same_call y = cc in ap (λ (o : OpenCall). o.partner) same
 
 -- it stands for the same periods
-stands_marked : (stays : ℕ → Bool) (c : ℕ) (h : Option CallHistory) (o q : Option OpenCall) (p : Option ℕ) → option_map same_call o ≡ option_map same_call q →
-    WorkedCall stays c h (called (option_map kept_of q)) p → WorkedCall stays c h (called (option_map kept_of o)) p
+stands_marked : (stays : ℕ → Bool) (c : ℕ) (h : Option CallHistory) (o q : Option OpenCall)
+    (p : Option ℕ) → option_map same_call o ≡ option_map same_call q → WorkedCall stays c h (call_of (option_map kept_of q)) p →
+    WorkedCall stays c h (call_of (option_map kept_of o)) p
 stands_marked stays c None None None p e w = w
 stands_marked stays c None None (Some z) p e w = absurd w
 stands_marked stays c None (Some y) None p e w = absurd (cc)
@@ -83,14 +79,14 @@ module _ (opens now : List OpenCall) (same : map same_call now ≡ map same_call
         ∙ ap (λ (os : List OpenCall). list_any (λ (o : OpenCall). test (seat_of_open o)) os) same
         ∙ any_map (λ (o : OpenCall). test (seat_of_open o)) same_call opens ∙ sym (any_map test seat_of_open opens)
 
-  -- and have the same partners
+  -- the calls have the same partners
   pub same_partners : partner_in (map kept_of now) ≡ partner_in (map kept_of opens)
   same_partners = λ i. λ c. at c i where
     at : (c : ℕ) → partner_in (map kept_of now) c ≡ partner_in (map kept_of opens) c
     at c =
-        ap partner (kept_by now c)
+        ap partner_of (kept_by now c)
         ∙ partner_marked (open_in now c) (open_in opens c) (same_found c)
-        ∙ sym (ap partner (kept_by opens c))
+        ∙ sym (ap partner_of (kept_by opens c))
 
   -- the round is still a processed one
   pub still_worked : (most : ℕ) (live : List ℕ) → IsWorkedRound most live opens → IsWorkedRound most live now
@@ -115,10 +111,10 @@ module _ (opens now : List OpenCall) (same : map same_call now ≡ map same_call
   still_stand h stand c =
       subst (λ (f : ℕ → Bool). WorkedCall f c (h c) (call_in (map kept_of now) c) (partner_in (map kept_of now) c)) (sym same_going)
       (subst (λ (p : ℕ → Option ℕ). WorkedCall (goes_on_call (map seat_of_open opens)) c (h c) (call_in (map kept_of now) c) (p c)) (sym same_partners)
-      (subst (λ (k : Option Kept). WorkedCall (goes_on_call (map seat_of_open opens)) c (h c) (called k) (partner_in (map kept_of opens) c))
+      (subst (λ (k : Option Kept). WorkedCall (goes_on_call (map seat_of_open opens)) c (h c) (call_of k) (partner_in (map kept_of opens) c))
       (sym (kept_by now c))
       (stands_marked (goes_on_call (map seat_of_open opens)) c (h c) (open_in now c) (open_in opens c) (partner_in (map kept_of opens) c) (same_found c)
-      (subst (λ (k : Option Kept). WorkedCall (goes_on_call (map seat_of_open opens)) c (h c) (called k) (partner_in (map kept_of opens) c))
+      (subst (λ (k : Option Kept). WorkedCall (goes_on_call (map seat_of_open opens)) c (h c) (call_of k) (partner_in (map kept_of opens) c))
       (kept_by opens c) (stand c)))))
 
 -- the calls' buffers have the round's length

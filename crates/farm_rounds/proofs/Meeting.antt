@@ -6,7 +6,7 @@ use Rattle.std.proofs.lemmas.Bool.{cases_lt, eq-eqb, ne_eqb}
 use Rattle.std.proofs.lemmas.List.{get_or-map, length-map}
 use Rattle.std.proofs.lemmas.List.Elements.{All-get_or}
 use Rattle.call_leg.specs.Halves.{Note}
-use Rattle.call_pair.specs.Phases.{frames_in, turned_down, with_partner, heard_from, periods_left}
+use Rattle.call_pair.specs.Phases.{frames_in, turn_down, with_partner, hear_from, periods_left}
 use Rattle.call_pair.specs.declared.call_job.Phase.TheVariants.{First}
 use Rattle.farm_rounds.specs.declared.open.OpenCall.{OpenCall}
 use Rattle.farm_rounds.specs.Numbers.{is_among}
@@ -71,18 +71,18 @@ notes_kept before now n k m = elim (cases_lt k n) [
 ]
 
 -- what a call hears depends on the notes alone
-pub heard_notes : (o p q : OpenCall) → p.job.notes ≡ q.job.notes → with_job o (heard_from p.job o.job) ≡ with_job o (heard_from q.job o.job)
-heard_notes o p q e = ap (λ (ns : List Note). with_job o (turned_down (with_partner (take o.job.bridge_end (frames_in ns)) o.job))) e
+pub heard_notes : (o p q : OpenCall) → p.job.notes ≡ q.job.notes → with_job o (hear_from p.job o.job) ≡ with_job o (hear_from q.job o.job)
+heard_notes o p q e = ap (λ (ns : List Note). with_job o (turn_down (with_partner (take o.job.bridge_end (frames_in ns)) o.job))) e
 
 pub told_at : (bs : List (Box OpenCall)) (k : ℕ) → All (IsTold (opens_in bs)) (opens_in bs) → k < length bs → IsTold (opens_in bs) (open_at bs k)
 told_at bs k told l = All-get_or (IsTold (opens_in bs)) (opens_in bs) k no_open (omega (arith, opens_long bs, l)) told
 
 -- a call with no partner, and one with a partner
-pub met_alone : (opens : List OpenCall) (o : OpenCall) (p : Option ℕ) → p ≡ None → met_beside opens o p ≡ with_job o (turned_down o.job)
+pub met_alone : (opens : List OpenCall) (o : OpenCall) (p : Option ℕ) → p ≡ None → met_beside opens o p ≡ with_job o (turn_down o.job)
 met_alone opens o p e = ap (met_beside opens o) e
 
 pub met_partner : (opens : List OpenCall) (o : OpenCall) (p : Option ℕ) (d : ℕ) → p ≡ Some d →
-    met_beside opens o p ≡ with_job o (heard_from (open_numbered opens d).job o.job)
+    met_beside opens o p ≡ with_job o (hear_from (open_numbered opens d).job o.job)
 met_partner opens o p d e = ap (met_beside opens o) e
 
 -- ---- the next one
@@ -97,8 +97,9 @@ pub record CanMeet (now : List (Box OpenCall)) (k f : ℕ) : Type 0 where
   pub none : (open_at now k).job.partner ≡ []
 
 -- the partner of the next call is another of them, and can be met
-pub next_present : (before now : List (Box OpenCall)) (live : List ℕ) (k d : ℕ) → ArePaired live (standings before) → AreMet before now k → k < length now →
-    (open_at now k).partner ≡ Some d → (is_among live d ≡ true) × (d ≢ (open_at before k).job.io.call)
+pub next_present : (before now : List (Box OpenCall)) (live : List ℕ) (k d : ℕ) →
+    ArePaired live (standings before) → AreMet before now k → k < length now → (open_at now k).partner ≡ Some d →
+    (is_among live d ≡ true) × (d ≢ (open_at before k).job.io.call)
 next_present before now live k d paired m l partner =
     partner_listed before live k d paired (omega (arith, l, m.long)) (ap (λ (o : OpenCall). o.partner) (sym (m.left k (omega arith))) ∙ partner)
 
@@ -130,17 +131,18 @@ next_meets before now live k f d paired all m l partner lf number =
     }
 
 -- what it hears is what its partner noted before any heard
-pub next_heard : (before now : List (Box OpenCall)) (live : List ℕ) (k f d : ℕ) (o : OpenCall) → ArePaired live (standings before) → AreMet before now k →
-    (open_at now k).partner ≡ Some d → f < length live → slice_index live f ≡ d →
-    o ≡ with_job (open_at now k) (heard_from (open_at now f).job (open_at now k).job) → o ≡ met_beside (opens_in before) (open_at now k) (open_at now k).partner
+pub next_heard : (before now : List (Box OpenCall)) (live : List ℕ) (k f d : ℕ) (o : OpenCall) →
+    ArePaired live (standings before) → AreMet before now k → (open_at now k).partner ≡ Some d → f < length live → slice_index live f ≡ d →
+    o ≡ with_job (open_at now k) (hear_from (open_at now f).job (open_at now k).job) →
+    o ≡ met_beside (opens_in before) (open_at now k) (open_at now k).partner
 next_heard before now live k f d o paired m partner lf number e =
     let inside : f < length before = omega (arith, lf, listed_long before live paired) in
     e ∙ heard_notes (open_at now k) (open_at now f) (open_numbered (opens_in before) d) (partner_notes before now live k f d paired m inside number)
     ∙ sym (met_partner (opens_in before) (open_at now k) (open_at now k).partner d partner)
 
 -- a call with no partner can go on alone
-pub next_alone : (before now : List (Box OpenCall)) (k : ℕ) → All (IsTold (opens_in before)) (opens_in before) → AreMet before now k → k < length now →
-    (open_at now k).partner ≡ None →
+pub next_alone : (before now : List (Box OpenCall)) (k : ℕ) →
+    All (IsTold (opens_in before)) (opens_in before) → AreMet before now k → k < length now → (open_at now k).partner ≡ None →
     ((open_at now k).job.phase ≡ First) × (periods_left (open_at now k).job ≡ 0) × ((open_at now k).job.bridge_end ≡ 0)
 next_alone before now k all m l partner =
     let same : open_at now k ≡ open_at before k = m.left k (omega arith) in

@@ -13,7 +13,7 @@ use Rattle.switchboard.specs.Open.{partner_after, partner_without_both}
 use Rattle.farm_rounds.specs.Acts.{put_at, parted_call, IsOpen, ActFits, Applied}
 use Rattle.farm_rounds.specs.Opens.{kept_of, IsOpenCall, AreOpen, AreMutual}
 use Rattle.farm_rounds.specs.Opened.{IsChanged}
-use Rattle.farm_rounds.proofs.Changing.{kept, partners_put}
+use Rattle.farm_rounds.proofs.Changing.{kept_with, partners_put}
 
 -- each partner of these is another, whose partner it is
 abbrev AreBoth : (ℕ → Option ℕ) → Type 0
@@ -35,11 +35,11 @@ put_other c d p f ne = simp (ne_eqb d c (λ s. ne (sym s))) refl
 
 -- once the bridge of a call is over, its partner still has it
 pub still_paired : (a b : ℕ) (before mid : List OpenCall) → partner_in (map kept_of before) a ≡ Some b →
-    (partner_in (map kept_of before) b ≡ Some a) × (a ≢ b) → IsChanged a (λ k. kept (parted_call k.call) None) before mid →
+    (partner_in (map kept_of before) b ≡ Some a) × (a ≢ b) → IsChanged a (λ k. kept_with (parted_call k.call) None) before mid →
     is_some (partner_in (map kept_of mid) b) ≡ true
 still_paired a b before mid e back m =
     ap is_some
-    (partners_put a (λ k. kept (parted_call k.call) None) before mid m None (λ k. refl) (partner_open (map kept_of before) a b e) b
+    (partners_put a (λ k. kept_with (parted_call k.call) None) before mid m None (λ k. refl) (partner_open (map kept_of before) a b e) b
     ∙ put_other a b None (partner_in (map kept_of before)) back.1 ∙ back.0)
 
 none_some : {d : ℕ} → None ≡ Some d → ⊥

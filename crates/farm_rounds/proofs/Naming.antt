@@ -87,7 +87,8 @@ abbrev pub Name : Type 0
 Name = ℕ × Side
 
 -- the lines of a call that failed are those sides whose mark says so
-listed_side : (p : LinesMemory) (xs : List Side) (s : Side) → Contains xs s → fails_in p s ≡ true → Contains (filter_map (name_where_failed p) xs) (p.call, s)
+listed_side : (p : LinesMemory) (xs : List Side) (s : Side) → Contains xs s → fails_in p s ≡ true →
+    Contains (filter_map (name_where_failed p) xs) (p.call, s)
 listed_side p [] s h e = absurd (none_in s h)
 listed_side p (z ∷ xs) s h e = by (fails_in p z) refl (cons_cases z xs s h) (λ k. listed_side p xs s k e)
   where
@@ -157,7 +158,7 @@ listed_before before now seats y g h =
       | inr b ↦ Contains-append_right (map line_name before) (names seats) y b
     ]))
 
--- and behind it a line is listed that was so before or failed in it
+-- A line that is listed after the round was listed before it, or failed in it.
 pub listed_after : (before now : List Line) (seats : List SeatMemory) (y : Name) → GainsFailed before now seats → Contains (map line_name now) y →
     Contains (map line_name before) y ⊎ Contains (names seats) y
 listed_after before now seats y g h = Contains-append_cases (map line_name before) (names seats) y

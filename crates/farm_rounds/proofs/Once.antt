@@ -63,8 +63,8 @@ rising_distinct n [] r = tt
 rising_distinct n (y ∷ ys) r = (apart (place y) (suc (place y)) ys (omega arith) r.1, rising_distinct (suc (place y)) ys r.1)
 
 -- lines whose places rise
-lines_rise : (lines : List Line) (n : ℕ) → IsStrictlyIncreasing (map line_place lines) → (0 < length lines → n ≤ slice_index (map line_place lines) 0) →
-    RisesFrom n (map line_name lines)
+lines_rise : (lines : List Line) (n : ℕ) → IsStrictlyIncreasing (map line_place lines) →
+    (0 < length lines → n ≤ slice_index (map line_place lines) 0) → RisesFrom n (map line_name lines)
 lines_rise [] n s l = tt
 lines_rise (x ∷ lines) n s l = (l (omega arith), lines_rise lines (suc (line_place x)) tail (λ m. s 0 (omega (arith, m, length-map lines line_place))))
   where
@@ -79,7 +79,8 @@ one_side : (p : LinesMemory) (z : Side) (zs : List Side) (rest : List Name) (n :
     RisesFrom n (filter_map (name_where_failed p) (z ∷ zs) ++ rest)
 one_side p z zs rest n l r = by (fails_in p z) refl
   where
-    by : (b : Bool) → fails_in p z ≡ b → RisesFrom n (cons_option (if b then Some (p.call, z) else None) (filter_map (name_where_failed p) zs) ++ rest)
+    by : (b : Bool) → fails_in p z ≡ b →
+        RisesFrom n (cons_option (if b then Some (p.call, z) else None) (filter_map (name_where_failed p) zs) ++ rest)
     by true q = (l, r)
     by false q = rises_sooner n (suc (index_of_line p.call z)) (filter_map (name_where_failed p) zs ++ rest) (omega arith) r
 
@@ -92,7 +93,7 @@ one_seat p rest n l r =
     (one_side p Out [] rest (suc (index_of_line p.call Down)) (omega arith)
     (rises_sooner (suc (index_of_line p.call Out)) (4 * p.call + 4) rest (omega arith) r))))
 
--- so the names of all seats rise
+-- The names of all seats rise.
 seats_rise : (seats : List SeatMemory) (n : ℕ) → Rising seats → (0 < length seats → n ≤ 4 * call_at seats 0) → RisesFrom n (names seats)
 seats_rise [] n r l = tt
 seats_rise (x ∷ seats) n r l =
@@ -117,7 +118,8 @@ each_append P [] ys h k = k
 each_append P (x ∷ xs) ys h k = (h.0, each_append P xs ys h.1 k)
 
 -- two lists of different lines that share none are one such list
-distinct_append : (xs ys : List Name) → IsDistinct same xs → IsDistinct same ys → ((y : Name) → Contains xs y → Contains ys y → ⊥) → IsDistinct same (xs ++ ys)
+distinct_append : (xs ys : List Name) → IsDistinct same xs → IsDistinct same ys →
+    ((y : Name) → Contains xs y → Contains ys y → ⊥) → IsDistinct same (xs ++ ys)
 unfolding IsDistinct
 distinct_append [] ys d e h = e
 distinct_append (x ∷ xs) ys d e h = (

@@ -32,16 +32,17 @@ met_long : (was new : List (Box OpenCall)) → opens_in new ≡ all_met (opens_i
 met_long was new e =
     sym (opens_long new) ∙ ap length e ∙ length-map (opens_in was) (λ (o : OpenCall). met_beside (opens_in was) o o.partner) ∙ opens_long was
 
-pub first_run : (n : ℕ) (items was new run : List (Box OpenCall)) → n ≡ length items → was ≡ items → opens_in new ≡ all_begun (standings was) (opens_in was) →
+pub first_run : (n : ℕ) (items was new run : List (Box OpenCall)) → n ≡ length items → was ≡ items →
+    opens_in new ≡ all_begun (standings was) (opens_in was) →
     opens_in run ≡ map (λ b. open_finished b.value) (take n (new ++ drop (length new) items)) → opens_in run ≡ all_told (opens_in items)
 first_run n items was new run long same e f =
     let begun : opens_in new ≡ all_begun (standings items) (opens_in items) = e ∙ ap (λ (bs : List (Box OpenCall)). all_begun (standings bs) (opens_in bs)) same in
     after_first (opens_in items) new run begun
     (f ∙ ap (map (λ (b : Box OpenCall). open_finished b.value)) (back n new items long (begun_long items new begun)))
 
-pub second_run : (n : ℕ) (os : List OpenCall) (items was new run : List (Box OpenCall)) → n ≡ length items → was ≡ items → opens_in items ≡ all_told os →
-    opens_in new ≡ all_met (opens_in was) → opens_in run ≡ map (λ b. open_finished b.value) (take n (new ++ drop (length new) items)) →
-    opens_in run ≡ all_done os
+pub second_run : (n : ℕ) (os : List OpenCall) (items was new run : List (Box OpenCall)) →
+    n ≡ length items → was ≡ items → opens_in items ≡ all_told os → opens_in new ≡ all_met (opens_in was) →
+    opens_in run ≡ map (λ b. open_finished b.value) (take n (new ++ drop (length new) items)) → opens_in run ≡ all_done os
 second_run n os items was new run long same t e f =
     let met : opens_in new ≡ all_met (opens_in items) = e ∙ ap (λ (bs : List (Box OpenCall)). all_met (opens_in bs)) same in
     after_second os items new run t met (f ∙ ap (map (λ (b : Box OpenCall). open_finished b.value)) (back n new items long (met_long items new met)))

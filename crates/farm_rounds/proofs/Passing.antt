@@ -42,17 +42,17 @@ seen o = option_map kept_of o
 abbrev after : List ℕ → Option OpenCall → Option Kept
 after live o = option_map (λ (x : OpenCall). kept_of (open_rested live x)) (going o)
 
-abbrev call : Option Kept → Option Call
-call k = option_map (λ (k : Kept). k.call) k
+abbrev pub call_of : Option Kept → Option Call
+call_of k = option_map (λ (k : Kept). k.call) k
 
-abbrev partner : Option Kept → Option ℕ
-partner k = option_and_then (λ (k : Kept). k.partner) k
+abbrev pub partner_of : Option Kept → Option ℕ
+partner_of k = option_and_then (λ (k : Kept). k.partner) k
 
 there : (o : Option OpenCall) → is_some (going o) ≡ (is_some o && is_some (going o))
 there None = refl
 there (Some x) = refl
 
-seen_there : (live : List ℕ) (o : Option OpenCall) → is_some (call (after live o)) ≡ is_some (going o)
+seen_there : (live : List ℕ) (o : Option OpenCall) → is_some (call_of (after live o)) ≡ is_some (going o)
 seen_there live None = refl
 seen_there live (Some x) = elim (cases_Bool (goes_on_open x)) [ inl t ↦ simp t refl | inr f ↦ simp f refl ]
 
@@ -61,15 +61,17 @@ module _ (live : List ℕ) (stays : ℕ → Bool) (same : (c : ℕ) → is_among
   still None = refl
   still (Some d) = ap (λ (b : Bool). if b then Some d else None) (same d)
 
-  partner_left : (o : Option OpenCall) (b : Bool) → b ≡ is_some (going o) → partner (after live o) ≡ (if b then that_stays stays (partner (seen o)) else None)
+  partner_left : (o : Option OpenCall) (b : Bool) → b ≡ is_some (going o) →
+      partner_of (after live o) ≡ (if b then that_stays stays (partner_of (seen o)) else None)
   partner_left None b e = ap (λ (b : Bool). if b then None else None) (sym e)
   partner_left (Some x) b e = elim (cases_Bool (goes_on_open x)) [
     | inl t ↦ let u : b ≡ true = simp t at e in simp (t, u) (still x.partner)
     | inr f ↦ let u : b ≡ false = simp f at e in simp (f, u) refl
   ]
 
-  stands_left : (c : ℕ) (h : Option CallHistory) (o : Option OpenCall) → stays c ≡ is_some (going o) → WorkedCall stays c h (call (seen o)) (partner (seen o)) →
-      CallStands c (if stays c then h else None) (call (after live o)) (if stays c then that_stays stays (partner (seen o)) else None)
+  stands_left : (c : ℕ) (h : Option CallHistory) (o : Option OpenCall) →
+      stays c ≡ is_some (going o) → WorkedCall stays c h (call_of (seen o)) (partner_of (seen o)) →
+      CallStands c (if stays c then h else None) (call_of (after live o)) (if stays c then that_stays stays (partner_of (seen o)) else None)
   stands_left c None None e w = let f : stays c ≡ false = e in simp f refl
   stands_left c None (Some x) e w = absurd w
   stands_left c (Some t) None e w = absurd w
@@ -79,7 +81,7 @@ module _ (live : List ℕ) (stays : ℕ → Bool) (same : (c : ℕ) → is_among
   ]
 
 -- what its seat tells of its lines
-knows : (live : List ℕ) (o : Option OpenCall) (x : Call) → call (after live o) ≡ Some x →
+knows : (live : List ℕ) (o : Option OpenCall) (x : Call) → call_of (after live o) ≡ Some x →
     let s = unwrap_or (option_map seat_of_open o) no_seat in
     (x.down_failed ≡ has_failed s.lines.down) × (x.out_failed ≡ has_failed s.lines.out)
 knows live None x e = absurd (cc)
@@ -97,7 +99,7 @@ pub record IsLeft (live : List ℕ) (opens : List OpenCall) (c : ℕ) (x : Call)
   pub goes : goes_on_open was ≡ true
   pub same : (kept_of (open_rested live was)).call ≡ x
 
-is_left : (live : List ℕ) (opens : List OpenCall) (c : ℕ) (o : Option OpenCall) (x : Call) → open_in opens c ≡ o → call (after live o) ≡ Some x →
+is_left : (live : List ℕ) (opens : List OpenCall) (c : ℕ) (o : Option OpenCall) (x : Call) → open_in opens c ≡ o → call_of (after live o) ≡ Some x →
     IsLeft live opens c x
 is_left live opens c None x q e = absurd (cc)
 is_left live opens c (Some y) x q e = elim (cases_Bool (goes_on_open y)) [
@@ -109,7 +111,7 @@ is_left live opens c (Some y) x q e = elim (cases_Bool (goes_on_open y)) [
 
 -- of one that ends the counts are kept
 counts_left : (stays : ℕ → Bool) (c : ℕ) (h : Option CallHistory) (o : Option OpenCall) (p : Option ℕ) (a b : Tally) → stays c ≡ is_some (going o) →
-    WorkedCall stays c h (call (seen o)) p → TallyAfter (that_ends o) a b → b ≡ (if stays c then a else had.kept_of h a)
+    WorkedCall stays c h (call_of (seen o)) p → TallyAfter (that_ends o) a b → b ≡ (if stays c then a else had.kept_of h a)
 counts_left stays c None None p a b e w k = let f : stays c ≡ false = e in simp f k
 counts_left stays c None (Some x) p a b e w k = absurd w
 counts_left stays c (Some t) None p a b e w k = absurd w
@@ -121,8 +123,8 @@ counts_left stays c (Some t) (Some x) p a b e w k = elim (cases_Bool (goes_on_op
 -- ---- partners
 
 -- partners that both go on are each other's still
-still_mutual : (stays : ℕ → Bool) (p : ℕ → Option ℕ) → ((c d : ℕ) → p c ≡ Some d → (p d ≡ Some c) × (c ≢ d)) → (c d : ℕ) → partner_past stays p c ≡ Some d →
-    (partner_past stays p d ≡ Some c) × (c ≢ d)
+still_mutual : (stays : ℕ → Bool) (p : ℕ → Option ℕ) → ((c d : ℕ) → p c ≡ Some d → (p d ≡ Some c) × (c ≢ d)) → (c d : ℕ) →
+    partner_past stays p c ≡ Some d → (partner_past stays p d ≡ Some c) × (c ≢ d)
 still_mutual stays p both c d e = elim (cases_Bool (stays c)) [
   | inl t ↦ by (p c) refl (simp t at e) t
   | inr f ↦ absurd (let h = simp f at e in cc)
@@ -207,34 +209,35 @@ module _ (most : ℕ) (live : List ℕ) (opens : List OpenCall) (w : IsWorkedRou
       ∙ ap (λ (b : Bool). is_among live c && b) (sym (stays_is c))
 
   open_left : (c : ℕ) → is_some (call_in now c) ≡ is_among rest c
-  open_left c = ap (λ (k : Option Kept). is_some (call k)) (now_is c) ∙ seen_there rest (open_in opens c) ∙ sym (rest_is c)
+  open_left c = ap (λ (k : Option Kept). is_some (call_of k)) (now_is c) ∙ seen_there rest (open_in opens c) ∙ sym (rest_is c)
 
   partners_left : (c : ℕ) → partner_in now c ≡ partner_past (goes_on_call seats) (partner_in (map kept_of opens)) c
   partners_left c =
-      ap partner (now_is c) ∙ partner_left rest (goes_on_call seats) rest_stays (open_in opens c) (goes_on_call seats c) (stays_is c)
-      ∙ ap (λ (k : Option Kept). if goes_on_call seats c then that_stays (goes_on_call seats) (partner k) else None) (sym (kept_by opens c))
+      ap partner_of (now_is c) ∙ partner_left rest (goes_on_call seats) rest_stays (open_in opens c) (goes_on_call seats c) (stays_is c)
+      ∙ ap (λ (k : Option Kept). if goes_on_call seats c then that_stays (goes_on_call seats) (partner_of k) else None) (sym (kept_by opens c))
 
   failed_known : KnowFailed seats now
   failed_known c x e =
       subst (λ (s : SeatMemory). (x.down_failed ≡ has_failed s.lines.down) × (x.out_failed ≡ has_failed s.lines.out)) (sym (seat_is c))
-      (knows rest (open_in opens c) x (sym (ap call (now_is c)) ∙ e))
+      (knows rest (open_in opens c) x (sym (ap call_of (now_is c)) ∙ e))
 
   -- a call that is open behind the round
   pub left_is : (c : ℕ) (x : Call) → call_in now c ≡ Some x → IsLeft rest opens c x
-  left_is c x e = is_left rest opens c (open_in opens c) x refl (sym (ap call (now_is c)) ∙ e)
+  left_is c x e = is_left rest opens c (open_in opens c) x refl (sym (ap call_of (now_is c)) ∙ e)
 
   -- a call that was worked stands for its periods
-  worked_at : (h : Option CallHistory) (c : ℕ) → WorkedCall (goes_on_call seats) c h (call_in (map kept_of opens) c) (partner_in (map kept_of opens) c) →
-      WorkedCall (goes_on_call seats) c h (call (seen (open_in opens c))) (partner (seen (open_in opens c)))
-  worked_at h c k = subst (λ (x : Option Kept). WorkedCall (goes_on_call seats) c h (call x) (partner x)) (kept_by opens c) k
+  worked_at : (h : Option CallHistory) (c : ℕ) →
+      WorkedCall (goes_on_call seats) c h (call_in (map kept_of opens) c) (partner_in (map kept_of opens) c) →
+      WorkedCall (goes_on_call seats) c h (call_of (seen (open_in opens c))) (partner_of (seen (open_in opens c)))
+  worked_at h c k = subst (λ (x : Option Kept). WorkedCall (goes_on_call seats) c h (call_of x) (partner_of x)) (kept_by opens c) k
 
   history_left : (h : ℕ → Option CallHistory) →
       ((c : ℕ) → WorkedCall (goes_on_call seats) c (h c) (call_in (map kept_of opens) c) (partner_in (map kept_of opens) c)) →
       CallsStand (those_that (goes_on_call seats) h) now
   history_left h k c =
-      subst (λ (x : Option Kept). CallStands c (those_that (goes_on_call seats) h c) (call x) (partner_in now c)) (sym (now_is c))
-      (subst (λ (p : Option ℕ). CallStands c (those_that (goes_on_call seats) h c) (call (after rest (open_in opens c))) p)
-      (sym (ap partner (now_is c) ∙ partner_left rest (goes_on_call seats) rest_stays (open_in opens c) (goes_on_call seats c) (stays_is c)))
+      subst (λ (x : Option Kept). CallStands c (those_that (goes_on_call seats) h c) (call_of x) (partner_in now c)) (sym (now_is c))
+      (subst (λ (p : Option ℕ). CallStands c (those_that (goes_on_call seats) h c) (call_of (after rest (open_in opens c))) p)
+      (sym (ap partner_of (now_is c) ∙ partner_left rest (goes_on_call seats) rest_stays (open_in opens c) (goes_on_call seats c) (stays_is c)))
       (stands_left rest (goes_on_call seats) rest_stays c (h c) (open_in opens c) (stays_is c) (worked_at (h c) c (k c))))
 
   tallies_left : (h : ℕ → Option CallHistory) (kept keeps : List Tally) →
@@ -242,7 +245,7 @@ module _ (most : ℕ) (live : List ℕ) (opens : List OpenCall) (w : IsWorkedRou
       ((c : ℕ) → TallyKept opens c (tally_in kept c) (tally_in keeps c)) → (c : ℕ) →
       tally_in keeps c ≡ (if goes_on_call seats c then tally_in kept c else had.kept_of (h c) (tally_in kept c))
   tallies_left h kept keeps k keep c =
-      counts_left (goes_on_call seats) c (h c) (open_in opens c) (partner (seen (open_in opens c))) (tally_in kept c) (tally_in keeps c) (stays_is c)
+      counts_left (goes_on_call seats) c (h c) (open_in opens c) (partner_of (seen (open_in opens c))) (tally_in kept c) (tally_in keeps c) (stays_is c)
       (worked_at (h c) c (k c)) (keep c)
 
   -- the farm that is left

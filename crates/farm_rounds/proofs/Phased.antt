@@ -6,7 +6,7 @@ use Rattle.rx_handler.specs.Origin.{EffectiveFields}
 use Rattle.call_leg.specs.Halves.{UpMemory, Note, up_turned, up_unbridged}
 use Rattle.call_pair.specs.Memory.{HalfMemory}
 use Rattle.call_pair.specs.Periods.{up_at, has_period}
-use Rattle.call_pair.specs.Phases.{CallMemory, up_before, phase_place, call_turned, after_call_turns, periods_left, call_finished, begun, starting, leg_in, first_phase}
+use Rattle.call_pair.specs.Phases.{CallMemory, up_before, phase_place, call_place, after_call_places, periods_left, job_at_phase_end, begin, job_at_start, leg_in, first_phase}
 use Rattle.call_pair.specs.declared.call_job.Phase.{Phase}
 use Rattle.call_pair.specs.declared.call_job.Phase.TheVariants.{First, Second}
 use Rattle.call_pair.proofs.Sequences.{ups}
@@ -28,34 +28,35 @@ pub record Keeps (j k : CallMemory) : Type 0 where
 keeps_same : (j : CallMemory) → Keeps j j
 keeps_same j = record { call = refl; up = refl; phase = refl }
 
-turned_keeps : (j : CallMemory) → Keeps j (call_turned j)
-turned_keeps j = by (has_period j.io) j.phase where
+call_place_keeps : (j : CallMemory) → Keeps j (call_place j)
+call_place_keeps j = by (has_period j.io) j.phase where
   by : (b : Bool) (p : Phase) → Keeps j (if b then phase_place p j else j)
   by true First = record { call = refl; up = refl; phase = refl }
   by true Second = record { call = refl; up = refl; phase = refl }
   by false p = keeps_same j
 
-turns_keep : (n : ℕ) (j : CallMemory) → Keeps j (after_call_turns n j)
-turns_keep zero j = keeps_same j
-turns_keep (suc n) j =
-    let one = turned_keeps j in
-    let rest = turns_keep n (call_turned j) in
+call_places_keep : (n : ℕ) (j : CallMemory) → Keeps j (after_call_places n j)
+call_places_keep zero j = keeps_same j
+call_places_keep (suc n) j =
+    let one = call_place_keeps j in
+    let rest = call_places_keep n (call_place j) in
     record { call = rest.call ∙ one.call; up = rest.up ∙ one.up; phase = rest.phase ∙ one.phase }
 
-pub finished_keeps : (j : CallMemory) → Keeps j (call_finished j)
-finished_keeps j = turns_keep (periods_left j) j
+pub finished_keeps : (j : CallMemory) → Keeps j (job_at_phase_end j)
+finished_keeps j = call_places_keep (periods_left j) j
 
 -- the second keeps the uplink half
-second_turned : (b : Bool) (p : Phase) (j : CallMemory) → p ≡ Second → (if b then phase_place p j else j).up ≡ j.up
-second_turned true Second j e = refl
-second_turned true First j e = absurd (cc)
-second_turned false p j e = refl
+second_place : (b : Bool) (p : Phase) (j : CallMemory) → p ≡ Second →
+    (if b then phase_place p j else j).up ≡ j.up
+second_place true Second j e = refl
+second_place true First j e = absurd (cc)
+second_place false p j e = refl
 
-second_up : (n : ℕ) (j : CallMemory) → j.phase ≡ Second → (after_call_turns n j).up ≡ j.up
+second_up : (n : ℕ) (j : CallMemory) → j.phase ≡ Second → (after_call_places n j).up ≡ j.up
 second_up zero j e = refl
-second_up (suc n) j e = second_up n (call_turned j) ((turned_keeps j).phase ∙ e) ∙ second_turned (has_period j.io) j.phase j e
+second_up (suc n) j e = second_up n (call_place j) ((call_place_keeps j).phase ∙ e) ∙ second_place (has_period j.io) j.phase j e
 
-pub second_keeps : (j : CallMemory) → j.phase ≡ Second → (call_finished j).up ≡ j.up
+pub second_keeps : (j : CallMemory) → j.phase ≡ Second → (job_at_phase_end j).up ≡ j.up
 second_keeps j e = second_up (periods_left j) j e
 
 -- in the first the uplink half works as many periods as there are places
@@ -83,7 +84,8 @@ abbrev pub half_open : OpenCall → HalfMemory
 half_open o = record { leg = leg_in o.job; io = io_of (seat_of_open o) }
 
 -- the first phase of a call begins
-abbrev shape : CallMemory → ℕ → ℕ → Bool → ℕ → ℕ → List Note → List EffectiveFields → Phase → CallMemory
+abbrev shape : CallMemory → ℕ → ℕ → Bool → ℕ → ℕ → List Note → List EffectiveFields → Phase →
+    CallMemory
 shape j w m b c d ns es p = record {
   up = record j.up { bridged = b };
   down = j.down;
@@ -94,7 +96,7 @@ shape j w m b c d ns es p = record {
   phase = p;
 }
 
-pub begun_is : (start ended m : ℕ) (o : OpenCall) → IsInRound start ended o → begun (whole_in o.lines) m o.job ≡ starting m (half_open o)
+pub begun_is : (start ended m : ℕ) (o : OpenCall) → IsInRound start ended o → begin (whole_in o.lines) m o.job ≡ job_at_start m (half_open o)
 begun_is start ended m o r =
     let j = o.job in
     let w = whole_in o.lines in
@@ -110,10 +112,10 @@ abbrev pub told_at : ℕ → OpenCall → OpenCall
 told_at m o = open_finished (open_begun m o)
 
 pub told_is : (start ended m : ℕ) (o : OpenCall) → IsInRound start ended o → (told_at m o).job ≡ first_phase m (half_open o)
-told_is start ended m o r = ap call_finished (begun_is start ended m o r)
+told_is start ended m o r = ap job_at_phase_end (begun_is start ended m o r)
 
 pub told_number : (m : ℕ) (o : OpenCall) → (told_at m o).job.io.call ≡ o.job.io.call
-told_number m o = (finished_keeps (begun (whole_in o.lines) m o.job)).call
+told_number m o = (finished_keeps (begin (whole_in o.lines) m o.job)).call
 
 -- what is so behind it
 pub record IsHeard (m : ℕ) (o : OpenCall) (j : CallMemory) : Type 0 where
@@ -166,7 +168,7 @@ pub record IsDone (o n : OpenCall) : Type 0 where
 
 pub done_keeps : (opens : List OpenCall) (m : ℕ) (o : OpenCall) → IsDone o (done_at opens m o)
 done_keeps opens m o =
-    let first = finished_keeps (begun (whole_in o.lines) m o.job) in
+    let first = finished_keeps (begin (whole_in o.lines) m o.job) in
     let met = met_keeps opens (told_at m o) o.partner in
     let second = finished_keeps (met_beside opens (told_at m o) o.partner).job in
     record { call = second.call ∙ met.call ∙ first.call; up = second.up ∙ met.up ∙ first.up; lines = met.lines; partner = met.partner }

@@ -55,8 +55,9 @@ call_at live bs k c e rising l own =
     ∙ ap Some (kept_read bs k (omega (arith, l, listed_long live (opens_in bs) e, opens_long bs)))
 
 -- whether it has a partner
-pub paired_at : (live : List ℕ) (bs : List (Box OpenCall)) (k c : ℕ) (o : OpenCall) → live ≡ numbers_of (opens_in bs) → IsRising live → k < length live →
-    get_or live k 0 ≡ c → o ≡ open_at bs k → is_some o.partner ≡ is_some (partner_in (map kept_of (opens_in bs)) c)
+pub paired_at : (live : List ℕ) (bs : List (Box OpenCall)) (k c : ℕ) (o : OpenCall) →
+    live ≡ numbers_of (opens_in bs) → IsRising live → k < length live → get_or live k 0 ≡ c → o ≡ open_at bs k →
+    is_some o.partner ≡ is_some (partner_in (map kept_of (opens_in bs)) c)
 paired_at live bs k c o e rising l own read =
     ap (λ (x : OpenCall). is_some x.partner) read
     ∙ sym (ap (λ (x : Option Kept). is_some (option_and_then (λ (y : Kept). y.partner) x)) (call_at live bs k c e rising l own))

@@ -26,7 +26,8 @@ use Rattle.farm_rounds.proofs.Rising.{rising_far}
 number_at : (os : List OpenCall) (k : ℕ) → k < length os → get_or (map number_of os) k 0 ≡ (get_or os k no_open).job.io.call
 number_at os k l = get_or-map number_of os k no_open 0 l
 
-pub live_number : (most : ℕ) (live : List ℕ) (os : List OpenCall) → AreOpen most live os → (k : ℕ) → k < length live → IsCallNumber (slice_index live k)
+pub live_number : (most : ℕ) (live : List ℕ) (os : List OpenCall) → AreOpen most live os → (k : ℕ) →
+    k < length live → IsCallNumber (slice_index live k)
 live_number most live os a k l =
     let lk : k < length os = omega (arith, l, ap length a.listed, length-map os number_of) in
     subst IsCallNumber (sym (ap (λ (ns : List ℕ). get_or ns k 0) a.listed ∙ number_at os k lk))
@@ -101,11 +102,6 @@ pub rising_kept : (n most : ℕ) (live : List ℕ) (os : List OpenCall) → AreO
     IsRising (map (λ k. k.call.number) (map kept_of (map (open_planned n) os)))
 rising_kept n most live os a =
     subst IsRising (a.listed ∙ sym (numbers_all n os) ∙ sym (map-map (λ (k : Kept). k.call.number) kept_of (map (open_planned n) os))) a.rising
-
--- those that have worked no more than before the round can be planned
-pub timely : (before most : ℕ) (os : List OpenCall) → before ≤ most → All (IsOpenCall before) os → All (IsOpenCall most) os
-timely before most os l a = All-weaker (IsOpenCall before) (IsOpenCall most)
-    (λ o h. record { number = h.number; lines = h.lines; worked = omega (arith, h.worked, l); first = h.first; none = h.none; up = h.up; down = h.down }) os a
 
 pub planned : (before start n : ℕ) (live : List ℕ) (os : List OpenCall) → before ≤ start → start + n ≤ 4294967295 → AreOpen before live os →
     IsRound start (start + n) live (map (open_planned n) os)

@@ -1,18 +1,17 @@
 -- For crates above: an item of a list of numbers is among it, as a test (`there`).
 -- Lists of numbers that rise.
-use Rattle.std.proofs.Common.{◌≡◌, refl, sym, subst, ℕ, ◌+◌, ◌-◌, ◌<◌, ◌≤◌, zero, suc, true, false, List, ◌∷◌, length, get_or, arith, inl, inr, Result, Ok, Err}
-use Rattle.std.specs.Prelude.{◌==◌, ◌||◌, ◌&&◌, not}
+use Rattle.std.proofs.Common.{◌≡◌, subst, ℕ, ◌+◌, ◌-◌, ◌<◌, ◌≤◌, zero, suc, true, false, List, length, get_or, arith, inl, inr, Result, Ok, Err}
+use Rattle.std.specs.Prelude.{◌==◌}
 use Rattle.std.specs.List.{insert, remove}
 use Rattle.std.specs.List.Sorted.{IsBinarySearchResult}
 use Rattle.std.specs.Ordering.{nat_cmp}
 use Rattle.std.specs.Result.{MatchResult}
-use Rattle.std.proofs.lemmas.Bool.{cases_Bool, eqb-true, eq-eqb, ne_eqb, cases_order, cases_lt}
+use Rattle.std.proofs.lemmas.Bool.{eq-eqb, ne_eqb, cases_order, cases_lt}
 use Rattle.std.proofs.lemmas.List.Edits.{length-insert, length-remove, get_or-insert_at, get_or-insert_below, get_or-insert_above, get_or-remove_below}
 use Rattle.std.proofs.lemmas.List.Edits.{get_or-remove_above}
-use Rattle.std.proofs.lemmas.List.Sorted.{searched, IsPermutation-insert, IsPermutation-remove, list_any-IsPermutation}
+use Rattle.std.proofs.lemmas.List.Sorted.{searched}
 use Rattle.std.proofs.lemmas.List.Folds.{list_any_none, list_any_at}
 use Rattle.std.proofs.lemmas.List.Elements.{All-from_get_or}
-use Rattle.std.proofs.lemmas.Grind.{get_or_default_zero}
 use Rattle.farm_rounds.specs.Numbers.{IsRising, is_among}
 
 -- what a search finds
@@ -52,10 +51,6 @@ rising-insert xs i y rising l below above a b ab lb =
       ]
     ]
 
--- the number is among them
-pub among-insert : (xs : List ℕ) (i y c : ℕ) → is_among (insert xs i y) c ≡ ((y == c) || is_among xs c)
-among-insert xs i y c = sym (list_any-IsPermutation (λ x. x == c) (y ∷ xs) (insert xs i y) (IsPermutation-insert xs i y))
-
 pub rising-remove : (xs : List ℕ) (i : ℕ) → IsRising xs → i < length xs → IsRising (remove xs i)
 rising-remove xs i rising l a b ab lb =
     let long : length (remove xs i) + 1 ≡ length xs = length-remove xs i l in
@@ -67,36 +62,15 @@ rising-remove xs i rising l a b ab lb =
       ])
     ]
 
--- a rising list has a number once
-gone : (xs : List ℕ) (i y : ℕ) → IsRising xs → i < length xs → get_or xs i 0 ≡ y → is_among (remove xs i) y ≡ false
-gone xs i y rising l e =
-    let long : length (remove xs i) + 1 ≡ length xs = length-remove xs i l in
-    list_any_none (λ x. x == y) (remove xs i) (All-from_get_or (λ x. (x == y) ≡ false) (remove xs i) 0 (λ k lk. elim (cases_lt k i) [
-      | inl ki ↦ rw (get_or-remove_below xs i 0 k ki l) (let less : get_or xs k 0 < get_or xs i 0 = rising k i ki l in ne_eqb _ _ (λ q. absurd (omega arith)))
-      | inr ik ↦
-          rw (get_or-remove_above xs i 0 k ik l)
-          (let less : get_or xs i 0 < get_or xs (k + 1) 0 = rising i (k + 1) (omega arith) (omega arith) in ne_eqb _ _ (λ q. absurd (omega arith)))
-    ]))
-
--- a number that is removed isn't in the list any more, and all others are as before
-pub among-remove : (xs : List ℕ) (i y c : ℕ) → IsRising xs → i < length xs → get_or xs i 0 ≡ y → is_among (remove xs i) c ≡ (not (y == c) && is_among xs c)
-among-remove xs i y c rising l e =
-    let parts : is_among xs c ≡ ((get_or xs i 0 == c) || is_among (remove xs i) c) =
-    list_any-IsPermutation (λ x. x == c) xs (get_or xs i 0 ∷ remove xs i)
-    (IsPermutation-remove xs i (get_or xs i 0) l (sym (get_or_default_zero xs i (get_or xs i 0) l))) in
-    elim (cases_Bool (y == c)) [
-      | inl t ↦ rw t (subst (λ (n : ℕ). is_among (remove xs i) n ≡ false) (eqb-true y c t) (gone xs i y rising l e))
-      | inr f ↦ rw (f, parts, e, f) refl
-    ]
-
 -- where a number that is there stands, and where one that isn't goes
-pub place_found : (xs ys : List ℕ) (x : ℕ) (r : Result ℕ ℕ) → ys ≡ xs → IsRising xs → IsBinarySearchResult (λ y. nat_cmp y x) ys r → (i : ℕ) → r ≡ Ok i →
-    (i < length xs) × (get_or xs i 0 ≡ x)
+pub place_found : (xs ys : List ℕ) (x : ℕ) (r : Result ℕ ℕ) → ys ≡ xs → IsRising xs →
+    IsBinarySearchResult (λ y. nat_cmp y x) ys r → (i : ℕ) → r ≡ Ok i → (i < length xs) × (get_or xs i 0 ≡ x)
 place_found xs ys x r e rising h i q = rw q at (searched_rising xs x r rising (rw e at h))
 
 -- a search that finds nothing tells where the number belongs
-pub place_free : (xs ys : List ℕ) (x : ℕ) (r : Result ℕ ℕ) → ys ≡ xs → IsRising xs → IsBinarySearchResult (λ y. nat_cmp y x) ys r → (i : ℕ) → r ≡ Err i →
-    (i ≤ length xs) × ((k : ℕ) → k < i → get_or xs k 0 < x) × ((k : ℕ) → i ≤ k → k < length xs → x < get_or xs k 0)
+pub place_free : (xs ys : List ℕ) (x : ℕ) (r : Result ℕ ℕ) → ys ≡ xs → IsRising xs →
+    IsBinarySearchResult (λ y. nat_cmp y x) ys r → (i : ℕ) → r ≡ Err i → (i ≤ length xs) × ((k : ℕ) → k < i → get_or xs k 0 < x)
+    × ((k : ℕ) → i ≤ k → k < length xs → x < get_or xs k 0)
 place_free xs ys x r e rising h i q = rw q at (searched_rising xs x r rising (rw e at h))
 
 -- what stands in the list is among it
@@ -104,7 +78,8 @@ pub there : (xs : List ℕ) (x i : ℕ) → i < length xs → get_or xs i 0 ≡ 
 there xs x i l e = list_any_at (λ y. y == x) xs i 0 l (eq-eqb _ _ e)
 
 -- what lies between two that follow one another isn't
-pub not_there : (xs : List ℕ) (x i : ℕ) → ((k : ℕ) → k < i → get_or xs k 0 < x) → ((k : ℕ) → i ≤ k → k < length xs → x < get_or xs k 0) → is_among xs x ≡ false
+pub not_there : (xs : List ℕ) (x i : ℕ) → ((k : ℕ) → k < i → get_or xs k 0 < x) →
+    ((k : ℕ) → i ≤ k → k < length xs → x < get_or xs k 0) → is_among xs x ≡ false
 not_there xs x i below above = list_any_none (λ y. y == x) xs (All-from_get_or (λ y. (y == x) ≡ false) xs 0 (λ k l. elim (cases_lt k i) [
   | inl ki ↦ let less = below k ki in ne_eqb _ _ (λ q. absurd (omega arith))
   | inr ik ↦ let more = above k ik l in ne_eqb _ _ (λ q. absurd (omega arith))

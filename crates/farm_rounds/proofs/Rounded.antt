@@ -8,8 +8,8 @@ use Rattle.std.proofs.lemmas.Bool.{eq-eqb}
 use Rattle.std.proofs.lemmas.List.Elements.{All-map, All-from_get_or, All-get_or}
 use Rattle.std.proofs.lemmas.Simd.{map-map}
 use Rattle.call_pair.specs.Memory.{HalfMemory, Job, One, Two}
-use Rattle.call_pair.specs.Jobs.{half_of, finished}
-use Rattle.call_pair.specs.Phases.{CallMemory, call_finished, turned_down, heard_from, half_in, first_phase, round_alone, round_beside}
+use Rattle.call_pair.specs.Jobs.{half_of, finished_job}
+use Rattle.call_pair.specs.Phases.{CallMemory, job_at_phase_end, turn_down, hear_from, half_in, first_phase, round_alone, round_beside}
 use Rattle.call_pair.proofs.Rounded.{one-rounded, two-rounded}
 use Rattle.round_lines.specs.Memory.{whole_in}
 use Rattle.round_lines.specs.Seats.{SeatMemory}
@@ -18,7 +18,7 @@ use Rattle.farm_rounds.specs.declared.open.OpenCall.{OpenCall}
 use Rattle.farm_rounds.specs.Calls.{Kept, kept_in, partner_in}
 use Rattle.farm_rounds.specs.Numbers.{IsRising, is_among}
 use Rattle.farm_rounds.specs.Opens.{opens_in, kept_of, seat_of_open, open_begun, open_finished}
-use Rattle.farm_rounds.specs.Opened.{Standing, standing, no_standing, standing_of, end_with, end_beside, all_begun, all_met, met_beside, open_numbered, no_open}
+use Rattle.farm_rounds.specs.Opened.{Standing, standing_of_open, no_standing, standing_of, end_with, end_beside, all_begun, all_met, met_beside, open_numbered, no_open}
 use Rattle.farm_rounds.specs.Opened.{ArePaired, IsReady, IsTold}
 use Rattle.farm_rounds.specs.Acts.{no_kept}
 use Rattle.farm_rounds.specs.Rounds.{io_of}
@@ -32,7 +32,7 @@ use Rattle.farm_rounds.proofs.Phased.{half_open, told_at, told_is, told_number, 
 -- ---- the calls of each step, by those at its start
 
 abbrev pub ends : List OpenCall → OpenCall → ℕ
-ends os o = end_beside (map standing os) o
+ends os o = end_beside (map standing_of_open os) o
 
 abbrev pub told : List OpenCall → OpenCall → OpenCall
 told os o = told_at (ends os o) o
@@ -46,7 +46,7 @@ done os o = done_at (all_told os) (ends os o) o
 abbrev pub all_done : List OpenCall → List OpenCall
 all_done os = map (done os) os
 
-pub told_all : (os : List OpenCall) → map open_finished (all_begun (map standing os) os) ≡ all_told os
+pub told_all : (os : List OpenCall) → map open_finished (all_begun (map standing_of_open os) os) ≡ all_told os
 told_all os = map-map open_finished (λ (o : OpenCall). open_begun (ends os o) o) os
 
 pub done_all : (os : List OpenCall) → map open_finished (all_met (all_told os)) ≡ all_done os
@@ -54,8 +54,8 @@ done_all os =
     map-map open_finished (λ (o : OpenCall). met_beside (all_told os) o o.partner) (all_told os)
     ∙ map-map (λ (o : OpenCall). open_finished (met_beside (all_told os) o o.partner)) (told os) os
 
--- the same of calls in boxes
-pub after_first : (os : List OpenCall) (begun run : List (Box OpenCall)) → opens_in begun ≡ all_begun (map standing os) os →
+-- The boxed calls after each phase are those of the lists above.
+pub after_first : (os : List OpenCall) (begun run : List (Box OpenCall)) → opens_in begun ≡ all_begun (map standing_of_open os) os →
     opens_in run ≡ map (λ b. open_finished b.value) begun → opens_in run ≡ all_told os
 after_first os begun run e f = f ∙ sym (map-map open_finished (λ (b : Box OpenCall). b.value) begun) ∙ ap (map open_finished) e ∙ told_all os
 
@@ -70,9 +70,10 @@ told_found os d p e =
     ap (λ (x : Option OpenCall). unwrap_or x no_open)
     (changed_by (told os) os d (all_of (λ (o : OpenCall). (told os o).job.io.call ≡ o.job.io.call) os (λ o. told_number (ends os o) o)) ∙ ap (λ (x : Option OpenCall). option_map (told os) x) e)
 
-pub standing_found : (os : List OpenCall) (d : ℕ) (p : OpenCall) → open_in os d ≡ Some p → standing_of (map standing os) d ≡ standing p
+pub standing_found : (os : List OpenCall) (d : ℕ) (p : OpenCall) → open_in os d ≡ Some p →
+    standing_of (map standing_of_open os) d ≡ standing_of_open p
 standing_found os d p e =
-    ap (λ (x : Option Standing). unwrap_or x no_standing) (standing_by os d ∙ ap (λ (x : Option OpenCall). option_map standing x) e)
+    ap (λ (x : Option Standing). unwrap_or x no_standing) (standing_by os d ∙ ap (λ (x : Option OpenCall). option_map standing_of_open x) e)
 
 pub done_found : (os : List OpenCall) (c : ℕ) → open_in (all_done os) c ≡ option_map (done os) (open_in os c)
 done_found os c = changed_by (done os) os c (all_of (λ (o : OpenCall). (done os o).job.io.call ≡ o.job.io.call) os (λ o. (done_keeps (all_told os) (ends os o) o).call))
@@ -97,20 +98,21 @@ module _ (start ended : ℕ) (live : List ℕ) (os : List OpenCall) (i : IsRound
       record { other = p.call; found = p.found; back = p.partner; apart = both.1 }
 
   -- a bridge ends behind the places of the shorter
-  pub ends_with : (c : ℕ) (o : OpenCall) (d : ℕ) (p : OpenCall) → o.partner ≡ Some d → open_in os d ≡ Some p → ends os o ≡ min (whole_in o.lines) (whole_in p.lines)
+  pub ends_with : (c : ℕ) (o : OpenCall) (d : ℕ) (p : OpenCall) → o.partner ≡ Some d →
+      open_in os d ≡ Some p → ends os o ≡ min (whole_in o.lines) (whole_in p.lines)
   ends_with c o d p q f =
-      ap (end_with (map standing os) (whole_in o.lines)) q ∙ ap (λ (s : Standing). min (whole_in o.lines) s.whole) (standing_found os d p f)
+      ap (end_with (map standing_of_open os) (whole_in o.lines)) q ∙ ap (λ (s : Standing). min (whole_in o.lines) s.whole) (standing_found os d p f)
 
   ends_alone : (o : OpenCall) → o.partner ≡ None → ends os o ≡ 0
-  ends_alone o q = ap (end_with (map standing os) (whole_in o.lines)) q
+  ends_alone o q = ap (end_with (map standing_of_open os) (whole_in o.lines)) q
 
   -- ---- a call's job
 
   alone_done : (c : ℕ) (o : OpenCall) → open_in os c ≡ Some o → o.partner ≡ None → (done os o).job ≡ round_alone (half_open o)
   alone_done c o e q =
-      ap (λ (p : Option ℕ). call_finished (met_beside (all_told os) (told os o) p).job) q
-      ∙ ap (λ (m : ℕ). call_finished (turned_down (told_at m o).job)) (ends_alone o q)
-      ∙ ap (λ (j : CallMemory). call_finished (turned_down j)) (told_is start ended 0 o (in_round c o e))
+      ap (λ (p : Option ℕ). job_at_phase_end (met_beside (all_told os) (told os o) p).job) q
+      ∙ ap (λ (m : ℕ). job_at_phase_end (turn_down (told_at m o).job)) (ends_alone o q)
+      ∙ ap (λ (j : CallMemory). job_at_phase_end (turn_down j)) (told_is start ended 0 o (in_round c o e))
 
   beside_done : (c : ℕ) (o : OpenCall) (d : ℕ) (e : open_in os c ≡ Some o) (q : o.partner ≡ Some d) (b : Beside c o d) →
       (done os o).job ≡ round_beside (min (whole_in o.lines) (whole_in b.other.lines)) (half_open o) (half_open b.other)
@@ -120,12 +122,12 @@ module _ (start ended : ℕ) (live : List ℕ) (os : List OpenCall) (i : IsRound
       let same : min (whole_in p.lines) (whole_in o.lines) ≡ m = omega arith in
       let its : ends os o ≡ m = ends_with c o d p q b.found in
       let others : ends os p ≡ m = ends_with d p c o b.back e ∙ same in
-      ap (λ (x : Option ℕ). call_finished (met_beside (all_told os) (told os o) x).job) q
-      ∙ ap (λ (x : OpenCall). call_finished (heard_from x.job (told os o).job)) (told_found os d p b.found)
-      ∙ ap (λ (n : ℕ). call_finished (heard_from (told_at n p).job (told os o).job)) others
-      ∙ ap (λ (n : ℕ). call_finished (heard_from (told_at m p).job (told_at n o).job)) its
-      ∙ ap (λ (j : CallMemory). call_finished (heard_from j (told_at m o).job)) (told_is start ended m p (in_round d p b.found))
-      ∙ ap (λ (j : CallMemory). call_finished (heard_from (first_phase m (half_open p)) j)) (told_is start ended m o (in_round c o e))
+      ap (λ (x : Option ℕ). job_at_phase_end (met_beside (all_told os) (told os o) x).job) q
+      ∙ ap (λ (x : OpenCall). job_at_phase_end (hear_from x.job (told os o).job)) (told_found os d p b.found)
+      ∙ ap (λ (n : ℕ). job_at_phase_end (hear_from (told_at n p).job (told os o).job)) others
+      ∙ ap (λ (n : ℕ). job_at_phase_end (hear_from (told_at m p).job (told_at n o).job)) its
+      ∙ ap (λ (j : CallMemory). job_at_phase_end (hear_from j (told_at m o).job)) (told_is start ended m p (in_round d p b.found))
+      ∙ ap (λ (j : CallMemory). job_at_phase_end (hear_from (first_phase m (half_open p)) j)) (told_is start ended m o (in_round c o e))
 
   -- ---- the job by which the round is defined
 
@@ -171,7 +173,7 @@ module _ (start ended : ℕ) (live : List ℕ) (os : List OpenCall) (i : IsRound
 
         by : (q : Option ℕ) → o.partner ≡ q → half_worked r c ≡ half_in (done os o).job
         by None q =
-            ap (λ (j : Job). half_of (finished j) c) (job_alone c o e q)
+            ap (λ (j : Job). half_of (finished_job j) c) (job_alone c o e q)
             ∙ ap (λ (j : Job). half_of j c) (one-rounded (half_open o) refl)
             ∙ ap half_in (sym (alone_done c o e q))
         by (Some d) q =
@@ -181,22 +183,23 @@ module _ (start ended : ℕ) (live : List ℕ) (os : List OpenCall) (i : IsRound
             let is = beside_done c o d e q b in
             let first = half_in (round_beside m (half_open o) (half_open p)) in
             let call : (first.io.call == c) ≡ true = eq-eqb first.io.call c (ap (λ (j : CallMemory). j.io.call) (sym is) ∙ number) in
-            ap (λ (j : Job). half_of (finished j) c) (job_both c o d p e q b.found)
+            ap (λ (j : Job). half_of (finished_job j) c) (job_both c o d p e q b.found)
             ∙ ap (λ (j : Job). half_of j c) (two-rounded (half_open o) (half_open p) refl refl)
             ∙ ap (λ (t : Bool). if t then first else half_in (round_beside m (half_open p) (half_open o))) call
             ∙ ap half_in (sym is)
 
   -- ---- when each step can be done
 
-  pub paired : ArePaired live (map standing os)
+  pub paired : ArePaired live (map standing_of_open os)
   paired = record {
-    listed = i.opened.listed ∙ sym (map-map (λ (s : Standing). s.number) standing os);
+    listed = i.opened.listed ∙ sym (map-map (λ (s : Standing). s.number) standing_of_open os);
     rising = i.opened.rising;
-    partners = All-map (λ s. (d : ℕ) → s.partner ≡ Some d → (is_among live d ≡ true) × (d ≢ s.number)) standing os
+    partners = All-map (λ s. (d : ℕ) → s.partner ≡ Some d → (is_among live d ≡ true) × (d ≢ s.number)) standing_of_open os
         (All-from_get_or (λ o. (d : ℕ) → o.partner ≡ Some d → (is_among live d ≡ true) × (d ≢ o.job.io.call)) os no_open one);
   }
     where
-      one : (k : ℕ) → k < length os → (d : ℕ) → (get_or os k no_open).partner ≡ Some d → (is_among live d ≡ true) × (d ≢ (get_or os k no_open).job.io.call)
+      one : (k : ℕ) → k < length os → (d : ℕ) → (get_or os k no_open).partner ≡ Some d →
+          (is_among live d ≡ true) × (d ≢ (get_or os k no_open).job.io.call)
       one k l d q =
           let o = get_or os k no_open in
           let b = beside o.job.io.call o d (find_at os k (subst IsRising i.opened.listed i.opened.rising) l) q in
@@ -214,14 +217,14 @@ module _ (start ended : ℕ) (live : List ℕ) (os : List OpenCall) (i : IsRound
       })
 
   -- calls after the first phase stand as they did
-  pub told_standings : map standing (all_told os) ≡ map standing os
+  pub told_standings : map standing_of_open (all_told os) ≡ map standing_of_open os
   told_standings = by os os
     where
-      by : (ss xs : List OpenCall) → map standing (map (told ss) xs) ≡ map standing xs
+      by : (ss xs : List OpenCall) → map standing_of_open (map (told ss) xs) ≡ map standing_of_open xs
       by ss [] = refl
       by ss (x ∷ xs) =
-          ap (λ (n : ℕ). record { number = n; partner = x.partner; whole = whole_in x.lines } ∷ map standing (map (told ss) xs)) (told_number (ends ss x) x)
-          ∙ ap (λ (rest : List Standing). standing x ∷ rest) (by ss xs)
+          ap (λ (n : ℕ). record { number = n; partner = x.partner; whole = whole_in x.lines } ∷ map standing_of_open (map (told ss) xs)) (told_number (ends ss x) x)
+          ∙ ap (λ (rest : List Standing). standing_of_open x ∷ rest) (by ss xs)
 
   pub told_ready : All (IsTold (all_told os)) (all_told os)
   told_ready = All-map (IsTold (all_told os)) (told os) os (All-from_get_or (λ o. IsTold (all_told os) (told os o)) os no_open one)

@@ -34,7 +34,7 @@ joins c b None (Some x) p w t h = absurd h
 joins c b (Some y) None p w t h = absurd h
 joins c b (Some y) (Some x) p w t h = (h.0, begin-stands (whose c y) y.periods y.now x.leg w h.1, refl)
 
--- so does one whose bridge is over
+-- A call whose bridge is over stands for its periods without a bridge.
 parts : (c : ℕ) (o : Option CallHistory) (x : Option Call) (p : Option ℕ) → is_some p ≡ true → CallStands c o x p →
     CallStands c (option_map (set_now without_bridge) o) (option_map parted_call x) None
 parts c None None p t h = refl
@@ -42,7 +42,7 @@ parts c None (Some x) p t h = absurd h
 parts c (Some y) None p t h = absurd h
 parts c (Some y) (Some x) p t h = (h.0, end-stands (whose c y) y.periods y.now x.leg (h.2 ∙ t) h.1, refl)
 
--- so does one whose level is set
+-- A call whose level is set stands for its periods with that level.
 sets_level : (c d : ℕ) (level : ℤ) (o : Option CallHistory) (x : Option Call) (p : Option ℕ) → CallStands c o x p →
     CallStands c (option_map (set_now (with_level level)) o) (option_map (set_by (act.LevelSet d level)) x) p
 sets_level c d level None None p h = h
@@ -50,7 +50,7 @@ sets_level c d level None (Some x) p h = absurd h
 sets_level c d level (Some y) None p h = absurd h
 sets_level c d level (Some y) (Some x) p h = (h.0, level-stands (whose c y) y.periods y.now level x.leg h.1, h.2)
 
--- so does one whose DTX mode is set
+-- A call whose DTX mode is set stands for its periods with that mode.
 sets_mode : (c d : ℕ) (mode : DtxMode) (o : Option CallHistory) (x : Option Call) (p : Option ℕ) → CallStands c o x p →
     CallStands c (option_map (set_now (with_mode mode)) o) (option_map (set_by (act.DtxSet d mode)) x) p
 sets_mode c d mode None None p h = h

@@ -11,7 +11,7 @@ use Rattle.trau_io.specs.Indices.{number_of_side, index_of_line}
 use Rattle.trau_io.proofs.Tables.{number_of_side-below}
 use Rattle.round_lines.specs.Seats.{SeatMemory, down_given, out_given}
 use Rattle.round_lines.specs.Rounds.{Rising, IsOutgoing, seat_at, call_at}
-use Rattle.farm_rounds.specs.Sums.{AddsSeat, Adds, no_sums, sum_in}
+use Rattle.farm_rounds.specs.Sums.{AddsSeat, no_sums, sum_in}
 
 -- a table of zeros has zeros
 zeros : (n i : ℕ) → ◌≡◌ {A = ℕ} (slice_index_or (replicate n 0) i 0) 0
@@ -25,7 +25,8 @@ no_sum n sums made = λ i. λ c side. (ap (λ (xs : List ℕ). sum_in xs c side)
 
 -- octets are added at the index of their line
 pub added_here : (sums old octets : List ℕ) (call at n a b : ℕ) (side : Side) → sums ≡ old → at ≡ index_of_line call side → at < length sums →
-    n ≡ sum octets % 2 ^ 32 → a ≡ get_or sums at a → b ≡ (a + n) % 2 ^ 32 → sum_in (set sums at b) call side ≡ (sum_in old call side + sum octets) % 2 ^ 32
+    n ≡ sum octets % 2 ^ 32 → a ≡ get_or sums at a → b ≡ (a + n) % 2 ^ 32 →
+    sum_in (set sums at b) call side ≡ (sum_in old call side + sum octets) % 2 ^ 32
 added_here sums old octets call at n a b side same here within of before new =
     let was : a ≡ get_or sums at 0 = before ∙ get_or_default sums at a 0 within in
     subst (λ (k : ℕ). get_or (set sums at b) k 0 ≡ (get_or sums k 0 + sum octets) % 2 ^ 32) here
@@ -46,7 +47,7 @@ numbered_back Pcm = refl
 numbered_back Down = refl
 numbered_back Out = refl
 
--- and at no other line's
+-- The sums at the numbers of other lines are unchanged.
 pub added_elsewhere : (sums old : List ℕ) (call at b : ℕ) (side : Side) → sums ≡ old → at ≡ index_of_line call side →
     (c : ℕ) (s : Side) → (c ≡ call → s ≡ side → ⊥) → sum_in (set sums at b) c s ≡ sum_in old c s
 added_elsewhere sums old call at b side same here c s other =
@@ -61,9 +62,8 @@ added_elsewhere sums old call at b side same here c s other =
 -- both lines of a seat, one after the other
 pub both_added : (seat : SeatMemory) (a b d : ℕ → Side → ℕ) (l m : Line) → l.call ≡ seat.lines.call → l.side ≡ Down → m.call ≡ seat.lines.call →
     m.side ≡ Out → b l.call l.side ≡ (a l.call l.side + sum (down_given seat)) % 2 ^ 32 →
-    ((e : ℕ) (s : Side) → (e ≡ l.call → s ≡ l.side → ⊥) → b e s ≡ a e s) →
-    d m.call m.side ≡ (b m.call m.side + sum (out_given seat)) % 2 ^ 32 → ((e : ℕ) (s : Side) → (e ≡ m.call → s ≡ m.side → ⊥) → d e s ≡ b e s) →
-    AddsSeat seat a d
+    ((e : ℕ) (s : Side) → (e ≡ l.call → s ≡ l.side → ⊥) → b e s ≡ a e s) → d m.call m.side ≡ (b m.call m.side + sum (out_given seat)) % 2 ^ 32 →
+    ((e : ℕ) (s : Side) → (e ≡ m.call → s ≡ m.side → ⊥) → d e s ≡ b e s) → AddsSeat seat a d
 both_added seat a b d l m l_call l_side m_call m_side down first out second =
     let c = seat.lines.call in
     let down_added : b c Down ≡ (a c Down + sum (down_given seat)) % 2 ^ 32 =
@@ -113,8 +113,3 @@ added_more n seats a b d rising within first new = record {
 
     is : (k : ℕ) → k < n + 1 → n ≤ k → n ≡ k
     is k less here = omega (arith, less, here)
-
--- all seats
-pub all_added : (n : ℕ) (seats : List SeatMemory) (a d : ℕ → Side → ℕ) → n ≡ length seats → AddsFirst n seats a d → Adds seats a d
-all_added n seats a d all done =
-    let full = subst (λ (m : ℕ). AddsFirst m seats a d) all done in record { down = full.down; out = full.out; others = full.others }

@@ -10,8 +10,8 @@ use Rattle.call_number.specs.CallNumber.{IsCallNumber}
 use Rattle.call_leg.specs.Stands.{Stands}
 use Rattle.call_pair.specs.Memory.{HalfMemory, IsIo, Job}
 use Rattle.call_pair.specs.History.{io_after}
-use Rattle.call_pair.specs.Jobs.{half_of, finished}
-use Rattle.call_pair.specs.Phases.{half_in, begun}
+use Rattle.call_pair.specs.Jobs.{half_of, finished_job}
+use Rattle.call_pair.specs.Phases.{half_in, begin}
 use Rattle.round_lines.specs.Memory.{LinesMemory, whole_in}
 use Rattle.round_lines.specs.Seats.{SeatMemory}
 use Rattle.round_lines.specs.Rounds.{Rising, EndsWithin, seat_at, call_at}
@@ -103,7 +103,8 @@ module _ (start ended : ℕ) (live : List ℕ) (os : List OpenCall) (i : IsRound
   inside : (k : ℕ) → k < length (map seat_of_open os) → k < length os
   inside k l = omega (arith, l, length-map os seat_of_open)
 
-  pub same_place : (k : ℕ) → k < length (map seat_of_open os) → (seat_at (map seat_of_open (all_done os)) k).lines ≡ (seat_at (map seat_of_open os) k).lines
+  pub same_place : (k : ℕ) → k < length (map seat_of_open os) →
+      (seat_at (map seat_of_open (all_done os)) k).lines ≡ (seat_at (map seat_of_open os) k).lines
   same_place k l =
       ap (λ (s : SeatMemory). s.lines) (seat_after k (inside k l)) ∙ (keeps (get_or os k no_open)).lines
       ∙ sym (ap (λ (s : SeatMemory). s.lines) (seat_before k (inside k l)))
@@ -165,8 +166,8 @@ module _ (start ended : ℕ) (live : List ℕ) (os : List OpenCall) (i : IsRound
         subst (λ (n : ℕ). option_map (λ (x : Call). x.leg) (call_in (map kept_of (all_done os)) n) ≡ Some (half_worked r n).leg) (sym at)
         (ap (option_map (λ (x : Call). x.leg)) (call_after c o e) ∙ ap (λ (h : HalfMemory). Some h.leg) (sym (half_is c o e)))
 
-    pub seat_left : (k : ℕ) → k < length (map seat_of_open os) → let s = seat_at (map seat_of_open os) k in
-        seat_at (map seat_of_open (all_done os)) k ≡ seat_with s.lines (half_worked r s.lines.call).io
+    pub seat_left : (k : ℕ) → k < length (map seat_of_open os) → let s = seat_at (map seat_of_open os) k in seat_at (map seat_of_open (all_done os)) k
+        ≡ seat_with s.lines (half_worked r s.lines.call).io
     seat_left k l =
         let lk = inside k l in
         let o = get_or os k no_open in
@@ -230,7 +231,7 @@ module _ (start ended : ℕ) (live : List ℕ) (os : List OpenCall) (i : IsRound
           by : (q : Option ℕ) → o.partner ≡ q → Finishes c (half_worked r c)
           by None q =
               let alone : partner c ≡ None = partner_found os c o e ∙ q in
-              subst (Finishes c) (sym (ap (λ (j : Job). half_of (finished j) c) (job_alone start ended live os i r calls seats c o e q)))
+              subst (Finishes c) (sym (ap (λ (j : Job). half_of (finished_job j) c) (job_alone start ended live os i r calls seats c o e q)))
               (alone_finished before (goes_on_call after) h partner o.lines.periods c (half_open o) t.history (seated c o e) t.told alone t.leg
               (t.bridged ∙ ap is_some alone))
           by (Some d) q =
@@ -241,7 +242,7 @@ module _ (start ended : ℕ) (live : List ℕ) (os : List OpenCall) (i : IsRound
               let its : partner d ≡ Some c = partner_found os d p b.found ∙ b.back in
               let same : p.lines.periods ≡ o.lines.periods =
               omega (arith, (in_round start ended live os i c o e).periods, (in_round start ended live os i d p b.found).periods) in
-              subst (Finishes c) (sym (ap (λ (j : Job). half_of (finished j) c) (job_both start ended live os i r calls seats c o d p e q b.found)))
+              subst (Finishes c) (sym (ap (λ (j : Job). half_of (finished_job j) c) (job_both start ended live os i r calls seats c o d p e q b.found)))
               (beside_finished before (goes_on_call after) h partner o.lines.periods c d (half_open o) (half_open p) t.history u.history (seated c o e)
               (subst (λ (n : ℕ). Seated before (goes_on_call after) n d (half_open p)) same (seated d p b.found)) t.told u.told mine t.leg u.leg
               (t.bridged ∙ ap is_some mine) (u.bridged ∙ ap is_some its))
@@ -329,8 +330,8 @@ module _ (start ended : ℕ) (live : List ℕ) (os : List OpenCall) (i : IsRound
   done_flag o r = by o.partner where
     by : (p : Option ℕ) → (open_finished (met_beside (all_told os) (told_open os o) p)).job.down.bridged
         ≡ (o.job.down.bridged && nat_le (whole_in o.lines) (ends os o))
-    by None = flag_after (begun (whole_in o.lines) (ends os o) o.job) (told_open os o).job.partner r.call.first
-    by (Some d) = flag_after (begun (whole_in o.lines) (ends os o) o.job) _ r.call.first
+    by None = flag_after (begin (whole_in o.lines) (ends os o) o.job) (told_open os o).job.partner r.call.first
+    by (Some d) = flag_after (begin (whole_in o.lines) (ends os o) o.job) _ r.call.first
 
   -- one that goes on is so where its partner goes on too
   still_one : (o : OpenCall) → open_in os o.job.io.call ≡ Some o → All (λ o. whole_in o.lines ≤ o.lines.periods) os →
@@ -342,7 +343,8 @@ module _ (start ended : ℕ) (live : List ℕ) (os : List OpenCall) (i : IsRound
     all : whole_in o.lines ≡ o.lines.periods
     all = eqb-true (whole_in o.lines) o.lines.periods (ap (λ (q : LinesMemory). whole_in q == q.periods) (sym (keeps o).lines) ∙ goes)
 
-    by : (q : Option ℕ) → o.partner ≡ q → (done os o).job.down.bridged ≡ is_some (that_stays (goes_on_call (map seat_of_open (all_done os))) (done os o).partner)
+    by : (q : Option ℕ) → o.partner ≡ q → (done os o).job.down.bridged
+        ≡ is_some (that_stays (goes_on_call (map seat_of_open (all_done os))) (done os o).partner)
     by None q =
         done_flag o r ∙ ap (λ (b : Bool). b && nat_le (whole_in o.lines) (ends os o)) (r.call.down ∙ ap (λ (p : Option ℕ). is_some p) q)
         ∙ sym (ap (λ (p : Option ℕ). is_some (that_stays (goes_on_call (map seat_of_open (all_done os))) p)) ((keeps o).partner ∙ q))

@@ -16,23 +16,33 @@ use Rattle.farm_rounds.specs.Calls.{Call, Kept, call_in, partner_in}
 
 -- before its first period
 abbrev pub new_call : ℕ → Law → Call
-new_call c law = record { number = c; leg = leg.home_memory (record { number = c; law = law }); down_failed = false; out_failed = false }
+new_call c law = record {
+  number = c;
+  leg = leg.home_memory (record { number = c; law = law });
+  down_failed = false;
+  out_failed = false;
+}
 
 -- the default if there is no call
 abbrev pub no_kept : Kept
 no_kept = record { call = new_call 0 A; partner = None }
 
 abbrev pub with_leg : LegMemory → Call → Call
-with_leg m x = record { number = x.number; leg = m; down_failed = x.down_failed; out_failed = x.out_failed }
+with_leg m x = record {
+  number = x.number;
+  leg = m;
+  down_failed = x.down_failed;
+  out_failed = x.out_failed;
+}
 
--- its bridge starts, or is over
+-- a call whose bridge starts, and one whose bridge is over
 abbrev pub bridged_call : Call → Call
 bridged_call x = with_leg (begin_bridge x.leg) x
 
 abbrev pub parted_call : Call → Call
 parted_call x = with_leg (with_down x.leg (bridge_over x.leg.down)) x
 
--- its level or its DTX mode is set
+-- a call whose level or DTX mode an act sets
 abbrev pub set_by : Act → Call → Call
 set_by (LevelSet c level) x = with_leg (with_down x.leg (set_level level x.leg.down)) x
 set_by (DtxSet c mode) x = with_leg (with_down x.leg (set_mode mode x.leg.down)) x

@@ -22,7 +22,8 @@ is_listed lines c s = list_any (λ l. index_of_line l.call l.side == index_of_li
 -- An open call's incoming lines haven't failed, and it knows which of its outgoing ones have.
 abbrev pub KnowsLines : List Line → ℕ → Call → Type 0
 KnowsLines lines c x =
-    (is_listed lines c Up ≡ false) × (is_listed lines c Pcm ≡ false) × (x.down_failed ≡ is_listed lines c Down) × (x.out_failed ≡ is_listed lines c Out)
+    (is_listed lines c Up ≡ false) × (is_listed lines c Pcm ≡ false)
+    × (x.down_failed ≡ is_listed lines c Down) × (x.out_failed ≡ is_listed lines c Out)
 
 -- Each line is listed once, by its call's number and in the order Up, Pcm, Down, Out.
 pub record AreFailed (lines : List Line) (calls : List Kept) : Type 0 where

@@ -2,7 +2,7 @@
 -- has one, and is run to its end.
 use Rattle.std.specs.Prelude.{ℕ, Option, Some, None, unwrap_or}
 use Rattle.call_pair.specs.Memory.{HalfMemory, Job, One, Two}
-use Rattle.call_pair.specs.Jobs.{half_of, finished}
+use Rattle.call_pair.specs.Jobs.{half_of, finished_job}
 use Rattle.farm_rounds.specs.Calls.{kept_in, partner_in}
 use Rattle.farm_rounds.specs.Rounds.{io_of}
 use Rattle.farm_rounds.specs.RoundHistories.{seat_of}
@@ -11,9 +11,12 @@ use Rattle.farm_rounds.specs.Acts.{no_kept}
 
 -- a call with the octets of its seat
 abbrev pub half_filled : RoundMemory → ℕ → HalfMemory
-half_filled r c = record { leg = (unwrap_or (kept_in r.farm.calls c) no_kept).call.leg; io = io_of (seat_of r.seats c) }
+half_filled r c = record {
+  leg = (unwrap_or (kept_in r.farm.calls c) no_kept).call.leg;
+  io = io_of (seat_of r.seats c);
+}
 
--- its job
+-- the job of a call, with its partner if it has one
 abbrev pub job_beside : RoundMemory → ℕ → Option ℕ → Job
 job_beside r c None = One (half_filled r c)
 job_beside r c (Some d) = Two (half_filled r c) (half_filled r d)
@@ -23,4 +26,4 @@ job_in r c = job_beside r c (partner_in r.farm.calls c)
 
 -- the call's half of the finished job
 abbrev pub half_worked : RoundMemory → ℕ → HalfMemory
-half_worked r c = half_of (finished (job_in r c)) c
+half_worked r c = half_of (finished_job (job_in r c)) c

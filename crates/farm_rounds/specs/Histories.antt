@@ -33,7 +33,8 @@ tally_of ts now = record { counts = call_counts ts; sent = sent_now ts now }
 -- other call none.
 abbrev pub CallStands : ℕ → Option CallHistory → Option Call → Option ℕ → Type 0
 CallStands c None None partner = partner ≡ None
-CallStands c (Some h) (Some x) partner = (x.number ≡ c) × Stands (whose c h) h.periods h.now x.leg × (h.now.bridged ≡ is_some partner)
+CallStands c (Some h) (Some x) partner =
+    (x.number ≡ c) × Stands (whose c h) h.periods h.now x.leg × (h.now.bridged ≡ is_some partner)
 CallStands c _ _ partner = ⊥
 
 -- h gives each call of a farm a possible history
@@ -46,10 +47,13 @@ abbrev pub set_now : (Settings → Settings) → CallHistory → CallHistory
 set_now f h = record { law = h.law; periods = h.periods; now = f h.now }
 
 abbrev pub histories_after : Act → (ℕ → Option CallHistory) → ℕ → Option CallHistory
-histories_after (Opened c law) h = put_at c (Some (record { law = law; periods = []; now = new_settings })) h
+histories_after (Opened c law) h =
+    put_at c (Some (record { law = law; periods = []; now = new_settings })) h
 histories_after (Closed c p) h = put_at c None (change_partner p (set_now without_bridge) h)
-histories_after (Bridged a b) h = change_at a (set_now with_bridge) (change_at b (set_now with_bridge) h)
-histories_after (Unbridged a b) h = change_at a (set_now without_bridge) (change_at b (set_now without_bridge) h)
+histories_after (Bridged a b) h =
+    change_at a (set_now with_bridge) (change_at b (set_now with_bridge) h)
+histories_after (Unbridged a b) h =
+    change_at a (set_now without_bridge) (change_at b (set_now without_bridge) h)
 histories_after (LevelSet c level) h = change_at c (set_now (with_level level)) h
 histories_after (DtxSet c mode) h = change_at c (set_now (with_mode mode)) h
 

@@ -25,4 +25,10 @@ tally_in tallies c = slice_index_or tallies c no_tally
 
 -- a farm with no call
 abbrev pub home_memory : FarmMemory
-home_memory = record { calls = []; live = []; tallies = replicate NUMBERS no_tally; failed = []; ended = 0 }
+home_memory = record {
+  calls = [];
+  live = [];
+  tallies = replicate NUMBERS no_tally;
+  failed = [];
+  ended = 0;
+}

@@ -1,5 +1,5 @@
 -- What a round does to all its open calls. `opens` are the calls at the start of a step.
-use Rattle.std.specs.Prelude.{◌≡◌, ◌≢◌, ℕ, ◌==◌, ◌≤◌, min, true, Option, Some, None, is_some, if◌then◌else◌, unwrap_or, find, List, [], length, map, get_or}
+use Rattle.std.specs.Prelude.{◌≡◌, ◌≢◌, ℕ, ◌==◌, ◌≤◌, min, true, Option, Some, None, is_some, if◌then◌else◌, unwrap_or, find, List, [], length, map, slice_index_or}
 use Rattle.std.specs.List.{All}
 use Rattle.std.specs.Global.{Box}
 use Rattle.trau_alaw.specs.declared.Law.TheVariants.{A}
@@ -8,7 +8,7 @@ use Rattle.call_leg.specs.Periods.{CallPeriod}
 use Rattle.call_leg.specs.Settings.{Settings}
 use Rattle.call_leg.specs.Stands.{Stands}
 use Rattle.call_pair.specs.Memory.{IsIo}
-use Rattle.call_pair.specs.Phases.{turned_down, heard_from, leg_in, periods_left}
+use Rattle.call_pair.specs.Phases.{turn_down, hear_from, leg_in, periods_left}
 use Rattle.call_pair.specs.declared.call_job.Phase.TheVariants.{First}
 use Rattle.farm_rounds.specs.Numbers.{IsRising, is_among}
 use Rattle.round_lines.specs.Memory.{whole_in}
@@ -26,7 +26,7 @@ no_open = new_open 0 A
 
 -- the call in the box at an index
 abbrev pub open_at : List (Box OpenCall) → ℕ → OpenCall
-open_at boxes k = get_or (opens_in boxes) k no_open
+open_at boxes k = slice_index_or (opens_in boxes) k no_open
 
 -- what the types of a call's octets and lines keep true: its octets fit together, and no more periods came than were planned
 abbrev pub OctetsFit : OpenCall → Type 0
@@ -51,14 +51,18 @@ pub record Standing : Type 0 where
   pub partner : Option ℕ
   pub whole : ℕ
 
-abbrev pub standing : OpenCall → Standing
-standing o = record { number = o.job.io.call; partner = o.partner; whole = whole_in o.lines }
+abbrev pub standing_of_open : OpenCall → Standing
+standing_of_open o = record {
+  number = o.job.io.call;
+  partner = o.partner;
+  whole = whole_in o.lines;
+}
 
 abbrev pub standings : List (Box OpenCall) → List Standing
-standings boxes = map standing (opens_in boxes)
+standings boxes = map standing_of_open (opens_in boxes)
 
 abbrev pub no_standing : Standing
-no_standing = standing no_open
+no_standing = standing_of_open no_open
 
 abbrev pub standing_of : List Standing → ℕ → Standing
 standing_of ss c = unwrap_or (find (λ s. s.number == c) ss) no_standing
@@ -76,8 +80,8 @@ all_begun ss opens = map (λ o. open_begun (end_beside ss o) o) opens
 
 -- a call takes its partner's frames, if it has one, and begins its second phase
 abbrev pub met_beside : List OpenCall → OpenCall → Option ℕ → OpenCall
-met_beside opens o None = with_job o (turned_down o.job)
-met_beside opens o (Some d) = with_job o (heard_from (open_numbered opens d).job o.job)
+met_beside opens o None = with_job o (turn_down o.job)
+met_beside opens o (Some d) = with_job o (hear_from (open_numbered opens d).job o.job)
 
 abbrev pub all_met : List OpenCall → List OpenCall
 all_met opens = map (λ o. met_beside opens o o.partner) opens
@@ -85,14 +89,16 @@ all_met opens = map (λ o. met_beside opens o o.partner) opens
 -- the tally of a call that ends is kept; all others are unchanged
 abbrev pub TallyAfter : Option OpenCall → Tally → Tally → Type 0
 TallyAfter None before now = now ≡ before
-TallyAfter (Some o) before now = (who : Who) (ts : List CallPeriod) (set : Settings) → Stands who ts set (leg_in o.job) → now ≡ tally_of ts set
+TallyAfter (Some o) before now = (who : Who) (ts : List CallPeriod) (set : Settings) →
+    Stands who ts set (leg_in o.job) → now ≡ tally_of ts set
 
 abbrev pub that_ends : Option OpenCall → Option OpenCall
 that_ends None = None
 that_ends (Some o) = if goes_on_open o then None else Some o
 
 abbrev pub TallyKept : List OpenCall → ℕ → Tally → Tally → Type 0
-TallyKept opens c before now = TallyAfter (that_ends (find (λ o. o.job.io.call == c) opens)) before now
+TallyKept opens c before now =
+    TallyAfter (that_ends (find (λ o. o.job.io.call == c) opens)) before now
 
 -- ---- what a step needs
 
@@ -100,7 +106,8 @@ TallyKept opens c before now = TallyAfter (that_ends (find (λ o. o.job.io.call 
 pub record ArePaired (live : List ℕ) (ss : List Standing) : Type 0 where
   pub listed : live ≡ map (λ s. s.number) ss
   pub rising : IsRising live
-  pub partners : All (λ s. (d : ℕ) → s.partner ≡ Some d → (is_among live d ≡ true) × (d ≢ s.number)) ss
+  pub partners : All (λ s. (d : ℕ) → s.partner ≡ Some d →
+      (is_among live d ≡ true) × (d ≢ s.number)) ss
 
 -- a call before its first phase: it and its bridge were planned for all periods of the round
 pub record IsReady (o : OpenCall) : Type 0 where
@@ -115,7 +122,8 @@ pub record IsTold (opens : List OpenCall) (o : OpenCall) : Type 0 where
   pub finished : periods_left o.job ≡ 0
   pub none : o.job.partner ≡ []
   pub alone : o.partner ≡ None → o.job.bridge_end ≡ 0
-  pub within : (d : ℕ) → o.partner ≡ Some d → o.job.bridge_end ≤ length (open_numbered opens d).job.notes
+  pub within : (d : ℕ) → o.partner ≡ Some d →
+      o.job.bridge_end ≤ length (open_numbered opens d).job.notes
 
 -- ---- between the rounds
 
@@ -129,11 +137,14 @@ pub record AreListed (live : List ℕ) (opens : List OpenCall) : Type 0 where
 
 -- f has changed what is seen of one call, and nothing of the others
 pub record IsChanged (call : ℕ) (f : Kept → Kept) (before now : List OpenCall) : Type 0 where
-  pub calls : (c : ℕ) → kept_in (map kept_of now) c ≡ (if c == call then option_map f (kept_in (map kept_of before) c) else kept_in (map kept_of before) c)
+  pub calls : (c : ℕ) → kept_in (map kept_of now) c
+      ≡ (if c == call then option_map f (kept_in (map kept_of before) c)
+      else kept_in (map kept_of before) c)
   pub each : (most : ℕ) → All (IsOpenCall most) before → All (IsOpenCall most) now
   pub numbers : map (λ o. o.job.io.call) now ≡ map (λ o. o.job.io.call) before
 
 -- the partner of a call that ends, if there is one, goes on alone
 abbrev pub IsReleased : Option ℕ → List OpenCall → List OpenCall → Type 0
 IsReleased None before now = now ≡ before
-IsReleased (Some p) before now = IsChanged p (λ k. record { call = parted_call k.call; partner = None }) before now
+IsReleased (Some p) before now =
+    IsChanged p (λ k. record { call = parted_call k.call; partner = None }) before now

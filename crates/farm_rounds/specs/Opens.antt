@@ -6,7 +6,7 @@ use Rattle.trau_alaw.specs.declared.Law.{Law}
 use Rattle.call_number.specs.CallNumber.{IsCallNumber}
 use Rattle.call_leg.specs.Memory.{home_memory}
 use Rattle.call_pair.specs.Memory.{IoMemory, no_octets}
-use Rattle.call_pair.specs.Phases.{CallMemory, starting, at_rest, planned, begun, call_finished, periods_left, leg_in}
+use Rattle.call_pair.specs.Phases.{CallMemory, job_at_start, at_rest, plan, begin, job_at_phase_end, periods_left, leg_in}
 use Rattle.call_pair.specs.declared.call_job.Phase.TheVariants.{First}
 use Rattle.round_lines.specs.Transfer.{has_failed}
 use Rattle.round_lines.specs.declared.transfer.Outlet.TheVariants.{Sound}
@@ -25,7 +25,12 @@ opens_in boxes = map (λ b. b.value) boxes
 -- what is seen of an open call, and of its lines in a round
 abbrev pub kept_of : OpenCall → Kept
 kept_of o = record {
-  call = record { number = o.job.io.call; leg = leg_in o.job; down_failed = has_failed o.lines.down; out_failed = has_failed o.lines.out };
+  call = record {
+    number = o.job.io.call;
+    leg = leg_in o.job;
+    down_failed = has_failed o.lines.down;
+    out_failed = has_failed o.lines.out;
+  };
   partner = o.partner;
 }
 
@@ -33,7 +38,13 @@ abbrev pub calls_of : List (Box OpenCall) → List Kept
 calls_of boxes = map kept_of (opens_in boxes)
 
 abbrev pub seat_with : LinesMemory → IoMemory → SeatMemory
-seat_with lines io = record { lines = lines; up = io.up; pcm = io.pcm; down = io.down; out = io.out }
+seat_with lines io = record {
+  lines = lines;
+  up = io.up;
+  pcm = io.pcm;
+  down = io.down;
+  out = io.out;
+}
 
 abbrev pub seat_of_open : OpenCall → SeatMemory
 seat_of_open o = seat_with o.lines o.job.io
@@ -43,13 +54,22 @@ seats_of boxes = map seat_of_open (opens_in boxes)
 
 -- what is seen of the calls of a farm
 abbrev pub farm_of : Calls → FarmMemory
-farm_of x = record { calls = calls_of x.open.items; live = x.live.items; tallies = x.tallies.items; failed = x.failed.items; ended = x.ended }
+farm_of x = record {
+  calls = calls_of x.open.items;
+  live = x.live.items;
+  tallies = x.tallies.items;
+  failed = x.failed.items;
+  ended = x.ended;
+}
 
 -- ---- the steps of one call
 
 abbrev pub new_open : ℕ → Law → OpenCall
 new_open c law = record {
-  job = starting 0 (record { leg = home_memory (record { number = c; law = law }); io = no_octets c });
+  job = job_at_start 0 (record {
+    leg = home_memory (record { number = c; law = law });
+    io = no_octets c;
+  });
   lines = fresh_lines c 1 false false;
   partner = None;
 }
@@ -60,7 +80,7 @@ with_job o j = record { job = j; lines = o.lines; partner = o.partner }
 -- a round of n periods is planned
 abbrev pub open_planned : ℕ → OpenCall → OpenCall
 open_planned n o = record {
-  job = planned n (is_some o.partner) o.job;
+  job = plan n (is_some o.partner) o.job;
   lines = fresh_lines o.lines.call n (has_failed o.lines.down) (has_failed o.lines.out);
   partner = o.partner;
 }
@@ -75,18 +95,22 @@ same_seat o = record {
 
 -- a call without the marks of its outgoing lines
 abbrev pub same_call : OpenCall → OpenCall
-same_call o = record { job = o.job; lines = record o.lines { down = Sound; out = Sound }; partner = o.partner }
+same_call o = record {
+  job = o.job;
+  lines = record o.lines { down = Sound; out = Sound };
+  partner = o.partner;
+}
 
--- its first phase begins: it has the whole periods that its lines gave, and the first m are bridged
+-- a call whose first phase begins: it has the whole periods that its lines gave, and the first m are bridged
 abbrev pub open_begun : ℕ → OpenCall → OpenCall
-open_begun m o = with_job o (begun (whole_in o.lines) m o.job)
+open_begun m o = with_job o (begin (whole_in o.lines) m o.job)
 
 abbrev pub open_left : OpenCall → ℕ
 open_left o = periods_left o.job
 
--- its phase is finished
+-- a call whose phase is finished
 abbrev pub open_finished : OpenCall → OpenCall
-open_finished o = with_job o (call_finished o.job)
+open_finished o = with_job o (job_at_phase_end o.job)
 
 -- a call goes on if its lines gave all periods of the round
 abbrev pub goes_on_open : OpenCall → Bool
@@ -99,7 +123,11 @@ still_among live (Some p) = if is_among live p then Some p else None
 
 -- a call after a round: its job is reset, and it has no partner if that one has ended
 abbrev pub open_rested : List ℕ → OpenCall → OpenCall
-open_rested live o = record { job = at_rest o.job; lines = o.lines; partner = still_among live o.partner }
+open_rested live o = record {
+  job = at_rest o.job;
+  lines = o.lines;
+  partner = still_among live o.partner;
+}
 
 -- ---- between the rounds
 

@@ -32,15 +32,24 @@ seat_of seats c = unwrap_or (find (λ s. s.lines.call == c) seats) no_seat
 
 -- the call at the start of the round: what it has had, and the octets of its periods in the round
 abbrev pub start_with : List SeatMemory → ℕ → CallHistory → Start
-start_with seats c x = record { law = x.law; past = x.periods; now = x.now; io = io_of (seat_of seats c) }
+start_with seats c x = record {
+  law = x.law;
+  past = x.periods;
+  now = x.now;
+  io = io_of (seat_of seats c);
+}
 
 -- the history of a call after the round, if it isn't bridged
 abbrev pub history_alone : List SeatMemory → ℕ → CallHistory → CallHistory
 history_alone seats c x =
     let n = whole_in (seat_of seats c).lines in
-    record { law = x.law; periods = alone_periods n (start_with seats c x); now = settings_at n x.now }
+    record {
+      law = x.law;
+      periods = alone_periods n (start_with seats c x);
+      now = settings_at n x.now;
+    }
 
--- the same, if it is bridged with call d
+-- the history of call c after the round, if it is bridged with call d
 abbrev pub history_bridged : List SeatMemory → ℕ → CallHistory → ℕ → CallHistory → CallHistory
 history_bridged seats c x d y =
     let n = whole_in (seat_of seats c).lines in
@@ -54,12 +63,14 @@ abbrev pub history_beside : List SeatMemory → ℕ → CallHistory → ℕ → 
 history_beside seats c x d None = history_alone seats c x
 history_beside seats c x d (Some y) = history_bridged seats c x d y
 
--- the same, with its partner if it has one
-abbrev pub history_with : List SeatMemory → (ℕ → Option CallHistory) → ℕ → Option ℕ → CallHistory → CallHistory
+-- the history of call c after the round, with its partner if it has one
+abbrev pub history_with : List SeatMemory → (ℕ → Option CallHistory) → ℕ → Option ℕ → CallHistory →
+    CallHistory
 history_with seats h c None x = history_alone seats c x
 history_with seats h c (Some d) x = history_beside seats c x d (h d)
 
-abbrev pub worked_histories : List SeatMemory → (ℕ → Option ℕ) → (ℕ → Option CallHistory) → ℕ → Option CallHistory
+abbrev pub worked_histories : List SeatMemory → (ℕ → Option ℕ) → (ℕ → Option CallHistory) → ℕ →
+    Option CallHistory
 worked_histories seats partner h c = option_map (history_with seats h c (partner c)) (h c)
 
 -- ---- after the work
@@ -69,16 +80,21 @@ worked_histories seats partner h c = option_map (history_with seats h c (partner
 abbrev pub WorkedCall : (ℕ → Bool) → ℕ → Option CallHistory → Option Call → Option ℕ → Type 0
 WorkedCall stays c None None partner = partner ≡ None
 WorkedCall stays c (Some h) (Some x) partner =
-    (x.number ≡ c) × Stands (whose c h) h.periods h.now x.leg × (stays c ≡ true → h.now.bridged ≡ is_some (that_stays stays partner))
+    (x.number ≡ c) × Stands (whose c h) h.periods h.now x.leg
+    × (stays c ≡ true → h.now.bridged ≡ is_some (that_stays stays partner))
 WorkedCall stays c _ _ partner = ⊥
 
 abbrev pub WorkedStand : (ℕ → Option CallHistory) → WorkedMemory → Type 0
-WorkedStand h r = (c : ℕ) → WorkedCall (goes_on_call r.seats) c (h c) (call_in r.farm.calls c) (partner_in r.farm.calls c)
+WorkedStand h r = (c : ℕ) →
+    WorkedCall (goes_on_call r.seats) c (h c) (call_in r.farm.calls c) (partner_in r.farm.calls c)
 
 -- The seats after the work: the buffers of Out and Down begin with the octets of the round's periods; the rest is unchanged.
 abbrev pub AreWorked : List SeatMemory → (ℕ → Option CallHistory) → List SeatMemory → Type 0
-AreWorked seats worked now = (k : ℕ) (x : CallHistory) → k < length seats → worked (call_at seats k) ≡ Some x →
-    let s = seat_at seats k in seat_at now k ≡ seat_with s.lines (io_after (whose (call_at seats k) x) (whole_in s.lines) x.periods (io_of s))
+AreWorked seats worked now = (k : ℕ) (x : CallHistory) → k < length seats →
+    worked (call_at seats k) ≡ Some x →
+    let s = seat_at seats k in
+    seat_at now k ≡ seat_with s.lines
+    (io_after (whose (call_at seats k) x) (whole_in s.lines) x.periods (io_of s))
 
 -- ---- the calls that go on
 
@@ -92,14 +108,18 @@ pub record IsPassed (r : WorkedMemory) (f : FarmMemory) : Type 0 where
   pub ended : f.ended ≡ r.farm.ended
   pub live : (c : ℕ) → is_among f.live c ≡ (is_among r.farm.live c && goes_on_call r.seats c)
   pub is_open : (c : ℕ) → is_some (call_in f.calls c) ≡ is_among f.live c
-  pub partners : (c : ℕ) → partner_in f.calls c ≡ partner_past (goes_on_call r.seats) (partner_in r.farm.calls) c
+  pub partners : (c : ℕ) →
+      partner_in f.calls c ≡ partner_past (goes_on_call r.seats) (partner_in r.farm.calls) c
   -- For every history `h` that is possible for these calls (`WorkedStand h`): the calls that go on have the history that `h` gives
   -- them, and the tallies of the calls that end are kept.
-  pub history : (h : ℕ → Option CallHistory) → WorkedStand h r → CallsStand (those_that (goes_on_call r.seats) h) f.calls
+  pub history : (h : ℕ → Option CallHistory) → WorkedStand h r →
+      CallsStand (those_that (goes_on_call r.seats) h) f.calls
   pub tallies : (h : ℕ → Option CallHistory) → WorkedStand h r → (c : ℕ) →
-      tally_in f.tallies c ≡ (if goes_on_call r.seats c then tally_in r.farm.tallies c else kept_of (h c) (tally_in r.farm.tallies c))
+      tally_in f.tallies c ≡ (if goes_on_call r.seats c then tally_in r.farm.tallies c
+      else kept_of (h c) (tally_in r.farm.tallies c))
 
 -- each of these calls knows which of its outgoing lines have failed so far, as its seat says
 abbrev pub KnowFailed : List SeatMemory → List Kept → Type 0
 KnowFailed seats calls = (c : ℕ) (x : Call) → call_in calls c ≡ Some x →
-    (x.down_failed ≡ has_failed (seat_of seats c).lines.down) × (x.out_failed ≡ has_failed (seat_of seats c).lines.out)
+    (x.down_failed ≡ has_failed (seat_of seats c).lines.down)
+    × (x.out_failed ≡ has_failed (seat_of seats c).lines.out)

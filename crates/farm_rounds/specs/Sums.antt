@@ -17,12 +17,17 @@ no_sums c s = 0
 
 -- The octets that go out of a call's seat are added to the sums of its outgoing lines; all other sums are unchanged.
 pub record AddsSeat (seat : SeatMemory) (before now : ℕ → Side → ℕ) : Type 0 where
-  pub down : now seat.lines.call Down ≡ (before seat.lines.call Down + sum (down_given seat)) % 2 ^ 32
-  pub out : now seat.lines.call Out ≡ (before seat.lines.call Out + sum (out_given seat)) % 2 ^ 32
+  pub down : now seat.lines.call Down
+      ≡ (before seat.lines.call Down + sum (down_given seat)) % 2 ^ 32
+  pub out : now seat.lines.call Out
+      ≡ (before seat.lines.call Out + sum (out_given seat)) % 2 ^ 32
   pub others : (c : ℕ) (s : Side) → (c ≡ seat.lines.call → IsOutgoing s → ⊥) → now c s ≡ before c s
 
--- The same for all seats of a round.
+-- What all seats of a round give is added to the sums.
 pub record Adds (seats : List SeatMemory) (before now : ℕ → Side → ℕ) : Type 0 where
-  pub down : (k : ℕ) → k < length seats → now (call_at seats k) Down ≡ (before (call_at seats k) Down + sum (down_given (seat_at seats k))) % 2 ^ 32
-  pub out : (k : ℕ) → k < length seats → now (call_at seats k) Out ≡ (before (call_at seats k) Out + sum (out_given (seat_at seats k))) % 2 ^ 32
-  pub others : (c : ℕ) (s : Side) → ((k : ℕ) → k < length seats → c ≡ call_at seats k → IsOutgoing s → ⊥) → now c s ≡ before c s
+  pub down : (k : ℕ) → k < length seats → now (call_at seats k) Down
+      ≡ (before (call_at seats k) Down + sum (down_given (seat_at seats k))) % 2 ^ 32
+  pub out : (k : ℕ) → k < length seats → now (call_at seats k) Out
+      ≡ (before (call_at seats k) Out + sum (out_given (seat_at seats k))) % 2 ^ 32
+  pub others : (c : ℕ) (s : Side) →
+      ((k : ℕ) → k < length seats → c ≡ call_at seats k → IsOutgoing s → ⊥) → now c s ≡ before c s

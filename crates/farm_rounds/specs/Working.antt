@@ -59,7 +59,8 @@ that_stays stays (Some p) = if stays p then Some p else None
 
 -- a call that goes on is bridged exactly if its partner goes on too
 abbrev pub StaysBridged : (ℕ → Bool) → OpenCall → Type 0
-StaysBridged stays o = goes_on_open o ≡ true → o.job.down.bridged ≡ is_some (that_stays stays o.partner)
+StaysBridged stays o =
+    goes_on_open o ≡ true → o.job.down.bridged ≡ is_some (that_stays stays o.partner)
 
 pub record IsWorkedRound (ended : ℕ) (live : List ℕ) (opens : List OpenCall) : Type 0 where
   pub listed : live ≡ map (λ o. o.job.io.call) opens
@@ -76,6 +77,7 @@ partner_past stays partner c = if stays c then that_stays stays (partner c) else
 -- order Up, Pcm, Down, Out.
 pub record GainsFailed (before now : List Line) (seats : List SeatMemory) : Type 0 where
   pub lines : List Line
-  pub told : map line_name lines ≡ map line_name before ++ flat_map (λ s. failed_in_round s.lines) seats
+  pub told : map line_name lines
+      ≡ map line_name before ++ flat_map (λ s. failed_in_round s.lines) seats
   pub same : IsPermutation lines now
   pub order : IsStrictlyIncreasing (map (λ l. index_of_line l.call l.side) now)

@@ -10,7 +10,7 @@ ghost use Rattle.farm_rounds.specs.Memory.{tally_in};
 ghost use Rattle.farm_rounds.specs.Numbers.{IsRising};
 ghost use Rattle.farm_rounds.specs.Opens.{opens_in, seats_of, IsOpenCall, with_job, open_planned, goes_on_open, open_rested};
 ghost use Rattle.farm_rounds.specs.Opened.{open_at, same_seats, same_calls, standings, end_beside, all_begun, all_met, TallyKept, HasBuffers, ArePaired, IsReady, OctetsFit, IsTold};
-ghost use Rattle.call_pair.specs.Phases.{heard_from, periods_left};
+ghost use Rattle.call_pair.specs.Phases.{hear_from, periods_left};
 ghost use Rattle.call_pair.specs.declared.call_job.Phase.TheVariants.{First};
 
 use crate::live::index_of;
@@ -103,7 +103,7 @@ fn meet(calls: &mut [Box<OpenCall>], at: usize, from: usize)
         ≤ length (open_at calls.old from).job.notes }
     requires none { (open_at calls.old at).job.partner ≡ [] }
     ensures heard { open_at calls.new at ≡ with_job (open_at calls.old at)
-        (heard_from (open_at calls.old from).job (open_at calls.old at).job) }
+        (hear_from (open_at calls.old from).job (open_at calls.old at).job) }
     ensures others { (k : ℕ) → k ≢ at → open_at calls.new k ≡ open_at calls.old k }
     ensures length { length calls.new ≡ length calls.old }
 {

@@ -7,7 +7,7 @@ ghost use Rattle.call_leg.specs.Periods.{CallPeriod};
 ghost use Rattle.call_leg.specs.Settings.{Settings};
 ghost use Rattle.call_leg.specs.Stands.{Stands};
 ghost use Rattle.call_pair.specs.Memory.{IsIo};
-ghost use Rattle.call_pair.specs.Phases.{leg_in, heard_from, turned_down, periods_left};
+ghost use Rattle.call_pair.specs.Phases.{leg_in, hear_from, turn_down, periods_left};
 ghost use Rattle.call_pair.specs.declared.call_job.Phase.TheVariants.{First};
 ghost use Rattle.round_lines.specs.Transfer.{has_failed};
 ghost use Rattle.round_lines.specs.Memory.{whole_in};
@@ -42,7 +42,7 @@ pub(crate) struct OpenCall {
 
 impl Work for OpenCall {
     ghost use Rattle.std.proofs.Common.{ap};
-    ghost use Rattle.call_pair.specs.Phases.{after_call_turns};
+    ghost use Rattle.call_pair.specs.Phases.{after_call_places};
     ghost use Rattle.farm_rounds.specs.Opens.{open_left, open_finished, with_job};
     ghost use Rattle.farm_rounds.specs.declared.open.OpenCall.{OpenCall};
 
@@ -55,7 +55,7 @@ impl Work for OpenCall {
     ghost number = { λ (o : OpenCall). o.job.io.call };
 
     // With no remaining period, the call is finished as it is.
-    ghost stays = { λ x e. ap (λ n. with_job x (after_call_turns n x.job)) e };
+    ghost stays = { λ x e. ap (λ n. with_job x (after_call_places n x.job)) e };
 
     fn call(&self) -> u32 {
         self.job.call()
@@ -231,7 +231,7 @@ impl OpenCall {
         requires finished { periods_left self.old.job ≡ 0 }
         requires told { self.old.job.bridge_end ≤ length partner.now.job.notes }
         requires none { self.old.job.partner ≡ [] }
-        ensures { self.new ≡ with_job self.old (heard_from partner.now.job self.old.job) }
+        ensures { self.new ≡ with_job self.old (hear_from partner.now.job self.old.job) }
     {
         self.job.hear_from(&partner.job);
     }
@@ -241,7 +241,7 @@ impl OpenCall {
         requires first { self.old.job.phase ≡ First }
         requires finished { periods_left self.old.job ≡ 0 }
         requires alone { self.old.job.bridge_end ≡ 0 }
-        ensures { self.new ≡ with_job self.old (turned_down self.old.job) }
+        ensures { self.new ≡ with_job self.old (turn_down self.old.job) }
     {
         self.job.turn_down();
     }

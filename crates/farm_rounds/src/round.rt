@@ -45,13 +45,19 @@ impl Model for Round {
 
     ghost Value = { RoundMemory };
 
-    ghost view = { λ r. record { start = r.start; farm = farm_of r.calls; seats = seats_of r.calls.open.items } };
+    ghost view = { λ r. record {
+      start = r.start;
+      farm = farm_of r.calls;
+      seats = seats_of r.calls.open.items;
+    } };
 
-    ghost invariant = { λ r. IsRound r.start r.calls.ended r.calls.live.items (opens_in r.calls.open.items)
+    ghost invariant = { λ r.
+        IsRound r.start r.calls.ended r.calls.live.items (opens_in r.calls.open.items)
         × (r.ends.items ≡ []) × (length r.calls.live.items ≤ vec_capacity r.ends)
         × (length r.calls.live.items ≤ r.first) × (length r.calls.live.items ≤ r.second)
         × (length r.calls.tallies.items ≡ NUMBERS)
-        × (length r.calls.failed.items + 4 * length r.calls.live.items ≤ vec_capacity r.calls.failed)
+        × (length r.calls.failed.items + 4 * length r.calls.live.items
+        ≤ vec_capacity r.calls.failed)
         × AreFailedBefore r.calls.failed.items (opens_in r.calls.open.items) };
 }
 

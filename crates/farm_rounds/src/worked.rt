@@ -29,11 +29,17 @@ impl Model for Worked {
 
     ghost Value = { WorkedMemory };
 
-    ghost view = { λ r. record { farm = farm_of r.calls; seats = seats_of r.calls.open.items; ends = r.ends.items } };
+    ghost view = { λ r. record {
+      farm = farm_of r.calls;
+      seats = seats_of r.calls.open.items;
+      ends = r.ends.items;
+    } };
 
-    ghost invariant = { λ r. IsWorkedRound r.calls.ended r.calls.live.items (opens_in r.calls.open.items)
+    ghost invariant = { λ r.
+        IsWorkedRound r.calls.ended r.calls.live.items (opens_in r.calls.open.items)
         × (length r.calls.tallies.items ≡ NUMBERS)
-        × (length r.calls.failed.items + 4 * length r.calls.live.items ≤ vec_capacity r.calls.failed)
+        × (length r.calls.failed.items + 4 * length r.calls.live.items
+        ≤ vec_capacity r.calls.failed)
         × AreFailedBefore r.calls.failed.items (opens_in r.calls.open.items) };
 }
 

@@ -5,7 +5,7 @@ use Rattle.call_number.specs.CallNumber.{IsCallNumber, call_numbers}
 use Rattle.switchboard.specs.declared.act.Span.{Span}
 use Rattle.switchboard.specs.Ends.{Given, start_of, spans_now, spans_of}
 use Rattle.switchboard.specs.Runs.{AllEndedAt}
-use Rattle.switchboard.specs.State.{State, told_in, end_so_far, numbered}
+use Rattle.switchboard.specs.State.{State, told_in, end_so_far, replies_from}
 use Rattle.farm_report.specs.declared.report.SpanLine.{SpanLine}
 use Rattle.farm_report.specs.declared.report.CallLine.{CallLine}
 use Rattle.farm_report.specs.View.{ReportView}
@@ -56,7 +56,7 @@ call_line b kept c =
 -- The report of a run of so many orders, from board, farm and notes, after the end of each call was reported to the board.
 pub record Reports (b : State) (farm : FarmMemory) (notes : List SentBefore) (orders : ℕ)
     (report : ReportView) : Type 0 where
-  pub replies : report.replies ≡ numbered 0 b.done
+  pub replies : report.replies ≡ replies_from 0 b.done
   pub failed : report.failed ≡ farm.failed
   pub left : report.left ≡ orders - length b.done
   -- one line for each call that has ended, in call-number order

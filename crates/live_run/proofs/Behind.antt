@@ -12,8 +12,8 @@ use Rattle.farm_live.specs.declared.slot.View.{View}
 use Rattle.farm_live.specs.declared.live.Seat.{Seat}
 use Rattle.farm_live.specs.declared.live.Caller.{Caller}
 use Rattle.farm_live.specs.Live.{view_of, next_post}
-use Rattle.farm_live.proofs.NewFarm.{written_back}
-use Rattle.live_run.specs.Posts.{drawn_posts, own_of, Knows, IsDrawn, GainsPost, MovesSeat, IsBehind, and_more, HasPosted}
+use Rattle.trau_num.proofs.Lists.{written_back}
+use Rattle.live_run.specs.Posts.{drawn_posts, own_of, Knows, IsDrawn, GainsPost, MovesSeat, IsBehind, HasPosted}
 use Rattle.live_run.proofs.Drawn.{own_is, own_none, length-drawn, drawn_more, next_is}
 
 -- ---- one call
@@ -31,8 +31,8 @@ pub drawn_at : (seed callers caller k n : ℕ) (g : Generator) → k % callers �
 drawn_at seed callers caller k n g own x = x ∙ ap (λ (m : ℕ). draw_state seed (k + 1) (first_draw m)) (sym (own_is callers caller k n own))
 
 knows_more : (seed callers caller k n : ℕ) (up pcm : List ℕ) (v w : View) → k % callers ≡ caller → up ≡ up_octets seed (k + 1) n →
-    pcm ≡ pcm_octets seed (k + 1) n →
-    Knows seed callers caller k n v → GainsPost (next_post caller up pcm v) v w → Knows seed callers caller k (n + 1) w
+    pcm ≡ pcm_octets seed (k + 1) n → Knows seed callers caller k n v → GainsPost (next_post caller up pcm v) v w →
+    Knows seed callers caller k (n + 1) w
 knows_more seed callers caller k n up pcm v w own p q knows gains =
     let call = k + 1 in
     let made : v.made ≡ drawn_posts seed caller call n = knows.made ∙ ap (drawn_posts seed caller call) (own_is callers caller k n own) in
@@ -49,7 +49,8 @@ knows_still : (seed callers caller k n m : ℕ) (v : View) → k % callers ≢ c
 knows_still seed callers caller k n m v other knows =
     record { made = knows.made ∙ ap (drawn_posts seed caller (k + 1)) (none_more callers caller k n m other); numbers = knows.numbers }
 
-pub drawn_still : (seed callers caller k n m : ℕ) (g : Generator) → k % callers ≢ caller → IsDrawn seed callers caller k n g → IsDrawn seed callers caller k m g
+pub drawn_still : (seed callers caller k n m : ℕ) (g : Generator) → k % callers ≢ caller →
+    IsDrawn seed callers caller k n g → IsDrawn seed callers caller k m g
 drawn_still seed callers caller k n m g other drawn = drawn ∙ ap (λ (j : ℕ). draw_state seed (k + 1) (first_draw j)) (none_more callers caller k n m other)
 
 -- at a call that isn't one's own
@@ -63,8 +64,7 @@ not_own seed callers k n c other all = record {
 }
 
 own_posted : (seed callers k n : ℕ) (up pcm : List ℕ) (c d : Caller) → k % callers ≡ c.number → up ≡ up_octets seed (k + 1) n →
-    pcm ≡ pcm_octets seed (k + 1) n →
-    ((s : Seat) → Knows seed callers c.number k n (view_of (get_or c.seats.items k s))) →
+    pcm ≡ pcm_octets seed (k + 1) n → ((s : Seat) → Knows seed callers c.number k n (view_of (get_or c.seats.items k s))) →
     MovesSeat (λ v w. GainsPost (next_post c.number up pcm v) v w) k c d → MovesSeat (λ _ w. Knows seed callers c.number k (n + 1) w) k c d
 own_posted seed callers k n up pcm c d own p q all m = record {
   number = m.number;
@@ -79,7 +79,8 @@ on_ok P Q (Err e) f h = h
 pub own_posted_ok : {A E : Type 0} (r : Result A E) (seed callers k n : ℕ) (up pcm : List ℕ) (c d : Caller) → k % callers ≡ c.number →
     up ≡ up_octets seed (k + 1) n → pcm ≡ pcm_octets seed (k + 1) n →
     ((s : Seat) → Knows seed callers c.number k n (view_of (get_or c.seats.items k s))) →
-    OnOk r (MovesSeat (λ v w. GainsPost (next_post c.number up pcm v) v w) k c d) → OnOk r (MovesSeat (λ _ w. Knows seed callers c.number k (n + 1) w) k c d)
+    OnOk r (MovesSeat (λ v w. GainsPost (next_post c.number up pcm v) v w) k c d) →
+    OnOk r (MovesSeat (λ _ w. Knows seed callers c.number k (n + 1) w) k c d)
 own_posted_ok r seed callers k n up pcm c d own p q all =
     on_ok (MovesSeat (λ v w. GainsPost (next_post c.number up pcm v) v w) k c d) (MovesSeat (λ _ w. Knows seed callers c.number k (n + 1) w) k c d) r
     (own_posted seed callers k n up pcm c d own p q all)
@@ -89,6 +90,10 @@ always_ok P (Ok x) h = h
 always_ok P (Err e) h = tt
 
 -- ---- all calls
+
+-- n periods of each call, and one more of the first `first` ones
+abbrev pub and_more : ℕ → ℕ → ℕ → ℕ
+and_more n first k = if nat_lt k first then n + 1 else n
 
 more_before : (n k first : ℕ) → k < first → and_more n first k ≡ n + 1
 more_before n k first h = let t : nat_lt k first ≡ true = lt-ltb k first h in rw t refl
@@ -183,16 +188,16 @@ module _ (seed calls callers caller : ℕ) where
   }
 
 -- by the number that the caller has now
-pub renumbered : (seed calls callers caller : ℕ) (f : ℕ → ℕ) (c : Caller) (gs hs : List Generator) → hs ≡ gs → IsBehind seed calls callers caller f c gs →
-    IsBehind seed calls callers c.number f c hs
+pub renumbered : (seed calls callers caller : ℕ) (f : ℕ → ℕ) (c : Caller) (gs hs : List Generator) →
+    hs ≡ gs → IsBehind seed calls callers caller f c gs → IsBehind seed calls callers c.number f c hs
 renumbered seed calls callers caller f c gs hs e b =
     subst (IsBehind seed calls callers c.number f c) (sym e)
     (subst (λ (i : ℕ). IsBehind seed calls callers i f c gs) (sym b.number) b)
 
 -- behind a round, whose generators were lent
 pub after_round : (seed calls callers caller : ℕ) (f g : ℕ → ℕ) (c d : Caller) (before gs : List Generator) (n : ℕ) → n ≡ length before →
-    IsBehind seed calls callers caller f c before →
-    IsBehind seed calls callers c.number g d gs → IsBehind seed calls callers caller g d (take n (gs ++ drop (length gs) before))
+    IsBehind seed calls callers caller f c before → IsBehind seed calls callers c.number g d gs →
+    IsBehind seed calls callers caller g d (take n (gs ++ drop (length gs) before))
 after_round seed calls callers caller f g c d before gs n long b after =
     let len : length gs ≡ n = after.one_each ∙ sym b.one_each ∙ sym long in
     subst (IsBehind seed calls callers caller g d) (sym (written_back gs (drop (length gs) before) n len))

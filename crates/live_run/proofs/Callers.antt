@@ -9,7 +9,8 @@ use Rattle.farm_live.specs.declared.slot.View.{View}
 use Rattle.farm_live.specs.declared.live.Caller.{Caller}
 use Rattle.farm_live.specs.Live.{IsSeated, AreCallers}
 use Rattle.farm_live.specs.Closing.{AreAllSeated}
-use Rattle.farm_live.proofs.NewFarm.{Line, written_back}
+use Rattle.trau_num.proofs.Lists.{written_back}
+use Rattle.farm_live.proofs.NewFarm.{Line}
 use Rattle.live_run.specs.declared.size.LiveDrill.{LiveDrill}
 use Rattle.live_run.specs.declared.posters.Poster.{Poster}
 use Rattle.live_run.specs.Posts.{drawn_posts, HasPosted, SawAll}
@@ -43,8 +44,7 @@ module _ {Q A : Type 0} (drill : LiveDrill) (inbox : ℕ) (slots : List (Line Q 
   }
 
   pub all_ready : (cs : List Caller) (ps qs : List Poster) → ps ≡ map poster_of cs → qs ≡ ps → HavePosted drill 0 inbox slots cs →
-      (k : ℕ) (p : Poster) → k < length qs →
-      IsReady drill inbox slots k (get_or qs k p)
+      (k : ℕ) (p : Poster) → k < length qs → IsReady drill inbox slots k (get_or qs k p)
   all_ready cs ps qs made lent have k p h =
       let is : qs ≡ map poster_of cs = lent ∙ made in
       let there : k < length cs = omega (arith, h, ap length is, length-map cs poster_of) in
@@ -112,8 +112,8 @@ module _ {Q A : Type 0} (drill : LiveDrill) (inbox : ℕ) (slots : List (Line Q 
   all_seated n cs have = λ i c h. have.seated i c (omega (arith, h, have.count))
 
   pub ending : (n : ℕ) (cs : List Caller) (d : Caller) (k : ℕ) → 1 ≤ drill.callers → drill.callers ≤ 64 → 1 ≤ n → length slots ≡ drill.calls →
-      HavePosted drill n inbox slots cs →
-      SawAll drill.callers (n - 1) drill.calls (get_or cs 0 d) → k < drill.calls → Ending drill.seed drill.calls drill.callers n cs d k
+      HavePosted drill n inbox slots cs → SawAll drill.callers (n - 1) drill.calls (get_or cs 0 d) → k < drill.calls →
+      Ending drill.seed drill.calls drill.callers n cs d k
   ending n cs d k some few periods count have saw there = record {
     some_callers = some;
     few_callers = few;

@@ -27,7 +27,8 @@ pub length-drawn : (seed caller call n : ℕ) → length (drawn_posts seed calle
 unfolding drawn_posts
 length-drawn seed caller call n = length-map-range_with_len (drawn_post seed caller call) 0 n
 
-pub drawn_more : (seed caller call n : ℕ) → drawn_posts seed caller call (n + 1) ≡ drawn_posts seed caller call n ++ drawn_post seed caller call n ∷ []
+pub drawn_more : (seed caller call n : ℕ) → drawn_posts seed caller call (n + 1)
+    ≡ drawn_posts seed caller call n ++ drawn_post seed caller call n ∷ []
 unfolding drawn_posts
 drawn_more seed caller call n = map-range_with_len_more (drawn_post seed caller call) 0 n n (omega arith)
 
@@ -57,8 +58,7 @@ none_drawn seed caller call = refl
 
 -- the next post of one that made the first n is that of period n
 pub next_is : (seed caller call n : ℕ) (up pcm : List ℕ) (v : View) → v.made ≡ drawn_posts seed caller call n → up ≡ up_octets seed call n →
-    pcm ≡ pcm_octets seed call n →
-    next_post caller up pcm v ≡ drawn_post seed caller call n
+    pcm ≡ pcm_octets seed call n → next_post caller up pcm v ≡ drawn_post seed caller call n
 next_is seed caller call n up pcm v made p q =
     let m : length (of_caller caller v.made) ≡ n =
     ap (λ (ms : List Post). length (of_caller caller ms)) made ∙ ap length (drawn_of seed caller call n) ∙ length-drawn seed caller call n in

@@ -35,7 +35,7 @@ module _ (seed calls callers periods : ℕ) (cs : List Caller) (d : Caller) (k :
     view_is : (i : ℕ) → i < callers → (s : Seat) × (view_at k (get_or cs i d) ≡ view_of (get_or (get_or cs i d).seats.items k s) ∷ [])
     view_is i h = let there = x.there in one_view (get_or cs i d).seats.items k (omega (arith, there, x.seats i h))
 
-    -- so what it tells is all that the caller knows of the call
+    -- The parts of that view are all that the caller knows of the call.
     part : {A : Type 0} (f : View → List A) (i : ℕ) (h : i < callers) → flat_map f (view_at k (get_or cs i d))
         ≡ f (view_of (get_or (get_or cs i d).seats.items k (view_is i h).0))
     part f i h = ap (flat_map f) (view_is i h).1 ∙ append-nil (f (view_of (get_or (get_or cs i d).seats.items k (view_is i h).0)))

@@ -56,8 +56,8 @@ seen_parts b [] ys all = (tt, all)
 seen_parts b (x ∷ xs) ys all = let rest = seen_parts b xs ys all.1 in ((all.0, rest.0), rest.1)
 
 -- a book that begins with all that the callers saw begins with what each saw
-pub seen_in : (b : BookState) (h : Caller → List BookState) (cs : List Caller) (i : ℕ) (d : Caller) → i < length cs → AllSeen b (flat_map h (reverse cs)) →
-    AllSeen b (h (get_or cs i d))
+pub seen_in : (b : BookState) (h : Caller → List BookState) (cs : List Caller) (i : ℕ)
+    (d : Caller) → i < length cs → AllSeen b (flat_map h (reverse cs)) → AllSeen b (h (get_or cs i d))
 seen_in b h [] i d there all = absurd (omega arith)
 seen_in b h (c ∷ cs) zero d there all = (seen_parts b (flat_map h (reverse cs)) (h c) (subst (AllSeen b) (turned h c cs) all)).1
 seen_in b h (c ∷ cs) (suc i) d there all =

@@ -49,8 +49,8 @@ line_is law seed n caller call d number legal posts =
     let downs : octets_of (bits_of (downs_of es)) ≡ octets_of (down (live_call seed n call)) = ap octets_of (law.down call es legal ∙ ap down whole) in
     λ i. sum_line (number i) (outs i) (downs i)
 
-same_lines : {X : Type 0} (f : X → List ℕ) (g : ℕ → List ℕ) (a : ℕ) (xs : List X) → ((k : ℕ) (d : X) → k < length xs → f (get_or xs k d) ≡ g (a + k)) →
-    flat_map f xs ≡ flat_map g (range_with_len a (length xs))
+same_lines : {X : Type 0} (f : X → List ℕ) (g : ℕ → List ℕ) (a : ℕ) (xs : List X) →
+    ((k : ℕ) (d : X) → k < length xs → f (get_or xs k d) ≡ g (a + k)) → flat_map f xs ≡ flat_map g (range_with_len a (length xs))
 same_lines f g a [] each = refl
 same_lines f g a (x ∷ xs) each =
     let first : f x ≡ g a = each 0 x (omega arith) ∙ (let e : a + 0 ≡ a = omega arith in ap g e) in

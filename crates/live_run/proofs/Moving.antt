@@ -34,8 +34,8 @@ moves_map P Q k a b f m = record {
   others = m.others;
 }
 
-pub moves_then : (P Q R : View → View → Type 0) (k : ℕ) (a b c : Caller) → ((u v w : View) → P u v → Q v w → R u w) → MovesSeat P k a b → MovesSeat Q k b c →
-    MovesSeat R k a c
+pub moves_then : (P Q R : View → View → Type 0) (k : ℕ) (a b c : Caller) →
+    ((u v w : View) → P u v → Q v w → R u w) → MovesSeat P k a b → MovesSeat Q k b c → MovesSeat R k a c
 moves_then P Q R k a b c f m n = record {
   number = n.number ∙ m.number;
   this = λ s. f (view_of (get_or a.seats.items k s)) (view_of (get_or b.seats.items k s)) (view_of (get_or c.seats.items k s)) (m.this s) (n.this s);
@@ -93,8 +93,8 @@ gains_then caller up pcm u v w s g = record {
 }
 
 -- the call has as few posts as before
-pub few_still : (k : ℕ) (a b : Caller) (n : ℕ) → MovesSeat KeepsPosts k a b → ((s : Seat) → length (view_of (get_or a.seats.items k s)).made < n) → (s : Seat) →
-    length (view_of (get_or b.seats.items (k + 1 - 1) s)).made < n
+pub few_still : (k : ℕ) (a b : Caller) (n : ℕ) → MovesSeat KeepsPosts k a b →
+    ((s : Seat) → length (view_of (get_or a.seats.items k s)).made < n) → (s : Seat) → length (view_of (get_or b.seats.items (k + 1 - 1) s)).made < n
 few_still k a b n m few s =
     let e : k + 1 - 1 ≡ k = omega arith in
     subst (λ (j : ℕ). length (view_of (get_or b.seats.items j s)).made < n) (sym e)
@@ -115,8 +115,7 @@ post_accepted k n up pcm a b c stays answer =
     moves_then KeepsPosts R R k a b c (gains_then a.number up pcm) stays now'
 
 pub post_refused : (k : ℕ) (up pcm : List ℕ) (f : PostFault) (a b c d : Caller) → MovesSeat KeepsPosts k a b →
-    Turns (λ v w. HasAnswered (next_post b.number up pcm v) v w (Err f)) (k + 1) b c →
-    MovesSeat KeepsPosts k c d → MovesSeat KeepsPosts k a d
+    Turns (λ v w. HasAnswered (next_post b.number up pcm v) v w (Err f)) (k + 1) b c → MovesSeat KeepsPosts k c d → MovesSeat KeepsPosts k a d
 post_refused k up pcm f a b c d stays answer after =
     let P : View → View → Type 0 = λ v w. HasAnswered (next_post b.number up pcm v) v w (Err f) in
     stays_on k a b d stays (stays_on k b c d

@@ -26,8 +26,7 @@ posted_still seed calls callers n i k c d m p = record {
 
 -- one call more was worked to its end
 pub saw_more : (callers number k : ℕ) (c d : Caller) → MovesSeat KeepsPosts k c d → SawAll callers number k c →
-    ((s : Seat) → Saw (k % callers) number (view_of (get_or d.seats.items k s))) →
-    SawAll callers number (k + 1) d
+    ((s : Seat) → Saw (k % callers) number (view_of (get_or d.seats.items k s))) → SawAll callers number (k + 1) d
 saw_more callers number k c d m saw now = λ j s h. ⊎_elim
     (λ (e : j ≡ k). subst (λ (x : ℕ). Saw (x % callers) number (view_of (get_or d.seats.items x s))) (sym e) (now s))
     (λ (ne : j ≢ k). subst (λ (t : Seat). Saw (j % callers) number (view_of t)) (sym (m.others j s ne)) (saw j s (before j h ne)))

@@ -16,21 +16,30 @@ poster_of c = record { caller = c; done = false }
 
 module _ {Q A : Type 0} where
   -- the caller with this number, which has posted nothing yet
-  pub record IsReady (d : LiveDrill) (inbox : ℕ) (slots : List (Slotted (Option Token) (Doing Token View) Q A)) (i : ℕ) (p : Poster) : Type 0 where
+  pub record IsReady (d : LiveDrill) (inbox : ℕ)
+      (slots : List (Slotted (Option Token) (Doing Token View) Q A))
+      (i : ℕ) (p : Poster) : Type 0 where
     pub seated : IsSeated inbox slots p.caller
     pub posted : HasPosted d.seed d.calls d.callers 0 i p.caller
 
   -- its thread has ended; if it is done, it has posted all periods of each of its calls
-  pub record HasEnded (d : LiveDrill) (inbox : ℕ) (slots : List (Slotted (Option Token) (Doing Token View) Q A)) (i : ℕ) (p : Poster) : Type 0 where
+  pub record HasEnded (d : LiveDrill) (inbox : ℕ)
+      (slots : List (Slotted (Option Token) (Doing Token View) Q A))
+      (i : ℕ) (p : Poster) : Type 0 where
     pub seated : IsSeated inbox slots p.caller
     pub posted : IsTrue p.done → HasPosted d.seed d.calls d.callers d.periods i p.caller
 
   -- a poster that was ready before its thread has ended after it
-  pub record Ends (d : LiveDrill) (inbox : ℕ) (slots : List (Slotted (Option Token) (Doing Token View) Q A)) (old new : Poster) : Type 0 where
+  pub record Ends (d : LiveDrill) (inbox : ℕ)
+      (slots : List (Slotted (Option Token) (Doing Token View) Q A))
+      (old new : Poster) : Type 0 where
     pub each : (i : ℕ) → IsReady d inbox slots i old → HasEnded d inbox slots i new
 
   -- these are all callers, and each has posted n periods of each of its calls
-  pub record HavePosted (d : LiveDrill) (n inbox : ℕ) (slots : List (Slotted (Option Token) (Doing Token View) Q A)) (cs : List Caller) : Type 0 where
+  pub record HavePosted (d : LiveDrill) (n inbox : ℕ)
+      (slots : List (Slotted (Option Token) (Doing Token View) Q A))
+      (cs : List Caller) : Type 0 where
     pub count : length cs ≡ d.callers
     pub seated : (i : ℕ) (c : Caller) → i < d.callers → IsSeated inbox slots (slice_index_or cs i c)
-    pub each : (i : ℕ) (c : Caller) → i < d.callers → HasPosted d.seed d.calls d.callers n i (slice_index_or cs i c)
+    pub each : (i : ℕ) (c : Caller) → i < d.callers →
+        HasPosted d.seed d.calls d.callers n i (slice_index_or cs i c)

@@ -68,9 +68,12 @@ pub(crate) fn post_period<R: Wait, G: Gate>(
     requires call { k < length shared.now.live.now.slots.items }
     requires few { k < 256 }
     requires farm { IsSeated shared.now.live.now.inbox shared.now.live.now.slots.items caller.old }
-    requires posts { (s : _) → length (view_of (slice_index_or caller.old.seats.items k s)).made < 16777216 }
+    requires posts { (s : _) →
+        length (view_of (slice_index_or caller.old.seats.items k s)).made < 16777216 }
     ensures farm { IsSeated shared.now.live.now.inbox shared.now.live.now.slots.items caller.new }
-    ensures posted { OnOk result (MovesSeat (λ v w. GainsPost (next_post caller.old.number up.now pcm.now v) v w) k caller.old caller.new) }
+    ensures posted { OnOk result (MovesSeat
+        (λ v w. GainsPost (next_post caller.old.number up.now pcm.now v) v w)
+        k caller.old caller.new) }
 {
     shared.gate.before(k + 1);
     for _ in shared.rt.forever() {
@@ -99,7 +102,8 @@ pub(crate) fn work_to<R: Wait, G>(
     requires farm { IsSeated shared.now.live.now.inbox shared.now.live.now.slots.items caller.old }
     ensures farm { IsSeated shared.now.live.now.inbox shared.now.live.now.slots.items caller.new }
     ensures stays { MovesSeat KeepsPosts k caller.old caller.new }
-    ensures found { OnOk result ((s : _) → Saw of number (view_of (slice_index_or caller.new.seats.items k s))) }
+    ensures found { OnOk result ((s : _) →
+        Saw of number (view_of (slice_index_or caller.new.seats.items k s))) }
 {
     for _ in shared.rt.forever() {
         match shared.live.read(shared.rt, caller, k + 1, of, number) {

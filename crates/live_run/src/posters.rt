@@ -40,12 +40,16 @@ fn post_own<R: Wait, G: Gate>(
     requires few { k < 256 }
     requires farm { IsSeated shared.now.live.now.inbox shared.now.live.now.slots.items caller.old }
     requires knows { (s : _) →
-        Knows shared.now.drill.seed shared.now.drill.callers caller.old.number k period (view_of (slice_index_or caller.old.seats.items k s)) }
-    requires drawn { IsDrawn shared.now.drill.seed shared.now.drill.callers caller.old.number k period draws.old }
+        Knows shared.now.drill.seed shared.now.drill.callers caller.old.number k period
+        (view_of (slice_index_or caller.old.seats.items k s)) }
+    requires drawn { IsDrawn shared.now.drill.seed shared.now.drill.callers
+        caller.old.number k period draws.old }
     ensures farm { IsSeated shared.now.live.now.inbox shared.now.live.now.slots.items caller.new }
-    ensures posted { OnOk result (
-        MovesSeat (λ _ w. Knows shared.now.drill.seed shared.now.drill.callers caller.old.number k (period + 1) w) k caller.old caller.new) }
-    ensures drawn { OnOk result (IsDrawn shared.now.drill.seed shared.now.drill.callers caller.old.number k (period + 1) draws.new) }
+    ensures posted { OnOk result (MovesSeat
+        (λ _ w. Knows shared.now.drill.seed shared.now.drill.callers
+        caller.old.number k (period + 1) w) k caller.old caller.new) }
+    ensures drawn { OnOk result (IsDrawn shared.now.drill.seed shared.now.drill.callers
+        caller.old.number k (period + 1) draws.new) }
 {
     if k % shared.drill.callers != caller.number() {
         return Ok(());
@@ -66,10 +70,11 @@ fn post_round<R: Wait, G: Gate>(
     requires period { period < 1000 }
     requires calls { length shared.now.live.now.slots.items ≡ shared.now.drill.calls }
     requires farm { IsSeated shared.now.live.now.inbox shared.now.live.now.slots.items caller.old }
-    requires behind { IsBehind shared.now.drill.seed shared.now.drill.calls shared.now.drill.callers caller.old.number (λ _. period) caller.old draws.old }
+    requires behind { IsBehind shared.now.drill.seed shared.now.drill.calls
+        shared.now.drill.callers caller.old.number (λ _. period) caller.old draws.old }
     ensures farm { IsSeated shared.now.live.now.inbox shared.now.live.now.slots.items caller.new }
-    ensures behind { OnOk result (
-        IsBehind shared.now.drill.seed shared.now.drill.calls shared.now.drill.callers caller.old.number (λ _. period + 1) caller.new draws.new) }
+    ensures behind { OnOk result (IsBehind shared.now.drill.seed shared.now.drill.calls
+        shared.now.drill.callers caller.old.number (λ _. period + 1) caller.new draws.new) }
 {
     for k in 0..shared.drill.calls {
         let own = &mut draws[k as usize];
@@ -82,7 +87,8 @@ fn post_round<R: Wait, G: Gate>(
 fn first_draws(alloc: Global, seed: u32, calls: u32) -> Result<Vec<Generator>, AllocError>
     requires { calls ≤ 256 }
     ensures count { IfOk result (λ gs. length gs.items ≡ calls) }
-    ensures each { IfOk result (λ gs. (k : ℕ) (g : TheDraws) → k < calls → (slice_index_or gs.items k g).x ≡ draw_state seed (k + 1) 0) }
+    ensures each { IfOk result (λ gs. (k : ℕ) (g : TheDraws) → k < calls →
+        (slice_index_or gs.items k g).x ≡ draw_state seed (k + 1) 0) }
 {
     let mut draws = Vec::with_capacity(alloc, calls as usize)?;
     for k in 0..calls {
@@ -100,10 +106,11 @@ fn post_periods<R: Wait, G: Gate>(
     requires size { IsLiveDrill shared.now.drill }
     requires calls { length shared.now.live.now.slots.items ≡ shared.now.drill.calls }
     requires farm { IsSeated shared.now.live.now.inbox shared.now.live.now.slots.items caller.old }
-    requires posted { HasPosted shared.now.drill.seed shared.now.drill.calls shared.now.drill.callers 0 caller.old.number caller.old }
+    requires posted { HasPosted shared.now.drill.seed shared.now.drill.calls
+        shared.now.drill.callers 0 caller.old.number caller.old }
     ensures farm { IsSeated shared.now.live.now.inbox shared.now.live.now.slots.items caller.new }
-    ensures posted { OnOk result (
-        HasPosted shared.now.drill.seed shared.now.drill.calls shared.now.drill.callers shared.now.drill.periods caller.old.number caller.new) }
+    ensures posted { OnOk result (HasPosted shared.now.drill.seed shared.now.drill.calls
+        shared.now.drill.callers shared.now.drill.periods caller.old.number caller.new) }
 {
     let mut draws = first_draws(shared.alloc, shared.drill.seed, shared.drill.calls)?;
     for period in 0..shared.drill.periods {
@@ -117,9 +124,13 @@ fn post_periods<R: Wait, G: Gate>(
 fn post_all<R: Wait, G: Gate>(shared: &Shared<R, G>, poster: &mut Poster)
     requires size { IsLiveDrill shared.now.drill }
     requires calls { length shared.now.live.now.slots.items ≡ shared.now.drill.calls }
-    requires ready { (i : ℕ) × IsReady shared.now.drill shared.now.live.now.inbox shared.now.live.now.slots.items i poster.old }
-    ensures { (i : ℕ) → IsReady shared.now.drill shared.now.live.now.inbox shared.now.live.now.slots.items i poster.old →
-        HasEnded shared.now.drill shared.now.live.now.inbox shared.now.live.now.slots.items i poster.new }
+    requires ready { (i : ℕ) × IsReady shared.now.drill
+        shared.now.live.now.inbox shared.now.live.now.slots.items i poster.old }
+    ensures { (i : ℕ) →
+        IsReady shared.now.drill
+        shared.now.live.now.inbox shared.now.live.now.slots.items i poster.old →
+        HasEnded shared.now.drill
+        shared.now.live.now.inbox shared.now.live.now.slots.items i poster.new }
 {
     let posted = post_periods(shared, &mut poster.caller);
     poster.done = posted.is_ok();
@@ -129,8 +140,10 @@ fn post_all<R: Wait, G: Gate>(shared: &Shared<R, G>, poster: &mut Poster)
 fn run_poster<R: Wait, G: Gate>(shared: &Shared<R, G>, poster: &mut Poster)
     requires size { IsLiveDrill shared.now.drill }
     requires calls { length shared.now.live.now.slots.items ≡ shared.now.drill.calls }
-    requires ready { (i : ℕ) × IsReady shared.now.drill shared.now.live.now.inbox shared.now.live.now.slots.items i poster.old }
-    ensures { Ends shared.now.drill shared.now.live.now.inbox shared.now.live.now.slots.items poster.old poster.new }
+    requires ready { (i : ℕ) × IsReady shared.now.drill
+        shared.now.live.now.inbox shared.now.live.now.slots.items i poster.old }
+    ensures { Ends shared.now.drill
+        shared.now.live.now.inbox shared.now.live.now.slots.items poster.old poster.new }
 {
     post_all(shared, poster);
 }
@@ -144,9 +157,11 @@ fn run_posters<R: Threads + Wait + Sync, G: Gate + Sync>(
     requires calls { length shared.now.live.now.slots.items ≡ shared.now.drill.calls }
     requires some { 0 < length posters.old }
     requires ready { (k : ℕ) (p : _) → k < length posters.old →
-        IsReady shared.now.drill shared.now.live.now.inbox shared.now.live.now.slots.items k (slice_index_or posters.old k p) }
+        IsReady shared.now.drill shared.now.live.now.inbox shared.now.live.now.slots.items k
+        (slice_index_or posters.old k p) }
     ensures { (k : ℕ) (p : _) → k < length posters.old →
-        Ends shared.now.drill shared.now.live.now.inbox shared.now.live.now.slots.items (slice_index_or posters.old k p) (slice_index_or posters.new k p) }
+        Ends shared.now.drill shared.now.live.now.inbox shared.now.live.now.slots.items
+        (slice_index_or posters.old k p) (slice_index_or posters.new k p) }
 {
     let threads = posters.len();
     thread::for_each_mut(
@@ -192,8 +207,10 @@ pub(crate) fn post_by_all<R: Threads + Wait + Sync, G: Gate + Sync>(
 ) -> Result<Vec<Caller>, AllocError>
     requires size { IsLiveDrill shared.now.drill }
     requires calls { length shared.now.live.now.slots.items ≡ shared.now.drill.calls }
-    requires callers { HavePosted shared.now.drill 0 shared.now.live.now.inbox shared.now.live.now.slots.items callers.items }
-    ensures { IfOk result (λ cs. HavePosted shared.now.drill shared.now.drill.periods shared.now.live.now.inbox shared.now.live.now.slots.items cs.items) }
+    requires callers { HavePosted shared.now.drill 0
+        shared.now.live.now.inbox shared.now.live.now.slots.items callers.items }
+    ensures { IfOk result (λ cs. HavePosted shared.now.drill shared.now.drill.periods
+        shared.now.live.now.inbox shared.now.live.now.slots.items cs.items) }
 {
     let mut posters = posters_of(shared.alloc, callers)?;
     run_posters(shared, posters.as_mut_slice());

@@ -21,9 +21,13 @@ pub(crate) fn work_rest<R: Wait, G>(
     requires calls { length shared.now.live.now.slots.items ≡ shared.now.drill.calls }
     requires farm { IsSeated shared.now.live.now.inbox shared.now.live.now.slots.items caller.old }
     ensures farm { IsSeated shared.now.live.now.inbox shared.now.live.now.slots.items caller.new }
-    ensures posted { (n i : ℕ) → HasPosted shared.now.drill.seed shared.now.drill.calls shared.now.drill.callers n i caller.old →
-        HasPosted shared.now.drill.seed shared.now.drill.calls shared.now.drill.callers n i caller.new }
-    ensures saw { OnOk result (SawAll shared.now.drill.callers (shared.now.drill.periods - 1) shared.now.drill.calls caller.new) }
+    ensures posted { (n i : ℕ) →
+        HasPosted shared.now.drill.seed shared.now.drill.calls
+        shared.now.drill.callers n i caller.old →
+        HasPosted shared.now.drill.seed shared.now.drill.calls
+        shared.now.drill.callers n i caller.new }
+    ensures saw { OnOk result (SawAll shared.now.drill.callers (shared.now.drill.periods - 1)
+        shared.now.drill.calls caller.new) }
 {
     for k in 0..shared.drill.calls {
         let of = k % shared.drill.callers;

@@ -40,7 +40,8 @@ fn sums_of(entries: &[Entry]) -> Sums
 
 // Appends the sums of a closed call to a text.
 fn put_call(text: &mut String, closed: &Closed) -> Result<(), AllocError>
-    ensures { OnOk result (string_bytes text.new ≡ string_bytes text.old ++ closed_line closed.now) }
+    ensures { OnOk result
+        (string_bytes text.new ≡ string_bytes text.old ++ closed_line closed.now) }
 {
     let sums = sums_of(closed.entries.as_slice());
     put_sums(text, closed.call, sums.out, sums.down)
@@ -48,7 +49,8 @@ fn put_call(text: &mut String, closed: &Closed) -> Result<(), AllocError>
 
 // Appends the sums of closed calls, in their order, to a text.
 fn put_calls(text: &mut String, closed: &[Closed]) -> Result<(), AllocError>
-    ensures { OnOk result (string_bytes text.new ≡ string_bytes text.old ++ flat_map closed_line closed.now) }
+    ensures { OnOk result
+        (string_bytes text.new ≡ string_bytes text.old ++ flat_map closed_line closed.now) }
 {
     for one in closed {
         put_call(text, one)?;
@@ -63,7 +65,8 @@ pub(crate) fn text_of(
     periods: u32,
     calls: u32,
 ) -> Result<String, AllocError>
-    ensures { IfOk result (λ text. string_bytes text ≡ flat_map closed_line closed.now ++ last_line periods calls) }
+    ensures { IfOk result (λ text.
+        string_bytes text ≡ flat_map closed_line closed.now ++ last_line periods calls) }
 {
     let mut text = String::new(alloc);
     put_calls(&mut text, closed)?;

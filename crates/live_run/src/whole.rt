@@ -32,7 +32,8 @@ pub fn run_live<R: Threads + Wait + Sync, G: Gate + Sync>(
     gate: &G,
 ) -> Result<String, AllocError>
     requires { IsLiveDrill drill.now }
-    ensures { IfOk result (λ text. string_bytes text ≡ live_text drill.now.seed drill.now.calls drill.now.periods) }
+    ensures { IfOk result (λ text. string_bytes text
+        ≡ live_text drill.now.seed drill.now.calls drill.now.periods) }
 {
     // A law: the octets of a legal history are those of the whole call.
     legal_histories_are_whole_calls();

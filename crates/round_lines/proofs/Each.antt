@@ -18,9 +18,9 @@ apart : (ss : List SeatMemory) (i k : ℕ) → Rising ss → i < length ss → k
 apart ss i k rising within less same = let rises = rising k i less within in omega arith
 
 pub each_more : (Touched : Side → Type 0) (Relates : (Side → LineState) → (Side → LineState) → SeatMemory → SeatMemory → Type 0) (a b c : States)
-    (ss ts : List SeatMemory) (i : ℕ) (t : SeatMemory) →
-    Rising ss → SameFrom ss ts i → i < length ss → Each Relates a b ss ts i → KeepsButEach Touched a b ss i →
-    Relates (b (call_at ts i)) (c (call_at ts i)) (seat_at ts i) t → KeepsBut Touched b c (call_at ts i) → Each Relates a c ss (set ts i t) (i + 1)
+    (ss ts : List SeatMemory) (i : ℕ) (t : SeatMemory) → Rising ss → SameFrom ss ts i → i < length ss → Each Relates a b ss ts i →
+    KeepsButEach Touched a b ss i → Relates (b (call_at ts i)) (c (call_at ts i)) (seat_at ts i) t →
+    KeepsBut Touched b c (call_at ts i) → Each Relates a c ss (set ts i t) (i + 1)
 each_more Touched Relates a b c ss ts i t rising same within each rest new stays k less =
     let is : seat_at ts i ≡ seat_at ss i = same.1 i (omega arith) in
     let own : call_at ts i ≡ call_at ss i = ap (λ (s : SeatMemory). s.lines.call) is in

@@ -41,11 +41,23 @@ outlet_before failed = if failed then FailedBefore else Sound
 -- the state before the first read
 abbrev pub fresh_lines : ℕ → ℕ → Bool → Bool → LinesMemory
 fresh_lines call periods down_failed out_failed =
-    record { call = call; periods = periods; up = nothing_taken; pcm = nothing_taken; down = outlet_before down_failed; out = outlet_before out_failed }
+    record {
+      call = call;
+      periods = periods;
+      up = nothing_taken;
+      pcm = nothing_taken;
+      down = outlet_before down_failed;
+      out = outlet_before out_failed;
+    }
 
 -- the number of octets that each incoming line gave in the round, and whether it failed
 abbrev pub given_in : LinesMemory → Given
-given_in p = record { up = p.up.count; pcm = p.pcm.count; up_failed = p.up.failed; pcm_failed = p.pcm.failed }
+given_in p = record {
+  up = p.up.count;
+  pcm = p.pcm.count;
+  up_failed = p.up.failed;
+  pcm_failed = p.pcm.failed;
+}
 
 -- the number of whole periods that both lines gave in the round
 abbrev pub whole_in : LinesMemory → ℕ
@@ -54,7 +66,11 @@ whole_in p = whole_of (given_in p)
 -- Where and why a call ends in a round from period `start` on: at the first period that its lines lack; None if they gave all.
 abbrev pub end_in_round : ℕ → LinesMemory → Option CallEnd
 end_in_round start p = if whole_in p == p.periods then None
-    else Some (record { call = p.call; at = start + whole_in p; cause = lack_of (whole_in p) (given_in p) })
+    else Some (record {
+      call = p.call;
+      at = start + whole_in p;
+      cause = lack_of (whole_in p) (given_in p);
+    })
 
 -- a line of the call failed in this round
 abbrev pub fails_in : LinesMemory → Side → Bool

@@ -14,8 +14,8 @@ pub record SeatMemory : Type 0 where
   pub down : List ℕ
   pub out : List ℕ
 
-abbrev pub seated : LinesMemory → List ℕ → List ℕ → List ℕ → List ℕ → SeatMemory
-seated p up pcm down out = record { lines = p; up = up; pcm = pcm; down = down; out = out }
+abbrev pub seat_from : LinesMemory → List ℕ → List ℕ → List ℕ → List ℕ → SeatMemory
+seat_from p up pcm down out = record { lines = p; up = up; pcm = pcm; down = down; out = out }
 
 -- The buffers have room for the octets of this number of periods: 40 a period on Up and Down, 160 on Pcm and Out.
 pub record Fits (periods : ℕ) (up_octets pcm_octets down_octets out_octets : List ℕ) : Type 0 where
@@ -44,7 +44,11 @@ pub record Fills (before now : Side → LineState) (s t : SeatMemory) : Type 0 w
   pub pcm_clean : TakesClean (before Pcm) (now Pcm) t.lines.pcm t.pcm
   pub up_length : length t.up ≡ length s.up
   pub pcm_length : length t.pcm ≡ length s.pcm
-  pub kept : t ≡ record s { lines = record s.lines { up = t.lines.up; pcm = t.lines.pcm }; up = t.up; pcm = t.pcm }
+  pub kept : t ≡ record s {
+    lines = record s.lines { up = t.lines.up; pcm = t.lines.pcm };
+    up = t.up;
+    pcm = t.pcm;
+  }
   pub faults : IsFresh s.lines → TellsFaults before now t.lines
 
 -- what goes out of a round: the octets of the whole periods that were read
@@ -62,4 +66,5 @@ pub record Drains (before now : Side → LineState) (s t : SeatMemory) : Type 0 
   pub down_clean : GivesClean (before Down) (now Down) s.lines.down t.lines.down (down_given s)
   pub out_clean : GivesClean (before Out) (now Out) s.lines.out t.lines.out (out_given s)
   pub kept : t ≡ record s { lines = record s.lines { down = t.lines.down; out = t.lines.out } }
-  pub faults : (first : Side → LineState) → TellsFaults first before s.lines → TellsFaults first now t.lines
+  pub faults : (first : Side → LineState) → TellsFaults first before s.lines →
+      TellsFaults first now t.lines

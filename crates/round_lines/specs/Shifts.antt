@@ -4,7 +4,12 @@ use Rattle.switchboard.specs.Ends.{Given, whole_of, lack_of}
 
 -- k whole periods before the round's octets
 abbrev pub with_periods : ℕ → Given → Given
-with_periods k g = record { up = 40 * k + g.up; pcm = 160 * k + g.pcm; up_failed = g.up_failed; pcm_failed = g.pcm_failed }
+with_periods k g = record {
+  up = 40 * k + g.up;
+  pcm = 160 * k + g.pcm;
+  up_failed = g.up_failed;
+  pcm_failed = g.pcm_failed;
+}
 
 -- the number of whole periods rises by k
 abbrev pub WholeShifts : Type 0

@@ -32,7 +32,8 @@ fails_now FailedNow = true
 -- An outgoing line has gained all these octets; if it failed, a proper prefix of them.
 abbrev pub HasWritten : Bool → LineState → LineState → List ℕ → Type 0
 HasWritten false before now octets = Appends before.written now.written octets
-HasWritten true before now octets = (n : ℕ) × (n < length octets) × Appends before.written now.written (take n octets)
+HasWritten true before now octets =
+    (n : ℕ) × (n < length octets) × Appends before.written now.written (take n octets)
 
 -- A line that failed before is skipped. Any other line gained all the octets, or it failed after a proper prefix of them and its count rose.
 pub record LineGives (before now : LineState) (was stands : Outlet) (octets : List ℕ) : Type 0 where
@@ -40,17 +41,21 @@ pub record LineGives (before now : LineState) (was stands : Outlet) (octets : Li
   pub all : has_failed stands ≡ false → Appends before.written now.written octets
   pub calm : has_failed stands ≡ false → now.faults ≡ before.faults
   pub front : has_failed was ≡ false → has_failed stands ≡ true → HasWritten true before now octets
-  pub fault : has_failed was ≡ false → has_failed stands ≡ true → (stands ≡ FailedNow) × Rose before.faults now.faults
+  pub fault : has_failed was ≡ false → has_failed stands ≡ true →
+      (stands ≡ FailedNow) × Rose before.faults now.faults
   pub later : before.faults ≤ now.faults
   pub to_come : now.to_come ≡ before.to_come
 
 -- If a line's octets are known and its count didn't rise, it gave the next of them, as many as the block and the line have.
 abbrev pub TakesClean : LineState → LineState → Taken → List ℕ → Type 0
-TakesClean before now t block = (octets : List ℕ) → before.to_come ≡ Some octets → NotRose before.faults now.faults →
-    (t.failed ≡ false) × (t.count ≡ min (length block) (length octets)) × (take t.count block ≡ take (length block) octets)
+TakesClean before now t block = (octets : List ℕ) →
+    before.to_come ≡ Some octets → NotRose before.faults now.faults →
+    (t.failed ≡ false) × (t.count ≡ min (length block) (length octets))
+    × (take t.count block ≡ take (length block) octets)
     × (now.to_come ≡ Some (drop (length block) octets))
 
 -- A line that hadn't failed before and whose count didn't rise gained all the octets.
 abbrev pub GivesClean : LineState → LineState → Outlet → Outlet → List ℕ → Type 0
-GivesClean before now was stands octets = has_failed was ≡ false → NotRose before.faults now.faults →
+GivesClean before now was stands octets =
+    has_failed was ≡ false → NotRose before.faults now.faults →
     (stands ≡ Sound) × Appends before.written now.written octets

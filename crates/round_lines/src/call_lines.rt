@@ -33,11 +33,32 @@ impl Model for CallLines {
 
     ghost Value = { LinesMemory };
 
-    ghost view = { λ p. record { call = p.call; periods = p.periods; up = p.up; pcm = p.pcm; down = p.down; out = p.out } };
+    ghost view = { λ p. record {
+      call = p.call;
+      periods = p.periods;
+      up = p.up;
+      pcm = p.pcm;
+      down = p.down;
+      out = p.out;
+    } };
 
-    ghost inverse = { λ m. record { call = m.call; periods = m.periods; up = m.up; pcm = m.pcm; down = m.down; out = m.out } };
+    ghost inverse = { λ m. record {
+      call = m.call;
+      periods = m.periods;
+      up = m.up;
+      pcm = m.pcm;
+      down = m.down;
+      out = m.out;
+    } };
 
-    ghost invariant = { λ p. AreLines (record { call = p.call; periods = p.periods; up = p.up; pcm = p.pcm; down = p.down; out = p.out }) };
+    ghost invariant = { λ p. AreLines (record {
+      call = p.call;
+      periods = p.periods;
+      up = p.up;
+      pcm = p.pcm;
+      down = p.down;
+      out = p.out;
+    }) };
 }
 
 fn outlet_before(failed: bool) -> Outlet
@@ -181,7 +202,8 @@ impl CallLines {
     /// Appends the lines that failed in this round.
     pub fn list_failed(&self, failed: &mut Vec<Line>)
         requires room { vec_len failed.old + 4 ≤ vec_capacity failed.old }
-        ensures listed { map line_name failed.new.items ≡ map line_name failed.old.items ++ failed_in_round self.now }
+        ensures listed { map line_name failed.new.items
+            ≡ map line_name failed.old.items ++ failed_in_round self.now }
         ensures length { vec_len failed.new ≤ vec_len failed.old + 4 }
         ensures capacity { vec_capacity failed.new ≡ vec_capacity failed.old }
     {

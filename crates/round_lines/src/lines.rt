@@ -4,7 +4,7 @@ ghost use Rattle.trau_io.specs.declared.line.Side.TheVariants.{Up, Pcm, Down, Ou
 ghost use Rattle.trau_io.specs.Lines.{OthersStay};
 ghost use Rattle.round_lines.specs.Transfer.{Takes, LineGives};
 ghost use Rattle.round_lines.specs.Memory.{whole_in};
-ghost use Rattle.round_lines.specs.Seats.{Fits, Fills, Drains, seated, down_given, out_given};
+ghost use Rattle.round_lines.specs.Seats.{Fits, Fills, Drains, seat_from, down_given, out_given};
 ghost use Rattle.round_lines.specs.Rounds.{KeepsBut, IsIncoming, IsOutgoing};
 
 use crate::call_lines::CallLines;
@@ -15,7 +15,8 @@ impl CallLines {
     // Reads the round's octets of the Up line, and notes how the reading ended.
     fn take_up<T: Trunk>(&mut self, trunk: &mut T, up: &mut [u8])
         requires { length up.old ≡ 40 * self.old.periods }
-        ensures this { Takes (T.lines trunk.old self.old.call Up) (T.lines trunk.new self.old.call Up) self.new.up up.new }
+        ensures this { Takes (T.lines trunk.old self.old.call Up)
+            (T.lines trunk.new self.old.call Up) self.new.up up.new }
         ensures others { OthersStay (T.lines trunk.old) (T.lines trunk.new) self.old.call Up }
         ensures kept { self.new ≡ record self.old { up = self.new.up } }
     {
@@ -26,7 +27,8 @@ impl CallLines {
     // The same of the Pcm line.
     fn take_pcm<T: Trunk>(&mut self, trunk: &mut T, pcm: &mut [u8])
         requires { length pcm.old ≡ 160 * self.old.periods }
-        ensures this { Takes (T.lines trunk.old self.old.call Pcm) (T.lines trunk.new self.old.call Pcm) self.new.pcm pcm.new }
+        ensures this { Takes (T.lines trunk.old self.old.call Pcm)
+            (T.lines trunk.new self.old.call Pcm) self.new.pcm pcm.new }
         ensures others { OthersStay (T.lines trunk.old) (T.lines trunk.new) self.old.call Pcm }
         ensures kept { self.new ≡ record self.old { pcm = self.new.pcm } }
     {
@@ -38,8 +40,10 @@ impl CallLines {
     pub fn fill<T: Trunk>(&mut self, trunk: &mut T, up: &mut [u8], pcm: &mut [u8])
         requires up { length up.old ≡ 40 * self.old.periods }
         requires pcm { length pcm.old ≡ 160 * self.old.periods }
-        ensures fills { (down out : List ℕ) → Fills (T.lines trunk.old self.old.call) (T.lines trunk.new self.old.call)
-            (seated self.old up.old pcm.old down out) (seated self.new up.new pcm.new down out) }
+        ensures fills { (down out : List ℕ) → Fills
+            (T.lines trunk.old self.old.call) (T.lines trunk.new self.old.call)
+            (seat_from self.old up.old pcm.old down out)
+            (seat_from self.new up.new pcm.new down out) }
         ensures others { KeepsBut IsIncoming (T.lines trunk.old) (T.lines trunk.new) self.old.call }
     {
         self.take_up(trunk, up);
@@ -48,7 +52,8 @@ impl CallLines {
 
     // Writes the octets to the Down line, unless it failed before, and notes whether it fails now.
     fn give_down<T: Trunk>(&mut self, trunk: &mut T, down: &[u8])
-        ensures this { LineGives (T.lines trunk.old self.old.call Down) (T.lines trunk.new self.old.call Down) self.old.down self.new.down down.now }
+        ensures this { LineGives (T.lines trunk.old self.old.call Down)
+            (T.lines trunk.new self.old.call Down) self.old.down self.new.down down.now }
         ensures others { OthersStay (T.lines trunk.old) (T.lines trunk.new) self.old.call Down }
         ensures kept { self.new ≡ record self.old { down = self.new.down } }
     {
@@ -58,7 +63,8 @@ impl CallLines {
 
     // The same of the Out line.
     fn give_out<T: Trunk>(&mut self, trunk: &mut T, out: &[u8])
-        ensures this { LineGives (T.lines trunk.old self.old.call Out) (T.lines trunk.new self.old.call Out) self.old.out self.new.out out.now }
+        ensures this { LineGives (T.lines trunk.old self.old.call Out)
+            (T.lines trunk.new self.old.call Out) self.old.out self.new.out out.now }
         ensures others { OthersStay (T.lines trunk.old) (T.lines trunk.new) self.old.call Out }
         ensures kept { self.new ≡ record self.old { out = self.new.out } }
     {
@@ -70,8 +76,10 @@ impl CallLines {
     pub fn drain<T: Trunk>(&mut self, trunk: &mut T, down: &[u8], out: &[u8])
         requires down { length down.now ≡ 40 * self.old.periods }
         requires out { length out.now ≡ 160 * self.old.periods }
-        ensures drains { (up pcm : List ℕ) → Drains (T.lines trunk.old self.old.call) (T.lines trunk.new self.old.call)
-            (seated self.old up pcm down.now out.now) (seated self.new up pcm down.now out.now) }
+        ensures drains { (up pcm : List ℕ) → Drains
+            (T.lines trunk.old self.old.call) (T.lines trunk.new self.old.call)
+            (seat_from self.old up pcm down.now out.now)
+            (seat_from self.new up pcm down.now out.now) }
         ensures others { KeepsBut IsOutgoing (T.lines trunk.old) (T.lines trunk.new) self.old.call }
     {
         let whole = self.whole() as usize;

@@ -26,7 +26,8 @@ pub enum Outlet {
 
 /// Reads a line until the block is full, the line ends or it fails.
 pub(crate) fn take_block<T: Trunk>(trunk: &mut T, line: Line, block: &mut [u8]) -> Taken
-    ensures this { Takes (T.lines trunk.old line.call line.side) (T.lines trunk.new line.call line.side) result block.new }
+    ensures this { Takes (T.lines trunk.old line.call line.side)
+        (T.lines trunk.new line.call line.side) result block.new }
     ensures others { OthersStay (T.lines trunk.old) (T.lines trunk.new) line.call line.side }
 {
     match read_block(trunk, line, block) {
@@ -47,7 +48,8 @@ pub(crate) fn take_block<T: Trunk>(trunk: &mut T, line: Line, block: &mut [u8]) 
 
 /// Writes the octets to a line, unless it has failed, and returns the line's new state.
 pub(crate) fn give_block<T: Trunk>(trunk: &mut T, line: Line, was: Outlet, octets: &[u8]) -> Outlet
-    ensures this { LineGives (T.lines trunk.old line.call line.side) (T.lines trunk.new line.call line.side) was result octets.now }
+    ensures this { LineGives (T.lines trunk.old line.call line.side)
+        (T.lines trunk.new line.call line.side) was result octets.now }
     ensures others { OthersStay (T.lines trunk.old) (T.lines trunk.new) line.call line.side }
 {
     match was {

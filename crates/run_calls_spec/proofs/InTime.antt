@@ -16,7 +16,7 @@ use Rattle.switchboard.specs.Replies.{known_of}
 use Rattle.switchboard.specs.Ends.{Given, whole_of, lack_of, ends_at, span_of}
 use Rattle.run_spec.specs.Run.{Run, whole_in, done_in}
 use Rattle.run_spec.proofs.Lists.{each_append}
-use Rattle.run_spec.proofs.Executing.{AreReplies, added_replies, executed-added}
+use Rattle.run_spec.proofs.Executing.{AreReplies, added_replies, done_after-added}
 use Rattle.run_spec.proofs.Showing.{ShownBy, shown}
 use Rattle.run_spec.proofs.Standing.{RisesFrom}
 use Rattle.run_spec.proofs.OpenCalls.{open_facts, gone_is, opened_kept, closed_cases}
@@ -95,7 +95,7 @@ in_time whole t ds (d ∷ later) h r =
 pub bridges_in_time : (r : Run) → AreOrders r.orders → AllByRecursion (IsInTime (whole_in r) (done_in r)) (bridges (done_in r))
 bridges_in_time r a =
     let os = filter (λ o. nat_lt o.stamp r.periods) r.orders in
-    in_time (whole_in r) 0 [] (done_in r) (subst (AreReplies (whole_in r) []) (sym (executed-added (whole_in r) [] os)) (added_replies (whole_in r) [] os))
+    in_time (whole_in r) 0 [] (done_in r) (subst (AreReplies (whole_in r) []) (sym (done_after-added (whole_in r) [] os)) (added_replies (whole_in r) [] os))
     (run_rises r a)
 
 -- ---- the end of its span

@@ -12,14 +12,14 @@ use Rattle.switchboard.specs.declared.table.Bridge.{Bridge}
 use Rattle.switchboard.specs.Calls.{Done, opened_at, closed_at}
 use Rattle.switchboard.specs.Bridges.{bridges, joins, other}
 use Rattle.switchboard.specs.State.{first_stamp}
-use Rattle.switchboard.specs.Runs.{done_of, left_of, executed}
+use Rattle.switchboard.specs.Runs.{done_of, left_of, done_after}
 use Rattle.switchboard.specs.Ends.{start_of}
 use Rattle.call_leg.specs.Periods.{CallPeriod}
 use Rattle.run_spec.specs.Run.{Run, whole_in, done_in, level_after, dtx_mode_after, up_in, pcm_in, ups_to, item_of, period_of, periods_to}
 use Rattle.run_spec.specs.Now.{IsSoFar, NoOrderTo, has_period, bridge_now, handed_now, period_now}
 use Rattle.run_spec.specs.Mark.{cut_at}
 use Rattle.run_spec.proofs.Lists.{each_mapped, each_weaker, each_passes, each_all, find_same}
-use Rattle.run_spec.proofs.Executing.{added_orders, executed-added}
+use Rattle.run_spec.proofs.Executing.{added_orders, done_after-added}
 use Rattle.run_spec.proofs.OpenCalls.{opened_cases}
 use Rattle.run_spec.proofs.Settling.{found_stamp}
 use Rattle.run_spec.proofs.SoFar.{Rises, orders_rise, rest_in, done-rest, rest_above}
@@ -69,7 +69,7 @@ done_below r n =
     front = filter (λ o. nat_lt o.stamp n) r.orders
 
     same : map (λ d. d.order) (done_of (whole_in r) n r.orders) ≡ front
-    same = ap (map (λ d. d.order)) (executed-added (whole_in r) [] front) ∙ added_orders (whole_in r) [] front
+    same = ap (map (λ d. d.order)) (done_after-added (whole_in r) [] front) ∙ added_orders (whole_in r) [] front
 
 -- **Before and after the orders of period t a run has executed those with stamps below n: t, or the period after it.**
 pub so_far_below : (r : Run) (t n : ℕ) → AreOrders r.orders → t ≤ n → n ≤ suc t → n ≤ r.periods →
@@ -77,7 +77,7 @@ pub so_far_below : (r : Run) (t n : ℕ) → AreOrders r.orders → t ≤ n → 
 so_far_below r t n a low high within = record {
   orders = a;
   listed = ap (λ os. os ++ left_of n r.orders) same ∙ parted n 0 r.orders (orders_rise r.orders a);
-  replies = sym (ap (executed (whole_in r) []) same);
+  replies = sym (ap (done_after (whole_in r) []) same);
   past = All-from_recursion (λ d. d.order.stamp ≤ t) ds (each_weaker (λ d. d.order.stamp < n) (λ d. d.order.stamp ≤ t) ds (λ d l. omega arith) below);
   within =
       All-from_recursion (λ d. d.order.stamp < r.periods) ds
@@ -89,10 +89,10 @@ so_far_below r t n a low high within = record {
     front = filter (λ o. nat_lt o.stamp n) r.orders
 
     ds : List Done
-    ds = executed (whole_in r) [] front
+    ds = done_after (whole_in r) [] front
 
     same : map (λ d. d.order) ds ≡ front
-    same = ap (map (λ d. d.order)) (executed-added (whole_in r) [] front) ∙ added_orders (whole_in r) [] front
+    same = ap (map (λ d. d.order)) (done_after-added (whole_in r) [] front) ∙ added_orders (whole_in r) [] front
 
     below : AllByRecursion (λ d. d.order.stamp < n) ds
     below = done_below r n

@@ -9,7 +9,7 @@ use Rattle.trau_io.specs.declared.ends.Cause.TheVariants.{Closed, Limit}
 use Rattle.trau_orders.specs.declared.order.Order.{Order}
 use Rattle.switchboard.specs.Calls.{Done, opened_at, closed_at}
 use Rattle.switchboard.specs.Runs.{left_of}
-use Rattle.switchboard.specs.State.{first_stamp, numbered}
+use Rattle.switchboard.specs.State.{first_stamp, replies_from}
 use Rattle.switchboard.specs.Ends.{lack_of, end_of, spans_of, ends_at}
 use Rattle.switchboard.proofs.Appending.{or_else}
 use Rattle.switchboard.proofs.Whole.{end_by}
@@ -122,7 +122,7 @@ end_limit r t ds left c s so n l e =
 pub report_end : (r : Run) (t : ℕ) (ds : List Done) (left : List Order) (failed : List Line) → IsSoFar r t ds left →
     IfSome (first_stamp left) (λ s. r.periods ≤ s) →
     report_of r failed ≡ record {
-      replies = numbered 0 ds;
+      replies = replies_from 0 ds;
       spans = map (span_line r) (spans_of (given_in r) r.periods ds);
       calls = map (call_line r) (opened_calls ds);
       failed = failed;
@@ -130,14 +130,14 @@ pub report_end : (r : Run) (t : ℕ) (ds : List Done) (left : List Order) (faile
     }
 report_end r t ds left failed so n =
     ap {B = ReportView} (λ ds. record {
-      replies = numbered 0 ds;
+      replies = replies_from 0 ds;
       spans = map (span_line r) (spans_of (given_in r) r.periods ds);
       calls = map (call_line r) (opened_calls ds);
       failed = failed;
       left = length (left_of r.periods r.orders);
     }) (all_done r t ds left so n)
     ∙ ap {B = ReportView} (λ os. record {
-      replies = numbered 0 ds;
+      replies = replies_from 0 ds;
       spans = map (span_line r) (spans_of (given_in r) r.periods ds);
       calls = map (call_line r) (opened_calls ds);
       failed = failed;

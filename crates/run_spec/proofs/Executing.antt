@@ -1,4 +1,4 @@
--- For crates above: orders that are executed after others add their replies (`executed-added`, `AreReplies`), openings and closings.
+-- For crates above: orders that are executed after others add their replies (`done_after-added`, `AreReplies`), openings and closings.
 use Rattle.std.proofs.Common.{◌≡◌, refl, sym, ap, ◌∙◌, subst, ℕ, Bool, true, false, Option, Some, List, [], ◌∷◌, ◌++◌, map}
 use Rattle.std.specs.Prelude.{Result, Ok, Err, find, option_map, if◌then◌else◌, filter, nat_lt}
 use Rattle.std.proofs.lemmas.List.{append_assoc, append-nil, map-append}
@@ -12,7 +12,7 @@ use Rattle.switchboard.specs.declared.table.Bridge.{Bridge}
 use Rattle.switchboard.specs.Calls.{Done, is_this, opened_by, closed_by, opened_at, closed_at, gone_at}
 use Rattle.switchboard.specs.Bridges.{ends_bridge, bridge_by, bridges}
 use Rattle.switchboard.specs.Replies.{reply_to}
-use Rattle.switchboard.specs.Runs.{executed, done_of, IsRun}
+use Rattle.switchboard.specs.Runs.{done_after, done_of, IsRun}
 use Rattle.switchboard.proofs.Appending.{or_else, stamp_of}
 
 -- ---- the orders that come later change
@@ -76,10 +76,10 @@ added whole ds [] = []
 added whole ds (o ∷ os) = done_next whole ds o ∷ added whole (ds ++ done_next whole ds o ∷ []) os
 
 -- executing orders adds their replies
-pub executed-added : (whole : ℕ → ℕ) (ds : List Done) (os : List Order) → executed whole ds os ≡ ds ++ added whole ds os
-executed-added whole ds [] = sym (append-nil ds)
-executed-added whole ds (o ∷ os) =
-    executed-added whole (ds ++ done_next whole ds o ∷ []) os
+pub done_after-added : (whole : ℕ → ℕ) (ds : List Done) (os : List Order) → done_after whole ds os ≡ ds ++ added whole ds os
+done_after-added whole ds [] = sym (append-nil ds)
+done_after-added whole ds (o ∷ os) =
+    done_after-added whole (ds ++ done_next whole ds o ∷ []) os
     ∙ append_assoc ds (done_next whole ds o ∷ []) (added whole (ds ++ done_next whole ds o ∷ []) os)
 
 -- these are theirs
@@ -93,22 +93,22 @@ added_replies whole ds [] = tt
 added_replies whole ds (o ∷ os) = (refl, added_replies whole (ds ++ done_next whole ds o ∷ []) os)
 
 -- orders are executed in one go or in two
-pub executed-append : (whole : ℕ → ℕ) (ds : List Done) (xs ys : List Order) → executed whole ds (xs ++ ys) ≡ executed whole (executed whole ds xs) ys
-executed-append whole ds [] ys = refl
-executed-append whole ds (o ∷ xs) ys = executed-append whole (ds ++ done_next whole ds o ∷ []) xs ys
+pub done_after-append : (whole : ℕ → ℕ) (ds : List Done) (xs ys : List Order) → done_after whole ds (xs ++ ys) ≡ done_after whole (done_after whole ds xs) ys
+done_after-append whole ds [] ys = refl
+done_after-append whole ds (o ∷ xs) ys = done_after-append whole (ds ++ done_next whole ds o ∷ []) xs ys
 
 -- in a run each reply is right
 pub run_replies : (whole : ℕ → ℕ) (ds : List Done) → IsRun whole ds → AreReplies whole [] ds
 run_replies whole ds r =
-    let e : added whole [] (map (λ d. d.order) ds) ≡ ds = sym (executed-added whole [] (map (λ d. d.order) ds)) ∙ sym r in
+    let e : added whole [] (map (λ d. d.order) ds) ≡ ds = sym (done_after-added whole [] (map (λ d. d.order) ds)) ∙ sym r in
     subst (λ (ds : List Done). AreReplies whole [] ds) e (added_replies whole [] (map (λ d. d.order) ds))
 
 -- right replies are those that executing gives
-pub replies_executed : (whole : ℕ → ℕ) (ds later : List Done) → AreReplies whole ds later → executed whole ds (map (λ d. d.order) later) ≡ ds ++ later
+pub replies_executed : (whole : ℕ → ℕ) (ds later : List Done) → AreReplies whole ds later → done_after whole ds (map (λ d. d.order) later) ≡ ds ++ later
 replies_executed whole ds [] h = sym (append-nil ds)
 replies_executed whole ds (d ∷ later) h =
     let e : done_next whole ds d.order ≡ d = ap (λ x. record { order = d.order; result = x }) (sym h.0) in
-    ap (λ (e : Done). executed whole (ds ++ e ∷ []) (map (λ d. d.order) later)) e
+    ap (λ (e : Done). done_after whole (ds ++ e ∷ []) (map (λ d. d.order) later)) e
     ∙ replies_executed whole (ds ++ d ∷ []) later h.1
     ∙ append_assoc ds (d ∷ []) later
 
@@ -146,9 +146,9 @@ rest_of whole P ds left = added whole ds (filter (λ o. nat_lt o.stamp P) left)
 pub done-split : (whole : ℕ → ℕ) (P : ℕ) (orders left : List Order) (ds : List Done) → IsRun whole ds → map (λ d. d.order) ds ++ left ≡ orders →
     AllByRecursion (λ d. nat_lt d.order.stamp P ≡ true) ds → done_of whole P orders ≡ ds ++ rest_of whole P ds left
 done-split whole P orders left ds r e below =
-    ap (λ os. executed whole [] (filter (λ o. nat_lt o.stamp P) os)) (sym e)
-    ∙ ap (executed whole [])
+    ap (λ os. done_after whole [] (filter (λ o. nat_lt o.stamp P) os)) (sym e)
+    ∙ ap (done_after whole [])
     (filter-append (λ o. nat_lt o.stamp P) (map (λ d. d.order) ds) left ∙ ap (λ os. os ++ filter (λ o. nat_lt o.stamp P) left) (passes_all P ds below))
-    ∙ executed-append whole [] (map (λ d. d.order) ds) (filter (λ o. nat_lt o.stamp P) left)
-    ∙ ap (λ ds. executed whole ds (filter (λ o. nat_lt o.stamp P) left)) (sym r)
-    ∙ executed-added whole ds (filter (λ o. nat_lt o.stamp P) left)
+    ∙ done_after-append whole [] (map (λ d. d.order) ds) (filter (λ o. nat_lt o.stamp P) left)
+    ∙ ap (λ ds. done_after whole ds (filter (λ o. nat_lt o.stamp P) left)) (sym r)
+    ∙ done_after-added whole ds (filter (λ o. nat_lt o.stamp P) left)

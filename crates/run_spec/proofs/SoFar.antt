@@ -13,7 +13,7 @@ use Rattle.switchboard.specs.State.{first_stamp}
 use Rattle.run_spec.specs.Run.{Run, whole_in, done_in}
 use Rattle.run_spec.specs.Now.{IsSoFar, NoOrderTo}
 use Rattle.run_spec.proofs.Lists.{each_mapped, each_weaker, each_filter, each_passes}
-use Rattle.run_spec.proofs.Executing.{added, added_orders, added_replies, executed-added, run_replies, rest_of, done-split}
+use Rattle.run_spec.proofs.Executing.{added, added_orders, added_replies, done_after-added, run_replies, rest_of, done-split}
 use Rattle.run_spec.proofs.Standing.{Standing, RisesFrom, standing_none}
 use Rattle.run_spec.proofs.Apart.{standing_all}
 
@@ -119,14 +119,14 @@ standing_now r t ds left s =
 pub run_rises : (r : Run) → AreOrders r.orders → RisesFrom 0 (done_in r)
 run_rises r a =
     let os = filter (λ o. nat_lt o.stamp r.periods) r.orders in
-    subst (RisesFrom 0) (sym (executed-added (whole_in r) [] os))
+    subst (RisesFrom 0) (sym (done_after-added (whole_in r) [] os))
     (done_rises 0 (added (whole_in r) [] os) (subst (Rises 0) (sym (added_orders (whole_in r) [] os)) (filter_rises 0 _ r.orders (orders_rise r.orders a))))
 
 -- how they stand at its end
 pub standing_end : (r : Run) → AreOrders r.orders → Standing (whole_in r) r.periods (done_in r)
 standing_end r a =
     let os = filter (λ o. nat_lt o.stamp r.periods) r.orders in
-    let e = executed-added (whole_in r) [] os in
+    let e = done_after-added (whole_in r) [] os in
     let m = added_orders (whole_in r) [] os in
     subst (Standing (whole_in r) r.periods) (sym e)
     (standing_all (whole_in r) 0 r.periods [] (added (whole_in r) [] os) (standing_none (whole_in r)) (added_replies (whole_in r) [] os)

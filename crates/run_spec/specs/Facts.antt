@@ -6,7 +6,7 @@ use Rattle.switchboard.specs.declared.act.Span.{Span}
 use Rattle.switchboard.specs.Calls.{Done, opened_at}
 use Rattle.switchboard.specs.Ends.{end_of}
 use Rattle.switchboard.specs.Runs.{left_of}
-use Rattle.switchboard.specs.State.{numbered}
+use Rattle.switchboard.specs.State.{replies_from}
 use Rattle.farm_report.specs.declared.report.CallLine.{CallLine}
 use Rattle.farm_report.specs.declared.report.SpanLine.{SpanLine}
 use Rattle.farm_report.specs.View.{ReportView}
@@ -54,7 +54,7 @@ span_line r x = record {
 -- the report, with the lines that failed
 abbrev pub report_of : Run → List Line → ReportView
 report_of r failed = record {
-  replies = numbered 0 (done_in r);
+  replies = replies_from 0 (done_in r);
   spans = map (span_line r) (spans_in r);
   calls = map (call_line r) (calls_in r);
   failed = failed;

@@ -16,8 +16,8 @@ ghost use Rattle.switchboard.specs.declared.table.Bridge.{Bridge};
 ghost use Rattle.switchboard.specs.Calls.{Done, opened_at, closed_at, law_at, gone_at};
 ghost use Rattle.switchboard.specs.Bridges.{bridges, bridge_of, other, joins};
 ghost use Rattle.switchboard.specs.Stands.{IsLatest};
-ghost use Rattle.switchboard.specs.State.{first_stamp, numbered};
-ghost use Rattle.switchboard.specs.Runs.{executed, left_of, IsRun};
+ghost use Rattle.switchboard.specs.State.{first_stamp, replies_from};
+ghost use Rattle.switchboard.specs.Runs.{done_after, left_of, IsRun};
 ghost use Rattle.switchboard.specs.Ends.{lack_of, end_of, start_of, spans_of};
 ghost use Rattle.down_framer.specs.Made.{handed_due};
 ghost use Rattle.down_framer.specs.Bridges.{IsHistory};
@@ -39,9 +39,10 @@ ghost use Rattle.run_spec.specs.Now.{IsSoFar, NoOrderTo, has_period, bridge_now,
 /// Orders executed in parts give the same as all at once. Later orders leave the earlier replies unchanged, and add one reply
 /// each.
 pub fn executing_adds()
-    ensures front { (whole : ℕ → ℕ) (ds : List Done) (xs ys : List Order) → executed whole ds (xs ++ ys) ≡ executed whole (executed whole ds xs) ys }
+    ensures front { (whole : ℕ → ℕ) (ds : List Done) (xs ys : List Order) →
+        done_after whole ds (xs ++ ys) ≡ done_after whole (done_after whole ds xs) ys }
     ensures kept { (whole : ℕ → ℕ) (ds : List Done) (os : List Order) →
-        (more : List Done) × (executed whole ds os ≡ ds ++ more) × (map (λ d. d.order) more ≡ os) }
+        (more : List Done) × (done_after whole ds os ≡ ds ++ more) × (map (λ d. d.order) more ≡ os) }
 {}
 
 /// How a run goes on: from its start; to a later clock, if no remaining order comes before it; by the next order.
@@ -200,7 +201,7 @@ pub fn ended_calls_are_reported()
 pub fn whole_runs_are_reported()
     ensures { (r : Run) (t : ℕ) (ds : List Done) (left : List Order) (failed : List Line) → IsSoFar r t ds left →
         IfSome (first_stamp left) (λ s. r.periods ≤ s) → report_of r failed ≡ record {
-          replies = numbered 0 ds;
+          replies = replies_from 0 ds;
           spans = map (span_line r) (spans_of (given_in r) r.periods ds);
           calls = map (call_line r) (opened_calls ds);
           failed = failed;

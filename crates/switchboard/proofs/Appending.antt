@@ -36,7 +36,8 @@ first_ender a b d [] = refl
 first_ender a b d (e ∷ later) = one_more (ends_bridge a b e.result) e _ _ _ (first_ender a b d later)
 
 -- the bridge that an order made, with one more order behind it
-bridge_by-more : (t : ℕ) (r : Result Act Refusal) (later : List Done) (d : Done) → bridge_by t r (later ++ d ∷ []) ≡ map (after d) (bridge_by t r later)
+bridge_by-more : (t : ℕ) (r : Result Act Refusal) (later : List Done) (d : Done) →
+    bridge_by t r (later ++ d ∷ []) ≡ map (after d) (bridge_by t r later)
 bridge_by-more t (Ok (act.Bridged a b)) later d = ap (λ o. record { a = a; b = b; from = t; ended = o } ∷ []) (first_ender a b d later)
 bridge_by-more t (Ok (act.Opened c law)) later d = refl
 bridge_by-more t (Ok (act.Closed c p)) later d = refl

@@ -13,9 +13,10 @@ use Rattle.switchboard.specs.declared.act.Reply.{Reply}
 use Rattle.switchboard.specs.declared.table.Call.{Call}
 use Rattle.switchboard.specs.Calls.{Done}
 use Rattle.switchboard.specs.Bridges.{bridge_by, bridges}
-use Rattle.switchboard.specs.Rows.{Rows, never, call_in, applied, gone_of, with_latest, parted_at, parted_in, span_in}
-use Rattle.switchboard.specs.State.{first_order, last_stamp, numbered, gone_in}
+use Rattle.switchboard.specs.Rows.{Rows, never, call_in, rows_after, with_latest, parted_at, parted_in, span_in}
+use Rattle.switchboard.specs.State.{first_order, last_stamp, replies_from, gone_in}
 use Rattle.switchboard.specs.Stands.{IsBoard, dones, board_state}
+use Rattle.switchboard.proofs.Sizes.{gone_of}
 use Rattle.switchboard.proofs.Lists.{filter_map-somes, somes-fewer, get_or-map_all}
 
 -- ---- orders and replies
@@ -38,11 +39,11 @@ dones-more (p ∷ os) [] x o e = let q : p ≡ o = cc in ap (λ ds. record { ord
     ∙ ap (λ (p : Order). record { order = p; result = x.result } ∷ []) q
 dones-more (p ∷ os) (y ∷ xs) x o e = ap (λ ds. record { order = p; result = y.result } ∷ ds) (dones-more os xs x o e)
 
-pub numbered-more : (n : ℕ) (ds : List Done) (d : Done) → numbered n (ds ++ d ∷ []) ≡ numbered n ds ++ record { order = n + length ds + 1; result = d.result } ∷
+pub replies_from-more : (n : ℕ) (ds : List Done) (d : Done) → replies_from n (ds ++ d ∷ []) ≡ replies_from n ds ++ record { order = n + length ds + 1; result = d.result } ∷
     []
-numbered-more n [] d = ap (λ k. record { order = k; result = d.result } ∷ []) (omega arith)
-numbered-more n (e ∷ ds) d = ap (λ xs. record { order = n + 1; result = e.result } ∷ xs) (numbered-more (n + 1) ds d
-    ∙ ap (λ k. numbered (n + 1) ds ++ record { order = k; result = d.result } ∷ []) (omega arith))
+replies_from-more n [] d = ap (λ k. record { order = k; result = d.result } ∷ []) (omega arith)
+replies_from-more n (e ∷ ds) d = ap (λ xs. record { order = n + 1; result = e.result } ∷ xs) (replies_from-more (n + 1) ds d
+    ∙ ap (λ k. replies_from (n + 1) ds ++ record { order = k; result = d.result } ∷ []) (omega arith))
 
 pub left-more : (os : List Order) (xs : List Reply) (x : Reply) → drop (length (xs ++ x ∷ [])) os ≡ drop 1 (drop (length xs) os)
 left-more [] [] x = refl
@@ -85,7 +86,8 @@ pub gone_same : (os : List Order) (xs : List Reply) (r : Rows) → gone_in (boar
 gone_same os xs r = λ i. λ c. is_some (option_map (λ (e : CallEnd). e.at) (get_or-map_all (λ (e : Call). e.gone) r.calls c never i))
 
 -- a call that keeps its end is put in the place of another
-gone_set : (cs : List Call) (c : ℕ) (e : Call) → e.gone ≡ (get_or cs c never).gone → map (λ (e : Call). e.gone) (set cs c e) ≡ map (λ (e : Call). e.gone) cs
+gone_set : (cs : List Call) (c : ℕ) (e : Call) → e.gone ≡ (get_or cs c never).gone →
+    map (λ (e : Call). e.gone) (set cs c e) ≡ map (λ (e : Call). e.gone) cs
 gone_set cs c e h =
     map-set (λ (e : Call). e.gone) cs c e
     ∙ ap (λ g. set (map (λ (e : Call). e.gone) cs) c g) (h ∙ sym (get_or-map_all (λ (e : Call). e.gone) cs c never))
@@ -100,7 +102,7 @@ parted_keeps r t c = by r t (call_in r c).bridge
     by r t (Some k) = refl
 
 -- a reply changes no end that was told
-pub told_same : (r : Rows) (t : ℕ) (x : Result Act Refusal) → map (λ (e : Call). e.gone) (applied r t x).calls ≡ map (λ (e : Call). e.gone) r.calls
+pub told_same : (r : Rows) (t : ℕ) (x : Result Act Refusal) → map (λ (e : Call). e.gone) (rows_after r t x).calls ≡ map (λ (e : Call). e.gone) r.calls
 told_same r t (Ok (act.Opened c law)) = gone_set r.calls c _ refl
 told_same r t (Ok (act.Closed c None)) = gone_set r.calls c _ refl
 told_same r t (Ok (act.Closed c (Some p))) =
@@ -111,25 +113,22 @@ told_same r t (Ok (act.LevelSet c v)) = refl
 told_same r t (Ok (act.DtxSet c m)) = refl
 told_same r t (Err e) = refl
 
-pub calls_same : (r : Rows) (t : ℕ) (x : Result Act Refusal) → length (applied r t x).calls ≡ length r.calls
+pub calls_same : (r : Rows) (t : ℕ) (x : Result Act Refusal) → length (rows_after r t x).calls ≡ length r.calls
 calls_same r t x =
     let gone : Call → Option CallEnd = λ e. e.gone in
-    sym (length-map (applied r t x).calls gone) ∙ ap length (told_same r t x) ∙ length-map r.calls gone
+    sym (length-map (rows_after r t x).calls gone) ∙ ap length (told_same r t x) ∙ length-map r.calls gone
 
-pub most_same : (r : Rows) (t : ℕ) (x : Result Act Refusal) → (applied r t x).most ≡ r.most
+-- the end of a bridge keeps the room
+most_parted : (r : Rows) (t : ℕ) (o : Option ℕ) → (elim o as (λ _. Rows) [ None ↦ r | Some k ↦ parted_at r t k ]).most ≡ r.most
+most_parted r t None = refl
+most_parted r t (Some k) = refl
+
+pub most_same : (r : Rows) (t : ℕ) (x : Result Act Refusal) → (rows_after r t x).most ≡ r.most
 most_same r t (Ok (act.Opened c law)) = refl
 most_same r t (Ok (act.Closed c None)) = refl
 most_same r t (Ok (act.Closed c (Some p))) = most_parted r t (call_in r c).bridge
-  where
-    most_parted : (r : Rows) (t : ℕ) (o : Option ℕ) → (elim o as (λ _. Rows) [ None ↦ r | Some k ↦ parted_at r t k ]).most ≡ r.most
-    most_parted r t None = refl
-    most_parted r t (Some k) = refl
 most_same r t (Ok (act.Bridged a b)) = refl
 most_same r t (Ok (act.Unbridged a b)) = most_parted r t (call_in r a).bridge
-  where
-    most_parted : (r : Rows) (t : ℕ) (o : Option ℕ) → (elim o as (λ _. Rows) [ None ↦ r | Some k ↦ parted_at r t k ]).most ≡ r.most
-    most_parted r t None = refl
-    most_parted r t (Some k) = refl
 most_same r t (Ok (act.LevelSet c v)) = refl
 most_same r t (Ok (act.DtxSet c m)) = refl
 most_same r t (Err e) = refl

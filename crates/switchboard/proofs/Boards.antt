@@ -13,17 +13,18 @@ use Rattle.switchboard.specs.declared.act.Reply.{Reply}
 use Rattle.switchboard.specs.declared.table.Call.{Call}
 use Rattle.switchboard.specs.Calls.{Done, is_open}
 use Rattle.switchboard.specs.Replies.{reply_from, reply_to}
-use Rattle.switchboard.specs.Rows.{Rows, IsSized, rows, never, call_in, is_open_in, known_in, applied, gone_of, call_ended_in, span_in, gone_from_in, gone_from}
-use Rattle.switchboard.specs.State.{State, new_board, first_order, last_stamp, numbered, end_told, told_in, gone_in, told_more, after_turn, reply_of}
+use Rattle.switchboard.specs.Rows.{Rows, IsSized, never, call_in, is_open_in, known_in, rows_after, call_ended_in, span_in, gone_from_in, gone_from}
+use Rattle.switchboard.specs.State.{State, new_board, first_order, last_stamp, replies_from, end_told, told_in, gone_in, told_more, after_turn, reply_of}
 use Rattle.switchboard.specs.Ends.{spans_now}
 use Rattle.switchboard.specs.Stands.{IsLatest, Stands, IsBoard, dones, board_state}
+use Rattle.switchboard.proofs.Sizes.{rows, gone_of}
 use Rattle.switchboard.proofs.Lists.{get_or-map_all}
 use Rattle.switchboard.proofs.Known.{open_parts, open_agrees, reply_agrees}
 use Rattle.switchboard.proofs.TableLost.{table_lost}
 use Rattle.switchboard.proofs.Steps.{field_kept}
 use Rattle.switchboard.proofs.MovesOpened.{IsSome_before}
 use Rattle.switchboard.proofs.Moves.{stands_more}
-use Rattle.switchboard.proofs.BoardLists.{length-dones, dones-nil, dones-more, numbered-more, left-more, next-within, last-before, gone_same, told_same}
+use Rattle.switchboard.proofs.BoardLists.{length-dones, dones-nil, dones-more, replies_from-more, left-more, next-within, last-before, gone_same, told_same}
 use Rattle.switchboard.proofs.BoardLists.{calls_same, most_same, bridges-bound, spans-bound}
 use Rattle.switchboard.proofs.Spans.{never_past}
 
@@ -33,7 +34,7 @@ pub board-new : (os : List Order) (t : Rows) → AreOrders os → t ≡ rows (re
 board-new os t a e = subst (λ (t : Rows). IsBoard os [] t) (sym e) (record {
   orders = a;
   few = omega arith;
-  numbered = sym (ap (numbered 0) (dones-nil os));
+  numbered = sym (ap (replies_from 0) (dones-nil os));
   most = refl;
   places = length-replicate 4097 never;
   stands = subst (λ (ds : List Done). Stands (rows (replicate 4097 never) [] [] (length os)) ds) (sym (dones-nil os)) (record {
@@ -68,9 +69,9 @@ reply_of_order k x = record { order = k + 1; result = x }
 abbrev pub reply_at : List Reply → Rows → Order → Reply
 reply_at xs r o = record { order = length xs + 1; result = reply_from (known_in r o.stamp) o.what }
 
-pub board-more : (os : List Order) (xs : List Reply) (r : Rows) (o : Order) → IsBoard os xs r → IsSized r.calls r.bridges → first_order (drop (length xs) os)
-    ≡ Some o → NamesCalls o.what → IsSome_before r o.stamp →
-    IsBoard os (xs ++ reply_at xs r o ∷ []) (applied r o.stamp (reply_from (known_in r o.stamp) o.what))
+pub board-more : (os : List Order) (xs : List Reply) (r : Rows) (o : Order) → IsBoard os xs r →
+    IsSized r.calls r.bridges → first_order (drop (length xs) os) ≡ Some o → NamesCalls o.what → IsSome_before r o.stamp →
+    IsBoard os (xs ++ reply_at xs r o ∷ []) (rows_after r o.stamp (reply_from (known_in r o.stamp) o.what))
 board-more os xs r o b z next n told =
     let x = reply_at xs r o in
     let w = next-within os (length xs) o next in
@@ -78,34 +79,34 @@ board-more os xs r o b z next n told =
     record {
       orders = b.orders;
       few = omega (arith, length-append xs (x ∷ []), w.0);
-      numbered = ap (λ ys. ys ++ x ∷ []) b.numbered ∙ ap (λ k. numbered 0 (dones os xs) ++ record { order = k; result = x.result } ∷ [])
+      numbered = ap (λ ys. ys ++ x ∷ []) b.numbered ∙ ap (λ k. replies_from 0 (dones os xs) ++ record { order = k; result = x.result } ∷ [])
           (let l = length-dones os xs b.few in omega arith)
-          ∙ sym (ap (numbered 0) e ∙ numbered-more 0 (dones os xs) (record { order = o; result = x.result }));
+          ∙ sym (ap (replies_from 0) e ∙ replies_from-more 0 (dones os xs) (record { order = o; result = x.result }));
       most = most_same r o.stamp x.result ∙ b.most;
       places = calls_same r o.stamp x.result ∙ b.places;
-      stands = subst (λ (ds : List Done). Stands (applied r o.stamp x.result) ds) (sym e) (stands_more r (dones os xs) o.stamp o.what b.stands z
+      stands = subst (λ (ds : List Done). Stands (rows_after r o.stamp x.result) ds) (sym e) (stands_more r (dones os xs) o.stamp o.what b.stands z
           (last-before os xs o b.orders next) told n);
     }
 
 -- the reply from the table is that of the board
-pub reply_is : (os : List Order) (xs : List Reply) (r : Rows) (o : Order) → IsBoard os xs r → IsSized r.calls r.bridges → first_order (drop (length xs) os)
-    ≡ Some o → NamesCalls o.what →
-    reply_from (known_in r o.stamp) o.what ≡ reply_to (gone_in (board_state os xs r)) (dones os xs) o
+pub reply_is : (os : List Order) (xs : List Reply) (r : Rows) (o : Order) → IsBoard os xs r →
+    IsSized r.calls r.bridges → first_order (drop (length xs) os) ≡ Some o → NamesCalls o.what → reply_from (known_in r o.stamp) o.what
+    ≡ reply_to (gone_in (board_state os xs r)) (dones os xs) o
 reply_is os xs r o b z next n =
     reply_agrees r (dones os xs) o.stamp o.what b.stands z (last-before os xs o b.orders next) n
     ∙ ap (λ g. reply_to g (dones os xs) o) (sym (gone_same os xs r))
 
-pub state-more : (os : List Order) (xs : List Reply) (r : Rows) (o : Order) → IsBoard os xs r → IsSized r.calls r.bridges → first_order (drop (length xs) os)
-    ≡ Some o → NamesCalls o.what →
-    board_state os (xs ++ reply_at xs r o ∷ []) (applied r o.stamp (reply_from (known_in r o.stamp) o.what)) ≡ after_turn (board_state os xs r) (Some o)
+pub state-more : (os : List Order) (xs : List Reply) (r : Rows) (o : Order) → IsBoard os xs r →
+    IsSized r.calls r.bridges → first_order (drop (length xs) os) ≡ Some o → NamesCalls o.what →
+    board_state os (xs ++ reply_at xs r o ∷ []) (rows_after r o.stamp (reply_from (known_in r o.stamp) o.what)) ≡ after_turn (board_state os xs r) (Some o)
 state-more os xs r o b z next n =
     let x = reply_at xs r o in
-    ap (λ ds. record { left = drop (length (xs ++ x ∷ [])) os; done = ds; told = map (λ (e : Call). e.gone) (applied r o.stamp x.result).calls })
+    ap (λ ds. record { left = drop (length (xs ++ x ∷ [])) os; done = ds; told = map (λ (e : Call). e.gone) (rows_after r o.stamp x.result).calls })
     (dones-more os xs x o next)
     ∙ ap (λ l. record {
       left = l;
       done = dones os xs ++ record { order = o; result = x.result } ∷ [];
-      told = map (λ (e : Call). e.gone) (applied r o.stamp x.result).calls;
+      told = map (λ (e : Call). e.gone) (rows_after r o.stamp x.result).calls;
     }) (left-more os xs x)
     ∙ ap (λ ts. record { left = drop 1 (drop (length xs) os); done = dones os xs ++ record { order = o; result = x.result } ∷ []; told = ts })
     (told_same r o.stamp x.result)
@@ -115,16 +116,16 @@ state-more os xs r o b z next n =
       told = map (λ (e : Call). e.gone) r.calls;
     }) (reply_is os xs r o b z next n)
 
-pub answer-more : (os : List Order) (xs : List Reply) (r : Rows) (o : Order) → IsBoard os xs r → IsSized r.calls r.bridges → first_order (drop (length xs) os)
-    ≡ Some o → NamesCalls o.what →
+pub answer-more : (os : List Order) (xs : List Reply) (r : Rows) (o : Order) → IsBoard os xs r →
+    IsSized r.calls r.bridges → first_order (drop (length xs) os) ≡ Some o → NamesCalls o.what →
     Some (reply_at xs r o) ≡ reply_of (board_state os xs r) (Some o)
 answer-more os xs r o b z next n =
     ap (λ k. Some (record { order = k + 1; result = reply_from (known_in r o.stamp) o.what })) (sym (length-dones os xs b.few))
     ∙ ap (λ y. Some (record { order = length (dones os xs) + 1; result = y })) (reply_is os xs r o b z next n)
 
 -- the call that is told to have ended
-pub told_call : (os : List Order) (xs : List Reply) (r : Rows) (c : ℕ) → IsBoard os xs r → is_open (gone_in (board_state os xs r)) (dones os xs) c ≡ true →
-    (c < 4097) × (is_open_in r c ≡ true)
+pub told_call : (os : List Order) (xs : List Reply) (r : Rows) (c : ℕ) → IsBoard os xs r →
+    is_open (gone_in (board_state os xs r)) (dones os xs) c ≡ true → (c < 4097) × (is_open_in r c ≡ true)
 told_call os xs r c b e =
     let f : is_open (gone_of r) (dones os xs) c ≡ true = ap (λ g. is_open g (dones os xs) c) (sym (gone_same os xs r)) ∙ e in
     let h = b.stands.inside c (open_parts _ _ _ f).0 in
@@ -183,21 +184,23 @@ told_of os xs r s o y c =
     subst (λ (i : Option ℕ). IfSome i (λ at. at < o.stamp)) e (y.ends c)
 
 -- the replies after this order
-pub replied : (xs ys : List Reply) (r : Rows) (o : Order) (x : Result Act Refusal) (k : ℕ) → x ≡ reply_from (known_in r o.stamp) o.what → k ≡ length xs →
+pub replied : (xs ys : List Reply) (r : Rows) (o : Order) (x : Result Act Refusal) (k : ℕ) →
+    x ≡ reply_from (known_in r o.stamp) o.what → k ≡ length xs →
     ys ≡ xs ++ record { order = k + 1; result = x } ∷ [] → ys ≡ xs ++ reply_at xs r o ∷ []
 replied xs ys r o x k p q e = e ∙ ap (λ (k : ℕ). xs ++ record { order = k + 1; result = x } ∷ []) q
     ∙ ap (λ (x : Result Act Refusal). xs ++ record { order = length xs + 1; result = x } ∷ []) p
 
 pub execute_board : (os : List Order) (xs ys : List Reply) (r n : Rows) (s : State) (o : Order) (x : Result Act Refusal) → Ready os xs r s o →
-    x ≡ reply_from (known_in r o.stamp) o.what → n ≡ applied r o.stamp x → ys ≡ xs ++ reply_at xs r o ∷ [] → IsBoard os ys n
+    x ≡ reply_from (known_in r o.stamp) o.what → n ≡ rows_after r o.stamp x → ys ≡ xs ++ reply_at xs r o ∷ [] → IsBoard os ys n
 execute_board os xs ys r n s o x y p q e =
-    subst (λ (ys : List Reply). IsBoard os ys n) (sym e) (subst (λ (n : Rows). IsBoard os (xs ++ reply_at xs r o ∷ []) n) (sym (q ∙ ap (applied r o.stamp) p))
+    subst (λ (ys : List Reply). IsBoard os ys n) (sym e) (subst (λ (n : Rows). IsBoard os (xs ++ reply_at xs r o ∷ []) n) (sym (q ∙ ap (rows_after r o.stamp) p))
     (board-more os xs r o y.board y.sized (next_of os xs r s o y) y.calls (told_of os xs r s o y)))
 
 pub execute_state : (os : List Order) (xs ys : List Reply) (r n : Rows) (s : State) (o : Order) (x : Result Act Refusal) → Ready os xs r s o →
-    x ≡ reply_from (known_in r o.stamp) o.what → n ≡ applied r o.stamp x → ys ≡ xs ++ reply_at xs r o ∷ [] → board_state os ys n ≡ after_turn s (Some o)
+    x ≡ reply_from (known_in r o.stamp) o.what → n ≡ rows_after r o.stamp x →
+    ys ≡ xs ++ reply_at xs r o ∷ [] → board_state os ys n ≡ after_turn s (Some o)
 execute_state os xs ys r n s o x y p q e =
-    ap (λ ys. board_state os ys n) e ∙ ap (board_state os (xs ++ reply_at xs r o ∷ [])) (q ∙ ap (applied r o.stamp) p)
+    ap (λ ys. board_state os ys n) e ∙ ap (board_state os (xs ++ reply_at xs r o ∷ [])) (q ∙ ap (rows_after r o.stamp) p)
     ∙ state-more os xs r o y.board y.sized (next_of os xs r s o y) y.calls ∙ ap (λ s. after_turn s (Some o)) y.seen
 
 pub execute_answer : (os : List Order) (xs : List Reply) (r : Rows) (s : State) (o : Order) (x : Result Act Refusal) (k : ℕ) → Ready os xs r s o →
@@ -211,19 +214,20 @@ pub told_is : (os : List Order) (xs : List Reply) (r : Rows) → told_in (board_
 told_is os xs r = λ i. λ c. end_from os xs r c i
 
 -- the spans of the table are those of the board
-pub spans_seen : (os : List Order) (xs : List Reply) (r : Rows) (s : State) → IsBoard os xs r → board_state os xs r ≡ s → r.spans ≡ spans_now (told_in s) s.done
+pub spans_seen : (os : List Order) (xs : List Reply) (r : Rows) (s : State) → IsBoard os xs r →
+    board_state os xs r ≡ s → r.spans ≡ spans_now (told_in s) s.done
 spans_seen os xs r s b e =
     b.stands.table.spans ∙ ap (filter_map (span_in r)) b.stands.bridges
     ∙ sym (ap (λ f. spans_now f (dones os xs)) (told_is os xs r)) ∙ ap (λ (s : State). spans_now (told_in s) s.done) e
 
 -- there is room for one more bridge and span
-pub room : (os : List Order) (xs : List Reply) (r : Rows) (s : State) (o : Order) → IsBoard os xs r → board_state os xs r ≡ s → first_order s.left ≡ Some o →
-    (length r.bridges < r.most) × (length r.spans < r.most)
+pub room : (os : List Order) (xs : List Reply) (r : Rows) (s : State) (o : Order) →
+    IsBoard os xs r → board_state os xs r ≡ s → first_order s.left ≡ Some o → (length r.bridges < r.most) × (length r.spans < r.most)
 room os xs r s o b e n =
     let w = next-within os (length xs) o (ap (λ (s : State). first_order s.left) e ∙ n) in
     (omega (arith, w.0, bridges-bound os xs r b, b.most), omega (arith, w.0, bridges-bound os xs r b, spans-bound os xs r b, b.most))
 
--- and for one more reply
+-- A board with a due order has room for one more reply.
 pub reply_room : (os : List Order) (xs : List Reply) (r : Rows) (s : State) (o : Order) → board_state os xs r ≡ s → first_order s.left ≡ Some o →
     length xs < length os
 reply_room os xs r s o e n = (next-within os (length xs) o (ap (λ (s : State). first_order s.left) e ∙ n)).0

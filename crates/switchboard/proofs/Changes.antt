@@ -13,12 +13,13 @@ use Rattle.switchboard.specs.declared.table.Call.{Call}
 use Rattle.switchboard.specs.Calls.{Done, opened_at, is_open, has_ended}
 use Rattle.switchboard.specs.Bridges.{bridges, joins, lasts, other, bridge_of, no_bridge}
 use Rattle.switchboard.specs.Replies.{Known, reply_from, reply_to}
-use Rattle.switchboard.specs.Rows.{Rows, IsSized, call_in, bridge_at_place, is_open_in, bridge_in, known_in, applied, gone_of, call_ended_in, gone_from_in, gone_from}
+use Rattle.switchboard.specs.Rows.{Rows, IsSized, call_in, bridge_at_place, is_open_in, bridge_in, known_in, rows_after, call_ended_in, gone_from_in, gone_from}
 use Rattle.switchboard.specs.State.{State, new_board, told_in, gone_in}
 use Rattle.switchboard.specs.Stands.{IsLatest, IsTable, Stands, IsBoard, dones, board_state}
 use Rattle.switchboard.specs.Runs.{IsUnchanged}
 use Rattle.switchboard.specs.Open.{opened_now, open_now, law_now, partner_now, ArePairs, opened_after, open_after, law_after, partner_after, open_without}
 use Rattle.switchboard.specs.Open.{partner_without, Finds, Rests, IsExecuted, IsAsBefore}
+use Rattle.switchboard.proofs.Sizes.{gone_of}
 use Rattle.switchboard.proofs.Known.{not_true, open_parts, open_agrees, bridge_agrees}
 use Rattle.switchboard.proofs.Lists.{find-none}
 use Rattle.switchboard.proofs.Steps.{field_kept}
@@ -57,14 +58,14 @@ sized_by r now s len = record {
 pub board_sized : (os : List Order) (xs : List Reply) (r : Rows) → IsBoard os xs r → IsSized r.calls r.bridges
 board_sized os xs r b = sized_by r _ b.stands.table b.places
 
--- what the table tells of a call for each number, also one past the table: that it was opened ..
+-- The table agrees with the executed orders for each number, also one past the table: whether the call was opened.
 opened_agrees : (r : Rows) (ds : List Done) (c : ℕ) → Stands r ds → length r.calls ≡ 4097 → is_some (opened_at c ds) ≡ was_opened r c
 opened_agrees r ds c s len = elim (cases_lt c 4097) [
   | inl h ↦ sym (ap is_some (s.opened c h))
   | inr h ↦ not_true _ (λ q. let k = s.inside c q in omega arith) ∙ sym (ap (λ (e : Call). is_some e.opened) (past r c len h))
 ]
 
--- .. that it is open ..
+-- The table agrees with them on whether a call is open.
 lives_agrees : (r : Rows) (ds : List Done) (c : ℕ) → Stands r ds → length r.calls ≡ 4097 → is_open (gone_of r) ds c ≡ is_open_in r c
 lives_agrees r ds c s len = elim (cases_lt c 4097) [
   | inl h ↦ sym (open_agrees r ds c s h)
@@ -72,7 +73,7 @@ lives_agrees r ds c s len = elim (cases_lt c 4097) [
       ∙ sym (ap (λ (e : Call). is_some e.opened && not (is_some e.closed) && not (is_some (gone_from e))) (past r c len h))
 ]
 
--- .. and its bridge
+-- The table agrees with them on a call's bridge.
 partner_agrees : (r : Rows) (ds : List Done) (c : ℕ) → Stands r ds → length r.calls ≡ 4097 → bridge_of (gone_of r) ds c ≡ bridge_in r c
 partner_agrees r ds c s len = elim (cases_lt c 4097) [
   | inl h ↦ sym (bridge_agrees r ds c s (sized_by r _ s.table len) h)
@@ -122,8 +123,8 @@ each_ok (Err e) P Q h p = tt
 
 -- an order
 pub execute_changes : (os : List Order) (xs ys : List Reply) (r n : Rows) (s : State) (o : Order) (x : Result Act Refusal) → Ready os xs r s o →
-    x ≡ reply_from (known_in r o.stamp) o.what →
-    n ≡ applied r o.stamp x → ys ≡ xs ++ reply_at xs r o ∷ [] → IfOk x (IsExecuted s (board_state os ys n) o.stamp)
+    x ≡ reply_from (known_in r o.stamp) o.what → n ≡ rows_after r o.stamp x → ys ≡ xs ++ reply_at xs r o ∷ [] →
+    IfOk x (IsExecuted s (board_state os ys n) o.stamp)
 execute_changes os xs ys r n s o x y p q e =
     let t = o.stamp in
     let z = y.sized in
@@ -170,7 +171,8 @@ ended_changes os xs r n s end b z e l q next =
     }
 
 -- a board before the first order
-pub start_alone : (s : State) (os : List Order) → s ≡ new_board os → (c : ℕ) → (opened_now s c ≡ false) × (open_now s c ≡ false) × (partner_now s c ≡ None)
+pub start_alone : (s : State) (os : List Order) → s ≡ new_board os → (c : ℕ) →
+    (opened_now s c ≡ false) × (open_now s c ≡ false) × (partner_now s c ≡ None)
 start_alone s os e c = (ap (λ (s : State). opened_now s c) e, ap (λ (s : State). open_now s c) e, ap (λ (s : State). partner_now s c) e)
 
 -- partners are pairs of open calls
@@ -201,7 +203,7 @@ as_before s n u = record {
     opened_known : (s : State) (c : ℕ) → opened_now s c ≡ (open_now s c || has_ended (gone_in s) s.done c)
     opened_known s c = three _ _ _
 
--- so it is where an order is refused
+-- A refused order leaves the calls, laws and partners as they were.
 pub refused_before : (s n : State) (x : Result Act Refusal) → OnErr x (IsUnchanged s n) → OnErr x (IsAsBefore s n)
 refused_before s n (Ok a) h = tt
 refused_before s n (Err e) h = as_before s n h

@@ -15,7 +15,7 @@ use Rattle.switchboard.specs.declared.table.Call.{Call}
 use Rattle.switchboard.specs.Calls.{Done}
 use Rattle.switchboard.specs.Bridges.{joins, other, no_bridge}
 use Rattle.switchboard.specs.Replies.{reply_from}
-use Rattle.switchboard.specs.Rows.{Rows, call_in, bridge_at_place, is_open_in, is_live_in, bridge_in, bridge_ended_in, known_in, applied, closed_in, parted_at}
+use Rattle.switchboard.specs.Rows.{Rows, call_in, bridge_at_place, is_open_in, is_live_in, bridge_in, bridge_ended_in, known_in, rows_after, closed_in, parted_at}
 use Rattle.switchboard.specs.Rows.{gone_from_in}
 use Rattle.switchboard.specs.Rows.{parted_in}
 use Rattle.switchboard.specs.State.{last_stamp}
@@ -46,7 +46,7 @@ pub record Moved (r n : Rows) (t : ℕ) (a : Act) : Type 0 where
 
 -- `open`
 moved_opened : (r : Rows) (now t m : ℕ) (law : Law) → IsTable r now → length r.calls ≡ 4097 → (1 ≤ m) × (m ≤ 4096) → was_opened r m ≡ false →
-    Moved r (applied r t (Ok (act.Opened m law))) t (act.Opened m law)
+    Moved r (rows_after r t (Ok (act.Opened m law))) t (act.Opened m law)
 moved_opened r now t m law s len n fresh =
     let l : m < length r.calls = omega (arith, n.1) in
     let new : (call_in r m).opened ≡ None = none_of _ fresh in
@@ -62,11 +62,11 @@ shut_by_order : (o g : Bool) → (o && false && g) ≡ false
 shut_by_order true g = refl
 shut_by_order false g = refl
 
--- to close a call changes nothing of which were opened ..
+-- Closing a call changes nothing about which calls were opened.
 closed_was : (r : Rows) (t m c : ℕ) → was_opened (closed_in r t m) c ≡ was_opened r c
 closed_was r t m c = ap is_some (field_kept (λ (x : Call). x.opened) r.calls m (closed_call r t m) refl c)
 
--- .. and of which are open only that call
+-- After the closing of a call the others are open as before, and it is not.
 closed_lives : (r : Rows) (t m : ℕ) → m < length r.calls → (c : ℕ) → is_open_in (closed_in r t m) c ≡ open_without m (is_open_in r) c
 closed_lives r t m l c = shut_open r m (closed_call r t m) r.spans l (shut_by_order (is_some (call_in r m).opened) (not (is_some (gone_from_in r m)))) c
 
@@ -77,12 +77,14 @@ closed_partner r now t m s len l c = shut_partner r now m (closed_call r t m) r.
     (shut_by_order (is_some (call_in r m).opened) (not (is_some (gone_from_in r m)))) refl c
 
 -- parted, and then closed
-closed_parted : (t q w : Bool) (o : Option ℕ) → (t ≡ true → q ≡ true) → w ≡ q → (if t || false then None else if q then None else o) ≡ (if w then None else o)
+closed_parted : (t q w : Bool) (o : Option ℕ) → (t ≡ true → q ≡ true) → w ≡ q →
+    (if t || false then None else if q then None else o) ≡ (if w then None else o)
 closed_parted true q w o h e = sym (ap (λ (t : Bool). if t then None else o) (e ∙ h refl))
 closed_parted false q w o h e = sym (ap (λ (t : Bool). if t then None else o) e)
 
-moved_closed : (r : Rows) (t m : ℕ) → IsTable r t → length r.calls ≡ 4097 → m < 4097 → is_open_in r m ≡ true → (i : Option Bridge) → bridge_in r m ≡ i →
-    Moved r (applied r t (Ok (act.Closed m (option_map (other m) i)))) t (act.Closed m (option_map (other m) i))
+moved_closed : (r : Rows) (t m : ℕ) → IsTable r t → length r.calls ≡ 4097 → m < 4097 →
+    is_open_in r m ≡ true → (i : Option Bridge) → bridge_in r m ≡ i →
+    Moved r (rows_after r t (Ok (act.Closed m (option_map (other m) i)))) t (act.Closed m (option_map (other m) i))
 moved_closed r t m s len l lives None e =
     let none : partner_in r m ≡ None = ap (option_map (other m)) e in
     record {
@@ -117,9 +119,8 @@ moved_closed r t m s len l lives (Some y) e =
 -- `bridge`
 
 -- where a call has no bridge now, its earlier bridges are over
-rested : (r : Rows) (ds : List Done) (t c : ℕ) → Stands r ds → last_stamp ds ≤ t → IsSome_before r t → c < 4097 → bridge_in r c ≡ None → bridge_ended_in r t c
-    ≡ None →
-    HasRested (gone_from_in r) r.bridges t c
+rested : (r : Rows) (ds : List Done) (t c : ℕ) → Stands r ds → last_stamp ds ≤ t →
+    IsSome_before r t → c < 4097 → bridge_in r c ≡ None → bridge_ended_in r t c ≡ None → HasRested (gone_from_in r) r.bridges t c
 rested r ds t c s late told h none no_end =
     All-from_get_or (λ x. joins c x ≡ true → HasEnded (gone_from_in r) t x) r.bridges no_bridge (λ j l q.
     let o = over_before r ds t c s late told h none no_end j l q in
@@ -130,9 +131,9 @@ rested r ds t c s late told h none no_end =
       no_order = λ e. let k = (s.table.sound j l).ended t e in let p : o.at ≡ t = let z = o.ended in cc (k.0, z) in omega (arith, o.before);
     })
 
-moved_bridged : (r : Rows) (ds : List Done) (t a b : ℕ) → Stands r ds → length r.calls ≡ 4097 → last_stamp ds ≤ t → IsSome_before r t → a < 4097 → b < 4097 →
-    Joined (known_in r t) a b →
-    Moved r (applied r t (Ok (act.Bridged a b))) t (act.Bridged a b)
+moved_bridged : (r : Rows) (ds : List Done) (t a b : ℕ) → Stands r ds → length r.calls ≡ 4097 →
+    last_stamp ds ≤ t → IsSome_before r t → a < 4097 → b < 4097 → Joined (known_in r t) a b →
+    Moved r (rows_after r t (Ok (act.Bridged a b))) t (act.Bridged a b)
 moved_bridged r ds t a b s len late told la lb j = record {
   finds = (j.apart, (j.open_a, j.open_b), (ap (option_map (other a)) j.alone_a, ap (option_map (other b)) j.alone_b));
   opened = λ c. ap is_some (bridged_field (λ x. x.opened) r (length r.bridges) a b (λ e. refl) c);
@@ -144,7 +145,7 @@ moved_bridged r ds t a b s len late told la lb j = record {
 -- `unbridge`
 
 moved_unbridged : (r : Rows) (t k : ℕ) → IsTable r t → length r.calls ≡ 4097 → k < length r.bridges → is_live_in r (bridge_at_place r k) ≡ true →
-    Moved r (applied r t (Ok (act.Unbridged (bridge_at_place r k).a (bridge_at_place r k).b))) t (act.Unbridged (bridge_at_place r k).a (bridge_at_place r k).b)
+    Moved r (rows_after r t (Ok (act.Unbridged (bridge_at_place r k).a (bridge_at_place r k).b))) t (act.Unbridged (bridge_at_place r k).a (bridge_at_place r k).b)
 moved_unbridged r t k s len l live =
     let x = bridge_at_place r k in
     let v = live_parts r x live in
@@ -162,18 +163,18 @@ moved_unbridged r t k s len l live =
 -- any order
 
 abbrev pub Does : Rows → ℕ → Result Act Refusal → Type 0
-Does r t x = IfOk x (Moved r (applied r t x) t)
+Does r t x = IfOk x (Moved r (rows_after r t x) t)
 
 -- a refusal does nothing
 does_nothing : (r : Rows) (t : ℕ) (x : Result Act Refusal) → IsRefused x → Does r t x
 does_nothing r t x e = subst (λ (x : Result Act Refusal). Does r t x) (sym e.1) tt
 
 -- an act does what moves in the table
-does : (r : Rows) (t : ℕ) (x : Result Act Refusal) (a : Act) → x ≡ Ok a → Moved r (applied r t (Ok a)) t a → Does r t x
+does : (r : Rows) (t : ℕ) (x : Result Act Refusal) (a : Act) → x ≡ Ok a → Moved r (rows_after r t (Ok a)) t a → Does r t x
 does r t x a e m = subst (λ (x : Result Act Refusal). Does r t x) (sym e) m
 
-pub moved : (r : Rows) (ds : List Done) (t : ℕ) (w : What) → Stands r ds → length r.calls ≡ 4097 → last_stamp ds ≤ t → IsSome_before r t → NamesCalls w →
-    Does r t (reply_from (known_in r t) w)
+pub moved : (r : Rows) (ds : List Done) (t : ℕ) (w : What) → Stands r ds → length r.calls ≡ 4097 →
+    last_stamp ds ≤ t → IsSome_before r t → NamesCalls w → Does r t (reply_from (known_in r t) w)
 moved r ds t (what.OpenCall c law) s len late told n =
     elim (open_accepted (known_in r t) c law) [
       | inl e ↦ does_nothing r t _ e
@@ -197,7 +198,7 @@ moved r ds t (what.Unbridge c) s len late told n =
           let f = bridge_found r p.0 (call_in r c).bridge p.3 in
           let l = table_later r _ _ s.table late in
           let m = moved_unbridged r t f.0 l len (latest_at r t c f.0 l len f.1).0 f.2 in
-          does r t _ (act.Unbridged p.0.a p.0.b) p.1 (subst (λ (x : Bridge). Moved r (applied r t (Ok (act.Unbridged x.a x.b))) t (act.Unbridged x.a x.b)) f.3
+          does r t _ (act.Unbridged p.0.a p.0.b) p.1 (subst (λ (x : Bridge). Moved r (rows_after r t (Ok (act.Unbridged x.a x.b))) t (act.Unbridged x.a x.b)) f.3
           m)
     ]
 moved r ds t (what.Level c v) s len late told n =

@@ -19,9 +19,9 @@ use Rattle.switchboard.proofs.Steps.{or_else-none}
 abbrev opener : ℕ → List Done → Option Done
 opener c ds = find (λ d. is_this c (opened_by d.result)) ds
 
--- and the law that it gave
-abbrev given : Option Done → Law
-given o = elim o [ None ↦ A | Some d ↦ law_by d.result ]
+-- the law that this order gave
+abbrev law_given : Option Done → Law
+law_given o = elim o [ None ↦ A | Some d ↦ law_by d.result ]
 
 -- a search over one more order finds what it found before, or the new one
 first_more : (t : Bool) (e : Done) (u v w : Option Done) → u ≡ or_else v w → (if t then Some e else u) ≡ or_else (if t then Some e else v) w
@@ -36,7 +36,7 @@ opener-more c (e ∷ ds) later = first_more (is_this c (opened_by e.result)) e _
 pub law_kept : (c : ℕ) (ds : List Done) (d : Done) → is_this c (opened_by d.result) ≡ false → law_at c (ds ++ d ∷ []) ≡ law_at c ds
 law_kept c ds d other =
     let none : opener c (d ∷ []) ≡ None = ap (λ (t : Bool). if t then Some d else None) other in
-    ap given (opener-more c ds (d ∷ []) ∙ ap (or_else (opener c ds)) none ∙ or_else-none _)
+    ap law_given (opener-more c ds (d ∷ []) ∙ ap (or_else (opener c ds)) none ∙ or_else-none _)
 
 -- where the first has something, it is taken
 first_stays : (u w : Option Done) → is_some (option_map (λ d. d.order.stamp) u) ≡ true → or_else u w ≡ u
@@ -45,7 +45,7 @@ first_stays (Some d) w e = refl
 
 -- a call that was opened keeps its law
 pub law_stays : (c : ℕ) (ds later : List Done) → is_some (opened_at c ds) ≡ true → law_at c (ds ++ later) ≡ law_at c ds
-law_stays c ds later e = ap given (opener-more c ds later ∙ first_stays (opener c ds) (opener c later) e)
+law_stays c ds later e = ap law_given (opener-more c ds later ∙ first_stays (opener c ds) (opener c later) e)
 
 -- where it has nothing, the second is taken
 second_first : (u w : Option Done) → is_some (option_map (λ d. d.order.stamp) u) ≡ false → or_else u w ≡ w
@@ -63,14 +63,14 @@ law_opened n c law ds o fresh = elim (cases_eq c n) [
     d : Done
     d = record { order = o; result = Ok (act.Opened n law) }
 
-    its : (t : Bool) → t ≡ true → given (if t then Some (record { order = o; result = Ok (act.Opened n law) }) else None) ≡ law
+    its : (t : Bool) → t ≡ true → law_given (if t then Some (record { order = o; result = Ok (act.Opened n law) }) else None) ≡ law
     its true e = refl
     its false e = cc
 
     new : c ≡ n → law_at c (ds ++ record { order = o; result = Ok (act.Opened n law) } ∷ []) ≡ (if c == n then law else law_at c ds)
     new e =
         let unopened : is_some (opened_at c ds) ≡ false = ap (λ c. is_some (opened_at c ds)) e ∙ fresh in
-        ap given (opener-more c ds (d ∷ []) ∙ second_first (opener c ds) _ unopened) ∙ its (c == n) (eq-eqb c n e)
+        ap law_given (opener-more c ds (d ∷ []) ∙ second_first (opener c ds) _ unopened) ∙ its (c == n) (eq-eqb c n e)
         ∙ sym (ap (λ (t : Bool). if t then law else law_at c ds) (eq-eqb c n e))
 
 -- what an accepted order changes of the laws
@@ -86,7 +86,7 @@ follows s o (act.Unbridged a b) f c = law_kept c s.done _ refl
 follows s o (act.LevelSet n v) f c = law_kept c s.done _ refl
 follows s o (act.DtxSet n m) f c = law_kept c s.done _ refl
 
--- so it is after the next order
+-- **The laws after an accepted order are those of the definition.**
 pub law_more : (s n : State) (o : Order) (a : Act) → (done_by s o).result ≡ Ok a → n ≡ after_turn s (Some o) →
     Finds a (opened_now s) (open_now s) (partner_now s) → (c : ℕ) → law_now n c ≡ law_after a (law_now s) c
 law_more s n o a same next finds c =

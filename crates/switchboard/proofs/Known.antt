@@ -12,10 +12,11 @@ use Rattle.switchboard.specs.Replies.{Known, known_of, reply_from}
 use Rattle.switchboard.specs.Bridges.{lasts, joins, bridge_of, bridge_ended, no_bridge}
 use Rattle.switchboard.specs.Rows.{Rows, IsSized, has_ended_in, call_in, bridge_at_place, is_open_in, is_live_in, bridge_in, bridge_ended_in, bridge_end_in}
 use Rattle.switchboard.specs.Rows.{gone_from_in}
-use Rattle.switchboard.specs.Rows.{known_in, some_if, gone_of}
+use Rattle.switchboard.specs.Rows.{known_in, some_if}
 use Rattle.switchboard.specs.Ends.{least}
 use Rattle.switchboard.specs.State.{last_stamp}
 use Rattle.switchboard.specs.Stands.{IsOver, IsLatest, IsSound, Stands}
+use Rattle.switchboard.proofs.Sizes.{gone_of}
 use Rattle.switchboard.proofs.Lists.{find-none, find-only, not_both}
 
 -- ---- open calls and live bridges
@@ -88,10 +89,6 @@ latest-find bs c (Some k) P V latest is earlier =
     find-only P bs k no_bridge latest.0 (λ j l ne. is j l ∙ miss _ _ (λ e. earlier j k refl (less j k ne (λ m. not_both _ (latest.2 j m l) e)) e))
     ∙ ap (λ t. some_if t (get_or bs k no_bridge)) (is k latest.0 ∙ ap (λ t. t && V (get_or bs k no_bridge)) latest.1)
 
--- a call without a latest bridge has none
-pub latest_misses : (bs : List Bridge) (c : ℕ) → IsLatest bs c None → (j : ℕ) → j < length bs → joins c (get_or bs j no_bridge) ≡ false
-latest_misses bs c l j h = l j h
-
 -- a call's bridges before its latest were over before that began
 pub earlier_over : (r : Rows) (ds : List Done) (c j k : ℕ) → Stands r ds → c < 4097 → (call_in r c).bridge ≡ Some k → j < k →
     joins c (bridge_at_place r j) ≡ true → IsOver r (bridge_at_place r k).from (bridge_at_place r j)
@@ -101,29 +98,30 @@ earlier_over r ds c j k s h e l q =
 
 -- ---- what is known
 
--- what the table tells of a call is what the executed orders say: that it is open ..
+-- The table agrees with the executed orders on whether a call is open.
 pub open_agrees : (r : Rows) (ds : List Done) (c : ℕ) → Stands r ds → c < 4097 → is_open_in r c ≡ is_open (gone_of r) ds c
 open_agrees r ds c s h =
     ap (λ o. is_some o && not (is_some (call_in r c).closed) && not (is_some (gone_from_in r c))) (s.opened c h)
     ∙ ap (λ o. is_some (opened_at c ds) && not (is_some o) && not (is_some (gone_from_in r c))) (s.closed c h)
 
--- .. that it has ended ..
+-- The table agrees with them on whether a call has ended.
 ended_call_agrees : (r : Rows) (ds : List Done) (c : ℕ) → Stands r ds → c < 4097 → has_ended_in r c ≡ has_ended (gone_of r) ds c
 ended_call_agrees r ds c s h =
     ap (λ o. is_some o && not (is_open_in r c)) (s.opened c h) ∙ ap (λ t. is_some (opened_at c ds) && not t) (open_agrees r ds c s h)
 
--- .. of its bridges only the latest can be live ..
-is_latest : (r : Rows) (ds : List Done) (c : ℕ) → Stands r ds → c < 4097 → (j : ℕ) → j < length r.bridges →
-    IsSized r.calls r.bridges →
-    (joins c (bridge_at_place r j) && lasts (gone_of r) ds (bridge_at_place r j)) ≡ (joins c (bridge_at_place r j) && is_live_in r (bridge_at_place r j))
+-- For a call's bridges, lasting by the orders is being live in the table.
+is_latest : (r : Rows) (ds : List Done) (c : ℕ) → Stands r ds → c < 4097 → (j : ℕ) → j < length r.bridges → IsSized r.calls r.bridges →
+    (joins c (bridge_at_place r j) && lasts (gone_of r) ds (bridge_at_place r j))
+    ≡ (joins c (bridge_at_place r j) && is_live_in r (bridge_at_place r j))
 is_latest r ds c s h j l z =
     let x = bridge_at_place r j in
     let n = z.named j l in
     ap (λ t. joins c x && (is_none x.ended && t && is_open (gone_of r) ds x.b)) (sym (open_agrees r ds x.a s n.0))
     ∙ ap (λ t. joins c x && (is_none x.ended && is_open_in r x.a && t)) (sym (open_agrees r ds x.b s n.1))
 
--- .. its bridge ..
-pub bridge_agrees : (r : Rows) (ds : List Done) (c : ℕ) → Stands r ds → IsSized r.calls r.bridges → c < 4097 → bridge_in r c ≡ bridge_of (gone_of r) ds c
+-- The table agrees with the orders on a call's bridge.
+pub bridge_agrees : (r : Rows) (ds : List Done) (c : ℕ) → Stands r ds → IsSized r.calls r.bridges →
+    c < 4097 → bridge_in r c ≡ bridge_of (gone_of r) ds c
 bridge_agrees r ds c s z h =
     sym (ap (find (λ x. joins c x && lasts (gone_of r) ds x)) (sym s.bridges)
     ∙ latest-find r.bridges c (call_in r c).bridge (λ x. joins c x && lasts (gone_of r) ds x) (is_live_in r)
@@ -142,7 +140,7 @@ not_ended_at r now t u x s o h (Some w) e = not_true _ (λ q.
     let v : o.at ≡ w = cc (o.ended, k.0) in
     omega (arith, o.before))
 
--- .. and the bridge that an order of this stamp ended
+-- The table agrees with the orders on the bridge that an order of this stamp ended.
 pub ended_agrees : (r : Rows) (ds : List Done) (c t : ℕ) → Stands r ds → last_stamp ds ≤ t → c < 4097 → bridge_ended_in r t c ≡ bridge_ended t ds c
 ended_agrees r ds c t s now h =
     sym (ap (find (λ x. joins c x && is_this t x.ended)) (sym s.bridges)
@@ -167,8 +165,9 @@ same_close : (k l : Known) (c : ℕ) → k.is_open c ≡ l.is_open c → k.bridg
 same_close k l c p q = cc
 
 -- `bridge`
-same_bridge : (k l : Known) (a b : ℕ) → k.is_open a ≡ l.is_open a → k.is_open b ≡ l.is_open b → k.bridge_of a ≡ l.bridge_of a → k.bridge_of b ≡ l.bridge_of b →
-    k.bridge_ended a ≡ l.bridge_ended a → k.bridge_ended b ≡ l.bridge_ended b → reply_from k (what.Bridge a b) ≡ reply_from l (what.Bridge a b)
+same_bridge : (k l : Known) (a b : ℕ) → k.is_open a ≡ l.is_open a → k.is_open b ≡ l.is_open b →
+    k.bridge_of a ≡ l.bridge_of a → k.bridge_of b ≡ l.bridge_of b → k.bridge_ended a ≡ l.bridge_ended a → k.bridge_ended b ≡ l.bridge_ended b →
+    reply_from k (what.Bridge a b) ≡ reply_from l (what.Bridge a b)
 same_bridge k l a b p q r s t u = cc
 
 -- `unbridge`
@@ -184,7 +183,7 @@ same_level k l w c v p = cc
 same_dtx : (k l : Known) (w : What) → (c : ℕ) → (m : _) → k.is_open c ≡ l.is_open c → reply_from k (what.Dtx c m) ≡ reply_from l (what.Dtx c m)
 same_dtx k l w c m p = cc
 
--- so the reply from the table is that from the executed orders
+-- **The reply from the table is that from the executed orders.**
 pub reply_agrees : (r : Rows) (ds : List Done) (t : ℕ) (w : What) → Stands r ds → IsSized r.calls r.bridges → last_stamp ds ≤ t → NamesCalls w →
     reply_from (known_in r t) w ≡ reply_from (known_of (gone_of r) t ds) w
 reply_agrees r ds t (what.OpenCall c law) s z now n =

@@ -1,10 +1,10 @@
 -- For crates above: accepted acts are in range (`in_range`), stamps that are left rise (`left_rising`), and one more end is in time (`before_more`).
 -- Laws of the board's steps.
-use Rattle.std.proofs.Common.{◌≡◌, refl, sym, ap, ◌∙◌, ℕ, zero, suc, ◌+◌, ◌<◌, ◌≤◌, ◌≢◌, Bool, false, Option, Some, None, List, [], ◌∷◌, ◌++◌, map, get_or, set}
-use Rattle.std.proofs.Common.{drop, replicate, arith, append_assoc, length-drop, subst, true, inl, inr}
+use Rattle.std.proofs.Common.{◌≡◌, refl, sym, ap, ◌∙◌, ℕ, zero, suc, ◌+◌, ◌<◌, ◌≤◌, ◌≢◌, Bool, false, Option, Some, None, List, [], ◌∷◌, ◌++◌, get_or, set}
+use Rattle.std.proofs.Common.{drop, replicate, arith, length-drop, subst, true, inl, inr}
 use Rattle.std.specs.Prelude.{Result, Ok, Err, not, ◌&&◌, is_some, is_none, option_map, find, if◌then◌else◌, ◌==◌, IfSome, IfOk, IsNone, OnErr, ◌↔◌}
 use Rattle.std.specs.List.{All, filter_map}
-use Rattle.std.proofs.lemmas.List.{map-append, append-nil, get_or-drop}
+use Rattle.std.proofs.lemmas.List.{append-nil, get_or-drop}
 use Rattle.std.proofs.lemmas.Bool.{eq-eqb, ne_eqb}
 use Rattle.trau_io.specs.declared.ends.CallEnd.{CallEnd}
 use Rattle.trau_orders.specs.declared.order.What.{What}
@@ -20,7 +20,7 @@ use Rattle.switchboard.specs.declared.table.Bridge.{Bridge}
 use Rattle.switchboard.specs.Calls.{Done, is_this, opened_at, closed_at}
 use Rattle.switchboard.specs.Bridges.{bridges, joins, other}
 use Rattle.switchboard.specs.Replies.{Known, known_of, reply_from, IsInRange}
-use Rattle.switchboard.specs.State.{State, EndBefore, told_more, new_board, gone_in, told_in, after_turn, done_by, due, reply_of, orders_of, first_order}
+use Rattle.switchboard.specs.State.{State, EndBefore, told_more, new_board, gone_in, told_in, after_turn, done_by, due, reply_of, first_order}
 use Rattle.switchboard.specs.State.{first_stamp, last_stamp}
 use Rattle.switchboard.specs.Stands.{AreRising}
 use Rattle.switchboard.specs.Runs.{IsUnchanged}
@@ -31,11 +31,11 @@ use Rattle.switchboard.proofs.Replies.{IsRefused, open_accepted, close_accepted,
 use Rattle.switchboard.proofs.Steps.{last-more, or_else-none, opened-more, closed-more, after_kept, map_after_same}
 
 -- before the first order no end is told
-abbrev untold : ℕ → List (Option CallEnd)
-untold n = replicate n None
+abbrev no_ends : ℕ → List (Option CallEnd)
+no_ends n = replicate n None
 
 -- a new board was told no end
-none_at : (n c : ℕ) → get_or (untold n) c None ≡ None
+none_at : (n c : ℕ) → get_or (no_ends n) c None ≡ None
 none_at zero c = refl
 none_at (suc n) zero = refl
 none_at (suc n) (suc c) = none_at n c
@@ -64,10 +64,6 @@ before_set t end (x ∷ xs) (suc i) l h (suc c) = before_set t end xs i l (λ k.
 pub before_more : (s n : State) (end : CallEnd) → n ≡ told_more s end → (t : ℕ) → end.at < t → EndBefore t s → EndBefore t n
 before_more s n end e t l h = subst (λ (n : State). EndBefore t n) (sym e) (before_set t end s.told end.call l h)
 
--- an order tells no end
-pub before_turned : (s n : State) (o : Order) → n ≡ after_turn s (Some o) → (t : ℕ) → EndBefore t s → EndBefore t n
-before_turned s n o e t h = subst (λ (n : State). EndBefore t n) (sym e) h
-
 -- ---- a refused order changes nothing
 
 -- what is known, from what the orders did
@@ -81,21 +77,21 @@ known_from gone t opened closed xs =
       bridge_ended = λ c. find (λ x. joins c x && is_this t x.ended) xs;
     }
 
--- a refused order opens no call ..
+-- A refused order opens no call.
 refused_opened : (ds : List Done) (o : Order) (e : Refusal) (c : ℕ) → opened_at c (ds ++ record { order = o; result = Err e } ∷ []) ≡ opened_at c ds
 refused_opened ds o e c = opened-more c ds (record { order = o; result = Err e }) ∙ or_else-none _
 
--- .. closes none ..
+-- A refused order closes no call.
 refused_closed : (ds : List Done) (o : Order) (e : Refusal) (c : ℕ) → closed_at c (ds ++ record { order = o; result = Err e } ∷ []) ≡ closed_at c ds
 refused_closed ds o e c = closed-more c ds (record { order = o; result = Err e }) ∙ or_else-none _
 
--- .. begins and ends no bridge ..
+-- A refused order begins and ends no bridge.
 refused_bridges : (ds : List Done) (o : Order) (e : Refusal) → bridges (ds ++ record { order = o; result = Err e } ∷ []) ≡ bridges ds
 refused_bridges ds o e =
     let d : Done = record { order = o; result = Err e } in
     bridges-more ds d ∙ append-nil _ ∙ map_after_same d (bridges ds) (λ j l. after_kept d _ refl)
 
--- .. and each later order finds the same
+-- After a refused order each later order finds the same.
 refused_known : (gone : ℕ → Bool) (t : ℕ) (ds : List Done) (o : Order) (e : Refusal) → known_of gone t (ds ++ record { order = o; result = Err e } ∷ [])
     ≡ known_of gone t ds
 refused_known gone t ds o e =
@@ -124,31 +120,14 @@ refused_unchanged s n o e = by s n o (done_by s o).result refl e
     by s n o (Ok a) p e = tt
     by s n o (Err r) p e = subst (λ (n : State). IsUnchanged s n) (sym e) (refused_same s o (done_by s o).result r p)
 
-pub refused_answer : (s n : State) (o : Order) (r : Reply) → Some r ≡ reply_of s (Some o) → n ≡ after_turn s (Some o) → OnErr r.result (IsUnchanged s n)
+pub refused_answer : (s n : State) (o : Order) (r : Reply) → Some r ≡ reply_of s (Some o) →
+    n ≡ after_turn s (Some o) → OnErr r.result (IsUnchanged s n)
 refused_answer s n o r p e = subst (λ (x : Result Act Refusal). OnErr x (IsUnchanged s n)) (let q : (done_by s o).result ≡ r.result = cc in q)
     (refused_unchanged s n o e)
 
 -- the stamp of the last executed order, after the next one
 pub last_is : (s n : State) (o : Order) (t : ℕ) → n ≡ after_turn s (Some o) → o.stamp ≡ t → last_stamp n.done ≡ t
 last_is s n o t e q = ap (λ (s : State). last_stamp s.done) e ∙ last-more s.done (done_by s o) ∙ q
-
--- ---- no order is lost
-
--- an order that is executed stays among all orders
-pub orders_kept : (s : State) (t : ℕ) → orders_of (after_turn s (due s.left t)) ≡ orders_of s
-orders_kept s t = by s t s.left refl
-  where
-    one : (s : State) (o : Order) (os : List Order) (b : Bool) → s.left ≡ o ∷ os → orders_of (after_turn s (if b then Some o else None)) ≡ orders_of s
-    one s o os false e = refl
-    one s o os true e =
-        ap (λ l. map (λ (d : Done). d.order) (s.done ++ done_by s o ∷ []) ++ drop 1 l) e
-        ∙ ap (λ l. l ++ os) (map-append (λ (d : Done). d.order) s.done (done_by s o ∷ []))
-        ∙ append_assoc (map (λ (d : Done). d.order) s.done) (o ∷ []) os
-        ∙ ap (λ l. map (λ (d : Done). d.order) s.done ++ l) (sym e)
-
-    by : (s : State) (t : ℕ) (os : List Order) → s.left ≡ os → orders_of (after_turn s (due os t)) ≡ orders_of s
-    by s t [] e = refl
-    by s t (o ∷ os) e = one s o os (o.stamp == t) e
 
 -- ---- no order is due exactly where none that is left has the stamp
 
@@ -177,7 +156,7 @@ none_due (o ∷ os) t r h e =
     some_due true o p e = cc
     some_due false o p e = cc
 
--- and where no order has it, none is due
+-- Where no order has this stamp, none is due.
 due_none : (os : List Order) (t : ℕ) → All (λ o. o.stamp ≢ t) os → due os t ≡ None
 due_none [] t h = refl
 due_none (o ∷ os) t h = ap (λ (b : Bool). if b then Some o else None) (ne_eqb o.stamp t (All-get_or (λ o. o.stamp ≢ t) (o ∷ os) 0 o (omega arith) h))
@@ -188,8 +167,7 @@ reply_none s (Some o) = (λ e. absurd cc, λ e. cc)
 
 -- there is no reply exactly where no order has this stamp
 pub none_exactly : (s : State) (t : ℕ) (answer : Option Reply) → AreRising s.left → IfSome (first_stamp s.left) (λ s. t ≤ s) →
-    answer ≡ reply_of s (due s.left t) →
-    IsNone answer ↔ All (λ o. o.stamp ≢ t) s.left
+    answer ≡ reply_of s (due s.left t) → IsNone answer ↔ All (λ o. o.stamp ≢ t) s.left
 none_exactly s t answer r h e =
     let p = reply_none s (due s.left t) in
     (λ n. none_due s.left t r h (p.1 (ap is_some (sym e) ∙ n)), λ a. ap is_some e ∙ p.0 (due_none s.left t a))

@@ -16,7 +16,7 @@ use Rattle.switchboard.specs.Bridges.{joins, other}
 use Rattle.switchboard.specs.Replies.{reply_from}
 use Rattle.switchboard.specs.Rows.{Rows, IsSized, call_in, bridge_at_place, is_open_in, is_live_in, bridge_in, bridge_ended_in, bridge_end_in, some_if}
 use Rattle.switchboard.specs.Rows.{gone_from_in}
-use Rattle.switchboard.specs.Rows.{known_in, applied, bridged_in}
+use Rattle.switchboard.specs.Rows.{known_in, rows_after, bridged_in}
 use Rattle.switchboard.specs.Ends.{least}
 use Rattle.switchboard.specs.State.{last_stamp}
 use Rattle.switchboard.specs.Stands.{IsOver, IsLatest, IsSound, Stands}
@@ -24,15 +24,15 @@ use Rattle.switchboard.proofs.Steps.{or_else-none, after_kept, map_after_same, t
 use Rattle.switchboard.proofs.TableCalls.{least_before, none_live, over_by}
 use Rattle.switchboard.proofs.TableBridged.{bridged_field, table_bridged}
 use Rattle.switchboard.proofs.Replies.{IsRefused, Joined, open_accepted, close_accepted, bridge_accepted, unbridge_accepted, level_accepted, dtx_accepted}
-use Rattle.switchboard.proofs.MovesOpened.{done, stands_by, stands_same, IsSome_before, never_opened, stands_opened}
+use Rattle.switchboard.proofs.MovesOpened.{done_from, stands_by, stands_same, IsSome_before, never_opened, stands_opened}
 use Rattle.switchboard.proofs.MovesParted.{some_if-none, not_live_at, bridge_found, stands_unbridged, stands_closed, stands_closed_bridge}
 use Rattle.switchboard.proofs.Lists.{not_both}
 
 -- ---- a bridge begins
 
 -- a bridge that no order of this stamp ended, ended before it
-ended_before : (r : Rows) (now t : ℕ) (x : Bridge) → IsSound r now x → now ≤ t → IsSome_before r t → is_this t x.ended ≡ false → (o : Option ℕ) → x.ended ≡ o →
-    (v : ℕ) → bridge_end_in r x ≡ Some v → v < t
+ended_before : (r : Rows) (now t : ℕ) (x : Bridge) → IsSound r now x → now ≤ t → IsSome_before r t →
+    is_this t x.ended ≡ false → (o : Option ℕ) → x.ended ≡ o → (v : ℕ) → bridge_end_in r x ≡ Some v → v < t
 ended_before r now t x s late told no_end None e v f =
     least_before t v (gone_from_in r x.a) (gone_from_in r x.b) (told x.a) (told x.b)
     (sym (ap (λ o. least o (least (gone_from_in r x.a) (gone_from_in r x.b))) e) ∙ f)
@@ -44,12 +44,11 @@ ended_before r now t x s late told no_end (Some u) e v f =
 
 -- where a call has no bridge now, and none ended with this stamp, each of its bridges is over
 pub over_before : (r : Rows) (ds : List Done) (t c : ℕ) → Stands r ds → last_stamp ds ≤ t → IsSome_before r t → c < 4097 → bridge_in r c ≡ None →
-    bridge_ended_in r t c ≡ None →
-    (j : ℕ) → j < length r.bridges → joins c (bridge_at_place r j) ≡ true → IsOver r t (bridge_at_place r j)
+    bridge_ended_in r t c ≡ None → (j : ℕ) → j < length r.bridges → joins c (bridge_at_place r j) ≡ true → IsOver r t (bridge_at_place r j)
 over_before r ds t c s late told h none no_end j l q = by r ds t c s late told h none no_end j l q (call_in r c).bridge refl (s.table.latest c h)
   where
-    by : (r : Rows) (ds : List Done) (t c : ℕ) → Stands r ds → last_stamp ds ≤ t → IsSome_before r t → c < 4097 → bridge_in r c ≡ None → bridge_ended_in r t c
-        ≡ None →
+    by : (r : Rows) (ds : List Done) (t c : ℕ) → Stands r ds → last_stamp ds ≤ t →
+        IsSome_before r t → c < 4097 → bridge_in r c ≡ None → bridge_ended_in r t c ≡ None →
         (j : ℕ) → j < length r.bridges → joins c (bridge_at_place r j) ≡ true → (o : Option ℕ) → (call_in r c).bridge ≡ o → IsLatest r.bridges c o →
         IsOver r t (bridge_at_place r j)
     by r ds t c s late told h none no_end j l q None e is = absurd (not_both _ (is j l) q)
@@ -73,9 +72,9 @@ over_before r ds t c s late told h none no_end j l q = by r ds t c s late told h
 
 pub stands_bridged : (r : Rows) (ds : List Done) (o : Order) (a b : ℕ) → Stands r ds → length r.calls ≡ 4097 → last_stamp ds ≤ o.stamp →
     IsSome_before r o.stamp → a < 4097 → b < 4097 → Joined (known_in r o.stamp) a b →
-    Stands (bridged_in r o.stamp a b) (ds ++ done o (Ok (act.Bridged a b)) ∷ [])
+    Stands (bridged_in r o.stamp a b) (ds ++ done_from o (Ok (act.Bridged a b)) ∷ [])
 stands_bridged r ds o a b s len late told la lb j =
-    let d : Done = done o (Ok (act.Bridged a b)) in
+    let d : Done = done_from o (Ok (act.Bridged a b)) in
     let k = length r.bridges in
     stands_by r (bridged_in r o.stamp a b) ds d s
     (λ c h. bridged_field (λ x. x.opened) r k a b (λ e. refl) c ∙ sym (or_else-none _))
@@ -91,17 +90,16 @@ stands_bridged r ds o a b s len late told la lb j =
 -- ---- any order
 
 abbrev Next : Rows → List Done → Order → Result Act Refusal → Type 0
-Next r ds o x = Stands (applied r o.stamp x) (ds ++ done o x ∷ [])
+Next r ds o x = Stands (rows_after r o.stamp x) (ds ++ done_from o x ∷ [])
 
 -- a refusal changes nothing
 refused : (r : Rows) (ds : List Done) (o : Order) (x : Result Act Refusal) → Stands r ds → last_stamp ds ≤ o.stamp → IsRefused x → Next r ds o x
-refused r ds o x s late e = subst (λ (x : Result Act Refusal). Next r ds o x) (sym e.1) (stands_same r ds (done o (Err e.0)) s late (λ c. refl) (λ c. refl)
+refused r ds o x s late e = subst (λ (x : Result Act Refusal). Next r ds o x) (sym e.1) (stands_same r ds (done_from o (Err e.0)) s late (λ c. refl) (λ c. refl)
     (λ a b. refl) refl)
 
 -- **The table stands for one more executed order.**
 pub stands_more : (r : Rows) (ds : List Done) (t : ℕ) (w : What) → Stands r ds → IsSized r.calls r.bridges → last_stamp ds ≤ t → IsSome_before r t →
-    NamesCalls w →
-    Next r ds (record { stamp = t; what = w }) (reply_from (known_in r t) w)
+    NamesCalls w → Next r ds (record { stamp = t; what = w }) (reply_from (known_in r t) w)
 stands_more r ds t (what.OpenCall c law) s z late told n =
     let o : Order = record { stamp = t; what = what.OpenCall c law } in
     elim (open_accepted (known_in r t) c law) [
@@ -117,9 +115,9 @@ stands_more r ds t (what.CloseCall c) s z late told n =
       | inr p ↦ subst (λ (x : Result Act Refusal). Next r ds o x) (sym p.0) (closing r ds o c s z late h p.1 told (bridge_in r c) refl)
     ]
   where
-    closing : (r : Rows) (ds : List Done) (o : Order) (c : ℕ) → Stands r ds → IsSized r.calls r.bridges → last_stamp ds ≤ o.stamp → c < 4097 → is_open_in r c
-        ≡ true → IsSome_before r o.stamp → (i : Option Bridge) → bridge_in r c ≡ i →
-        Next r ds o (Ok (act.Closed c (option_map (other c) i)))
+    closing : (r : Rows) (ds : List Done) (o : Order) (c : ℕ) → Stands r ds →
+        IsSized r.calls r.bridges → last_stamp ds ≤ o.stamp → c < 4097 → is_open_in r c
+        ≡ true → IsSome_before r o.stamp → (i : Option Bridge) → bridge_in r c ≡ i → Next r ds o (Ok (act.Closed c (option_map (other c) i)))
     closing r ds o c s z late h lasts told None e = stands_closed r ds o c s z.all late h lasts told e
     closing r ds o c s z late h lasts told (Some x) e =
         let f = bridge_found r x (call_in r c).bridge e in
@@ -146,13 +144,13 @@ stands_more r ds t (what.Level c v) s z late told n =
     let o : Order = record { stamp = t; what = what.Level c v } in
     elim (level_accepted (known_in r t) c v) [
       | inl e ↦ refused r ds o _ s late e
-      | inr p ↦ subst (λ (x : Result Act Refusal). Next r ds o x) (sym p.0) (stands_same r ds (done o (Ok (act.LevelSet c v))) s late (λ c. refl) (λ c. refl)
+      | inr p ↦ subst (λ (x : Result Act Refusal). Next r ds o x) (sym p.0) (stands_same r ds (done_from o (Ok (act.LevelSet c v))) s late (λ c. refl) (λ c. refl)
           (λ a b. refl) refl)
     ]
 stands_more r ds t (what.Dtx c m) s z late told n =
     let o : Order = record { stamp = t; what = what.Dtx c m } in
     elim (dtx_accepted (known_in r t) c m) [
       | inl e ↦ refused r ds o _ s late e
-      | inr p ↦ subst (λ (x : Result Act Refusal). Next r ds o x) (sym p.0) (stands_same r ds (done o (Ok (act.DtxSet c m))) s late (λ c. refl) (λ c. refl)
+      | inr p ↦ subst (λ (x : Result Act Refusal). Next r ds o x) (sym p.0) (stands_same r ds (done_from o (Ok (act.DtxSet c m))) s late (λ c. refl) (λ c. refl)
           (λ a b. refl) refl)
     ]

@@ -25,8 +25,8 @@ some_either : (u v : Option ℕ) → is_some (or_else u v) ≡ true → (is_some
 some_either None v e = inr e
 some_either (Some x) v e = inl refl
 
-abbrev pub done : Order → Result Act Refusal → Done
-done o r = record { order = o; result = r }
+abbrev pub done_from : Order → Result Act Refusal → Done
+done_from o r = record { order = o; result = r }
 
 -- a table after an order, from the change of its calls and of its bridges
 pub stands_by : (r n : Rows) (ds : List Done) (d : Done) → Stands r ds →
@@ -47,8 +47,7 @@ stands_by r n ds d s opened closed inside br t = record {
 -- a reply that changes nothing
 pub stands_same : (r : Rows) (ds : List Done) (d : Done) → Stands r ds → last_stamp ds ≤ d.order.stamp →
     ((c : ℕ) → opened_at c (d ∷ []) ≡ None) → ((c : ℕ) → closed_at c (d ∷ []) ≡ None) → ((a b : ℕ) → ends_bridge a b d.result ≡ false) →
-    bridge_by d.order.stamp d.result [] ≡ [] →
-    Stands r (ds ++ d ∷ [])
+    bridge_by d.order.stamp d.result [] ≡ [] → Stands r (ds ++ d ∷ [])
 stands_same r ds d s late opened closed ends begins =
     stands_by r r ds d s
     (λ c h. sym (ap (λ o. or_else (call_in r c).opened o) (opened c) ∙ or_else-none _))
@@ -70,11 +69,11 @@ never_opened o true p q = cc
 never_opened true false p q = cc
 never_opened false false p q = refl
 
-pub stands_opened : (r : Rows) (ds : List Done) (o : Order) (c : ℕ) (law : Law) → Stands r ds → length r.calls ≡ 4097 → last_stamp ds ≤ o.stamp → c < 4097 →
-    is_some (call_in r c).opened ≡ false →
-    Stands (opened_in r o.stamp c) (ds ++ done o (Ok (act.Opened c law)) ∷ [])
+pub stands_opened : (r : Rows) (ds : List Done) (o : Order) (c : ℕ) (law : Law) → Stands r ds →
+    length r.calls ≡ 4097 → last_stamp ds ≤ o.stamp → c < 4097 → is_some (call_in r c).opened ≡ false →
+    Stands (opened_in r o.stamp c) (ds ++ done_from o (Ok (act.Opened c law)) ∷ [])
 stands_opened r ds o c law s len late h fresh =
-    let d : Done = done o (Ok (act.Opened c law)) in
+    let d : Done = done_from o (Ok (act.Opened c law)) in
     let e : Call = record (call_in r c) { opened = Some o.stamp } in
     let old : (call_in r c).opened ≡ None = none_of _ fresh in
     stands_by r (opened_in r o.stamp c) ds d s
@@ -84,7 +83,7 @@ stands_opened r ds o c law s len late h fresh =
     (sym (append-nil _ ∙ map_after_same d r.bridges (λ j l. after_kept d _ refl)))
     (table_opened r o.stamp o.stamp c (table_later r _ _ s.table late) (omega arith) old)
   where
-    inside_one : (t : Bool) (k c : ℕ) (d : Done) → (t ≡ true → k ≡ c) → is_some (option_map (λ d. d.order.stamp) (if t then Some d else None)) ≡ true →
-        c < 4097 → k < 4097
+    inside_one : (t : Bool) (k c : ℕ) (d : Done) → (t ≡ true → k ≡ c) →
+        is_some (option_map (λ d. d.order.stamp) (if t then Some d else None)) ≡ true → c < 4097 → k < 4097
     inside_one true k c d e q h = let p : k ≡ c = e refl in omega arith
     inside_one false k c d e q h = cc

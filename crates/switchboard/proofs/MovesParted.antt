@@ -19,7 +19,7 @@ use Rattle.switchboard.proofs.Known.{open_parts, live_parts, over-not_live}
 use Rattle.switchboard.proofs.Steps.{or_else-none, field_kept, field_set, after_kept, after_had, after_ends, map_after_same, map_after_at, table_later}
 use Rattle.switchboard.proofs.TableCalls.{joins_left, joins_right, joins_cases, none_live, table_closed}
 use Rattle.switchboard.proofs.TableParted.{table_parted}
-use Rattle.switchboard.proofs.MovesOpened.{done, stands_by, IsSome_before, stamped}
+use Rattle.switchboard.proofs.MovesOpened.{done_from, stands_by, IsSome_before, stamped}
 use Rattle.switchboard.proofs.Lists.{not_both}
 
 -- ---- bridges
@@ -38,14 +38,14 @@ latest_live r o = elim o [ None ↦ None | Some k ↦ some_if (is_live_in r (bri
 pub not_live_at : (r : Rows) (c k : ℕ) → bridge_in r c ≡ None → (call_in r c).bridge ≡ Some k → is_live_in r (bridge_at_place r k) ≡ false
 not_live_at r c k e p = some_if-none _ (bridge_at_place r k) (sym (ap (latest_live r) p) ∙ e)
 
-pub bridge_found : (r : Rows) (x : Bridge) (o : Option ℕ) → latest_live r o ≡ Some x → (k : ℕ) × (o ≡ Some k) × (is_live_in r (bridge_at_place r k) ≡ true)
-    × (bridge_at_place r k ≡ x)
+pub bridge_found : (r : Rows) (x : Bridge) (o : Option ℕ) → latest_live r o ≡ Some x →
+    (k : ℕ) × (o ≡ Some k) × (is_live_in r (bridge_at_place r k) ≡ true) × (bridge_at_place r k ≡ x)
 bridge_found r x None e = cc
 bridge_found r x (Some k) e = let p = some_if-some _ (bridge_at_place r k) x e in (k, refl, p.0, p.1)
 
 -- the latest bridge of a call of a live bridge is that one
-pub same_latest : (r : Rows) (now a k : ℕ) (o : Option ℕ) → IsTable r now → IsLatest r.bridges a o → k < length r.bridges → joins a (bridge_at_place r k)
-    ≡ true → is_live_in r (bridge_at_place r k) ≡ true → o ≡ Some k
+pub same_latest : (r : Rows) (now a k : ℕ) (o : Option ℕ) → IsTable r now → IsLatest r.bridges a o →
+    k < length r.bridges → joins a (bridge_at_place r k) ≡ true → is_live_in r (bridge_at_place r k) ≡ true → o ≡ Some k
 same_latest r now a k None s l h q live = absurd (not_both _ (l k h) q)
 same_latest r now a k (Some m) s l h q live = elim (cases_order k m) [
   | inl p ↦ ap Some (sym p)
@@ -58,8 +58,7 @@ Pair x y = ((y.a ≡ x.a) × (y.b ≡ x.b)) ⊎ ((y.a ≡ x.b) × (y.b ≡ x.a))
 
 -- **A call has at most one live bridge.**
 pub one_live : (r : Rows) (now c j k : ℕ) → IsTable r now → j < length r.bridges → k < length r.bridges → joins c (bridge_at_place r j) ≡ true →
-    joins c (bridge_at_place r k) ≡ true →
-    is_live_in r (bridge_at_place r j) ≡ true → is_live_in r (bridge_at_place r k) ≡ true → j ≡ k
+    joins c (bridge_at_place r k) ≡ true → is_live_in r (bridge_at_place r j) ≡ true → is_live_in r (bridge_at_place r k) ≡ true → j ≡ k
 one_live r now c j k s lj lk qj qk vj vk = elim (cases_order j k) [
   | inl p ↦ p
   | inr (inl p) ↦ absurd (not_both _ (over-not_live r _ _ (s.over c j k p lk qj qk)) vj)
@@ -93,9 +92,8 @@ parted_bridges r now d k s lk live this pair =
     ])
   where
     others : (r : Rows) (now : ℕ) (d : Done) (k j : ℕ) → IsTable r now → k < length r.bridges → is_live_in r (bridge_at_place r k) ≡ true →
-        j < length r.bridges → j ≢ k →
-        Pair (bridge_at_place r k) (bridge_at_place r j) → (o : Option ℕ) → (bridge_at_place r j).ended ≡ o → after d (bridge_at_place r j)
-        ≡ bridge_at_place r j
+        j < length r.bridges → j ≢ k → Pair (bridge_at_place r k) (bridge_at_place r j) → (o : Option ℕ) →
+        (bridge_at_place r j).ended ≡ o → after d (bridge_at_place r j) ≡ bridge_at_place r j
     others r now d k j s lk live l ne p (Some u) e = after_had d (bridge_at_place r j) u e
     others r now d k j s lk live l ne p None e =
         let x = bridge_at_place r k in
@@ -104,10 +102,10 @@ parted_bridges r now d k s lk live this pair =
 
 pub stands_unbridged : (r : Rows) (ds : List Done) (o : Order) (k : ℕ) → Stands r ds → IsSized r.calls r.bridges → last_stamp ds ≤ o.stamp →
     k < length r.bridges → is_live_in r (bridge_at_place r k) ≡ true →
-    Stands (parted_in r o.stamp (bridge_at_place r k).a) (ds ++ done o (Ok (act.Unbridged (bridge_at_place r k).a (bridge_at_place r k).b)) ∷ [])
+    Stands (parted_in r o.stamp (bridge_at_place r k).a) (ds ++ done_from o (Ok (act.Unbridged (bridge_at_place r k).a (bridge_at_place r k).b)) ∷ [])
 stands_unbridged r ds o k s z late lk live =
     let x = bridge_at_place r k in
-    let d : Done = done o (Ok (act.Unbridged x.a x.b)) in
+    let d : Done = done_from o (Ok (act.Unbridged x.a x.b)) in
     let t = table_later r _ _ s.table late in
     let e = same_latest r _ x.a k _ s.table (s.table.latest x.a (z.named k lk).0) lk (joins_left x.a x refl) live in
     let at : parted_in r o.stamp x.a ≡ parted_at r o.stamp k = ap (λ (i : Option ℕ). elim i [ None ↦ r | Some k ↦ parted_at r o.stamp k ]) e in
@@ -159,11 +157,11 @@ closed_field : (r : Rows) (t c : ℕ) → c < length r.calls → (call_in r c).c
     ≡ or_else (call_in r k).closed (if k == c then Some t else None)
 closed_field r t c l old k = field_set (λ x. x.closed) r.calls c (record (call_in r c) { closed = Some t }) t l refl old k
 
-pub stands_closed : (r : Rows) (ds : List Done) (o : Order) (c : ℕ) → Stands r ds → length r.calls ≡ 4097 → last_stamp ds ≤ o.stamp → c < 4097 → is_open_in r c
-    ≡ true → IsSome_before r o.stamp → bridge_in r c ≡ None →
-    Stands (closed_in r o.stamp c) (ds ++ done o (Ok (act.Closed c None)) ∷ [])
+pub stands_closed : (r : Rows) (ds : List Done) (o : Order) (c : ℕ) → Stands r ds →
+    length r.calls ≡ 4097 → last_stamp ds ≤ o.stamp → c < 4097 → is_open_in r c ≡ true → IsSome_before r o.stamp → bridge_in r c ≡ None →
+    Stands (closed_in r o.stamp c) (ds ++ done_from o (Ok (act.Closed c None)) ∷ [])
 stands_closed r ds o c s len late h lasts told none =
-    let d : Done = done o (Ok (act.Closed c None)) in
+    let d : Done = done_from o (Ok (act.Closed c None)) in
     stands_by r (closed_in r o.stamp c) ds d s
     (λ k l. field_kept (λ x. x.opened) r.calls c (record (call_in r c) { closed = Some o.stamp }) refl k ∙ sym (or_else-none _))
     (λ k l. closed_field r o.stamp c (omega arith) (open_parts _ _ _ lasts).1 k ∙ ap (λ u. or_else (call_in r k).closed u) (stamped (k == c) d))
@@ -178,13 +176,13 @@ pub parted_not_live : (r : Rows) (t k : ℕ) → k < length r.bridges → is_liv
 parted_not_live r t k l = ap (is_live_in (parted_at r t k)) (get_or-set_same r.bridges k (record (bridge_at_place r k) { ended = Some t }) no_bridge l)
 
 -- a bridged call is closed
-pub stands_closed_bridge : (r : Rows) (ds : List Done) (o : Order) (c k : ℕ) → Stands r ds → length r.calls ≡ 4097 → last_stamp ds ≤ o.stamp → c < 4097 →
-    is_open_in r c ≡ true → IsSome_before r o.stamp →
+pub stands_closed_bridge : (r : Rows) (ds : List Done) (o : Order) (c k : ℕ) → Stands r ds →
+    length r.calls ≡ 4097 → last_stamp ds ≤ o.stamp → c < 4097 → is_open_in r c ≡ true → IsSome_before r o.stamp →
     (call_in r c).bridge ≡ Some k → is_live_in r (bridge_at_place r k) ≡ true →
-    Stands (closed_in (parted_in r o.stamp c) o.stamp c) (ds ++ done o (Ok (act.Closed c (Some (other c (bridge_at_place r k))))) ∷ [])
+    Stands (closed_in (parted_in r o.stamp c) o.stamp c) (ds ++ done_from o (Ok (act.Closed c (Some (other c (bridge_at_place r k))))) ∷ [])
 stands_closed_bridge r ds o c k s len late h lasts told e live =
     let x = bridge_at_place r k in
-    let d : Done = done o (Ok (act.Closed c (Some (other c x)))) in
+    let d : Done = done_from o (Ok (act.Closed c (Some (other c x)))) in
     let n : Rows = parted_at r o.stamp k in
     let t = table_later r _ _ s.table late in
     let l = subst (λ (i : Option ℕ). IsLatest r.bridges c i) e (s.table.latest c h) in

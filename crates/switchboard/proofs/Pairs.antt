@@ -55,16 +55,14 @@ latest_at r now c k s len e = let l = subst (λ (o : Option ℕ). IsLatest r.bri
 
 -- a live bridge is the latest of its calls
 pub latest_is : (r : Rows) (now c k : ℕ) → IsTable r now → length r.calls ≡ 4097 → k < length r.bridges → joins c (bridge_at_place r k) ≡ true →
-    is_live_in r (bridge_at_place r k) ≡ true →
-    (call_in r c).bridge ≡ Some k
+    is_live_in r (bridge_at_place r k) ≡ true → (call_in r c).bridge ≡ Some k
 latest_is r now c k s len l q live = same_latest r now c k _ s (latest_any r now c s len) l q live
 
 -- ---- a partner
 
 -- a call without a live bridge has no partner
 pub partner_none : (r : Rows) (c : ℕ) (o : Option ℕ) → ((k : ℕ) → o ≡ Some k → is_live_in r (bridge_at_place r k) ≡ false) →
-    option_map (other c) (latest_live r o)
-    ≡ None
+    option_map (other c) (latest_live r o) ≡ None
 partner_none r c None h = refl
 partner_none r c (Some k) h = ap (λ (t : Bool). option_map (other c) (some_if t (bridge_at_place r k))) (h k refl)
 

@@ -28,8 +28,8 @@ is_open_call e = is_some e.opened && not (is_some e.closed) && not (is_some (gon
 abbrev pub with_call : Rows → ℕ → Call → List Span → Rows
 with_call r m e ss = record r { calls = set r.calls m e; spans = ss }
 
-pub shut_open : (r : Rows) (m : ℕ) (e : Call) (ss : List Span) → m < length r.calls → is_open_call e ≡ false → (c : ℕ) → is_open_in (with_call r m e ss) c
-    ≡ open_without m (is_open_in r) c
+pub shut_open : (r : Rows) (m : ℕ) (e : Call) (ss : List Span) → m < length r.calls →
+    is_open_call e ≡ false → (c : ℕ) → is_open_in (with_call r m e ss) c ≡ open_without m (is_open_in r) c
 shut_open r m e ss l shut c = elim (cases_eq c m) [
   | inl p ↦ ap (is_open_in (with_call r m e ss)) p ∙ ap is_open_call (get_or-set_same r.calls m e never l) ∙ shut
       ∙ sym (ap (λ (t : Bool). if t then false else is_open_in r c) (eq-eqb c m p))
@@ -53,15 +53,14 @@ shut_apart r m e ss x na nb =
 
 -- a bridge of m isn't live before or after, and others are as they were
 shut_live : (r : Rows) (m : ℕ) (e : Call) (ss : List Span) → m < length r.calls → is_open_call e ≡ false → (x : Bridge) →
-    (joins m x ≡ true → is_live_in r x ≡ false) →
-    is_live_in (with_call r m e ss) x ≡ is_live_in r x
+    (joins m x ≡ true → is_live_in r x ≡ false) → is_live_in (with_call r m e ss) x ≡ is_live_in r x
 shut_live r m e ss l shut x h = elim (cases_Bool (joins m x)) [
   | inl q ↦ shut_joined r m e ss l shut x q ∙ sym (h q)
   | inr q ↦ let n = lost_apart m x q in shut_apart r m e ss x n.0 n.1
 ]
 
-pub shut_partner : (r : Rows) (now m : ℕ) (e : Call) (ss : List Span) → IsTable r now → length r.calls ≡ 4097 → m < length r.calls → is_open_call e ≡ false →
-    e.bridge ≡ (call_in r m).bridge →
+pub shut_partner : (r : Rows) (now m : ℕ) (e : Call) (ss : List Span) → IsTable r now →
+    length r.calls ≡ 4097 → m < length r.calls → is_open_call e ≡ false → e.bridge ≡ (call_in r m).bridge →
     (c : ℕ) → partner_in (with_call r m e ss) c ≡ partner_without m (partner_in r) c
 shut_partner r now m e ss s len lm shut place c =
     ap (λ (o : Option ℕ). option_map (other c) (latest_live (with_call r m e ss) o)) (field_kept (λ (x : Call). x.bridge) r.calls m e place c)
@@ -108,8 +107,9 @@ shut_partner r now m e ss s len lm shut place c =
 
 -- ---- an order parts two calls
 
-pub parted_partner : (r : Rows) (now t k : ℕ) → IsTable r now → length r.calls ≡ 4097 → k < length r.bridges → is_live_in r (bridge_at_place r k) ≡ true →
-    (c : ℕ) → partner_in (parted_at r t k) c ≡ partner_without_both (bridge_at_place r k).a (Some (bridge_at_place r k).b) (partner_in r) c
+pub parted_partner : (r : Rows) (now t k : ℕ) → IsTable r now → length r.calls ≡ 4097 →
+    k < length r.bridges → is_live_in r (bridge_at_place r k) ≡ true → (c : ℕ) → partner_in (parted_at r t k) c
+    ≡ partner_without_both (bridge_at_place r k).a (Some (bridge_at_place r k).b) (partner_in r) c
 parted_partner r now t k s len l live c =
     let x = bridge_at_place r k in
     let n = parted_at r t k in
@@ -131,8 +131,8 @@ parted_partner r now t k s len l live c =
 
 -- ---- an order joins two calls
 
-pub bridged_partner : (r : Rows) (t a b : ℕ) → IsTable r t → length r.calls ≡ 4097 → a < 4097 → b < 4097 → a ≢ b → is_open_in r a ≡ true → is_open_in r b
-    ≡ true →
+pub bridged_partner : (r : Rows) (t a b : ℕ) → IsTable r t → length r.calls ≡ 4097 → a < 4097 →
+    b < 4097 → a ≢ b → is_open_in r a ≡ true → is_open_in r b ≡ true →
     (c : ℕ) → partner_in (bridged_in r t a b) c ≡ partner_after (act.Bridged a b) (partner_in r) c
 bridged_partner r t a b s len la lb apart oa ob c =
     let n = bridged_in r t a b in
@@ -177,8 +177,8 @@ opened_was r t m l c = elim (cases_eq c m) [
       ∙ sym (ap (λ (t : Bool). t || was_opened r c) (ne_eqb c m n))
 ]
 
-pub opened_open : (r : Rows) (now t m : ℕ) → IsTable r now → m < length r.calls → (call_in r m).opened ≡ None → (c : ℕ) → is_open_in (opened_in r t m) c
-    ≡ (c == m || is_open_in r c)
+pub opened_open : (r : Rows) (now t m : ℕ) → IsTable r now → m < length r.calls →
+    (call_in r m).opened ≡ None → (c : ℕ) → is_open_in (opened_in r t m) c ≡ (c == m || is_open_in r c)
 opened_open r now t m s l new c =
     let u = s.unused m new in
     elim (cases_eq c m) [
@@ -189,8 +189,8 @@ opened_open r now t m s l new c =
       | inr n ↦ open_other r m c (opened_call r t m) n ∙ sym (ap (λ (t : Bool). t || is_open_in r c) (ne_eqb c m n))
     ]
 
-pub opened_partner : (r : Rows) (now t m : ℕ) → IsTable r now → length r.calls ≡ 4097 → (call_in r m).opened ≡ None → (c : ℕ) → partner_in (opened_in r t m) c
-    ≡ partner_in r c
+pub opened_partner : (r : Rows) (now t m : ℕ) → IsTable r now → length r.calls ≡ 4097 →
+    (call_in r m).opened ≡ None → (c : ℕ) → partner_in (opened_in r t m) c ≡ partner_in r c
 opened_partner r now t m s len new c =
     let n = opened_in r t m in
     let fresh : was_opened r m ≡ false = ap is_some new in

@@ -107,15 +107,15 @@ unbridge_accepted k c = elim (two (act_of k (what.Unbridge c)) _ _) [
   | inr p ↦ inr (found k c p.0 (not_not_refused _ _ p.1) (k.bridge_of c) refl (not_refused _ _ p.2))
 ]
   where
-    found : (k : Known) (c : ℕ) → reply_from k (what.Unbridge c) ≡ Ok (act_of k (what.Unbridge c)) → k.is_open c ≡ true → (o : Option Bridge) → k.bridge_of c
-        ≡ o → is_none (k.bridge_of c) ≡ false →
+    found : (k : Known) (c : ℕ) → reply_from k (what.Unbridge c) ≡ Ok (act_of k (what.Unbridge c)) →
+        k.is_open c ≡ true → (o : Option Bridge) → k.bridge_of c ≡ o → is_none (k.bridge_of c) ≡ false →
         (x : Bridge) × (reply_from k (what.Unbridge c) ≡ Ok (act.Unbridged x.a x.b)) × (k.is_open c ≡ true) × (k.bridge_of c ≡ Some x)
     found k c e o None b n = absurd (let q : is_none (k.bridge_of c) ≡ true = ap is_none b in cc)
     found k c e o (Some x) b n = (x, e ∙ ap (λ (o : Option Bridge). Ok (elim o [ None ↦ act.Unbridged c c | Some x ↦ act.Unbridged x.a x.b ])) b, o, b)
 
 -- `level`
-pub level_accepted : (k : Known) (c : ℕ) (v : ℤ) → IsRefused (reply_from k (what.Level c v)) ⊎ ((reply_from k (what.Level c v) ≡ Ok (act.LevelSet c v))
-    × (k.is_open c ≡ true))
+pub level_accepted : (k : Known) (c : ℕ) (v : ℤ) →
+    IsRefused (reply_from k (what.Level c v)) ⊎ ((reply_from k (what.Level c v) ≡ Ok (act.LevelSet c v)) × (k.is_open c ≡ true))
 level_accepted k c v = elim (one (act.LevelSet c v) _) [ inl e ↦ inl e | inr p ↦ inr (p.0, not_not_refused _ _ p.1) ]
 
 -- `dtx`
@@ -137,9 +137,9 @@ pub failed_test : (o : Option Refusal) (os : List (Option Refusal)) (r : Result 
 failed_test None os r e p q = cc
 failed_test (Some d) os r e p q = let s : Err d ≡ Err e = sym p ∙ q in cc
 
--- so does the first of the others, where it passes
-pub refused_by : (os : List (Option Refusal)) (a : Act) (e : Refusal) (x : Result Act Refusal) → first_of_tests os ≡ Some e → IsErrAnd x (λ d. d ≡ e) →
-    x ≡ reply os a
+-- A refusal for the reason that the tests give is their reply.
+pub refused_by : (os : List (Option Refusal)) (a : Act) (e : Refusal) (x : Result Act Refusal) →
+    first_of_tests os ≡ Some e → IsErrAnd x (λ d. d ≡ e) → x ≡ reply os a
 refused_by os a e x first is = let p = err_from_is_err_and x is in p.1 ∙ ap Err p.2 ∙ ap (λ (o : Option Refusal). elim o [ None ↦ Ok a | Some r ↦ Err r ])
     (sym first)
 

@@ -1,20 +1,19 @@
 -- The replies to a whole list of orders, one more at a time.
-use Rattle.std.proofs.Common.{◌≡◌, refl, sym, ap, ◌∙◌, subst, ℕ, Bool, true, Option, Some, None, List, [], ◌∷◌, ◌++◌, map, inl, inr}
-use Rattle.std.specs.Prelude.{◌&&◌, not, is_some, is_none, ◌==◌, find, if◌then◌else◌}
-use Rattle.std.proofs.lemmas.Bool.{eqb-true, cases_Bool}
+use Rattle.std.proofs.Common.{◌≡◌, refl, sym, ap, ◌∙◌, ℕ, Bool, true, Option, Some, None, List, [], ◌∷◌, ◌++◌, map}
+use Rattle.std.specs.Prelude.{◌&&◌, not, is_some, is_none, find}
 use Rattle.std.proofs.lemmas.List.{map-append}
 use Rattle.trau_orders.specs.declared.order.Order.{Order}
 use Rattle.switchboard.specs.Calls.{Done, opened_at, is_open, gone_at}
 use Rattle.switchboard.specs.Replies.{Known, reply_from, reply_to}
 use Rattle.switchboard.specs.Bridges.{joins, bridge_ended, bridges}
-use Rattle.switchboard.specs.Runs.{executed, IsRun, TellsEnds}
-use Rattle.switchboard.specs.State.{State, gone_in, due, after_turn}
+use Rattle.switchboard.specs.Runs.{done_after, IsRun, TellsEnds}
+use Rattle.switchboard.specs.State.{State, gone_in, after_turn}
 
-executed-more : (whole : ℕ → ℕ) (ds : List Done) (os : List Order) (o : Order) →
-    executed whole ds (os ++ o ∷ []) ≡ executed whole ds os
-    ++ record { order = o; result = reply_to (gone_at whole o.stamp (executed whole ds os)) (executed whole ds os) o } ∷ []
-executed-more whole ds [] o = refl
-executed-more whole ds (p ∷ os) o = executed-more whole (ds ++ record { order = p; result = reply_to (gone_at whole p.stamp ds) ds p } ∷ []) os o
+done_after-more : (whole : ℕ → ℕ) (ds : List Done) (os : List Order) (o : Order) →
+    done_after whole ds (os ++ o ∷ []) ≡ done_after whole ds os
+    ++ record { order = o; result = reply_to (gone_at whole o.stamp (done_after whole ds os)) (done_after whole ds os) o } ∷ []
+done_after-more whole ds [] o = refl
+done_after-more whole ds (p ∷ os) o = done_after-more whole (ds ++ record { order = p; result = reply_to (gone_at whole p.stamp ds) ds p } ∷ []) os o
 
 -- a call is open as before where only the ends of calls that are not open differ
 open_same : (o l : Option ℕ) (x y : Bool) → (is_some o ≡ true → l ≡ None → x ≡ y) → (is_some o && not (is_some l) && not x)
@@ -44,16 +43,5 @@ run_more whole s o r t =
     let e = same_reply (gone_in s) (gone_at whole o.stamp s.done) s.done o (λ c. open_same _ _ _ _ (t c)) in
     ap (λ x. s.done ++ record { order = o; result = x } ∷ []) e
     ∙ ap (λ ds. ds ++ record { order = o; result = reply_to (gone_at whole o.stamp ds) ds o } ∷ []) r
-    ∙ sym (executed-more whole [] (map (λ d. d.order) s.done) o)
-    ∙ ap (executed whole []) (sym (map-append (λ (d : Done). d.order) s.done (record { order = o; result = x } ∷ [])))
-
-pub run_turned : (whole : ℕ → ℕ) (s : State) (t : ℕ) → IsRun whole s.done → TellsEnds whole t s → IsRun whole (after_turn s (due s.left t)).done
-run_turned whole s t r h = by whole s t r h s.left
-  where
-    by : (whole : ℕ → ℕ) (s : State) (t : ℕ) → IsRun whole s.done → TellsEnds whole t s → (os : List Order) → IsRun whole (after_turn s (due os t)).done
-    by whole s t r h [] = r
-    by whole s t r h (o ∷ os) = elim (cases_Bool (o.stamp == t)) [
-      | inl e ↦ subst (λ (b : Bool). IsRun whole (after_turn s (if b then Some o else None)).done) (sym e)
-          (run_more whole s o r (subst (λ (t : ℕ). TellsEnds whole t s) (sym (eqb-true o.stamp t e)) h))
-      | inr e ↦ subst (λ (b : Bool). IsRun whole (after_turn s (if b then Some o else None)).done) (sym e) r
-    ]
+    ∙ sym (done_after-more whole [] (map (λ d. d.order) s.done) o)
+    ∙ ap (done_after whole []) (sym (map-append (λ (d : Done). d.order) s.done (record { order = o; result = x } ∷ [])))

@@ -1,10 +1,19 @@
--- The rows of a table where an order joins two calls: they keep their places.
-use Rattle.std.proofs.Common.{◌≡◌, ℕ, zero, suc, ◌+◌, ◌<◌, Option, Some, None, IfSome, List, [], ◌∷◌, ◌++◌, length, get_or, set, sym, ap, subst, arith}
+-- The rows of a table, and where an order joins two calls: they keep their places.
+use Rattle.std.proofs.Common.{◌≡◌, ℕ, zero, suc, ◌+◌, ◌<◌, Bool, Option, Some, None, is_some, IfSome, List, [], ◌∷◌, ◌++◌, length, get_or, set, sym, ap, subst, arith}
 use Rattle.std.proofs.lemmas.List.{length-set, length-append}
 use Rattle.switchboard.specs.declared.table.Call.{Call}
 use Rattle.switchboard.specs.declared.table.Bridge.{Bridge}
 use Rattle.switchboard.specs.declared.act.Span.{Span}
-use Rattle.switchboard.specs.Rows.{IsSized, rows, never, bridged_in}
+use Rattle.switchboard.specs.Rows.{Rows, IsSized, never, bridged_in, gone_from_in}
+
+abbrev pub rows : List Call → List Bridge → List Span → ℕ → Rows
+rows cs bs ss most = record { calls = cs; bridges = bs; spans = ss; most = most }
+
+-- the calls whose end was reported
+abbrev pub gone_of : Rows → ℕ → Bool
+gone_of r c = is_some (gone_from_in r c)
+
+-- ---- two calls are joined
 
 abbrev HasPlace : ℕ → Call → Type 0
 HasPlace n call = IfSome call.bridge (λ k. k < n)

@@ -10,8 +10,9 @@ use Rattle.switchboard.specs.declared.table.Bridge.{Bridge}
 use Rattle.switchboard.specs.declared.table.Call.{Call}
 use Rattle.switchboard.specs.declared.act.Span.{Span}
 use Rattle.switchboard.specs.Ends.{span_to}
-use Rattle.switchboard.specs.Rows.{Rows, rows, IsSized, never, bridge_at_place, bridge_end_in, span_in, position_in}
+use Rattle.switchboard.specs.Rows.{Rows, IsSized, never, bridge_at_place, bridge_end_in, span_in, position_in}
 use Rattle.switchboard.specs.Bridges.{no_bridge}
+use Rattle.switchboard.proofs.Sizes.{rows}
 use Rattle.switchboard.proofs.Lists.{somes, filter_map-somes, somes-take, somes-take-lt, somes-fewer-lt}
 
 -- the place of a span among the spans is how many bridges before it are over
@@ -25,12 +26,12 @@ position-le r k e =
     omega (arith, somes-take (map (span_in r) r.bridges) k, p, s)
 
 -- the span of a bridge is among them, at its place
-pub span_at : (r : Rows) (k : ℕ) (o : Option ℕ) → k < length r.bridges → bridge_end_in r (bridge_at_place r k) ≡ o → get_or (map (span_in r) r.bridges) k None
-    ≡ option_map (span_to (bridge_at_place r k)) o
+pub span_at : (r : Rows) (k : ℕ) (o : Option ℕ) → k < length r.bridges →
+    bridge_end_in r (bridge_at_place r k) ≡ o → get_or (map (span_in r) r.bridges) k None ≡ option_map (span_to (bridge_at_place r k)) o
 span_at r k o h e = get_or-map (span_in r) r.bridges k no_bridge None h ∙ ap (option_map (span_to (bridge_at_place r k))) e
 
-pub position-lt : (r : Rows) (k v : ℕ) → r.spans ≡ filter_map (span_in r) r.bridges → k < length r.bridges → bridge_end_in r (bridge_at_place r k) ≡ Some v →
-    position_in r k < length r.spans
+pub position-lt : (r : Rows) (k v : ℕ) → r.spans ≡ filter_map (span_in r) r.bridges →
+    k < length r.bridges → bridge_end_in r (bridge_at_place r k) ≡ Some v → position_in r k < length r.spans
 position-lt r k v e h ended =
     let p = position-somes r k in
     let s = ap length (e ∙ filter_map-somes (span_in r) r.bridges) in
@@ -38,8 +39,8 @@ position-lt r k v e h ended =
     omega (arith, somes-take-lt (map (span_in r) r.bridges) k (span_to (bridge_at_place r k) v) (omega arith) (span_at r k (Some v) h ended), p, s)
 
 -- while a bridge has no end, there are fewer spans than bridges
-pub spans-few : (r : Rows) (k : ℕ) → r.spans ≡ filter_map (span_in r) r.bridges → k < length r.bridges → bridge_end_in r (bridge_at_place r k) ≡ None →
-    length r.spans < length r.bridges
+pub spans-few : (r : Rows) (k : ℕ) → r.spans ≡ filter_map (span_in r) r.bridges →
+    k < length r.bridges → bridge_end_in r (bridge_at_place r k) ≡ None → length r.spans < length r.bridges
 spans-few r k e h ended =
     let s = ap length (e ∙ filter_map-somes (span_in r) r.bridges) in
     let l = length-map r.bridges (span_in r) in

@@ -33,15 +33,15 @@ cons_same o p ys zs e f = ap (λ q. cons_option q ys) e ∙ ap (λ q. cons_optio
 -- ---- which calls were opened and closed
 
 -- the stamp of the first order that is found, with one more order
-stamps_more : (t : Bool) (e : Done) (u v : Option Done) (w : Option ℕ) → option_map (λ d. d.order.stamp) u ≡ or_else (option_map (λ d. d.order.stamp) v) w →
-    option_map (λ d. d.order.stamp) (if t then Some e else u) ≡ or_else (option_map (λ d. d.order.stamp) (if t then Some e else v)) w
+stamps_more : (t : Bool) (e : Done) (u v : Option Done) (w : Option ℕ) →
+    option_map (λ d. d.order.stamp) u ≡ or_else (option_map (λ d. d.order.stamp) v) w → option_map (λ d. d.order.stamp) (if t then Some e else u)
+    ≡ or_else (option_map (λ d. d.order.stamp) (if t then Some e else v)) w
 stamps_more true e u v w h = refl
 stamps_more false e u v w h = h
 
 -- the first order that passes a test, with one more order
-found_more : (p : Done → Bool) (ds : List Done) (d : Done) →
-    option_map (λ d. d.order.stamp) (find p (ds ++ d ∷ [])) ≡ or_else (option_map (λ d. d.order.stamp) (find p ds))
-    (option_map (λ d. d.order.stamp) (find p (d ∷ [])))
+found_more : (p : Done → Bool) (ds : List Done) (d : Done) → option_map (λ d. d.order.stamp) (find p (ds ++ d ∷ []))
+    ≡ or_else (option_map (λ d. d.order.stamp) (find p ds)) (option_map (λ d. d.order.stamp) (find p (d ∷ [])))
 found_more p [] d = refl
 found_more p (e ∷ ds) d = stamps_more (p e) e _ _ _ (found_more p ds d)
 
@@ -63,13 +63,13 @@ part_kept f d (x ∷ xs) (suc i) y h zero = refl
 part_kept f d (x ∷ xs) (suc i) y h (suc j) = part_kept f d xs i y h j
 
 -- a field that a changed call keeps, and so all calls
-pub field_kept : {Y : Type 0} (f : Call → Y) (cs : List Call) (c : ℕ) (e : Call) → f e ≡ f (get_or cs c never) → (k : ℕ) → f (get_or (set cs c e) k never)
-    ≡ f (get_or cs k never)
+pub field_kept : {Y : Type 0} (f : Call → Y) (cs : List Call) (c : ℕ) (e : Call) →
+    f e ≡ f (get_or cs c never) → (k : ℕ) → f (get_or (set cs c e) k never) ≡ f (get_or cs k never)
 field_kept f cs c e h k = part_kept f never cs c e h k
 
 -- what is changed of it
-pub field_set : {Y : Type 0} (f : Call → Option Y) (cs : List Call) (c : ℕ) (e : Call) (y : Y) → c < length cs → f e ≡ Some y → f (get_or cs c never) ≡ None →
-    (k : ℕ) →
+pub field_set : {Y : Type 0} (f : Call → Option Y) (cs : List Call) (c : ℕ) (e : Call) (y : Y) →
+    c < length cs → f e ≡ Some y → f (get_or cs c never) ≡ None → (k : ℕ) →
     f (get_or (set cs c e) k never) ≡ or_else (f (get_or cs k never)) (if k == c then Some y else None)
 field_set f cs c e y h new old k = elim (cases_eq k c) [
   | inl q ↦ subst (λ (k : ℕ). f (get_or (set cs c e) k never) ≡ or_else (f (get_or cs k never)) (if k == c then Some y else None)) (sym q)
@@ -98,7 +98,7 @@ unended x = ap (λ (o : Option ℕ). record x { ended = o }) (or_else-none x.end
 pub after_kept : (d : Done) (x : Bridge) → ends_bridge x.a x.b d.result ≡ false → after d x ≡ x
 after_kept d x e = after_is d x ∙ ap (λ (t : Bool). record x { ended = or_else x.ended (some_if t d.order.stamp) }) e ∙ unended x
 
--- so does any order where the bridge was ended before
+-- An order leaves a bridge as it is if an earlier one ended it.
 pub after_had : (d : Done) (x : Bridge) (s : ℕ) → x.ended ≡ Some s → after d x ≡ x
 after_had d x s e = after_is d x ∙ ap (λ (o : Option ℕ). record x { ended = or_else o (some_if (ends_bridge x.a x.b d.result) d.order.stamp) }) e
     ∙ ap (λ (o : Option ℕ). record x { ended = o }) (sym e)
@@ -109,7 +109,8 @@ after_ends d x e t = after_is d x ∙ ap (λ (o : Option ℕ). record x { ended 
     ∙ ap (λ (t : Bool). record x { ended = some_if t d.order.stamp }) t
 
 -- an order that ends no bridge
-pub map_after_same : (d : Done) (bs : List Bridge) → ((j : ℕ) → j < length bs → after d (get_or bs j no_bridge) ≡ get_or bs j no_bridge) → map (after d) bs ≡ bs
+pub map_after_same : (d : Done) (bs : List Bridge) → ((j : ℕ) → j < length bs → after d (get_or bs j no_bridge) ≡ get_or bs j no_bridge) →
+    map (after d) bs ≡ bs
 map_after_same d [] h = refl
 map_after_same d (x ∷ bs) h = ap (λ y. y ∷ map (after d) bs) (h 0 (omega arith)) ∙ ap (λ ys. x ∷ ys) (map_after_same d bs (λ j l. h (suc j) (omega arith)))
 

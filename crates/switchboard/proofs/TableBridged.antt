@@ -52,7 +52,7 @@ pub bridged_field : {Y : Type 0} (f : Call → Y) (r : Rows) (k a b : ℕ) → (
 bridged_field f r k a b h c =
     field_kept f (with_latest r.calls k a) b _ (h _) c ∙ field_kept f r.calls a _ (h _) c
 
--- a new bridge changes nothing of who is open ..
+-- A new bridge changes nothing about which calls are open.
 pub bridged_open : (r : Rows) (t a b c : ℕ) → is_open_in (bridged_in r t a b) c ≡ is_open_in r c
 bridged_open r t a b c =
     let k = length r.bridges in
@@ -62,7 +62,7 @@ bridged_open r t a b c =
     (bridged_field (λ x. x.closed) r k a b (λ e. refl) c)
     ∙ ap (λ o. is_some (call_in r c).opened && not (is_some (call_in r c).closed) && not (is_some o)) (bridged_field gone_from r k a b (λ e. refl) c)
 
--- .. and of no end
+-- A new bridge changes the end of no other bridge.
 bridged_end : (r : Rows) (t a b : ℕ) (x : Bridge) → bridge_end_in (bridged_in r t a b) x ≡ bridge_end_in r x
 bridged_end r t a b x =
     let k = length r.bridges in
@@ -112,7 +112,8 @@ latest_new bs c t a b q =
     let n = more_length bs y in
     (omega arith, ap (joins c) (new_place bs y) ∙ elim q [ inl p ↦ joins_left c y p | inr p ↦ joins_right c y p ], λ j h i. absurd (omega arith))
 
-pub table_bridged : (r : Rows) (t a b : ℕ) → IsTable r t → length r.calls ≡ 4097 → a < 4097 → b < 4097 → a ≢ b → is_open_in r a ≡ true → is_open_in r b ≡ true →
+pub table_bridged : (r : Rows) (t a b : ℕ) → IsTable r t → length r.calls ≡ 4097 → a < 4097 →
+    b < 4097 → a ≢ b → is_open_in r a ≡ true → is_open_in r b ≡ true →
     ((c j : ℕ) → (c ≡ a) ⊎ (c ≡ b) → j < length r.bridges → joins c (bridge_at_place r j) ≡ true → IsOver r t (bridge_at_place r j)) →
     IsTable (bridged_in r t a b) t
 table_bridged r t a b s len la lb apart oa ob over =

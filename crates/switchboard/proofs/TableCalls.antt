@@ -67,8 +67,8 @@ table_kept r now cs k s lasts shut known untold unused =
 
 -- a call that was opened is changed
 pub unused_set : (r : Rows) (now c : ℕ) (e : Call) → IsTable r now → c < length r.calls → (e.opened ≡ None → ⊥) → (d : ℕ) →
-    (get_or (set r.calls c e) d never).opened ≡ None →
-    ((get_or (set r.calls c e) d never).closed ≡ None) × (gone_from (get_or (set r.calls c e) d never) ≡ None)
+    (get_or (set r.calls c e) d never).opened ≡ None → ((get_or (set r.calls c e) d never).closed ≡ None)
+    × (gone_from (get_or (set r.calls c e) d never) ≡ None)
 unused_set r now c e s l opened d h = elim (cases_eq d c) [
   | inl p ↦ absurd (opened (sym (ap (λ (d : ℕ). (get_or (set r.calls c e) d never).opened) p
       ∙ ap (λ (x : Call). x.opened) (get_or-set_same r.calls c e never l)) ∙ h))
@@ -92,7 +92,8 @@ keeps_calls r c e p q = record {
 }
 
 -- to open a call leaves each open call open
-pub open_more : (r : Rows) (t c k : ℕ) → c < length r.calls → (call_in r c).opened ≡ None → is_open_in r k ≡ true → is_open_in (opened_in r t c) k ≡ true
+pub open_more : (r : Rows) (t c k : ℕ) → c < length r.calls → (call_in r c).opened ≡ None →
+    is_open_in r k ≡ true → is_open_in (opened_in r t c) k ≡ true
 open_more r t c k l old h =
     let e : Call = record (call_in r c) { opened = Some t } in
     let p = open_parts _ _ _ h in
@@ -133,8 +134,7 @@ ended_by r now t x s late told (Some u) e v f =
 
 -- a bridge that has an end before t is over then
 pub over_by : (r : Rows) (t : ℕ) (x : Bridge) → (bridge_end_in r x ≡ None → ⊥) → ((v : ℕ) → bridge_end_in r x ≡ Some v → v < t) → (o : Option ℕ) →
-    bridge_end_in r x ≡ o →
-    IsOver r t x
+    bridge_end_in r x ≡ o → IsOver r t x
 over_by r t x some before None e = absurd (some e)
 over_by r t x some before (Some v) e = record { at = v; ended = e; before = before v e }
 
@@ -145,8 +145,8 @@ closed_stamp r t c d u l p e =
     ∙ ap (λ (x : Call). x.closed) (get_or-set_same r.calls c (record (call_in r c) { closed = Some t }) never l) in
     cc
 
-pub table_closed : (r : Rows) (now t c : ℕ) → IsTable r now → c < length r.calls → is_some (call_in r c).opened ≡ true → gone_from_in r c ≡ None → now ≤ t →
-    ((d : ℕ) → IfSome (gone_from_in r d) (λ u. u < t + 1)) →
+pub table_closed : (r : Rows) (now t c : ℕ) → IsTable r now → c < length r.calls →
+    is_some (call_in r c).opened ≡ true → gone_from_in r c ≡ None → now ≤ t → ((d : ℕ) → IfSome (gone_from_in r d) (λ u. u < t + 1)) →
     ((j : ℕ) → j < length r.bridges → joins c (bridge_at_place r j) ≡ true → bridge_end_in r (bridge_at_place r j) ≡ None → ⊥) → IsTable (closed_in r t c) now
 table_closed r now t c s lc opened here late told none =
     table_kept r now _ (keeps_calls r c (record (call_in r c) { closed = Some t }) refl refl) s

@@ -22,9 +22,6 @@ use Rattle.switchboard.proofs.TableCalls.{joins_left, joins_right, joins_cases, 
 
 -- ---- a call's lines end it
 
-lost_calls : (r : Rows) (end : CallEnd) → List Call
-lost_calls r end = set r.calls end.call (record (call_in r end.call) { gone = Some end })
-
 -- the row of the call whose lines ended it
 lost_same : (r : Rows) (end : CallEnd) (k : ℕ) → end.call < length r.calls → k ≡ end.call → gone_from_in (call_ended_in r end) k ≡ Some end.at
 lost_same r end k l e = ap (λ (k : ℕ). gone_from_in (call_ended_in r end) k) e
@@ -46,8 +43,8 @@ lost_end_other r end x e =
     ∙ ap (λ (y : Call). least x.ended (least (gone_from_in r x.a) (gone_from y))) (lost_other r end x.b n.1)
 
 -- the end of a bridge of the call is lowered
-pub lost_end : (r : Rows) (end : CallEnd) (x : Bridge) → end.call < length r.calls → gone_from_in r end.call ≡ None → joins end.call x ≡ true → bridge_end_in (call_ended_in r end) x
-    ≡ least (bridge_end_in r x) (Some end.at)
+pub lost_end : (r : Rows) (end : CallEnd) (x : Bridge) → end.call < length r.calls →
+    gone_from_in r end.call ≡ None → joins end.call x ≡ true → bridge_end_in (call_ended_in r end) x ≡ least (bridge_end_in r x) (Some end.at)
 lost_end r end x l g j =
     let n : Rows = call_ended_in r end in
     elim (cases_eq x.a end.call) [
@@ -76,8 +73,8 @@ lost_end r end x l g j =
     ]
 
 -- an end that isn't past the new one stays
-pub lost_end_kept : (r : Rows) (end : CallEnd) (v : ℕ) (x : Bridge) → end.call < length r.calls → gone_from_in r end.call ≡ None → bridge_end_in r x ≡ Some v → v ≤ end.at →
-    bridge_end_in (call_ended_in r end) x ≡ Some v
+pub lost_end_kept : (r : Rows) (end : CallEnd) (v : ℕ) (x : Bridge) → end.call < length r.calls →
+    gone_from_in r end.call ≡ None → bridge_end_in r x ≡ Some v → v ≤ end.at → bridge_end_in (call_ended_in r end) x ≡ Some v
 lost_end_kept r end v x l g e h =
     elim (cases_Bool (joins end.call x)) [
       | inl j ↦ lost_end r end x l g j ∙ ap (λ o. least o (Some end.at)) e ∙ ap Some (omega arith)
@@ -91,7 +88,8 @@ map_but : {X Y : Type 0} (f g : X → Y) (xs : List X) (k : ℕ) (d : X) → k <
 map_but f g [] k d l h = absurd (omega arith)
 map_but f g (x ∷ xs) zero d l h = ap (λ ys. g x ∷ ys) (map_all f g xs d (λ j m. h (suc j) (omega arith) (omega arith)))
   where
-    map_all : {X Y : Type 0} (f g : X → Y) (xs : List X) (d : X) → ((j : ℕ) → j < length xs → g (get_or xs j d) ≡ f (get_or xs j d)) → map g xs ≡ map f xs
+    map_all : {X Y : Type 0} (f g : X → Y) (xs : List X) (d : X) →
+        ((j : ℕ) → j < length xs → g (get_or xs j d) ≡ f (get_or xs j d)) → map g xs ≡ map f xs
     map_all f g [] d h = refl
     map_all f g (x ∷ xs) d h = ap (λ y. y ∷ map g xs) (h 0 (omega arith)) ∙ ap (λ ys. f x ∷ ys) (map_all f g xs d (λ j m. h (suc j) (omega arith)))
 map_but f g (x ∷ xs) (suc k) d l h =
@@ -99,11 +97,10 @@ map_but f g (x ∷ xs) (suc k) d l h =
     ∙ ap (λ ys. f x ∷ ys) (map_but f g xs k d (omega arith) (λ j m n. h (suc j) (omega arith) (omega arith)))
 
 -- the spans, where only the end of the bridge at place k is new
-lost_spans_at : (r : Rows) (end : CallEnd) (k : ℕ) → r.spans ≡ filter_map (span_in r) r.bridges → end.call < length r.calls → gone_from_in r end.call ≡ None → k < length r.bridges →
-    joins end.call (bridge_at_place r k) ≡ true →
+lost_spans_at : (r : Rows) (end : CallEnd) (k : ℕ) → r.spans ≡ filter_map (span_in r) r.bridges →
+    end.call < length r.calls → gone_from_in r end.call ≡ None → k < length r.bridges → joins end.call (bridge_at_place r k) ≡ true →
     ((j : ℕ) → j < length r.bridges → j ≢ k → bridge_end_in (call_ended_in r end) (bridge_at_place r j) ≡ bridge_end_in r (bridge_at_place r j)) →
-    (o : Option ℕ) → bridge_end_in r (bridge_at_place r k) ≡ o →
-    (elim o [
+    (o : Option ℕ) → bridge_end_in r (bridge_at_place r k) ≡ o → (elim o [
       | None ↦ insert r.spans (position_in r k) (span_to (bridge_at_place r k) end.at)
       | Some v ↦ if nat_lt end.at v then set r.spans (position_in r k) (span_to (bridge_at_place r k) end.at) else r.spans
     ]) ≡ filter_map (span_in (call_ended_in r end)) r.bridges
@@ -147,8 +144,8 @@ lost_spans_at r end k s l g lk q h (Some v) e = by (nat_lt end.at v) refl
           | inr p ↦ h j m p
         ]))))
 
-pub table_lost : (r : Rows) (now : ℕ) (end : CallEnd) → IsTable r now → now ≤ end.at → end.call < length r.calls → end.call < 4097 → is_open_in r end.call ≡ true →
-    IsTable (call_ended_in r end) now
+pub table_lost : (r : Rows) (now : ℕ) (end : CallEnd) → IsTable r now → now ≤ end.at →
+    end.call < length r.calls → end.call < 4097 → is_open_in r end.call ≡ true → IsTable (call_ended_in r end) now
 table_lost r now end s late l lc o =
     let n : Rows = call_ended_in r end in
     let g = (open_parts _ _ _ o).2 in
@@ -210,8 +207,8 @@ table_lost r now end s late l lc o =
       spans = lost_spans r now end s late l g (call_in r end.call).bridge (s.latest end.call lc);
     }
   where
-    lost_spans : (r : Rows) (now : ℕ) (end : CallEnd) → IsTable r now → now ≤ end.at → end.call < length r.calls → gone_from_in r end.call ≡ None → (o : Option ℕ) →
-        IsLatest r.bridges end.call o →
+    lost_spans : (r : Rows) (now : ℕ) (end : CallEnd) → IsTable r now → now ≤ end.at →
+        end.call < length r.calls → gone_from_in r end.call ≡ None → (o : Option ℕ) → IsLatest r.bridges end.call o →
         (elim o [ None ↦ r.spans | Some k ↦ spans_after r end.at k ]) ≡ filter_map (span_in (call_ended_in r end)) r.bridges
     lost_spans r now end s late l g None none =
         s.spans ∙ filter_map_same (span_in r) (span_in (call_ended_in r end)) r.bridges (λ j d m.

@@ -11,11 +11,12 @@ use Rattle.switchboard.specs.declared.act.Reply.{Reply}
 use Rattle.switchboard.specs.declared.table.Bridge.{Bridge}
 use Rattle.switchboard.specs.Calls.{Done, is_open, opened_at, closed_at}
 use Rattle.switchboard.specs.Bridges.{bridges, joins, no_bridge, OneLasts, lasts}
-use Rattle.switchboard.specs.Rows.{Rows, gone_of, is_open_in, is_live_in, IsSized, call_in, bridge_at_place, bridge_end_in, span_in, gone_from_in}
+use Rattle.switchboard.specs.Rows.{Rows, is_open_in, is_live_in, IsSized, call_in, bridge_at_place, bridge_end_in, span_in, gone_from_in}
 use Rattle.switchboard.specs.Runs.{AllEnded, AllEndedAt}
 use Rattle.switchboard.specs.Ends.{Given, whole_of, lack_of, start_of, ends_at, span_of, spans_of, least, span_to}
 use Rattle.switchboard.specs.State.{State, gone_in}
 use Rattle.switchboard.specs.Stands.{Stands, IsBoard, dones, board_state}
+use Rattle.switchboard.proofs.Sizes.{gone_of}
 use Rattle.switchboard.proofs.Steps.{cons_same}
 use Rattle.switchboard.proofs.Known.{open_agrees}
 use Rattle.switchboard.proofs.MovesParted.{one_live}
@@ -64,9 +65,8 @@ record Known (r : Rows) (x : Bridge) (c end : ℕ) : Type 0 where
 
 -- once each call has ended, the table knows each end
 known : (given : ℕ → Given) (P : ℕ) (r : Rows) (ds : List Done) → Stands r ds → ((c : ℕ) → is_some (opened_at c ds) ≡ true → closed_at c ds ≡ None →
-    gone_from_in r c ≡ Some (ends_at given P ds c)) →
-    (c j : ℕ) → c < 4097 → j < length r.bridges → joins c (bridge_at_place r j) ≡ true → is_some (call_in r c).opened ≡ true → (o : Option ℕ) → closed_at c ds
-    ≡ o → Known r (bridge_at_place r j) c (ends_at given P ds c)
+    gone_from_in r c ≡ Some (ends_at given P ds c)) → (c j : ℕ) → c < 4097 → j < length r.bridges → joins c (bridge_at_place r j) ≡ true →
+    is_some (call_in r c).opened ≡ true → (o : Option ℕ) → closed_at c ds ≡ o → Known r (bridge_at_place r j) c (ends_at given P ds c)
 known given P r ds s all c j h l q opened None e =
     let g = all c (ap is_some (sym (s.opened c h)) ∙ opened) e in
     record { told = λ w f. cc (g, f); over = λ f. absurd (cc (g, f)); some = λ f. absurd (cc (g, f)) }
@@ -81,7 +81,7 @@ known given P r ds s all c j h l q opened (Some t) e =
       some = λ f z. let y = v.ended in cc (y, z);
     }
 
--- and the end of each bridge is that of the whole list
+-- The end of each bridge is that of the whole list of orders.
 bridge_end : (given : ℕ → Given) (P : ℕ) (r : Rows) (ds : List Done) → Stands r ds → IsSized r.calls r.bridges →
     ((c : ℕ) → is_some (opened_at c ds) ≡ true → closed_at c ds ≡ None → gone_from_in r c ≡ Some (ends_at given P ds c)) →
     (j : ℕ) → j < length r.bridges → span_in r (bridge_at_place r j) ≡ Some (span_of given P ds (bridge_at_place r j))
@@ -94,7 +94,7 @@ bridge_end given P r ds s z all j l =
     ap (option_map (span_to x)) (end_math x.ended (gone_from_in r x.a) (gone_from_in r x.b) (ends_at given P ds x.a) (ends_at given P ds x.b) a.told b.told
     a.over b.over a.some)
 
--- so are the spans
+-- **The spans are those of the whole list of orders.**
 pub spans_whole : (os : List Order) (xs : List Reply) (r : Rows) (s : State) → IsBoard os xs r → IsSized r.calls r.bridges → board_state os xs r ≡ s →
     (given : ℕ → Given) (P : ℕ) → AllEndedAt given P s → r.spans ≡ spans_of given P s.done
 spans_whole os xs r s b z e given P all =
@@ -115,8 +115,8 @@ one_lasts os xs r s b z e =
     (subst (λ (bs : List Bridge). OneLasts (gone_of r) ds bs) b.stands.bridges
     (λ c j k lj lk qj qk vj vk. one_live r _ c j k b.stands.table lj lk qj qk (live r ds j b.stands z lj vj) (live r ds k b.stands z lk vk))))
   where
-    live : (r : Rows) (ds : List Done) (j : ℕ) → Stands r ds → IsSized r.calls r.bridges → j < length r.bridges → lasts (gone_of r) ds (bridge_at_place r j)
-        ≡ true → is_live_in r (bridge_at_place r j) ≡ true
+    live : (r : Rows) (ds : List Done) (j : ℕ) → Stands r ds → IsSized r.calls r.bridges →
+        j < length r.bridges → lasts (gone_of r) ds (bridge_at_place r j) ≡ true → is_live_in r (bridge_at_place r j) ≡ true
     live r ds j s z l v =
         let x = bridge_at_place r j in
         let n = z.named j l in

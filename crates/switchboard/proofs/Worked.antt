@@ -96,8 +96,8 @@ unfolding endless
 limit = (refl, refl)
 
 -- the Pcm line of a call fails after 400 octets
-abbrev failing : ℕ → Given
-failing c = record { up = 400; pcm = 400; up_failed = false; pcm_failed = true }
+abbrev failing_lines : ℕ → Given
+failing_lines c = record { up = 400; pcm = 400; up_failed = false; pcm_failed = true }
 
-fault : end_of failing 1000 (done_of (λ c. whole_of (failing c)) 1000 (at 0 (OpenCall 7 A) ∷ [])) 7 0 ≡ record { call = 7; at = 2; cause = Fault Pcm }
+fault : end_of failing_lines 1000 (done_of (λ c. whole_of (failing_lines c)) 1000 (at 0 (OpenCall 7 A) ∷ [])) 7 0 ≡ record { call = 7; at = 2; cause = Fault Pcm }
 fault = refl

@@ -38,7 +38,10 @@ opened_at c ds = option_map (λ d. d.order.stamp) (find (λ d. is_this c (opened
 
 -- A call's law is that of the order that opened it; A-law if none did.
 abbrev pub law_at : ℕ → List Done → Law
-law_at c ds = elim (find (λ d. is_this c (opened_by d.result)) ds) [ None ↦ A | Some d ↦ law_by d.result ]
+law_at c ds = elim (find (λ d. is_this c (opened_by d.result)) ds) [
+  | None ↦ A
+  | Some d ↦ law_by d.result
+]
 
 -- the stamp of the order that closed a call
 abbrev pub closed_at : ℕ → List Done → Option ℕ

@@ -34,7 +34,11 @@ abbrev pub end_of : (ℕ → Given) → ℕ → List Done → ℕ → ℕ → Ca
 end_of given P ds c s = elim (closed_at c ds) [
   | Some t ↦ record { call = c; at = t; cause = Closed }
   | None ↦ if nat_le P (s + whole_of (given c)) then record { call = c; at = P; cause = Limit }
-      else record { call = c; at = s + whole_of (given c); cause = lack_of (whole_of (given c)) (given c) }
+      else record {
+        call = c;
+        at = s + whole_of (given c);
+        cause = lack_of (whole_of (given c)) (given c);
+      }
 ]
 
 -- the period at which a call begins

@@ -71,7 +71,8 @@ law_after _ laws c = laws c
 -- `bridge` makes two calls partners. `unbridge` parts them, and so does `close` of a bridged call.
 abbrev pub partner_after : Act → (ℕ → Option ℕ) → ℕ → Option ℕ
 partner_after (act.Closed n p) partner c = partner_without_both n p partner c
-partner_after (act.Bridged a b) partner c = if c == a then Some b else if c == b then Some a else partner c
+partner_after (act.Bridged a b) partner c =
+    if c == a then Some b else if c == b then Some a else partner c
 partner_after (act.Unbridged a b) partner c = partner_without_both a (Some b) partner c
 partner_after _ partner c = partner c
 
@@ -79,19 +80,18 @@ partner_after _ partner c = partner c
 abbrev pub Finds : Act → (ℕ → Bool) → (ℕ → Bool) → (ℕ → Option ℕ) → Type 0
 Finds (act.Opened n law) opened is_open partner = IsCallNumber n × (opened n ≡ false)
 Finds (act.Closed n p) opened is_open partner = (is_open n ≡ true) × (partner n ≡ p)
-Finds (act.Bridged a b) opened is_open partner = (a ≢ b) × ((is_open a ≡ true) × (is_open b ≡ true)) × ((partner a ≡ None) × (partner b ≡ None))
-Finds (act.Unbridged a b) opened is_open partner = ((is_open a ≡ true) × (is_open b ≡ true)) × ((partner a ≡ Some b) × (partner b ≡ Some a))
+Finds (act.Bridged a b) opened is_open partner = (a ≢ b) × ((is_open a ≡ true) × (is_open b ≡ true))
+    × ((partner a ≡ None) × (partner b ≡ None))
+Finds (act.Unbridged a b) opened is_open partner = ((is_open a ≡ true) × (is_open b ≡ true))
+    × ((partner a ≡ Some b) × (partner b ≡ Some a))
 Finds (act.LevelSet n v) opened is_open partner = is_open n ≡ true
 Finds (act.DtxSet n m) opened is_open partner = is_open n ≡ true
 
 -- What an accepted order finds, but for which numbers were ever opened: what is known of a board by its open calls alone.
 abbrev pub FindsOpen : Act → (ℕ → Bool) → (ℕ → Option ℕ) → Type 0
 FindsOpen (act.Opened n law) is_open partner = is_open n ≡ false
-FindsOpen (act.Closed n p) is_open partner = (is_open n ≡ true) × (partner n ≡ p)
-FindsOpen (act.Bridged a b) is_open partner = (a ≢ b) × ((is_open a ≡ true) × (is_open b ≡ true)) × ((partner a ≡ None) × (partner b ≡ None))
 FindsOpen (act.Unbridged a b) is_open partner = partner a ≡ Some b
-FindsOpen (act.LevelSet n v) is_open partner = is_open n ≡ true
-FindsOpen (act.DtxSet n m) is_open partner = is_open n ≡ true
+FindsOpen x is_open partner = Finds x is_open is_open partner
 
 -- A bridge ended before period t, by an order or a reported end, and no order of stamp t ended it.
 pub record HasEnded (told : ℕ → Option ℕ) (t : ℕ) (x : Bridge) : Type 0 where

@@ -68,7 +68,8 @@ number_used k c = refuse_if (k.has_ended c) (NumberUsed c)
 abbrev pub tests : Known → What → List (Option Refusal)
 tests k (what.OpenCall c law) = already_open k c ∷ number_used k c ∷ []
 tests k (what.CloseCall c) = not_open k c ∷ []
-tests k (what.Bridge a b) = same_call a b ∷ not_open k a ∷ not_open k b ∷ bridged k a ∷ bridged k b ∷ draining k a ∷ draining k b ∷ []
+tests k (what.Bridge a b) = same_call a b ∷ not_open k a ∷ not_open k b ∷
+    bridged k a ∷ bridged k b ∷ draining k a ∷ draining k b ∷ []
 tests k (what.Unbridge c) = not_open k c ∷ not_bridged k c ∷ []
 tests k (what.Level c v) = not_open k c ∷ []
 tests k (what.Dtx c m) = not_open k c ∷ []
@@ -78,7 +79,10 @@ abbrev pub act_of : Known → What → Act
 act_of k (what.OpenCall c law) = act.Opened c law
 act_of k (what.CloseCall c) = act.Closed c (option_map (other c) (k.bridge_of c))
 act_of k (what.Bridge a b) = act.Bridged a b
-act_of k (what.Unbridge c) = elim (k.bridge_of c) [ None ↦ act.Unbridged c c | Some x ↦ act.Unbridged x.a x.b ]
+act_of k (what.Unbridge c) = elim (k.bridge_of c) [
+  | None ↦ act.Unbridged c c
+  | Some x ↦ act.Unbridged x.a x.b
+]
 act_of k (what.Level c v) = act.LevelSet c v
 act_of k (what.Dtx c m) = act.DtxSet c m
 

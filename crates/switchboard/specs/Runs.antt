@@ -7,14 +7,14 @@ use Rattle.switchboard.specs.State.{State, gone_in, end_told, told_in}
 use Rattle.switchboard.specs.Ends.{Given, whole_end, ends_at, spans_now}
 
 -- Orders are executed one after another; `whole` is the number of whole periods that each call's lines give.
-abbrev pub executed : (ℕ → ℕ) → List Done → List Order → List Done
-executed whole ds [] = ds
-executed whole ds (o ∷ os) =
-    executed whole (ds ++ record { order = o; result = reply_to (gone_at whole o.stamp ds) ds o } ∷ []) os
+abbrev pub done_after : (ℕ → ℕ) → List Done → List Order → List Done
+done_after whole ds [] = ds
+done_after whole ds (o ∷ os) = done_after whole
+    (ds ++ record { order = o; result = reply_to (gone_at whole o.stamp ds) ds o } ∷ []) os
 
 -- In a run of P periods an order is executed if and only if its stamp is below P.
 abbrev pub done_of : (ℕ → ℕ) → ℕ → List Order → List Done
-done_of whole P orders = executed whole [] (filter (λ o. nat_lt o.stamp P) orders)
+done_of whole P orders = done_after whole [] (filter (λ o. nat_lt o.stamp P) orders)
 
 -- the other orders
 abbrev pub left_of : ℕ → List Order → List Order
@@ -22,17 +22,19 @@ left_of P orders = filter (λ o. not (nat_lt o.stamp P)) orders
 
 -- the replies of these orders are those of their whole list
 abbrev pub IsRun : (ℕ → ℕ) → List Done → Type 0
-IsRun whole ds = ds ≡ executed whole [] (map (λ d. d.order) ds)
+IsRun whole ds = ds ≡ done_after whole [] (map (λ d. d.order) ds)
 
 -- Of the calls that were opened and not closed, the reported ones are those that are gone at period t.
 abbrev pub TellsEnds : (ℕ → ℕ) → ℕ → State → Type 0
-TellsEnds whole t s = (c : ℕ) → is_some (opened_at c s.done) ≡ true → closed_at c s.done ≡ None → gone_in s c ≡ gone_at whole t s.done c
+TellsEnds whole t s = (c : ℕ) → is_some (opened_at c s.done) ≡ true → closed_at c s.done ≡ None →
+    gone_in s c ≡ gone_at whole t s.done c
 
 -- Each call that was opened was closed, or was reported as ended where its lines and the run's P periods end it.
 abbrev pub AllEndedAt : (ℕ → Given) → ℕ → State → Type 0
-AllEndedAt given P s = (c : ℕ) → is_some (opened_at c s.done) ≡ true → closed_at c s.done ≡ None → told_in s c ≡ Some (ends_at given P s.done c)
+AllEndedAt given P s = (c : ℕ) → is_some (opened_at c s.done) ≡ true → closed_at c s.done ≡ None →
+    told_in s c ≡ Some (ends_at given P s.done c)
 
--- The same with the causes of the ends.
+-- Each call has ended where its lines and the run end it, with the cause that they give.
 abbrev pub AllEnded : (ℕ → Given) → ℕ → State → Type 0
 AllEnded given P s = (c : ℕ) → is_some (opened_at c s.done) ≡ true → closed_at c s.done ≡ None →
     end_told s c ≡ Some (whole_end given P s.done c)

@@ -1,6 +1,5 @@
 -- How the table reflects the executed orders.
-use Rattle.std.specs.Prelude.{◌≡◌, ◌≢◌, ◌+◌, ◌<◌, ◌≤◌, ℕ, true, false, Option, Some, None, is_some, Result, Ok, List, [], ◌∷◌, length, map, drop}
-use Rattle.std.proofs.Common.{get_or}
+use Rattle.std.specs.Prelude.{◌≡◌, ◌≢◌, ◌+◌, ◌<◌, ◌≤◌, ℕ, true, false, Option, Some, None, is_some, Result, Ok, List, [], ◌∷◌, length, map, drop, slice_index_or}
 use Rattle.std.specs.List.{filter_map}
 use Rattle.trau_orders.specs.declared.order.Order.{Order}
 use Rattle.trau_orders.specs.Lists.{AreOrders}
@@ -11,9 +10,9 @@ use Rattle.switchboard.specs.declared.act.Refusal.{Refusal}
 use Rattle.switchboard.specs.declared.act.Reply.{Reply}
 use Rattle.switchboard.specs.declared.table.Bridge.{Bridge}
 use Rattle.switchboard.specs.Calls.{Done, opened_at, closed_at}
-use Rattle.switchboard.specs.Bridges.{bridges, joins, no_bridge}
+use Rattle.switchboard.specs.Bridges.{bridges, joins, bridge_at}
 use Rattle.switchboard.specs.Rows.{Rows, call_in, gone_from_in, bridge_at_place, is_open_in, bridge_end_in, span_in}
-use Rattle.switchboard.specs.State.{State, last_stamp, numbered}
+use Rattle.switchboard.specs.State.{State, last_stamp, replies_from}
 
 -- a bridge had ended before period t
 pub record IsOver (r : Rows) (t : ℕ) (x : Bridge) : Type 0 where
@@ -23,9 +22,10 @@ pub record IsOver (r : Rows) (t : ℕ) (x : Bridge) : Type 0 where
 
 -- the index of the latest bridge of a call
 abbrev pub IsLatest : List Bridge → ℕ → Option ℕ → Type 0
-IsLatest bs c None = (j : ℕ) → j < length bs → joins c (get_or bs j no_bridge) ≡ false
+IsLatest bs c None = (j : ℕ) → j < length bs → joins c (bridge_at bs j) ≡ false
 IsLatest bs c (Some k) =
-    (k < length bs) × (joins c (get_or bs k no_bridge) ≡ true) × ((j : ℕ) → k < j → j < length bs → joins c (get_or bs j no_bridge) ≡ false)
+    (k < length bs) × (joins c (bridge_at bs k) ≡ true)
+    × ((j : ℕ) → k < j → j < length bs → joins c (bridge_at bs j) ≡ false)
 
 -- what holds of a bridge in a table at a time
 pub record IsSound (r : Rows) (now : ℕ) (x : Bridge) : Type 0 where
@@ -40,11 +40,14 @@ pub record IsSound (r : Rows) (now : ℕ) (x : Bridge) : Type 0 where
 pub record IsTable (r : Rows) (now : ℕ) : Type 0 where
   pub latest : (c : ℕ) → c < NUMBERS → IsLatest r.bridges c (call_in r c).bridge
   pub sound : (k : ℕ) → k < length r.bridges → IsSound r now (bridge_at_place r k)
-  pub over : (c i j : ℕ) → i < j → j < length r.bridges → joins c (bridge_at_place r i) ≡ true → joins c (bridge_at_place r j) ≡ true →
+  pub over : (c i j : ℕ) → i < j → j < length r.bridges →
+      joins c (bridge_at_place r i) ≡ true → joins c (bridge_at_place r j) ≡ true →
       IsOver r (bridge_at_place r j).from (bridge_at_place r i)
-  pub shut : (c s j : ℕ) → (call_in r c).closed ≡ Some s → j < length r.bridges → joins c (bridge_at_place r j) ≡ true → IsOver r (s + 1) (bridge_at_place r j)
+  pub shut : (c s j : ℕ) → (call_in r c).closed ≡ Some s → j < length r.bridges →
+      joins c (bridge_at_place r j) ≡ true → IsOver r (s + 1) (bridge_at_place r j)
   pub untold : (c s : ℕ) → (call_in r c).closed ≡ Some s → gone_from_in r c ≡ None
-  pub unused : (c : ℕ) → (call_in r c).opened ≡ None → ((call_in r c).closed ≡ None) × (gone_from_in r c ≡ None)
+  pub unused : (c : ℕ) → (call_in r c).opened ≡ None →
+      ((call_in r c).closed ≡ None) × (gone_from_in r c ≡ None)
   pub spans : r.spans ≡ filter_map (span_in r) r.bridges
 
 -- the table is that of a list of executed orders
@@ -61,21 +64,26 @@ dones (o ∷ os) (x ∷ xs) = record { order = o; result = x.result } ∷ dones 
 dones _ _ = []
 
 abbrev pub board_state : List Order → List Reply → Rows → State
-board_state os xs r = record { left = drop (length xs) os; done = dones os xs; told = map (λ e. e.gone) r.calls }
+board_state os xs r = record {
+  left = drop (length xs) os;
+  done = dones os xs;
+  told = map (λ e. e.gone) r.calls;
+}
 
 -- Orders, replies and a table make a board: the replies are those to the first orders, the table is that of these replies, and each call
 -- number has an entry.
 pub record IsBoard (os : List Order) (xs : List Reply) (r : Rows) : Type 0 where
   pub orders : AreOrders os
   pub few : length xs ≤ length os
-  pub numbered : xs ≡ numbered 0 (dones os xs)
+  pub numbered : xs ≡ replies_from 0 (dones os xs)
   pub most : r.most ≡ length os
   pub places : length r.calls ≡ NUMBERS
   pub stands : Stands r (dones os xs)
 
 -- no stamp in the list is below the first one
 pub record AreRising (os : List Order) : Type 0 where
-  pub rising : (k : ℕ) (d : Order) → k < length os → (get_or os 0 d).stamp ≤ (get_or os k d).stamp
+  pub rising : (k : ℕ) (d : Order) → k < length os →
+      (slice_index_or os 0 d).stamp ≤ (slice_index_or os k d).stamp
 
 -- the calls of an act are in the table
 abbrev pub InTable : Result Act Refusal → Type 0

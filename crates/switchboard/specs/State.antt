@@ -1,6 +1,6 @@
 -- The board as contracts see it, and its steps.
 use Rattle.std.specs.Prelude.{◌+◌, ◌<◌, ℕ, Bool, if◌then◌else◌, ◌==◌, Option, Some, None, is_some, option_map, IfSome, List, [], ◌∷◌, ◌++◌, length, map, drop, replicate}
-use Rattle.std.proofs.Common.{get_or, set}
+use Rattle.std.specs.Prelude.{slice_index_or, slice_set}
 use Rattle.trau_io.specs.declared.ends.Cause.TheVariants.{Closed}
 use Rattle.trau_io.specs.declared.ends.CallEnd.{CallEnd}
 use Rattle.trau_orders.specs.declared.order.Order.{Order}
@@ -17,7 +17,7 @@ pub record State : Type 0 where
 
 -- the reported end of a call
 abbrev pub end_told : State → ℕ → Option CallEnd
-end_told s c = get_or s.told c None
+end_told s c = slice_index_or s.told c None
 
 -- the first period after a call whose end was reported
 abbrev pub told_in : State → ℕ → Option ℕ
@@ -70,21 +70,22 @@ abbrev pub after_turn : State → Option Order → State
 after_turn s None = s
 after_turn s (Some o) = record s { left = drop 1 s.left; done = s.done ++ done_by s o ∷ [] }
 
--- its reply, with its number
+-- the reply to an order, with its number
 abbrev pub reply_of : State → Option Order → Option Reply
 reply_of s None = None
-reply_of s (Some o) = let d = done_by s o in Some (record { order = length s.done + 1; result = d.result })
+reply_of s (Some o) =
+    let d = done_by s o in Some (record { order = length s.done + 1; result = d.result })
 
 -- all replies, numbered from n + 1 on
-abbrev pub numbered : ℕ → List Done → List Reply
-numbered n [] = []
-numbered n (d ∷ ds) = record { order = n + 1; result = d.result } ∷ numbered (n + 1) ds
+abbrev pub replies_from : ℕ → List Done → List Reply
+replies_from n [] = []
+replies_from n (d ∷ ds) = record { order = n + 1; result = d.result } ∷ replies_from (n + 1) ds
 
 -- ---- an end
 
 -- the state after a call's end was reported
 abbrev pub told_more : State → CallEnd → State
-told_more s e = record s { told = set s.told e.call (Some e) }
+told_more s e = record s { told = slice_set s.told e.call (Some e) }
 
 -- the end of a call that an order closed, or else the reported one
 abbrev pub end_or_told : State → ℕ → Option ℕ → Option CallEnd

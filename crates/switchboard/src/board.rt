@@ -8,7 +8,7 @@ ghost use Rattle.switchboard.specs.Calls.{opened_at, is_open};
 ghost use Rattle.switchboard.specs.Bridges.{OneLasts, bridges};
 ghost use Rattle.switchboard.specs.Replies.{IsInRange};
 ghost use Rattle.switchboard.specs.State.{new_board, orders_of, first_order, first_stamp, last_stamp, due, after_turn, reply_of, EndBefore, told_in, gone_in};
-ghost use Rattle.switchboard.specs.State.{told_more, end_so_far, numbered};
+ghost use Rattle.switchboard.specs.State.{told_more, end_so_far, replies_from};
 ghost use Rattle.switchboard.specs.Runs.{IsRun, TellsEnds, AllEnded, AllEndedAt, IsUnchanged};
 ghost use Rattle.switchboard.specs.Stands.{AreRising};
 ghost use Rattle.switchboard.specs.Ends.{Given, start_of, whole_end, spans_now, spans_of};
@@ -43,7 +43,8 @@ impl Model for Board {
 
     ghost view = { λ b. board_state b.orders b.replies.items b.table };
 
-    ghost invariant = { λ b. IsBoard b.orders b.replies.items b.table × (length b.orders ≤ vec_capacity b.replies) };
+    ghost invariant = { λ b. IsBoard b.orders b.replies.items b.table ×
+        (length b.orders ≤ vec_capacity b.replies) };
 }
 
 impl Board {
@@ -98,7 +99,8 @@ impl Board {
         ensures none { IsNone result ↔ All (λ o. o.stamp ≢ period) self.old.left }
 
         // A refused order changes nothing.
-        ensures refused { IfSome result (λ reply. OnErr reply.result (IsUnchanged self.old self.new)) }
+        ensures refused { IfSome result (λ reply.
+            OnErr reply.result (IsUnchanged self.old self.new)) }
 
         // What an accepted order finds, and how it changes which numbers were opened, which calls are open, their
         // laws and their partners.
@@ -109,8 +111,8 @@ impl Board {
         ensures stays { IfSome result (λ reply. OnErr reply.result (IsAsBefore self.old self.new)) }
 
         // If the ends of the calls are reported in time, all replies are those to the whole list of orders.
-        ensures run { (whole : ℕ → ℕ) → IsRun whole self.old.done → TellsEnds whole period self.old →
-            IsRun whole self.new.done }
+        ensures run { (whole : ℕ → ℕ) → IsRun whole self.old.done →
+            TellsEnds whole period self.old → IsRun whole self.new.done }
 
         // For callers: no order is lost, no end is added, the last executed order is of this period, and what an
         // act names is in its range.
@@ -184,7 +186,8 @@ impl Board {
 
         // Once each call has ended, it is the call's end in the whole run.
         ensures whole { (given : ℕ → Given) (periods : ℕ) → AllEnded given periods self.now →
-            is_some (opened_at call self.now.done) ≡ true → result ≡ Some (whole_end given periods self.now.done call) }
+            is_some (opened_at call self.now.done) ≡ true →
+            result ≡ Some (whole_end given periods self.now.done call) }
     {
         let known = self.table.call(call);
         match known.closed {
@@ -199,7 +202,7 @@ impl Board {
 
     /// The replies so far, in the order of the orders' numbers.
     pub fn replies(&self) -> &[Reply]
-        ensures { result.now ≡ numbered 0 self.now.done }
+        ensures { result.now ≡ replies_from 0 self.now.done }
     {
         self.replies.as_slice()
     }

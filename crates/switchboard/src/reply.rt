@@ -6,7 +6,7 @@ ghost use Rattle.call_number.specs.declared.TheConstants.{NUMBERS};
 ghost use Rattle.trau_orders.specs.Lists.{NamesCalls};
 ghost use Rattle.switchboard.specs.Bridges.{other};
 ghost use Rattle.switchboard.specs.Replies.{refuse_if, draining, reply_from};
-ghost use Rattle.switchboard.specs.Rows.{is_open_in, bridge_in, known_in, passes, span_in, applied};
+ghost use Rattle.switchboard.specs.Rows.{is_open_in, bridge_in, known_in, passes, span_in, rows_after};
 ghost use Rattle.switchboard.specs.Stands.{InTable};
 
 use crate::table::{Bridge, Table};
@@ -43,7 +43,7 @@ impl Table {
         requires spans { self.old.spans ≡ filter_map (span_in self.old) self.old.bridges }
         requires bridges { length self.old.bridges < self.old.most }
         requires room { length self.old.spans < self.old.most }
-        ensures { self.new ≡ applied self.old stamp reply.now }
+        ensures { self.new ≡ rows_after self.old stamp reply.now }
     {
         match *reply {
             Ok(Act::Opened { call, .. }) => self.open(call, stamp),
@@ -61,7 +61,8 @@ impl Table {
 
     fn open_reply(&self, call: u32, law: Law) -> Result<Act, Refusal>
         requires { call < NUMBERS }
-        ensures value { (t : ℕ) → result ≡ reply_from (known_in self.now t) (What.OpenCall call law) }
+        ensures value { (t : ℕ) →
+            result ≡ reply_from (known_in self.now t) (What.OpenCall call law) }
         ensures calls { InTable result }
     {
         if self.is_open(call) {
@@ -118,7 +119,8 @@ impl Table {
 
     fn must_be_open(&self, call: u32) -> Result<(), Refusal>
         requires { call < NUMBERS }
-        ensures { result ≡ passes (refuse_if (not (is_open_in self.now call)) (Refusal.NotOpen call)) }
+        ensures { result ≡
+            passes (refuse_if (not (is_open_in self.now call)) (Refusal.NotOpen call)) }
     {
         if self.is_open(call) {
             Ok(())
@@ -129,7 +131,8 @@ impl Table {
 
     fn must_be_alone(&self, call: u32) -> Result<(), Refusal>
         requires { call < NUMBERS }
-        ensures { result ≡ passes (option_map (λ x. Refusal.Bridged call (other call x)) (bridge_in self.now call)) }
+        ensures { result ≡ passes
+            (option_map (λ x. Refusal.Bridged call (other call x)) (bridge_in self.now call)) }
     {
         match self.bridge_of(call) {
             None => Ok(()),

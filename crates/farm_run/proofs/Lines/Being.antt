@@ -16,7 +16,7 @@ use Rattle.switchboard.specs.declared.act.Act.TheVariants as act
 use Rattle.switchboard.specs.declared.act.Refusal.{Refusal}
 use Rattle.switchboard.specs.Calls.{Done, opened_by, is_this, opened_at, gone_at}
 use Rattle.switchboard.specs.Replies.{IsInRange, known_of, reply_to}
-use Rattle.switchboard.specs.Runs.{executed}
+use Rattle.switchboard.specs.Runs.{done_after}
 use Rattle.switchboard.proofs.Laws.{in_range}
 use Rattle.round_lines.specs.Rounds.{IsIncoming}
 use Rattle.run_spec.specs.Run.{Run, done_in, whole_in, IsOpened}
@@ -73,7 +73,7 @@ push (e ∷ ds) d h k = (h.0, push ds d h.1 k)
 
 -- executed orders name numbers of calls where the orders do
 executed_in_range : (whole : ℕ → ℕ) (ds : List Done) (os : List Order) → AllByRecursion IsDoneInRange ds → AllByRecursion IsOrdered os →
-    AllByRecursion IsDoneInRange (executed whole ds os)
+    AllByRecursion IsDoneInRange (done_after whole ds os)
 executed_in_range whole ds [] h k = h
 executed_in_range whole ds (o ∷ os) h k =
     let gone = gone_at whole o.stamp ds in

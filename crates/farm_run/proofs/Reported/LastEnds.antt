@@ -10,7 +10,7 @@ use Rattle.trau_io.specs.declared.line.Line.{Line}
 use Rattle.trau_io.specs.declared.ends.CallEnd.{CallEnd}
 use Rattle.switchboard.specs.declared.act.Reply.{Reply}
 use Rattle.switchboard.specs.Calls.{Done, opened_at, closed_at, is_open, gone_at}
-use Rattle.switchboard.specs.State.{State, end_told, numbered}
+use Rattle.switchboard.specs.State.{State, end_told, replies_from}
 use Rattle.switchboard.specs.Runs.{AllEnded}
 use Rattle.switchboard.specs.Ends.{end_of, start_of, whole_end, spans_of}
 use Rattle.switchboard.specs.Open.{open_now}
@@ -166,7 +166,7 @@ module _ (r : Run) (t : ℕ) (b : State) (farm : FarmMemory) (ns : List SentBefo
       let h = histories_at r b.done t in
       let follows = end.follows in
       let ended = all_told now told none in
-      same_report report.replies _ report.spans _ report.calls _ report.failed report.left _ (reports.replies ∙ ap (numbered 0) done_is)
+      same_report report.replies _ report.spans _ report.calls _ report.failed report.left _ (reports.replies ∙ ap (replies_from 0) done_is)
       (reports.whole (given_in r) r.periods (all_ended_at (given_in r) r.periods now ended)
       ∙ ap (λ (ds : List Done). span_lines (sent_in_table reports.sent) (spans_of (given_in r) r.periods ds) ns) done_is
       ∙ spans_reported r t b.done b.left ns tally so all noted_last (sent_in_table reports.sent) (reports.sent_is h follows.stands))

@@ -12,7 +12,7 @@ use Rattle.trau_io.specs.declared.ends.Counts.{Counts}
 use Rattle.farm_report.specs.declared.report.CallLine.{CallLine}
 use Rattle.switchboard.specs.Calls.{Done}
 use Rattle.switchboard.specs.Ends.{start_of}
-use Rattle.switchboard.specs.State.{State, end_so_far, numbered}
+use Rattle.switchboard.specs.State.{State, end_so_far, replies_from}
 use Rattle.farm_rounds.specs.declared.tally.Tally.{Tally}
 use Rattle.farm_rounds.specs.Calls.{Call, Kept, call_in, partner_in}
 use Rattle.farm_rounds.specs.Memory.{tally_in}
@@ -83,7 +83,7 @@ line_is b kept c e from counts ended begins counted =
     ∙ sym (ap (λ (m : ℕ). Some (line_with e m counts)) begins
     ∙ ap (λ (m : Counts). Some (line_with e (start_of b.done c) m)) counted)
 
-pub length-numbered : (n : ℕ) (ds : List Done) → length (numbered n ds) ≡ length ds
+pub length-numbered : (n : ℕ) (ds : List Done) → length (replies_from n ds) ≡ length ds
 length-numbered n [] = refl
 length-numbered n (d ∷ ds) = ap suc (length-numbered (n + 1) ds)
 

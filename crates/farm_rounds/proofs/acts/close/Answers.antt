@@ -30,8 +30,9 @@ some_there None f = tt
 some_there (Some q) f = f q refl
 
 -- the partner as it is read at the call's place
-partner_read : (most : ℕ) (live : List ℕ) (bs : List (Box OpenCall)) (k call : ℕ) (o : OpenCall) (b : Box OpenCall) → AreOpen most live (opens_in bs) →
-    k < length live → get_or live k 0 ≡ call → o ≡ b.value → b ≡ get_or bs k b → o.partner ≡ partner_in (calls_of bs) call
+partner_read : (most : ℕ) (live : List ℕ) (bs : List (Box OpenCall)) (k call : ℕ) (o : OpenCall)
+    (b : Box OpenCall) → AreOpen most live (opens_in bs) → k < length live → get_or live k 0 ≡ call → o ≡ b.value → b ≡ get_or bs k b →
+    o.partner ≡ partner_in (calls_of bs) call
 partner_read most live bs k call o b s l own e read =
     let within : k < length bs = omega (arith, l, listed_long live (opens_in bs) s.listed, opens_long bs) in
     ap (λ (x : OpenCall). x.partner) (e ∙ ap (λ (x : Box OpenCall). x.value) read ∙ at_read bs k b within)

@@ -3,7 +3,7 @@ use Rattle.farm_rounds.specs.Calls.{Call}
 use Rattle.farm_rounds.specs.Acts.{parted_call}
 use Rattle.farm_rounds.specs.Opened.{open_at}
 use Rattle.farm_rounds.proofs.Boxes.{at_read}
-use Rattle.farm_rounds.proofs.Changing.{kept, kept_same, listed_within, first_at, up_at, down_at, changed_there}
+use Rattle.farm_rounds.proofs.Changing.{kept_with, kept_same, listed_within, first_at, up_at, down_at, changed_there}
 use Rattle.farm_rounds.proofs.Placed.{paired_at}
 use Rattle.farm_rounds.proofs.acts.end_bridge.Goals as goal
 
@@ -43,7 +43,7 @@ pub returns : goal.returns
 returns c =
     let calls = c.args.calls.now in
     let k = c.index_of.result in
-    changed_there calls c.args.live.now k c.args.call _ _ (λ x. kept (parted_call x.call) None) c.requires.listed
+    changed_there calls c.args.live.now k c.args.call _ _ (λ x. kept_with (parted_call x.call) None) c.requires.listed
     c.index_of.ensures.within c.index_of.ensures.number
     (c.deref_mut.ensures.value ∙ at_read calls k _ (listed_within calls c.args.live.now k c.requires.listed c.index_of.ensures.within))
     (kept_same _ _ _ _ c.end_bridge.ensures.call c.end_bridge.ensures.partner) (ap (λ (x : Call). x.number) c.end_bridge.ensures.call) c.end_bridge.ensures.kept

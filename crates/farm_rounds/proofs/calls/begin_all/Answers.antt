@@ -3,7 +3,7 @@ use Rattle.std.proofs.lemmas.List.{length-set}
 use Rattle.std.proofs.lemmas.List.Elements.{All-get_or}
 use Rattle.farm_rounds.specs.declared.open.OpenCall.{OpenCall}
 use Rattle.farm_rounds.specs.Opens.{opens_in, open_begun}
-use Rattle.farm_rounds.specs.Opened.{ArePaired, IsReady, standing, standings, end_beside, end_with, no_open, open_at}
+use Rattle.farm_rounds.specs.Opened.{ArePaired, IsReady, standing_of_open, standings, end_beside, end_with, no_open, open_at}
 use Rattle.farm_rounds.proofs.Boxes.{changed_next, changed_all, at_read, at_set, at_other, opens_long, standings_set}
 use Rattle.farm_rounds.proofs.calls.begin_all.Goals as goal
 
@@ -49,7 +49,7 @@ loop-at-preserved c =
     record {
       changed = changed_next (λ i o. open_begun (end_beside ss o) o) c.args.calls.now now _ k inv.changed (at_set now k _ l ∙ begun)
           (λ j ne. at_other now k j _ ne) (length-set now k _);
-      same = standings_set now k _ l (ap standing begun) ∙ inv.same;
+      same = standings_set now k _ l (ap standing_of_open begun) ∙ inv.same;
     }
 
 pub returns : goal.returns

@@ -1,7 +1,7 @@
 use Rattle.std.proofs.Common.{◌≡◌, ◌<◌, ◌+◌, length, refl, sym, ap, ◌∙◌, subst, List, arith}
 use Rattle.std.specs.Global.{Box}
 use Rattle.std.proofs.lemmas.List.{length-set}
-use Rattle.call_pair.specs.Phases.{periods_left, turned_down}
+use Rattle.call_pair.specs.Phases.{periods_left, turn_down}
 use Rattle.farm_rounds.specs.declared.open.OpenCall.{OpenCall}
 use Rattle.farm_rounds.specs.Opens.{opens_in, with_job}
 use Rattle.farm_rounds.specs.Opened.{met_beside, open_at}
@@ -78,7 +78,7 @@ loop-at-preserved c =
           subst (λ (bs : List (Box OpenCall)). AreMet before bs (k + 1)) (sym w.calls-is) met
       | in-None w ↦
           let here : w.deref_mut.result.now ≡ open_at now k = w.deref_mut.ensures.value ∙ at_read now k _ l in
-          let down = w.begin_second_phase.ensures ∙ ap (λ (o : OpenCall). with_job o (turned_down o.job)) here
+          let down = w.begin_second_phase.ensures ∙ ap (λ (o : OpenCall). with_job o (turn_down o.job)) here
           ∙ sym (met_alone (opens_in before) (open_at now k) (open_at now k).partner (partner ∙ w.in-None.is)) in
           subst (λ (bs : List (Box OpenCall)). AreMet before bs (k + 1)) (sym w.calls-is)
           (changed_next (λ i o. met_beside (opens_in before) o o.partner) before now _ k inv (at_set now k _ l ∙ down) (λ j ne. at_other now k j _ ne)

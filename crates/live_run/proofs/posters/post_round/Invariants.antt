@@ -1,5 +1,6 @@
 use Rattle.farm_live.specs.Live.{IsSeated}
-use Rattle.live_run.specs.Posts.{IsBehind, and_more}
+use Rattle.live_run.specs.Posts.{IsBehind}
+use Rattle.live_run.proofs.Behind.{and_more}
 use Rattle.live_run.proofs.posters.post_round.Given as goal
 
 abbrev pub invariant-loop-k : goal.invariant-loop-k

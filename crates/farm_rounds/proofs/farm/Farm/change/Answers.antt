@@ -10,7 +10,8 @@ use Rattle.farm_rounds.specs.Failed.{AreFailed}
 use Rattle.farm_rounds.proofs.Failing.{known_after, stays_fresh}
 use Rattle.farm_rounds.proofs.farm.Farm.change.Goals as goal
 
-sound_read : (most : ℕ) (live ns : List ℕ) (bs cs : List (Box OpenCall)) → ns ≡ live → cs ≡ bs → AreOpen most live (opens_in bs) → AreOpen most ns (opens_in cs)
+sound_read : (most : ℕ) (live ns : List ℕ) (bs cs : List (Box OpenCall)) → ns ≡ live → cs ≡ bs →
+    AreOpen most live (opens_in bs) → AreOpen most ns (opens_in cs)
 sound_read most live ns bs cs e f s =
     subst (λ (xs : List ℕ). AreOpen most xs (opens_in cs)) (sym e) (subst (λ (xs : List (Box OpenCall)). AreOpen most live (opens_in xs)) (sym f) s)
 

@@ -5,7 +5,7 @@ use Rattle.std.specs.Global.{Box}
 use Rattle.round_lines.specs.Rounds.{EndsWithin}
 use Rattle.farm_rounds.specs.declared.open.OpenCall.{OpenCall}
 use Rattle.farm_rounds.specs.Opens.{opens_in, calls_of, seats_of, seat_of_open}
-use Rattle.farm_rounds.specs.Opened.{standing, standings, ArePaired, IsReady, OctetsFit, IsTold}
+use Rattle.farm_rounds.specs.Opened.{standing_of_open, standings, ArePaired, IsReady, OctetsFit, IsTold}
 use Rattle.farm_rounds.specs.Working.{RoundMemory, IsWorkedRound}
 use Rattle.farm_rounds.specs.Failed.{AreFailedBefore}
 use Rattle.farm_rounds.proofs.Planning.{live_long}
@@ -39,7 +39,7 @@ meet_all-requires-clause-paired g c =
     c.deref_mut.ensures.value c.begin_all.ensures c.run_pool-halfway.ensures in
     let was = told_standings c.self.inside.start i.ended i.live.items (opens_in i.open.items) c.self.invariant.0 in
     subst (λ (ns : List ℕ). ArePaired ns (standings c.deref_mut-2.result.now)) (sym c.deref-2.ensures.value)
-    (subst (λ ss. ArePaired i.live.items ss) (sym (ap standings c.deref_mut-2.ensures.value ∙ ap (map standing) told ∙ was))
+    (subst (λ ss. ArePaired i.live.items ss) (sym (ap standings c.deref_mut-2.ensures.value ∙ ap (map standing_of_open) told ∙ was))
     (paired c.self.inside.start i.ended i.live.items (opens_in i.open.items) c.self.invariant.0))
 
 pub meet_all-requires-clause-told : goal.meet_all-requires-clause-told

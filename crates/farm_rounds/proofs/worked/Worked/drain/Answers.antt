@@ -112,8 +112,8 @@ invariant_of-self g c =
     )
 
 -- what is said of the calls' places is said of the seats
-seated : (g : given.Over) (c : goal.After-pass g) (P : List SeatMemory → ℕ → Type 0) → P (seats_of c.deref_mut.result.now) (length c.deref_mut.result.now) →
-    P c.args.self.seats (length c.args.self.seats)
+seated : (g : given.Over) (c : goal.After-pass g) (P : List SeatMemory → ℕ → Type 0) →
+    P (seats_of c.deref_mut.result.now) (length c.deref_mut.result.now) → P c.args.self.seats (length c.args.self.seats)
 seated g c P said =
     let was = c.self.inside.calls.open.items in
     subst (λ (r : WorkedMemory). P r.seats (length r.seats)) c.self.view_is

@@ -37,7 +37,8 @@ returns-clause-state c =
 pub returns-clause-told : goal.returns-clause-told
 returns-clause-told c = before_more c.args.self.now _ c.args.end (returns-clause-state c)
 
-without : (c : goal.After-end_call) → Without c.args.self.now (board_state c.self.inside.orders c.self.inside.replies.items c.end_call.new.self) c.args.end.call
+without : (c : goal.After-end_call) →
+    Without c.args.self.now (board_state c.self.inside.orders c.self.inside.replies.items c.end_call.new.self) c.args.end.call
 without c =
     let i = c.self.inside in
     let os = i.orders in

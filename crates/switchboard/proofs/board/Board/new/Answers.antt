@@ -3,8 +3,9 @@ use Rattle.trau_orders.specs.declared.order.Order.{Order}
 use Rattle.switchboard.specs.declared.act.Reply.{Reply}
 use Rattle.switchboard.specs.State.{State}
 use Rattle.switchboard.specs.Open.{law_now}
-use Rattle.switchboard.specs.Rows.{rows, never}
+use Rattle.switchboard.specs.Rows.{never}
 use Rattle.switchboard.specs.Stands.{IsBoard, board_state}
+use Rattle.switchboard.proofs.Sizes.{rows}
 use Rattle.switchboard.proofs.Boards.{board-new, state-new}
 use Rattle.switchboard.proofs.Laws.{told_none}
 use Rattle.switchboard.proofs.Changes.{start_alone}

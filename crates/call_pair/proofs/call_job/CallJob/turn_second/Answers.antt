@@ -8,16 +8,18 @@ use Rattle.call_pair.specs.Kept.{IsJob, IsSecond}
 use Rattle.call_pair.specs.Phases.{CallMemory, down_before}
 use Rattle.call_pair.specs.declared.call_job.Phase.{Phase}
 use Rattle.call_pair.specs.contracts.call_job.CallJob.{the_view}
-use Rattle.call_pair.proofs.call_job.CallJob.turn_back.Goals as goal
+use Rattle.call_pair.proofs.call_job.CallJob.turn_second.Goals as goal
 
 -- a half that is still bridged had a bridge that doesn't end here
-goes_on : (b t : Bool) (d : DownMemory) → d.bridged ≡ b → (if b && t then bridge_over d else d).bridged ≡ true → (b ≡ true) × (t ≡ false)
+goes_on : (b t : Bool) (d : DownMemory) → d.bridged ≡ b →
+    (if b && t then bridge_over d else d).bridged ≡ true → (b ≡ true) × (t ≡ false)
 goes_on true true d e on = absurd (cc)
 goes_on true false d e on = (refl, refl)
 goes_on false t d e on = absurd (cc)
 
--- .. so the partner's frame is there
-frame_there : (m k n : ℕ) (d : DownMemory) → m ≤ n → (d.bridged ≡ true → k ≤ m) → (down_before m k d).bridged ≡ true → k < n
+-- If the half is bridged, the partner's frame of the place exists.
+frame_there : (m k n : ℕ) (d : DownMemory) → m ≤ n → (d.bridged ≡ true → k ≤ m) →
+    (down_before m k d).bridged ≡ true → k < n
 frame_there m k n d le over on =
     let still = goes_on d.bridged (k == m) d refl on in
     let ne : k ≢ m = eqb-false k m still.1 in
