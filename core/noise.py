@@ -23,8 +23,8 @@ def comfort_noise(base: Parameters, source: RandomSource, fall: int = 0) -> Para
     noise")."""
 
     def block(lag: int, maximum: int) -> Block:
-        grid = source.draw(profile.GRIDS)
-        pulses = [profile.LEAST_NOISE_PULSE + source.draw(profile.NOISE_PULSES) for _ in range(13)]
+        grid = source.draw(profile.GRID_VALUES)
+        pulses = [profile.LEAST_PULSE + source.draw(profile.PULSE_VALUES) for _ in range(13)]
         return Block(lag, 0, grid, max(0, maximum - profile.MUTING_STEP * fall), tuple(pulses))
 
     blocks = [block(lag, each.xmaxc) for lag, each in zip(profile.NOISE_LAGS, base.blocks)]

@@ -36,12 +36,12 @@ RANDOM_MODULUS = 65536
 SILENT_FROM_LOST = 17  # the lost frame from which on there is silence
 SILENT_FROM_FALL = 17  # the period of a fall of noise from which on there is silence
 MUTING_STEP = 4  # by how much the coded block maxima fall with each frame
-GRIDS = 4  # grid positions among which one is drawn
+GRID_VALUES = 4  # grid positions among which one is drawn
 NOISE_LAGS = (40, 120, 40, 120)
-NOISE_PULSES = 6  # values of a pulse of noise that are drawn, from LEAST_NOISE_PULSE on
-LEAST_NOISE_PULSE = 1
+PULSE_VALUES = 6  # values of a pulse of noise that are drawn, from LEAST_PULSE on
+LEAST_PULSE = 1
 APPROACH_STEPS = 8  # frames over which noise approaches a new silence descriptor
-DESCRIPTORS_MISSED = 2  # descriptors that were due and didn't come, from which on noise falls
+FALL_FROM_MISSED = 2  # descriptors that were due and didn't come, from which on noise falls
 
 # The frame of silence: what is heard of the quiet codec.
 SILENCE_LARC = (42, 39, 21, 10, 9, 4, 3, 2)
@@ -54,8 +54,9 @@ TAF_PERIODS = 24  # from one silence descriptor of a pause to the next (GSM 06.3
 # Discontinuous transmission (modelled on GSM 06.31 and 06.32).
 FIRST_LEVEL = 256  # a frame is speech from this peak on, before any order
 MOST_LEVEL = 32767
-HANGOVER = 4  # frames without speech that are sent as they are before a silence descriptor
-REST_BEFORE_HANGOVER = 24  # frames from a new descriptor to the first frame of a pause that has a hangover
+DESCRIBED_FROM = 5  # the frame of a pause for which its first descriptor is made; those before it may be a hangover
+DESCRIPTOR_FRAMES = 4  # the frames that a descriptor is made of
+HANGOVER_AFTER = 24  # frames from a new descriptor to the first frame of a pause that has a hangover
 
 # Time alignment (modelled on GSM 08.60). A shift is counted in octets of the Pcm line, two bits of the downlink each.
 MOST_STEPS = 39  # the alignment fields 1 to 39 ask for so many steps
@@ -74,7 +75,7 @@ MOST_SLOT_CALL = MOST_CALLS - CHANNELS + 1
 FOUND_BITS = 316  # a downlink frame may lack its four time bits
 MOST_WANTED = 316
 WANTED_STEP = 4
-FRAMES_OF_A_WAIT = 8  # frames after which a request that wasn't met is made again
+FRAMES_OF_WAIT = 8  # frames after which a request that wasn't met is made again
 
 # Orders and texts (docs/OPERATORS.md, docs/FILES.md).
 MOST_ORDER_OCTETS = 1_048_576

@@ -47,7 +47,7 @@ def end_of_wait(by_period: Sequence[Sequence[Heard]], request: int) -> int:
         places = [one.place for one in by_period[period]]
         frames += len(places)
         steps = [place - before for before, place in zip([last] + places, places)]
-        if any(step != profile.FRAME_BITS for step in steps) or frames >= profile.FRAMES_OF_A_WAIT:
+        if any(step != profile.FRAME_BITS for step in steps) or frames >= profile.FRAMES_OF_WAIT:
             return period
         last = places[-1] if places else last
     return len(by_period)

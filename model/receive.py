@@ -28,7 +28,7 @@ class Lost(NamedTuple):
         if self.n <= 1:
             return self.good
         fall = profile.MUTING_STEP * (self.n - 1)
-        blocks = [b._replace(xmaxc=max(0, b.xmaxc - fall), mc=source.draw(profile.GRIDS)) for b in self.good.blocks]
+        blocks = [b._replace(xmaxc=max(0, b.xmaxc - fall), mc=source.draw(profile.GRID_VALUES)) for b in self.good.blocks]
         return self.good._replace(blocks=tuple(blocks))
 
 
@@ -78,9 +78,9 @@ def falls(stretch: Sequence[Optional[UpFrame]]) -> List[int]:
     From the period on in which the second descriptor that was due didn't come it falls by one a period, down to silence.
     """
     missed = [k for k, frame in enumerate(stretch) if k > 0 and missed_descriptor(frame)]
-    if len(missed) < profile.DESCRIPTORS_MISSED:
+    if len(missed) < profile.FALL_FROM_MISSED:
         return [0] * len(stretch)
-    second = missed[profile.DESCRIPTORS_MISSED - 1]
+    second = missed[profile.FALL_FROM_MISSED - 1]
     return [max(0, min(k - second + 1, profile.SILENT_FROM_FALL)) for k in range(len(stretch))]
 
 

@@ -67,11 +67,11 @@ def last_place(places: Sequence[bool]) -> List[Optional[int]]:
 def sent_frames(frames: Sequence[Coded]) -> List[Sent]:
     """What is sent of the frames that are encoded in a row from home (docs/OPERATORS.md, "Levels and discontinuous transmission")."""
     pauses = lengths_of_pauses(frames)
-    made = [length > profile.HANGOVER for length in pauses]
+    made = [length >= profile.DESCRIBED_FROM for length in pauses]
     last_made = last_place(made)
 
     def descriptor(j: int) -> Parameters:
-        return silence_descriptor(frames[j - profile.HANGOVER + 1:j + 1])
+        return silence_descriptor(frames[j - profile.DESCRIPTOR_FRAMES + 1:j + 1])
 
     def one(j: int) -> Sent:
         if pauses[j] == 0:
@@ -80,7 +80,7 @@ def sent_frames(frames: Sequence[Coded]) -> List[Sent]:
             return Sent(descriptor(j), False)
         first = j - pauses[j] + 1
         last = last_made[first]
-        if last is None or first - last >= profile.REST_BEFORE_HANGOVER:
+        if last is None or first - last >= profile.HANGOVER_AFTER:
             return Sent(frames[j].encoded.parameters, True)
         return Sent(descriptor(last), False)
 

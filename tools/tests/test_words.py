@@ -132,9 +132,9 @@ class Documents(unittest.TestCase):
         self.assertTrue(table)
         for crate, cell in table:
             specs, src = ("\n".join(path.read_text() for path in (TOP / "crates" / crate).glob(each)) for each in ("specs/*.antt", "src/*.rt"))
-            for name, other, more in re.findall(r"`(\w+)`(?: \(`(\w+)`(?: \+ (\d+))?\))?", cell):
+            for name in re.findall(r"\w+", cell):
                 with self.subTest(crate=crate, name=name):
-                    wanted = [number + int(more or 0) for number in integers(str(getattr(profile, other or name.upper())))]
+                    wanted = integers(str(getattr(profile, name.upper())))
                     self.assertEqual(integers(re.search(rf"^{name} = (.*)$", specs, re.M)[1]), wanted)
                     self.assertEqual(integers(re.search(rf"\bconst {name.upper()}: .* = (.*);$", src, re.M)[1]), wanted)
 
