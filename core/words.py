@@ -14,7 +14,7 @@ class Refusal(Exception):
 
 
 # A tool in a text: the name of its file, with words after it or alone.
-TOOL_IN_TEXT = re.compile(r"(?<![\w./-])(lines|orders|report|shard|timeline|watch)\.py(?= |$)")
+TOOL_IN_TEXT = re.compile(r"(?<![\w./-])(gateway|lines|orders|report|shard|timeline|watch)\.py(?= |$)")
 INSTALLED = "trau-"
 
 
@@ -99,4 +99,4 @@ class Words(argparse.ArgumentParser):
 
     def error(self, message: str) -> NoReturn:
         """Prints what is wrong."""
-        self.exit(2, f"{self.prog}: {message}\n")
+        self.exit(2, f"{as_started(self.prog)}: {message}\n")

@@ -8,10 +8,15 @@ import io
 import os
 import re
 import sys
+from pathlib import Path
 from typing import List, Sequence
 from unittest import mock
 
 import trau_words
+
+
+# The module of the gateway is in a folder of its own.
+sys.path.append(str(Path(__file__).resolve().parents[1] / "gateway"))
 
 
 def help_of(name: str, words: Sequence[str] = ()) -> str:
@@ -27,7 +32,7 @@ def help_of(name: str, words: Sequence[str] = ()) -> str:
 
 def commands_of(text: str) -> List[str]:
     """The commands that a help lists."""
-    listed = re.search(r"^  COMMAND\n((?:    .*\n)+)", text, re.M)
+    listed = re.search(r"^  (?:COMMAND|run\|check)\n((?:    .*\n)+)", text, re.M)
     return re.findall(r"^    (\w+)", listed[1], re.M) if listed else []
 
 

@@ -45,8 +45,8 @@ Description: {description}
 """
 
 PROGRAM = f"""Depends: {DEPENDS}
-Recommends: python3 (>= 3.9)
-Suggests: libtrau-fr1, python3-dpkt
+Recommends: python3 (>= 3.9), libtrau-fr1
+Suggests: python3-dpkt
 Section: comm"""
 
 PROGRAM_DESCRIPTION = """GSM transcoder and rate adaptor unit, on recorded lines
@@ -170,7 +170,8 @@ def data(files: Dict[str, bytes]) -> Dict[str, bytes]:
 def links(found: Dict[str, bytes]) -> Dict[str, str]:
     """The links of the package, by their paths: the commands, and the documents beside the scripts."""
     pages = (Path(name).name[: -len(".1.gz")] for name in found if name.endswith(".1.gz"))
-    commands = {f"usr/bin/{name}": "../lib/trau/trau" if name == "trau" else f"../lib/trau/tools/{name[5:]}.py" for name in pages}
+    others = {"trau": "trau", "trau-gateway": "gateway/gateway.py"}
+    commands = {f"usr/bin/{name}": f"../lib/trau/{others.get(name, f'tools/{name[5:]}.py')}" for name in pages}
     return {**commands, f"{HOME}/docs": "../../share/doc/trau/docs"}
 
 

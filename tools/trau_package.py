@@ -43,12 +43,13 @@ LIBRARY_FILES = (
 
 SCRIPTS = ("trau", "demo")
 TOOLS = ("lines.py", "orders.py", "report.py", "shard.py", "timeline.py", "watch.py")
+GATEWAY = "gateway.py"
 # What is packed of folders: the files that git knows there and that have such names, and those of them that run. Of tools/ it isn't what proves,
 # builds and packs; tests/data has recordings that the commands in the documents take.
 FOLDERS = (
     ("tools", r"(?!build|trau_|tool_pages|weights)\w+\.(py|js|txt|awk)", TOOLS),
     ("core", r"\w+\.py", ()),
-    ("gateway", r"(?!tests/).*", ("gateway.py",)),
+    ("gateway", r"(?!tests/).*", (GATEWAY,)),
     ("examples", r"README\.md|7\.up|farm/(\d+\.(up|pcm)|orders\.txt|wanted/[\w.]+)", ()),
     ("tools/tests/data", r".*", ()),
 )
@@ -179,7 +180,7 @@ def members(state: State, library: Dict[str, bytes]) -> Dict[str, Member]:
     found.update((name, Member(content, True)) for name, content in programs().items())
     found["VERSION"] = Member(f"trau {state.commit} of {state.date}, {origin()}\n".encode())
     found["man/trau.1"] = Member(trau_words.man_page(f"trau {state.commit}", state.date).encode())
-    for script in TOOLS:
+    for script in (*TOOLS, GATEWAY):
         name = f"trau-{Path(script).stem}"
         found[f"man/{name}.1"] = Member(tool_pages.man_page(name, f"trau {state.commit}", state.date).encode())
     found["trau.bash"] = Member(trau_words.completion().encode())

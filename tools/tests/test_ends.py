@@ -150,6 +150,9 @@ class Ends(InFolder):
         status, said, _ = self.installed("orders.py", "check", "-")
         self.assertEqual((status, said.split("\n")[0]), (1, "line 1: a comment; trau-orders strip leaves out comments and empty lines"))
         self.assertIn("\nexample: trau-report text report.txt --json\n", self.installed("report.py", "--help")[1])
+        self.assertEqual(self.installed("../gateway/gateway.py", "--help")[1][:38], "usage: trau-gateway [-h] run|check ...")
+        status, said, err = self.installed("../gateway/gateway.py", "what")
+        self.assertEqual((status, said, err[:36]), (2, "", "trau-gateway: argument run|check: in"))
         said = "trau-watch: none: no run in this folder: there is no orders.txt\n"
         self.assertEqual(self.installed("watch.py", "none"), (1, "", said))
 

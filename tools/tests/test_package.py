@@ -88,6 +88,15 @@ class Versions(unittest.TestCase):
 
 
 class Modules(unittest.TestCase):
+    def test_all_commands_are_installed(self):
+        # `install` links what has a man page, and so does dpkg.
+        wanted = {f"trau-{tool[:-3]}": f"tools/{tool}" for tool in trau_package.TOOLS}
+        wanted = {"trau": "trau", **wanted, "trau-gateway": "gateway/gateway.py"}
+        names = re.search(r'^names="(.*?)"$', (TOOLS / "install").read_text(), re.M | re.S)[1]
+        self.assertEqual(dict(pair.split(":") for pair in names.split()), wanted)
+        links = trau_deb.links({f"usr/share/man/man1/{name}.1.gz": b"" for name in wanted})
+        self.assertEqual({name: links[f"usr/bin/{name}"] for name in wanted}, {name: f"../lib/trau/{file}" for name, file in wanted.items()})
+
     def test_all_that_the_tools_import_is_packed(self):
         packed = {path.name for path in TOOLS.iterdir() if re.fullmatch(trau_package.FOLDERS[0][1], path.name)}
         self.assertLessEqual({*trau_package.TOOLS, "help.txt", "pages.txt", "grammar.txt", "bad_order.awk"}, packed)
@@ -147,7 +156,7 @@ class Package(InFolder):
         self.assertEqual(names | {"SHA256SUMS"}, there)
         for line in sums:
             self.assertEqual(hashlib.sha256((package / line[66:]).read_bytes()).hexdigest(), line[:64])
-        wanted = ("trau_program", "man/trau.1", "man/trau-lines.1", "trau.bash", "tools/orders.py", "examples/farm/orders.txt")
+        wanted = ("trau_program", "man/trau.1", "man/trau-lines.1", "man/trau-gateway.1", "trau.bash", "tools/orders.py", "examples/farm/orders.txt")
         for name in (*wanted, "tools/grammar.txt", "README.md", "docs/OPERATORS.md", "docs/CHANGELOG.md"):
             self.assertIn(name, names)
         self.assertEqual(SECOND in names, self.built.second)
@@ -197,6 +206,10 @@ class Package(InFolder):
         self.assertEqual((status, err), (0, ""))
         self.assertIn("octet for octet what is recorded in examples/farm/wanted", out)
         self.assertEqual(self.said(package / "demo", "--unproved")[0], 2)
+        # What its README says of the model is of a clone.
+        said = "demo: a package has no model; demo without --model runs the package's program\n"
+        self.assertEqual(self.said(package / "demo", "--model"), (2, "", said))
+        self.assertRegex((package / "README.md").read_text(), r"In a clone the model [^\n]*:\n\n    \$ \./demo --model")
 
     def test_the_gateway(self):
         package = self.unpack()
@@ -208,6 +221,25 @@ class Package(InFolder):
         (recording / "orders.txt").write_text("")
         status, out, err = self.said(package / "gateway" / "gateway.py", "check", recording)
         self.assertEqual((status, out, err), (0, "calls 0 differ 0\n", ""))
+
+    def test_the_installed_gateway(self):
+        prefix = self.folder / "prefix"
+        self.assertEqual(self.said(self.unpack() / "install", "--prefix", prefix)[0], 0)
+        gateway, recording = prefix / "bin" / "trau-gateway", self.folder / "recording"
+        status, out, err = self.said(gateway, "--help")
+        self.assertEqual((status, err, out.startswith("usage: trau-gateway "), "gateway.py" in out), (0, "", True, False))
+        self.assertEqual(self.said(gateway, "what")[2][:27], "trau-gateway: argument run|")
+        page = (prefix / "share" / "man" / "man1" / "trau-gateway.1").read_text()
+        self.assertIn("trau\\-gateway run [\\-h] [\\-\\-calls FILE]", page)
+        if self.built.library:
+            surroundings = {"PATH": f"{self.commands}:{PLAIN_PATH}", "TMPDIR": str(self.folder)}
+            words = [gateway, "run", recording, "--address", "127.0.0.1"]
+            with subprocess.Popen(words, stdin=subprocess.PIPE, stdout=subprocess.PIPE, stderr=subprocess.PIPE, env=surroundings) as runs:
+                self.assertEqual(runs.stdout.readline(), b"ready\n")
+                runs.terminate()
+                out, err = runs.communicate()
+            self.assertEqual((runs.returncode, err), (0, b""), out)
+            self.assertEqual(self.said(gateway, "check", recording), (0, "calls 0 differ 0\n", ""))
 
     def test_install_and_remove(self):
         package, prefix = self.unpack(), self.folder / "a prefix"
@@ -225,7 +257,7 @@ class Package(InFolder):
         status, out, _ = self.said(prefix / "bin" / "trau-orders", "check", "-", given=b"0 open 1\r\n")
         self.assertEqual((status, out), (1, "line 1: a carriage return at its end\norders 1 bad 1 warnings 0\n"))
         self.assertEqual(self.said(prefix / "bin" / "trau-lines", "idle", "3", "9.pcm"), (0, "idle periods 3\n", ""))
-        for tool in ("report", "shard", "timeline", "watch"):
+        for tool in ("gateway", "report", "shard", "timeline", "watch"):
             self.assertEqual(self.said(prefix / "bin" / f"trau-{tool}", "--help")[0], 0)
         pages = prefix / "share" / "man" / "man1"
         self.assertIn(".TH TRAU 1", (pages / "trau.1").read_text())
@@ -407,7 +439,7 @@ class Debian(InFolder):
         version = trau_deb.versions()[0][0]
         self.assertTrue(made.name.startswith(f"trau_{version}_"))
         fields = self.fields(made)
-        for field in (f"Version: {version}", "Depends: libc6 (>= 2.34)", "Recommends: python3", "Suggests: libtrau-fr1"):
+        for field in (f"Version: {version}", "Depends: libc6 (>= 2.34)", "Recommends: python3 (>= 3.9), libtrau-fr1", "Suggests: python3-dpkt"):
             self.assertIn(field, fields)
         root = self.unpack("trau")
         surroundings = {"PATH": f"{root}/usr/bin:{PLAIN_PATH}", "TMPDIR": str(self.folder)}
@@ -416,11 +448,12 @@ class Debian(InFolder):
             (["trau", "help", "relay"], "trau relay C"),
             (["trau-lines", "--help"], "usage: trau-lines "),
             (["trau-watch", "--help"], "usage: trau-watch "),
+            (["trau-gateway", "run", "--help"], "usage: trau-gateway run "),
             ([root / "usr" / "lib" / "trau" / "demo"], "Four calls"),
         ):
             ended = subprocess.run(words, capture_output=True, text=True, env=surroundings, cwd=self.folder)
             self.assertEqual((ended.returncode, ended.stdout.startswith(told)), (0, True), (words, ended.stdout, ended.stderr))
-        for name in ("trau", "trau-lines", "trau-orders", "trau-report", "trau-shard", "trau-timeline", "trau-watch"):
+        for name in ("trau", "trau-gateway", "trau-lines", "trau-orders", "trau-report", "trau-shard", "trau-timeline", "trau-watch"):
             self.assertTrue((root / "usr" / "bin" / name).exists(), name)
             page = gzip.decompress((root / "usr" / "share" / "man" / "man1" / f"{name}.1.gz").read_bytes()).decode()
             self.assertTrue(page.startswith(f".TH {name.upper()} 1 "))
@@ -481,7 +514,7 @@ class TheLibrary(InFolder):
 @unittest.skipUnless(shutil.which("groff"), "there is no groff")
 class ManPagesOfTools(unittest.TestCase):
     def test_no_warnings(self):
-        for tool in trau_package.TOOLS:
+        for tool in (*trau_package.TOOLS, trau_package.GATEWAY):
             name = f"trau-{tool[:-3]}"
             page = tool_pages.man_page(name, "trau x", "2026-01-01")
             ended = subprocess.run(["groff", "-man", "-ww", "-Tascii", "-P-cbou"], input=page.encode(), capture_output=True)

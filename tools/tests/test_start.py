@@ -1130,7 +1130,8 @@ class TheModel(Started):
         program = self.top / "trau_program"
         program.write_text("#!/bin/sh\necho the package\n")
         program.chmod(0o755)
-        self.assertEqual(self.trau("--model", name="demo"), (2, "", "demo: there is no model here\n"))
+        said = "demo: a package has no model; demo without --model runs the package's program\n"
+        self.assertEqual(self.trau("--model", name="demo"), (2, "", said))
         self.assertNotIn(self.NOTE, self.trau(name="demo", TRAU_PROGRAM="model")[1])
 
 
