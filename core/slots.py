@@ -20,6 +20,12 @@ def octets_turned(octets: bytes) -> bytes:
     return octets.translate(TURNED)
 
 
+def octets_from(octets: bytes, bit: int) -> bytes:
+    """The octets that begin at this bit of the first one, 0 to 7, without the bits after the last whole one."""
+    count = max(0, len(octets) - 1)
+    return (int.from_bytes(octets, "big") >> 8 - bit & (1 << 8 * count) - 1).to_bytes(count, "big") if bit else octets
+
+
 def octets_of_pairs(columns: Sequence[bytes]) -> bytes:
     """The octets that four columns of pairs of bits make, those of the first column first."""
     return bytes([a << 6 | b << 4 | c << 2 | d for a, b, c, d in zip(*columns)])

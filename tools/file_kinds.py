@@ -7,11 +7,12 @@ sound. It is plain for speech and for idle lines; if two kinds are about as like
 from __future__ import annotations
 
 import enum
+import itertools
 import re
 from collections import Counter
 from dataclasses import dataclass, replace
 from pathlib import Path
-from typing import Dict, Mapping, NamedTuple, NoReturn, Optional, Tuple
+from typing import Callable, Dict, List, Mapping, NamedTuple, NoReturn, Optional, Sequence, Tuple
 
 import frame_kinds
 import readings
@@ -21,9 +22,9 @@ from core.frame import bits_of
 from core.g711 import Law
 from core.orders import FORMS
 from core.parameters import GSM_MAGIC, GSM_OCTETS
-from core.profile import FRAME_BITS, SAMPLES_A_SECOND
+from core.profile import FRAME_BITS, PCM_OCTETS, SAMPLES_A_SECOND
 from core.search import FRAME_OF_DOWNLINK
-from core.slots import CHANNELS, SLOTS_OF_E1, channel_octets, octets_turned
+from core.slots import CHANNELS, SLOTS_OF_E1, channel_octets, octets_from, octets_turned
 from core.words import Refusal, as_started
 from readings import Reading
 from tool_files import STREAM, read_file
@@ -55,13 +56,14 @@ class Kind(enum.Enum):
 
 @dataclass(frozen=True)
 class Look:
-    """What a file is: its kind, the same in words, the command that makes something of it, and whether its octets have their bits in the
-    other order. In the command {} stands for the file's name."""
+    """What a file is: its kind, the same in words, the command that makes something of it, whether its octets have their bits in the other
+    order, and what its slots are. In the command {} stands for the file's name."""
 
     kind: Kind
     said: str
     command: str = ""
     turned: bool = False
+    slots: Tuple[Look, ...] = ()
 
 
 # By the head
@@ -69,9 +71,8 @@ class Look:
 SOX = "sox {} -r 8000 -c 1 -b 16 -e signed-integer NEW.wav"
 FFMPEG = "ffmpeg -i {} -ar 8000 -ac 1 NEW.wav"
 EDITCAP = "editcap -F pcap {} NEW.pcap"
-# Programs that don't unpack what they read.
-OTHERS = ("sox ", "ffmpeg ", "editcap ")
 PCAP = "lines.py pcap {} NEW"
+PACKED_BY_GZIP = "packed by gzip"
 # Magics by kind and command, with what the files are.
 MAGICS = (
     (Kind.SOUND, SOX, {b"RIFX": "a WAV file of big-endian samples", b"RF64": "a WAV file of 64 bits", b".snd": "an .au file"}),
@@ -83,7 +84,7 @@ MAGICS = (
     (Kind.CAPTURE, PCAP, {b"\x0a\x0d\x0d\x0a": "a pcapng capture"}),
     (Kind.OTHER_CAPTURE, EDITCAP, dict.fromkeys((b"\xa1\xb2\xcd\x34", b"\x34\xcd\xb2\xa1"), "a pcap capture of a modified libpcap")),
     (Kind.OTHER_CAPTURE, EDITCAP, {b"snoop\0\0\0": "a snoop capture", **dict.fromkeys((b"GMBU", b"RTSS"), "a Network Monitor capture")}),
-    (Kind.PACKED, "lines.py reads such files where their names end with .gz", {b"\x1f\x8b\x08": "packed by gzip"}),
+    (Kind.PACKED, "lines.py reads such files where their names end with .gz", {b"\x1f\x8b\x08": PACKED_BY_GZIP}),
     (Kind.PACKED, "bunzip2 -k {}", {b"BZh": "packed by bzip2"}),
     (Kind.PACKED, "unxz -k {}", {b"\xfd7zXZ\0": "packed by xz"}),
     (Kind.PACKED, "unzip {}", {b"PK\3\4": "a zip archive"}),
@@ -283,15 +284,69 @@ def frames_of_channels(slot: bytes) -> Dict[int, Frames]:
     return {number: frames for number, frames in found if frames and frames.covered >= LEAST_COVERED}
 
 
+def channels_said(channels: Mapping[int, Frames]) -> str:
+    """The channels of a slot that have frames, in words."""
+    return "; ".join(f"channel {number} is {line_said(frames)[1]}" for number, frames in channels.items())
+
+
+class Alignment(NamedTuple):
+    """Where the octets of a recording begin, and whether their bits are in the other order."""
+
+    turned: bool
+    bit: int
+    octet: int = 0
+
+    def aligned(self, octets: bytes) -> bytes:
+        """The octets of a recording from there on."""
+        return octets_from(octets_turned(octets) if self.turned else octets, self.bit)[self.octet :]
+
+    def said(self) -> str:
+        """The place in words."""
+        places = [f"{what} {place}" for what, place in (("bit", self.bit), ("octet", self.octet)) if place]
+        return f" from {' of '.join(places)} on" if places else ""
+
+    def words(self) -> str:
+        """The same as words of the command `slot`."""
+        return f" --skip {self.octet}" * bool(self.octet) + f" --skip-bits {self.bit}" * bool(self.bit) + LSB_FIRST * self.turned
+
+
+# A channel has two bits of an octet in a row, so those of a slot stay together if it begins an even number of bits later.
+SLOT_ALIGNMENTS = [Alignment(turned, bit) for bit in (0, 1) for turned in (False, True)]
+LINE_ALIGNMENTS = [Alignment(turned, bit) for bit in range(8) for turned in (False, True)]
+
+
 def by_channels(head: bytes, size: int) -> Optional[Look]:
-    """A time slot that carries lines of frames in its channels of 16 kbit/s, in the order of bits that gives more of them."""
-    found = [(frames_of_channels(octets_turned(head) if turned else head), turned) for turned in (False, True)]
-    channels, turned = max(found, key=lambda each: sum(frames.count() for frames in each[0].values()))
+    """A time slot that carries lines of frames in its channels of 16 kbit/s, in the alignment that gives more of them."""
+    found = [(frames_of_channels(way.aligned(head)), way) for way in SLOT_ALIGNMENTS]
+    channels, way = max(found, key=lambda each: sum(frames.count() for frames in each[0].values()))
     if not channels:
         return None
-    said = "; ".join(f"channel {number} is {line_said(frames)[1]}" for number, frames in channels.items())
-    command = f"lines.py slot {{}} NEW.up --channel J{LSB_FIRST * turned}"
-    return Look(Kind.SLOT, f"a time slot of 64 kbit/s: {said}{TURNED * turned}", command, turned)
+    said = f"a time slot of 64 kbit/s{way.said()}: {channels_said(channels)}{TURNED * way.turned}"
+    return Look(Kind.SLOT, said, f"lines.py slot {{}} NEW.up --channel J{way.words()}", way.turned)
+
+
+def spans_said(numbers: Sequence[int]) -> str:
+    """The numbers of slots in words, those in a row by the first and the last."""
+    rows = [[number for _, number in row] for _, row in itertools.groupby(enumerate(numbers), lambda each: each[1] - each[0])]
+    return f"slot{'s' * (len(numbers) > 1)} {', '.join(f'{row[0]}-{row[-1]}' if len(row) > 1 else str(row[0]) for row in rows)}"
+
+
+def look_of_line(what: str, octets: bytes, more: int, way: Alignment, first: int) -> Look:
+    """A whole line that begins with these octets and has more, and its slots from this one on: each with frames alone, and then the others,
+    those that are alike together."""
+    found: List[Look] = []
+    others: Dict[str, List[int]] = {}
+    for number in range(first, SLOTS_OF_E1):
+        slot = octets[number::SLOTS_OF_E1]
+        channels = frames_of_channels(slot)
+        if channels:
+            words = f"--slot {number} --of {SLOTS_OF_E1} --channel J{way.words()}"
+            found.append(Look(Kind.SLOT, f"slot {number}: {channels_said(channels)}", f"lines.py slot {{}} NEW.up {words}"))
+        else:
+            others.setdefault((by_constant(slot, more) or by_statistics(slot) or UNKNOWN).said, []).append(number)
+    found += (Look(Kind.SLOT, f"{spans_said(alike)}: {said}") for said, alike in others.items())
+    command = f"lines.py slot {{}} NEW.pcm --slot N --of {SLOTS_OF_E1}{way.words()}"
+    return Look(Kind.E1, what.format(way.said()) + TURNED * way.turned, command, way.turned, tuple(found))
 
 
 # A whole E1 line shows by the frame alignment signal of ITU-T G.704 in every second octet of its slot 0, and by the bit that isn't
@@ -311,20 +366,34 @@ def has_signal(octets: bytes) -> bool:
 
 
 def by_signal(head: bytes, size: int) -> Optional[Look]:
-    """A whole E1 line, whose first octet is of slot 0 or of another one."""
-    for turned in (False, True):
-        octets = octets_turned(head) if turned else head
+    """A whole E1 line, whose slot 0 begins at any bit of the first octets."""
+    for way in LINE_ALIGNMENTS:
+        octets = way.aligned(head)
         for first in range(SLOTS_OF_E1):
             if has_signal(octets[first:]):
-                began = f" from octet {first} on" if first else ""
-                order = LSB_FIRST * turned
-                skip = f" --skip {first}" if first else ""
-                command = f"lines.py slot {{}} NEW.pcm --slot N --of {SLOTS_OF_E1}{skip}{order}"
-                return Look(Kind.E1, f"an E1 line of {SLOTS_OF_E1} slots{began}{TURNED * turned}", command, turned)
+                return look_of_line("an E1 line of 32 slots{}", octets[first:], size - len(head), way._replace(octet=first), 1)
     return None
 
 
+def by_slots(head: bytes, size: int) -> Optional[Look]:
+    """A whole line without the signal, of as many slots as an E1 line, in the alignment in which more of their channels have frames."""
+    lines = {way: way.aligned(head) for way in SLOT_ALIGNMENTS}
+    counts = {way: sum(len(frames_of_channels(line[slot::SLOTS_OF_E1])) for slot in range(SLOTS_OF_E1)) for way, line in lines.items()}
+    way = max(counts, key=counts.__getitem__)
+    what = "a line of 32 slots{}, without the signal of an E1 line"
+    return look_of_line(what, lines[way], size - len(head), way, 0) if counts[way] else None
+
+
 # By statistics
+
+
+def by_constant(head: bytes, more: int) -> Optional[Look]:
+    """An idle line, each octet of which is the same, or of its start if there are more; that of silence has either sign."""
+    if len(head) < PCM_OCTETS or head.count(head[0]) < len(head):
+        return None
+    said = f"idle{' at its start' * (more > 0)}: each octet is 0x{head[0]:02x}"
+    law = next((law for law in Law if law.idle() | 0x80 == head[0] | 0x80), None)
+    return replace(look_of_reading(Reading(law, False)), said=f"{said}, silence of {law.title()}") if law else Look(Kind.UNKNOWN, said)
 
 
 def look_of_reading(reading: Reading) -> Look:
@@ -352,19 +421,22 @@ def other_than_law(head: bytes, law: Law) -> Optional[Look]:
 
 # All of it
 
-TESTS = (by_wav, by_magic, by_text, by_gsm, by_frames, by_signal, by_channels)
+UNKNOWN = Look(Kind.UNKNOWN, "nothing that is known here")
+Tests = Sequence[Callable[[bytes, int], Optional[Look]]]
+TESTS_OF_HEADS: Tests = (by_wav, by_magic, by_text, by_gsm)
+TESTS: Tests = (*TESTS_OF_HEADS, by_frames, by_signal, by_channels)
 
 
-def known_kind(head: bytes, size: int) -> Optional[Look]:
+def known_kind(head: bytes, size: int, tests: Tests = TESTS) -> Optional[Look]:
     """The kind that the head of a file of this many octets shows, without statistics."""
     if not size:
         return Look(Kind.EMPTY, "empty")
-    return next(filter(None, (test(head, size) for test in TESTS)), None)
+    return next(filter(None, (test(head, size) for test in tests)), None)
 
 
 def look(head: bytes, size: int) -> Look:
     """What a file of so many octets with this head is."""
-    return known_kind(head, size) or by_statistics(head) or Look(Kind.UNKNOWN, "nothing that is known here")
+    return known_kind(head, size) or by_slots(head, size) or by_constant(head, size - len(head)) or by_statistics(head) or UNKNOWN
 
 
 def head_of(path: Path, octets: int = HEAD_OCTETS) -> Tuple[bytes, int]:
@@ -382,17 +454,18 @@ def head_of(path: Path, octets: int = HEAD_OCTETS) -> Tuple[bytes, int]:
 
 def of_line(found: Look, name: Path) -> Look:
     """What is found of a file, with the command that makes sound of it if it has the name of a line from or to the exchange."""
-    if found.kind is not Kind.LAW or found.turned or name.suffix not in (".out", ".pcm"):
+    if found.kind is not Kind.LAW or found.turned or recordings.name_within(name).suffix not in (".out", ".pcm"):
         return found
     law = " --law mulaw" if found.command.endswith(" --law mulaw") else ""
     return replace(found, command=f"lines.py sound {{}} NEW.wav{law}")
 
 
 def command_for(found: Look, name: Path) -> str:
-    """The command that takes this file, in words that follow what the file is."""
-    if found.command.startswith(OTHERS):
-        return f"; {recordings.command_of_others(found.command, name)}"
-    return f"; {as_started(found.command)}".replace("{}", recordings.quoted(name)) if found.command else ""
+    """The command that takes this file, in words that follow what the file is. Only lines.py unpacks what it reads."""
+    command = as_started(found.command)
+    if not found.command.startswith("lines.py "):
+        return f"; {recordings.command_of_others(command, name)}" if command else ""
+    return f"; {command}".replace("{}", recordings.quoted(name))
 
 
 def said_beside(found: Look, name: Path, not_this: str) -> str:
@@ -405,8 +478,8 @@ def refuse(name: Path, found: Look, not_this: str, more: str = "") -> NoReturn:
     raise Refusal(f"{name}: is {said_beside(found, name, not_this)}{more}")
 
 
-def refuse_other(name: Path, content: bytes, not_this: str, wanted: Kind) -> None:
-    """Refuses a file that is plainly of another kind than the one that is wanted."""
-    found = known_kind(content[:HEAD_OCTETS], len(content))
+def refuse_other(name: Path, content: bytes, not_this: str, wanted: Kind = Kind.EMPTY, tests: Tests = TESTS, size: int = 0) -> None:
+    """Refuses a file that is plainly of another kind than the one that is wanted, if any. It may have more octets than these."""
+    found = known_kind(content[:HEAD_OCTETS], max(size, len(content)), tests)
     if found and found.kind not in (Kind.EMPTY, wanted):
         refuse(name, found, not_this)

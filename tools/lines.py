@@ -4,8 +4,8 @@ and captures of network packets. It also says what a file is, and damages uplink
 
 A command reads one file and writes another (`idle` reads none; `look` and `capture` may read several; `look` writes none), and prints one
 line on standard output that says what it did. `-` is standard input or standard output; if the file goes to standard output, the line goes
-to standard error. Each command but `look` unpacks a file whose name ends with .gz as it reads it. If a command can't take something, it
-prints one line on standard error, exits with status 2 and writes nothing.
+to standard error. Each command unpacks a file whose name ends with .gz as it reads it. If a command can't take something, it prints one
+line on standard error, exits with status 2 and writes nothing.
 """
 
 from __future__ import annotations
@@ -13,6 +13,7 @@ from __future__ import annotations
 import tool_start  # first, for what comes after it
 
 import argparse
+import itertools
 import sys
 from array import array
 from dataclasses import replace
@@ -33,7 +34,7 @@ from core.parameters import gsm_of_data
 from core.profile import PCM_OCTETS
 from core.slots import CHANNELS, MOST_SLOTS, channel_octets, octets_turned
 from core.words import Option, Refusal, Words, as_started, number_within, one_of, option, switch
-from file_kinds import Kind
+from file_kinds import Kind, Look
 from tool_ends import FAILED, complain, tool
 from tool_files import STREAM, write_file
 from wav_files import LAWS_BY_TAG, WAV_ALAW, WAV_LINEAR, WAV_MULAW
@@ -44,14 +45,19 @@ class Made(NamedTuple):
 
     content: bytes
     said: str
-    kind: str = ""
+    kind: str
 
 
-# What files are, and the sides of the lines that they may be. An octet of a law is one on either side, and a channel may be of either way.
+# What files are, and how their names may end. An octet of a law is one on either side, a channel may be of either way, and a slot any line.
 UPLINK, OF_A_LAW, WAV, FRAMES, CAPTURE = "an uplink", "A-law or mu-law", "a WAV file", "frames of libgsm", "a capture"
-CHANNEL = "a channel of 16 kbit/s"
-SIDES_OF = {UPLINK: ("up",), OF_A_LAW: ("pcm", "out"), WAV: (), FRAMES: (), CAPTURE: (), CHANNEL: ("up", "down")}
-KINDS_OF_SIDES = {"up": UPLINK, "down": "a downlink", "pcm": OF_A_LAW, "out": OF_A_LAW}
+CHANNEL, SLOT = "a channel of 16 kbit/s", "a time slot"
+ENDINGS_OF = {UPLINK: ["up"], OF_A_LAW: ["pcm", "out"], WAV: ["wav"], FRAMES: ["gsm"], CAPTURE: ["pcap", "pcapng"], CHANNEL: ["up", "down"]}
+ENDINGS_OF[SLOT] = ["up", "down", "pcm", "out"]
+KINDS_OF_ENDINGS = {
+    **{"up": UPLINK, "down": "a downlink", "pcm": OF_A_LAW, "out": OF_A_LAW},
+    **{"wav": WAV, "gsm": FRAMES, "pcap": CAPTURE, "pcapng": CAPTURE, "gz": file_kinds.PACKED_BY_GZIP},
+}
+SOUND_OF = {UPLINK: "lines.py listen NEW.up", OF_A_LAW: "lines.py sound NEW.pcm"}
 
 
 # A command makes a file of the words of the command line and the octets of the file that they name.
@@ -168,7 +174,7 @@ def capture(words: argparse.Namespace, given: bytes) -> Made:
     more = [(name, recordings.read_recording(name)) for name in words.also]
     lines = [(recordings.name_within(name), octets) for name, octets in ((words.given, given), *more)]
     for name, octets in lines:
-        if name.suffix[1:] in SIDES_OF[OF_A_LAW]:
+        if name.suffix[1:] in ENDINGS_OF[OF_A_LAW]:
             check_law(words, name, octets)
     return Made(*captures.capture_of(lines, words.law), CAPTURE)
 
@@ -180,13 +186,12 @@ def slot(words: argparse.Namespace, given: bytes) -> Made:
     """A time slot, whose octets were taken from a recording of a whole line as it was read, or a channel of it."""
     if not given:
         raise Refusal(f"{words.given}: has no octet of slot {words.slot}")
-    octets = octets_turned(given) if words.lsb_first else given
     if words.channel is None:
-        return Made(octets, f"slot octets {len(octets)}")
-    channel = channel_octets(octets, words.channel)
+        return Made(given, f"slot octets {len(given)}", SLOT)
+    channel = channel_octets(given, words.channel)
     if not channel:
-        raise Refusal(f"{words.given}: slot {words.slot} has {len(octets)} octets, and four make one of a channel")
-    left = len(octets) % CHANNELS
+        raise Refusal(f"{words.given}: slot {words.slot} has {len(given)} octets, and four make one of a channel")
+    left = len(given) % CHANNELS
     return Made(channel, f"slot octets {len(channel)} channel {words.channel} left {left}", CHANNEL)
 
 
@@ -209,22 +214,34 @@ def damage(words: argparse.Namespace, given: bytes) -> Made:
 # What is read and written
 
 
+def read_slot(words: argparse.Namespace) -> bytes:
+    """The octets of a slot of a recorded line."""
+    if words.slot >= words.of:
+        raise Refusal(f"--slot {words.slot}: the slots of this line are 0 to {words.of - 1}")
+    blocks = recordings.blocks_of(words.given, words.partial)
+    first = next(blocks, b"")
+    size = words.given.stat().st_size if words.given.is_file() and words.given.suffix != recordings.PACKED else 0
+    file_kinds.refuse_other(words.given, first, "no recording of a line", tests=file_kinds.TESTS_OF_HEADS, size=size)
+    octets = recordings.aligned(itertools.chain([first], blocks), words.lsb_first, words.skip_bits)
+    return recordings.slot_of(octets, words.slot, words.of, words.skip)
+
+
 def read_given(words: argparse.Namespace) -> bytes:
     """The file that a command reads, if any."""
     if words.given is None:
         return b""
     if words.made is slot:
-        if words.slot >= words.of:
-            raise Refusal(f"--slot {words.slot}: the slots of this line are 0 to {words.of - 1}")
-        return recordings.read_slot(words.given, words.slot, words.of, words.skip, words.partial)
+        return read_slot(words)
     return recordings.read_recording(words.given, getattr(words, "partial", False))
 
 
 def check_new_name(new: Path, kind: str) -> None:
-    """Refuses to write a file of a kind under the name of a line of another."""
-    by_name = KINDS_OF_SIDES.get(new.suffix[1:])
-    if kind and by_name and new.suffix[1:] not in SIDES_OF[kind]:
-        raise Refusal(f"{new}: is {by_name} by its name, and what would be written is {kind}")
+    """Refuses to write a file of a kind under the name of one of another."""
+    ending = new.suffix[1:].lower()
+    by_name = KINDS_OF_ENDINGS.get(ending)
+    if by_name and ending not in ENDINGS_OF[kind]:
+        sound = f"; {as_started(SOUND_OF[kind])} {recordings.quoted(new)} makes sound of it" if by_name == WAV and kind in SOUND_OF else ""
+        raise Refusal(f"{new}: is {by_name} by its name, and what would be written is {kind}{sound}")
 
 
 def make_file(words: argparse.Namespace) -> int:
@@ -238,18 +255,32 @@ def make_file(words: argparse.Namespace) -> int:
 
 
 LOOKED_INTO = 1 << 24  # octets of a capture
+BLOCKS_LOOKED_INTO = 4  # of what gzip packed
 
 
-def streams_said(name: Path) -> List[str]:
-    """The streams at a capture's start, each in words; none of standard input, which has been read, and none without dpkt."""
-    if name == STREAM or not rtp_packets.has_library():
-        return []
+def streams_said(name: Path, content: bytes) -> List[str]:
+    """The streams at a capture's start, each in words."""
     try:
-        streams = rtp_packets.streams_of(name, file_kinds.head_of(name, LOOKED_INTO)[0], partial=True)
+        streams = rtp_packets.streams_of(name, content, partial=True)
     except Refusal as refusal:
         return [f"not read: {refusal}"]
     others = [f"not read: {rtp_packets.flow_said(flow, packets)}" for flow, packets in streams.others.items()]
-    return [f"stream {each}" for each in rtp_packets.listed(streams.by_flow)] + others or ["no stream of RTP"]
+    found = [f"stream {each}" for each in rtp_packets.listed(streams.by_flow)] + others
+    return found or [f"no stream of RTP{streams.cut_off}"]
+
+
+def looked_at(name: Path) -> Tuple[Look, List[str]]:
+    """What a file is, or what is in it if gzip packed it; and more lines of a capture and of a whole line."""
+    head, size = file_kinds.head_of(name, LOOKED_INTO if name == STREAM else file_kinds.HEAD_OCTETS)
+    found = file_kinds.look(head[: file_kinds.HEAD_OCTETS], size)
+    if found.said == file_kinds.PACKED_BY_GZIP and name.suffix == recordings.PACKED:
+        head = b"".join(itertools.islice(recordings.blocks_of(name, partial=True), BLOCKS_LOOKED_INTO))
+        found = file_kinds.look(head[: file_kinds.HEAD_OCTETS], len(head))
+        found = replace(found, said=f"{file_kinds.PACKED_BY_GZIP}: {found.said}")
+    elif found.kind is Kind.CAPTURE and name != STREAM:
+        head, _ = file_kinds.head_of(name, LOOKED_INTO)
+    streams = streams_said(name, head) if found.kind is Kind.CAPTURE else []
+    return file_kinds.of_line(found, name), streams + [each.said + file_kinds.command_for(each, name) for each in found.slots]
 
 
 def look(words: argparse.Namespace) -> int:
@@ -257,14 +288,13 @@ def look(words: argparse.Namespace) -> int:
     failed = False
     for name in words.files:
         try:
-            found = file_kinds.of_line(file_kinds.look(*file_kinds.head_of(name)), name)
-            streams = streams_said(name) if found.kind is Kind.CAPTURE else []
+            found, more = looked_at(name)
         except Refusal as refusal:
             complain("lines.py", str(refusal))
             failed = True
         else:
             print(f"{name}: {found.said}{file_kinds.command_for(found, name)}")
-            for each in streams:
+            for each in more:
                 print(f"  {each}")
     return FAILED if failed else 0
 
@@ -339,8 +369,9 @@ LOOK = (
     "Says what each file is, and which command takes it. Sound files, frames of libgsm and captures are known by their\n"
     "heads; uplinks, downlinks, lines of frames that trau doesn't decode, time slots and E1 lines by the frames in them, at any bit\n"
     "and in either order of the bits of an octet; A-law, mu-law and samples of 16 bits by statistics, which are a guess. Of a\n"
-    "capture it lists the streams, a line each, if the library dpkt is there. It looks at the first\n"
-    f"{file_kinds.HEAD_OCTETS} octets. A file that can't be read is named on standard error, and the status is 2 at the end."
+    "capture it lists the streams, a line each, which needs the library dpkt; of an E1 line the slots with frames, with the command\n"
+    f"that takes each, and what the others have. It looks at the first {file_kinds.HEAD_OCTETS} octets, a quarter of a second of an E1 line. A file\n"
+    "that can't be read is named on standard error, and the status is 2 at the end."
 )
 # What makes a file: of which kind of file, and of which kind; the command's text, an example, and its options.
 COMMANDS = (
@@ -432,6 +463,10 @@ COMMANDS = (
         option(
             "--skip", type=number_within(0, MOST_SKIPPED), default=0, metavar="N",
             help="the number of octets that precede the first one of slot 0 (default 0)",
+        ),
+        option(
+            "--skip-bits", type=number_within(0, 7), default=0, metavar="N",
+            help="the number of bits, 0 to 7, that precede the first octet, beside those that --skip names (default 0)",
         ),
         lsb_first(),
         partial("what can be unpacked of a file that gzip packed"),

@@ -7,8 +7,9 @@ import shlex
 import sys
 import zlib
 from pathlib import Path
-from typing import BinaryIO, Iterator
+from typing import BinaryIO, Iterable, Iterator
 
+from core.slots import octets_from, octets_turned
 from core.words import Refusal
 from tool_files import STREAM
 
@@ -82,10 +83,19 @@ def read_recording(path: Path, partial: bool = False) -> bytes:
     return b"".join(blocks_of(path, partial))
 
 
-def read_slot(path: Path, number: int, of: int, skipped: int, partial: bool = False) -> bytes:
+def aligned(blocks: Iterable[bytes], turned: bool, bit: int) -> Iterator[bytes]:
+    """The octets of a recorded line, whose bits are in the other order if it is turned, from this bit of the first one on, in blocks."""
+    rest = b""
+    for block in blocks:
+        octets = rest + (octets_turned(block) if turned else block)
+        yield octets_from(octets, bit)
+        rest = octets[-1:] if bit else b""
+
+
+def slot_of(blocks: Iterable[bytes], number: int, of: int, skipped: int) -> bytes:
     """The octets of one slot of a recorded line, which may be longer than the memory: every `of`th one after the skipped ones."""
     parts, wanted = [], skipped + number
-    for block in blocks_of(path, partial):
+    for block in blocks:
         parts.append(block[wanted::of])
         behind = len(block) - wanted
         wanted = -behind if behind <= 0 else -behind % of

@@ -6,7 +6,6 @@ The library dpkt reads the files of captures and their packets; without it, what
 from __future__ import annotations
 
 import importlib
-import importlib.util
 import io
 import ipaddress
 import struct
@@ -39,11 +38,6 @@ def library(part: str) -> Any:
             f"captures need the library dpkt, which {sys.executable} doesn't have; apt-get install python3-dpkt brings it to"
             f" /usr/bin/python3, and {sys.executable} -m pip install dpkt to this one"
         ) from None
-
-
-def has_library() -> bool:
-    """Whether dpkt is there."""
-    return importlib.util.find_spec("dpkt") is not None
 
 
 # Packets of a capture
@@ -113,28 +107,27 @@ def is_fragment(outer: Any) -> bool:
     return bool(getattr(outer, "mf", 0) or getattr(outer, "offset", 0))
 
 
-# The places of the lengths that lead from packet to packet: dpkt takes a truncated last packet for a shorter one.
+# The places of the lengths of packets: dpkt takes a truncated last packet for a shorter one, and doesn't say what was on the wire.
 PCAP_HEAD, PACKET_HEAD, CAPTURED = 24, 16, 8
 PCAPNG_BLOCK, ORDER_MARK, LEAST_BLOCK = b"\x0a\x0d\x0d\x0a", b"\x1a\x2b\x3c\x4d", 12
+PCAPNG_PACKETS, PCAPNG_HEAD, PCAPNG_CAPTURED = (2, 6), 28, 20
 
 
-def is_whole_pcap(content: bytes) -> bool:
-    """Whether a pcap file ends with a whole packet."""
-    order = ">" if content[:1] == b"\xa1" else "<"
-    place = PCAP_HEAD
-    while place + PACKET_HEAD <= len(content):
-        place += PACKET_HEAD + struct.unpack_from(f"{order}I", content, place + CAPTURED)[0]
-    return place == len(content)
-
-
-def is_whole_pcapng(content: bytes) -> bool:
-    """Whether a pcapng file ends with a whole block."""
-    order, place = "<", 0
-    while place + LEAST_BLOCK <= len(content):
-        if content.startswith(PCAPNG_BLOCK, place):
+def by_lengths(content: bytes) -> Tuple[bool, str]:
+    """Whether a pcap or pcapng file ends with a whole packet; and how many of its packets were cut off, in words that follow others."""
+    has_blocks, order = content.startswith(PCAPNG_BLOCK), ">" if content[:1] == b"\xa1" else "<"
+    head, lengths = (PCAPNG_HEAD, PCAPNG_CAPTURED) if has_blocks else (PACKET_HEAD, CAPTURED)
+    place, packets, cut = 0 if has_blocks else PCAP_HEAD, 0, 0
+    while place + (LEAST_BLOCK if has_blocks else PACKET_HEAD) <= len(content):
+        if has_blocks and content.startswith(PCAPNG_BLOCK, place):
             order = ">" if content.startswith(ORDER_MARK, place + 8) else "<"
-        place += max(LEAST_BLOCK, struct.unpack_from(f"{order}I", content, place + 4)[0])
-    return place == len(content)
+        kind, size = struct.unpack_from(f"{order}II", content, place)
+        if place + head <= len(content) and (kind in PCAPNG_PACKETS or not has_blocks):
+            captured, sent = struct.unpack_from(f"{order}II", content, place + lengths)
+            packets, cut = packets + 1, cut + (captured < sent)
+        place += max(LEAST_BLOCK, size) if has_blocks else PACKET_HEAD + captured
+    said = f"; {cut} of {packets} packets are cut off (the captured length is below the length on the wire)"
+    return place == len(content), said if cut else ""
 
 
 def packets_of_file(reader: Any, partial: bool) -> Iterator[Tuple[float, bytes]]:
@@ -147,13 +140,12 @@ def packets_of_file(reader: Any, partial: bool) -> Iterator[Tuple[float, bytes]]
             raise
 
 
-def datagrams(name: Path, content: bytes, partial: bool) -> Iterator[Tuple[int, float, Any, Any]]:
+def datagrams(name: Path, content: bytes, partial: bool, is_whole: bool) -> Iterator[Tuple[int, float, Any, Any]]:
     """The datagrams of a capture, each with its number, its time, its IP packet and its UDP packet."""
     ip, ip6, udp, errors = library("ip").IP, library("ip6").IP6, library("udp").UDP, library("dpkt")
     try:
         reader = library("pcap").UniversalReader(io.BytesIO(content))
-        is_whole = is_whole_pcapng if content.startswith(PCAPNG_BLOCK) else is_whole_pcap
-        if not partial and not is_whole(content):
+        if not partial and not is_whole:
             raise Refusal(f"{name}: ends within a packet; --partial takes those before it")
         unpack = reader_of_packets(name, reader.datalink())
         for number, (time, octets) in enumerate(packets_of_file(reader, partial), 1):
@@ -207,12 +199,13 @@ def type_said(kind: int, packets: Sequence[Packet]) -> str:
 
 
 class Streams(NamedTuple):
-    """The RTP packets of a capture by their flows, in their order; how many with speech weren't captured whole; and the streams without
-    speech of the three kinds."""
+    """The RTP packets of a capture by their flows, in their order; how many with speech weren't captured whole; the streams without speech
+    of the three kinds; and how many of all packets were cut off, in words."""
 
     by_flow: Dict[Flow, List[Packet]]
     cut: int
     others: Dict[Flow, List[Packet]]
+    cut_off: str
 
     def other_types(self) -> str:
         """The payload types of the streams without speech, in words."""
@@ -227,9 +220,10 @@ def streams_of(name: Path, content: bytes, partial: bool = False, types: Mapping
     """The streams of a capture, whose payload types of speech have these kinds. A packet that wasn't captured whole is left out where
     `partial` says so."""
     rtp_kind, errors = library("rtp").RTP, library("dpkt")
+    is_whole, cut_off = by_lengths(content)
     streams: Dict[Flow, List[Packet]] = {}
     cut = 0
-    for number, time, outer, datagram in datagrams(name, content, partial):
+    for number, time, outer, datagram in datagrams(name, content, partial, is_whole):
         try:
             rtp = rtp_kind(bytes(datagram.data))
         except errors.UnpackError:
@@ -239,7 +233,7 @@ def streams_of(name: Path, content: bytes, partial: bool = False, types: Mapping
         kind = types.get(rtp.pt, rtp.pt)
         if len(datagram.data) < datagram.ulen - 8 and kind in NAMES:
             if not partial:
-                why = "is a fragment, and its parts aren't joined here" if is_fragment(outer) else "wasn't captured whole"
+                why = "is a fragment, and its parts aren't joined here" if is_fragment(outer) else f"wasn't captured whole{cut_off}"
                 raise Refusal(f"{name}: packet {number} {why}; --partial leaves such packets out")
             cut += 1
             continue
@@ -247,7 +241,7 @@ def streams_of(name: Path, content: bytes, partial: bool = False, types: Mapping
         streams.setdefault(flow, []).append(Packet(number, kind, rtp.seq, rtp.ts, payload_of(rtp), time))
     with_speech = {flow: each for flow, each in streams.items() if any(packet.kind in NAMES for packet in each)}
     others = {flow: each for flow, each in streams.items() if flow not in with_speech and len(each) >= LEAST_OF_STREAM}
-    return Streams(with_speech, cut, others)
+    return Streams(with_speech, cut, others, cut_off)
 
 
 def kinds_said(packets: Sequence[Packet]) -> str:
@@ -284,7 +278,7 @@ def chosen(name: Path, found: Streams, option: str, number: Optional[int]) -> Li
     streams = found.by_flow
     if not streams:
         types = f"; its streams have the payload types {found.other_types()}" if found.others else ""
-        raise Refusal(f"{name}: has no RTP stream with GSM, PCMA or PCMU (payload types 3, 8 and 0){types}")
+        raise Refusal(f"{name}: has no RTP stream with GSM, PCMA or PCMU (payload types 3, 8 and 0){types}{found.cut_off}")
     if number is None and len(streams) == 1:
         number = 1
     if number is None or not 1 <= number <= len(streams):

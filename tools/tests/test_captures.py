@@ -2,9 +2,11 @@
 the fields that tshark 4.0 reads of them; damaged ones; and lines out to captures. They need the library dpkt, and are skipped without it."""
 
 import io
+import struct
 import sys
 import unittest
 from collections import Counter
+from unittest import mock
 
 from support import DATA, EXAMPLES, InFolder
 
@@ -27,10 +29,13 @@ class WithoutTheLibrary(InFolder):
         for octets, sort in ((uplink_frames.IDLE, Sort.IDLE), (uplink_frames.LOST, Sort.BAD), (uplink_frames.LOST_WITH_TAF, Sort.BAD)):
             self.assertEqual([each.sort() for each in search(bits_of(octets))], [sort])
 
-    @unittest.skipIf(HAS_DPKT, "dpkt is there")
     def test_asked_for_with_a_word(self):
-        words = ["pcap", DATA / "gsm.pcap", self.folder / "7.up"]
-        self.assert_refused(lines.main, words, f"captures need the library dpkt, which {sys.executable} doesn't have; apt-get")
+        said = f"captures need the library dpkt, which {sys.executable} doesn't have; apt-get install python3-dpkt "
+        with mock.patch.dict(sys.modules, {name: None for name in [*sys.modules, "dpkt"] if name.partition(".")[0] == "dpkt"}):
+            self.assert_refused(lines.main, ["pcap", DATA / "gsm.pcap", self.folder / "7.up"], said)
+            status, out, err = self.run_tool(lines.main, "look", DATA / "gsm.pcap")
+        self.assertEqual((status, err, out.count("\n")), (0, "", 2))
+        self.assertIn(f": a pcap capture; lines.py pcap {DATA / 'gsm.pcap'} NEW\n  not read: {said}", out)
 
 
 @unittest.skipUnless(HAS_DPKT, "no library dpkt")
@@ -327,6 +332,45 @@ class Captures(InCaptures):
         self.assertEqual((status, out, err), (0, "capture streams 300 packets 300\n", ""))
         flows = captures.streams_of("new", self.path("new.pcap").read_bytes()).by_flow
         self.assertEqual(len({(flow.source, flow.target) for flow in flows}), 300)
+
+    def cut_off(self, name, octets):
+        """A capture whose packets have at most so many octets, as by a snaplen."""
+        content, made, place = (DATA / name).read_bytes(), b"", 0
+        if name.endswith(".pcap"):
+            made, place = content[:24], 24
+            while place < len(content):
+                head, (captured, _) = content[place : place + 8], struct.unpack_from("<II", content, place + 8)
+                packet = content[place + 16 : place + 16 + captured]
+                made += head + struct.pack("<II", len(packet[:octets]), captured) + packet[:octets]
+                place += 16 + captured
+        while place < len(content):
+            kind, size = struct.unpack_from("<II", content, place)
+            block = content[place : place + size]
+            if kind == 6:
+                captured = struct.unpack_from("<I", content, place + 20)[0]
+                packet = block[28 : 28 + captured][:octets]
+                head = block[8:20] + struct.pack("<II", len(packet), captured) + packet + bytes(-len(packet) % 4)
+                block = struct.pack("<II", kind, len(head) + 12) + head + struct.pack("<I", len(head) + 12)
+            made += block
+            place += size
+        return self.path(f"cut-{name}", made)
+
+    def test_packets_that_were_cut_off(self):
+        for name in ("gsm.pcap", "pcma.pcapng"):
+            packets = len(list(captures.library("pcap").UniversalReader(io.BytesIO((DATA / name).read_bytes()))))
+            cut = f"{packets} of {packets} packets are cut off (the captured length is below the length on the wire)"
+            none = f"has no RTP stream with GSM, PCMA or PCMU (payload types 3, 8 and 0); {cut}\n"
+            for octets, part, more in (
+                (30, none, []),
+                (42, none, []),
+                (60, f" wasn't captured whole; {cut}; --partial leaves such packets out\n", []),
+                (60, none, ["--partial"]),
+            ):
+                given = self.cut_off(name, octets)
+                self.assert_refused(lines.main, ["pcap", given, self.folder / "line", *more], part)
+                self.assertEqual(self.run_tool(lines.main, "look", given)[1].splitlines()[1:], [f"  no stream of RTP; {cut}"])
+            whole = self.cut_off(name, 1000)
+            self.assertEqual(whole.read_bytes(), (DATA / name).read_bytes())
 
     def test_refused(self):
         def refused(part, *words):

@@ -69,14 +69,15 @@ def archive():
 
 class Look(InFolder):
     def look(self, content, name="file"):
-        """What is said of a file, without its name."""
+        """What is said of a file, without its name. The lines under it are `more`."""
         path = self.path(name, content)
         status, out, err = self.run_tool(lines.main, "look", path)
         self.assertEqual((status, err), (0, ""))
         self.assertTrue(out.startswith(f"{path}: "))
-        first, *streams = out.splitlines()
-        self.assertTrue(all(each.startswith("  ") for each in streams))
-        return first[len(f"{path}: ") :].replace(str(path), "FILE")
+        first, *more = out.replace(str(path), "FILE").splitlines()
+        self.assertTrue(all(each.startswith("  ") for each in more))
+        self.more = [each[2:] for each in more]
+        return first[len("FILE: ") :]
 
     def test_heads(self):
         speech = (DATA / "speech.gsm").read_bytes()
@@ -187,6 +188,75 @@ class Look(InFolder):
         self.assertEqual(self.look(line[7:]), f"an E1 line of 32 slots from octet 25 on; {command} --skip 25")
         self.assertEqual(self.look(octets_turned(line)), f"an E1 line of 32 slots, {TURNED}; {command} --lsb-first")
 
+    # A slot with frames in three channels.
+    UPLINKS = merged([UP[:4000], bytes(4000), shifted(UP, 5)[:4000], UP[:4000]])[:3000]
+    FOUND = "; ".join(f"channel {number} is an uplink, its first frame at bit {bit}" for number, bit in ((0, 0), (2, 5), (3, 0)))
+
+    def test_the_slots_of_a_line(self):
+        idle = "idle at its start: each octet is 0xd5, silence of A-law"
+        line = e1(self.UPLINKS)
+        for bits in (0, 1, 2, 7, 8, 13):
+            skip = f"{' --skip 1' * (bits > 7)}{f' --skip-bits {bits % 8}' * (bits % 8 > 0)}"
+            where = f"bit {bits % 8}" + " of octet 1" * (bits > 7) if bits % 8 else "octet 1"
+            for turned in (False, True):
+                moved = shifted(line, bits)
+                said = self.look(octets_turned(moved) if turned else moved)
+                order = " --lsb-first" * turned
+                began = f" from {where} on" if bits else ""
+                command = f"lines.py slot FILE NEW.pcm --slot N --of 32{skip}{order}"
+                self.assertEqual(said, f"an E1 line of 32 slots{began}{f', {TURNED}' * turned}; {command}")
+                command = f"lines.py slot FILE NEW.up --slot 16 --of 32 --channel J{skip}{order}"
+                self.assertEqual(self.more, [f"slot 16: {self.FOUND}; {command}", f"slots 1-15, 17-31: {idle}"])
+                # The command that is named gives each line.
+                names = {"FILE": self.path("file"), "NEW.up": self.path("new.up"), "J": 2}
+                self.assertEqual(self.run_tool(lines.main, *(names.get(word, word) for word in command.split()[1:]))[::2], (0, ""))
+                self.assertEqual(bits_of(self.path("new.up").read_bytes())[:5900], bits_of(shifted(UP, 5))[:5900])
+
+    def test_the_slots_of_a_line_without_the_signal(self):
+        line = b"".join(bytes(9) + bytes([octet]) + 22 * b"\xff" for octet in self.UPLINKS[:2000])
+        for bits in (0, 1):
+            skip = " --skip-bits 1" * bits
+            said = f"a line of 32 slots{' from bit 1 on' * bits}, without the signal of an E1 line; lines.py slot FILE NEW.pcm --slot N --of 32{skip}"
+            self.assertEqual(self.look(shifted(line, bits)), said)
+            self.assertEqual(self.more[0], f"slot 9: {self.FOUND}; lines.py slot FILE NEW.up --slot 9 --of 32 --channel J{skip}")
+            self.assertEqual(self.more[1:], ["slots 0-8: idle: each octet is 0x00", "slots 10-31: idle: each octet is 0xff, silence of mu-law"])
+
+    def test_slots_that_begin_within_an_octet(self):
+        for bits in (1, 3, 5, 7):
+            said = self.look(shifted(self.UPLINKS, bits))
+            self.assertTrue(said.startswith("a time slot of 64 kbit/s from bit 1 on: channel "), said)
+            self.assertEqual(said.count(" is an uplink"), 3)
+            self.assertTrue(said.endswith("; lines.py slot FILE NEW.up --channel J --skip-bits 1"), said)
+        self.assertTrue(self.look(shifted(self.UPLINKS, 1)).startswith(f"a time slot of 64 kbit/s from bit 1 on: {self.FOUND}; "))
+        # Sound and noise of other slots aren't taken for frames, and what is alike is said together.
+        noise, spoken = random.Random(2).randbytes(3000), SPOKEN[0].read_bytes()[:3000]
+        frames = zip(*(noise if number in (3, 9) else spoken if number == 4 else 3000 * b"\x54" for number in range(1, 32)))
+        line = b"".join(bytes([0x1B if place % 2 else 0x40, *frame]) for place, frame in enumerate(frames))
+        self.assertTrue(self.look(line).startswith("an E1 line of 32 slots; "))
+        idle, unknown = "slots 1-2, 5-8, 10-31: idle at its start: each octet is 0x54", "slots 3, 9: nothing that is known here"
+        self.assertEqual(self.more, [idle, unknown, "slot 4: A-law, as it seems"])
+
+    def test_what_gzip_packed(self):
+        packed = "packed by gzip: "
+        for content, name, wanted in (
+            (UP, "7.up.gz", "an uplink, its first frame at bit 0; gunzip -k FILE; trau run takes it as C.up, and makes sound of it"),
+            (DOWN, "7.down.gz", "a downlink, its first frame at bit 320; lines.py listen FILE NEW.wav"),
+            ((DATA / "gsm.pcap").read_bytes(), "x.pcap.gz", "a pcap capture; lines.py pcap FILE NEW"),
+            (SPOKEN[0].read_bytes(), "7.out.gz", "A-law, as it seems; lines.py sound FILE NEW.wav"),
+            (b"fLaC" + bytes(40), "x.flac.gz", "a FLAC file; gunzip -k FILE; sox x.flac -r 8000 -c 1 -b 16 -e signed-integer NEW.wav"),
+            (archive(), "x.tar.gz", "a tar archive; gunzip -k FILE; tar xf x.tar"),
+            (b"0 open 1\n", "orders.gz", "a text of orders; gunzip -k FILE; orders.py check orders"),
+            (b"", "empty.gz", "empty"),
+        ):
+            said = self.look(gzip.compress(content), name)
+            self.assertEqual(said.replace(f"{self.folder}/", ""), packed + wanted)
+        # As much of a truncated file as is there; a file that gzip didn't pack is what it is.
+        self.assertTrue(self.look(gzip.compress(UP)[:-20], "7.up.gz").startswith(f"{packed}an uplink, "))
+        self.assertTrue(self.look(UP, "7.up.gz").startswith("an uplink, "))
+        self.assertEqual(self.look(gzip.compress(UP), "7.up"), "packed by gzip; lines.py reads such files where their names end with .gz")
+        status, out, err = self.run_tool(lines.main, "look", self.path("bad.gz", gzip.compress(UP)[:10] + 40 * b"\xff"))
+        self.assertEqual((status, out, err.count("\n")), (2, "", 1))
+
     def test_sound_by_statistics(self):
         for path in SPOKEN:
             octets = path.read_bytes()
@@ -212,11 +282,18 @@ class Look(InFolder):
         self.assertTrue(self.look(octets_turned(spoken), "1.out").endswith("; lines.py pcm FILE NEW.pcm --raw --lsb-first"))
 
     def test_idle_sound(self):
-        for law in Law:
-            said = "A-law" if law is Law.A else "mu-law"
-            for octets in ([law.idle()], [law.idle(), law.idle() ^ 0x80], [law.idle(), law.idle() ^ 0x80, law.idle() ^ 1]):
+        for law, word in ((Law.A, ""), (Law.MU, " --law mulaw")):
+            for octets in ([law.idle(), law.idle() ^ 0x80], [law.idle(), law.idle() ^ 0x80, law.idle() ^ 1]):
                 content = bytes(random.Random(3).choices(octets, k=3300))
-                self.assertTrue(self.look(content).startswith(f"{said}, as it seems;"))
+                self.assertTrue(self.look(content).startswith(f"{law.title()}, as it seems;"))
+            for octet in (law.idle(), law.idle() ^ 0x80):
+                said = f"idle: each octet is 0x{octet:02x}, silence of {law.title()}"
+                self.assertEqual(self.look(3300 * bytes([octet])), f"{said}; lines.py pcm FILE NEW.pcm --raw{word}")
+                self.assertEqual(self.look(3300 * bytes([octet]), "1.out"), f"{said}; lines.py sound FILE NEW.wav{word}")
+        self.assertTrue(self.look(65536 * b"\xd5" + UP).startswith("idle at its start: each octet is 0xd5, silence of A-law; "))
+        for octet in (0x00, 0x54, 0x7E):
+            self.assertEqual(self.look(160 * bytes([octet])), f"idle: each octet is 0x{octet:02x}")
+        self.assertEqual(self.look(159 * b"\xd5"), "nothing that is known here")
 
     def test_too_little_for_statistics(self):
         self.assertEqual(self.look(SPOKEN[0].read_bytes()[4000:4799]), "nothing that is known here")

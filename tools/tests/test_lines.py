@@ -219,9 +219,10 @@ class Sound(InFolder):
             self.assertEqual(len(sound.read_bytes()), octets)
             self.assertEqual(self.lines("pcm", sound, pcm), "pcm periods 2 padded 0\n")
             self.assertEqual(pcm.read_bytes(), line)
-        self.assertEqual(self.lines("sound", out, sound, "--raw"), "sound samples 320\n")
-        self.assertEqual(sound.read_bytes(), line)
-        self.assertEqual(self.lines("pcm", sound, pcm, "--raw"), "pcm periods 2 padded 0\n")
+        raw = self.path("7.al")
+        self.assertEqual(self.lines("sound", out, raw, "--raw"), "sound samples 320\n")
+        self.assertEqual(raw.read_bytes(), line)
+        self.assertEqual(self.lines("pcm", raw, pcm, "--raw"), "pcm periods 2 padded 0\n")
         self.assertEqual(pcm.read_bytes(), line)
 
     def test_every_octet_of_mulaw(self):
@@ -232,10 +233,10 @@ class Sound(InFolder):
         self.assertEqual(list(samples), [samples_by_octet(Law.MU)[octet] for octet in line])
         self.lines("pcm", sound, pcm, "--law", "mulaw")
         self.assertEqual(pcm.read_bytes(), line.replace(b"\x7f", b"\xff"))
-        for option in ("--mulaw", "--raw"):
-            self.lines("sound", out, sound, "--law", "mulaw", option)
+        for option, made in (("--mulaw", sound), ("--raw", self.path("7.ul"))):
+            self.lines("sound", out, made, "--law", "mulaw", option)
             raw = [option] if option == "--raw" else []
-            self.lines("pcm", sound, pcm, "--law", "mulaw", *raw)
+            self.lines("pcm", made, pcm, "--law", "mulaw", *raw)
             self.assertEqual(pcm.read_bytes(), line)
 
     def test_wav_of_the_other_law(self):
@@ -505,11 +506,21 @@ class TheFileThatIsWritten(InFolder):
             (["idle", "3"], "1.down", down, law),
             (["sound", out], "1.pcm", law, "a WAV file"),
             (["gsm", EXAMPLES / "farm" / "wanted" / "2.down"], "1.up", uplink, "frames of libgsm"),
+            (["uplink", DATA / "speech.gsm"], "1.wav", "a WAV file", f"{uplink}; lines.py listen NEW.up {self.path('1.wav')} makes sound of it\n"),
+            (["damage", up], "1.gsm", "frames of libgsm", uplink),
+            (["sound", out, "--raw"], "1.WAV", "a WAV file", f"{law}; lines.py sound NEW.pcm {self.path('1.WAV')} makes sound of it\n"),
+            (["sound", out], "1.pcap", "a capture", "a WAV file\n"),
+            (["slot", up], "1.wav", "a WAV file", "a time slot\n"),
+            (["slot", up, "--channel", "0"], "1.wav", "a WAV file", "a channel of 16 kbit/s\n"),
+            (["idle", "3"], "1.pcm.gz", "packed by gzip", law),
         ):
             words[2:2] = [self.path(name)]
             said = f"{name}: is {by_name} by its name, and what would be written is {kind}"
             self.assert_refused(lines.main, words, said)
-        for words, name in ((["idle", "3"], "1.out"), (["uplink", DATA / "speech.gsm"], "speech"), (["slot", up], "1.pcm")):
+        for words, name in (
+            *((["idle", "3"], "1.out"), (["uplink", DATA / "speech.gsm"], "speech"), (["slot", up], "1.pcm"), (["slot", up], "1.up")),
+            *((["sound", out], "1.wav"), (["sound", out], "1.snd"), (["gsm", EXAMPLES / "farm" / "wanted" / "2.down"], "1.gsm")),
+        ):
             words[2:2] = [self.path(name)]
             self.assertEqual(self.run_tool(lines.main, *words)[0], 0)
 

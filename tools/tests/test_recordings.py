@@ -11,7 +11,7 @@ from unittest import mock
 
 from support import CODEC, DATA, EXAMPLES, TOP, InFolder
 
-from core.frame import bits_of
+from core.frame import bits_of, octets_of
 from core.g711 import Law, octets_by_sample
 from core.parameters import SILENCE, bits_of_parameters, gsm_of_data
 from core.slots import octets_turned
@@ -82,7 +82,12 @@ class Packed(Recorded):
             of, skipped = source.randrange(1, 40), source.randrange(50)
             number = source.randrange(of)
             for path in (self.path("a", octets), self.path("a.gz", gzip.compress(octets))):
-                self.assertEqual(recordings.read_slot(path, number, of, skipped), octets[skipped + number :: of])
+                self.assertEqual(recordings.slot_of(recordings.blocks_of(path), number, of, skipped), octets[skipped + number :: of])
+                for bit in range(8):
+                    for turned in (False, True):
+                        bits = bits_of(octets_turned(octets) if turned else octets)[bit:]
+                        moved = recordings.aligned(recordings.blocks_of(path), turned, bit)
+                        self.assertEqual(b"".join(moved), octets_of(bits[: len(bits) // 8 * 8]))
 
     def test_cut_or_not_packed(self):
         packed = gzip.compress(SPOKEN)
@@ -185,9 +190,28 @@ class Slots(Recorded):
         self.lines("slot", self.path("turned", octets_turned(up)), self.path("1.up"), "--lsb-first")
         self.assertEqual(self.path("1.up").read_bytes(), up)
 
+    def test_what_is_no_recording_of_a_line(self):
+        capture, wave = (DATA / "gsm.pcap").read_bytes(), wav(data=bytes(3000))
+        for name, content, part in (
+            ("x.pcap", capture, "is a pcap capture, and no recording of a line; lines.py pcap FILE NEW\n"),
+            ("x.pcap.gz", gzip.compress(capture), "is a pcap capture, and no recording of a line; lines.py pcap FILE NEW\n"),
+            ("x", gzip.compress(bytes(64)), "is packed by gzip, and no recording of a line; lines.py reads such files where"),
+            ("x.wav", wave, "is a WAV file, 8000 Hz, channels 1, bits 16 linear, and no recording of a line; lines.py pcm FILE"),
+            ("x.gsm", 900 * SPEECH, "is 36000 frames of libgsm, and no recording of a line; lines.py uplink FILE NEW.up\n"),
+            ("x.txt", b"0 open 1\n", "is a text of orders, and no recording of a line; "),
+        ):
+            path = self.path(name, content)
+            for words in ([], ["--slot", "16", "--of", "32"], ["--channel", "1", "--lsb-first"]):
+                self.assert_refused(lines.main, ["slot", path, self.path("new"), *words], part.replace("FILE", str(path)))
+        ended = subprocess.run([TOP / "tools" / "lines.py", "slot", "-", self.path("new")], input=capture, capture_output=True)
+        self.assertEqual((ended.returncode, ended.stderr.partition(b";")[0]), (2, b"lines.py: -: is a pcap capture, and no recording of a line"))
+        # A line of frames is one, also with a text's name.
+        self.lines("slot", self.path("line.txt", (EXAMPLES / "7.up").read_bytes()), self.path("new"))
+
     def test_refused(self):
         line, new = self.path("line", bytes(64)), self.path("new")
         for words, part in (
+            (["--skip-bits", "8"], "8 isn't 0 to 7"),
             (["--slot", "32", "--of", "32"], "--slot 32: the slots of this line are 0 to 31"),
             (["--slot", "x"], "x isn't 0 to 255"),
             (["--of", "0"], "0 isn't 1 to 256"),

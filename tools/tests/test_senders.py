@@ -10,6 +10,7 @@ library dpkt, and are skipped without it. tshark 4.0 recorded on the loopback wh
 
 gstreamer.txt and ffmpeg.txt have what tshark reads of each packet."""
 
+import gzip
 import io
 import random
 import unittest
@@ -306,6 +307,8 @@ class Senders(InCaptures):
             ],
         )
         self.assertEqual(self.look(self.written([])), ["  no stream of RTP"])
+        packed = self.path("sources.pcap.gz", gzip.compress((DATA / "sources.pcap").read_bytes()))
+        self.assertEqual(self.look(packed), self.look(DATA / "sources.pcap"))
         octets = (DATA / "gsm.pcap").read_bytes()
         given = self.path("link.pcap", octets[:20] + (147).to_bytes(4, "little") + octets[24:])
         self.assertEqual(self.look(given), [f"  not read: {given}: has a kind of link, 147, that isn't known here"])
