@@ -31,7 +31,7 @@ import wav_files
 from code_word import Marker
 from core.g711 import Law, expand_all
 from core.parameters import gsm_of_data
-from core.profile import PCM_OCTETS
+from core.profile import MOST_STAMP, PCM_OCTETS, PERIODS_A_SECOND, SAMPLES_A_SECOND
 from core.slots import CHANNELS, MOST_SLOTS, channel_octets, octets_turned
 from core.words import Option, Refusal, Words, as_started, number_within, one_of, option, switch
 from file_kinds import Kind, Look
@@ -84,6 +84,9 @@ def gsm(words: argparse.Namespace, given: bytes) -> Made:
 def listen(words: argparse.Namespace, given: bytes) -> Made:
     """A WAV file, from a downlink or an uplink."""
     octets, said = listening.alaw_of_line(words.given, given, words.trau)
+    if words.start is not None:
+        start = words.start / PERIODS_A_SECOND
+        said += f" run {start:.2f} to {start + len(octets) / SAMPLES_A_SECOND:.2f}"
     return Made(linear_wav(octets, Law.A), f"listen samples {len(octets)} {said}", WAV)
 
 
@@ -417,8 +420,13 @@ COMMANDS = (
         "give silence. Prints `listen samples N found speech A silence B idle C other D outside E`.\n\n"
         "Uplink: runs it by the program `trau` as a call with an idle Pcm line, so that lost speech, pauses and the search for frames\n"
         "sound as they do on the Out line. Prints `listen samples N uplink good G sid V invalid I bad U idle Z other O miss M none N`:\n"
-        "the counts of the run's report.",
+        "the counts of the run's report.\n\n"
+        "Times in the sound count from the call's first period, and not from the run's; `report.py losses` prints both.",
         "7.down call.wav",
+        option(
+            "--start", type=number_within(0, MOST_STAMP), metavar="PERIOD",
+            help="the call's first period, S of `call C from S ..` in the report: prints also `run A to B`, the sound's times in the run",
+        ),
         option("--trau", type=listening.program_named, metavar="PROGRAM", help="decode or run by this program and not by the library"),
     ),
     (

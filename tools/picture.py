@@ -367,7 +367,7 @@ class Picture:
             self.text(LEFT - 34, top + 11, f"call {call.number}", "name", "end")
             self.text(LEFT - 34, top + 26, f"{call.span.start} to {call.span.end}", "small", "end")
         shown = slice(max(0, self.first - call.span.start), max(0, self.last - call.span.start))
-        self.draw_band(call, looks.looks(call.sorts)[shown], Look, LOSSES, top, self.shape.band, "")
+        self.draw_band(call, looks.looks(call.brought())[shown], Look, LOSSES, top, self.shape.band, "")
         self.draw_downlink(call)
         if self.shape.level:
             self.draw_levels(call)

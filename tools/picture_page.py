@@ -78,7 +78,7 @@ def data_of_call(picture: Picture, call: Call, lines: call_lines.Lines) -> Dict[
         "start": start,
         "words": picture.row_words(call),
         "told": picture.outcomes[call.number].told(),
-        "up": packed(looks.looks(call.sorts)[shown]),
+        "up": packed(looks.looks(call.brought())[shown]),
         "down": packed(lines.down),
         **{side: packed(lines.levels.get(side, b"")) for side in call_lines.LEVEL_SIDES},
         "shifts": [list(shift) for shift in call.shifts() if picture.shows(shift.period)],

@@ -1,9 +1,9 @@
 #!/usr/bin/env python3
 """Prints what the report and the lines of a run say, as text, JSON or CSV.
 
-`text` reads a report aloud, after checking it against the grammar. `calls` prints the losses, pauses and comfort noise of each call.
-`compare` prints what differs between two runs, and from which period on. `sync` prints where and why the search for frames lost an
-uplink, and `kinds` of which kinds its frames are.
+`text` reads a report aloud, after checking it against the grammar. `calls` prints the losses, pauses and comfort noise of each call, and
+`losses` each loss. `events` prints what the network did to a gateway's calls. `compare` prints what differs between two runs, and from
+which period on. `sync` prints where and why the search for frames lost an uplink, and `kinds` of which kinds its frames are.
 """
 
 from __future__ import annotations
@@ -14,10 +14,11 @@ import argparse
 import csv
 import io
 import json
+import re
 import sys
 from collections import Counter
 from pathlib import Path
-from typing import Any, Callable, Dict, Iterator, List, NamedTuple, Optional, Sequence
+from typing import Any, Callable, Dict, Iterator, List, NamedTuple, Optional, Sequence, Tuple
 
 import frame_kinds
 import read_aloud
@@ -26,10 +27,11 @@ import run_texts
 import sync_losses
 from core.frame import bits_of
 from core.lines import OCTETS_OF_SIDE, SIDES, name_of, whole_periods
-from core.profile import FRAME_OCTETS, PERIODS_A_SECOND
+from core.profile import FRAME_OCTETS, PERIODS_A_SECOND, SILENT_FROM_LOST
 from core.report import COUNTS, Bridge, Report
 from core.search import period_of, search
 from core.words import Option, Refusal, Words, one_of, option, switch
+from recording_times import Clock, Times, whole_lines
 from run_lines import HEARDS, Call, Heard, Sent, longest, stretches
 from side_by_side import PROCESSES, Workers
 from tool_ends import tool
@@ -101,7 +103,7 @@ CALL_COLUMNS = (
     *("call", "periods", "speech", "lost", "rate", "longest", "from"),
     *("pauses", "noise", "longest_pause", "pause_from", "descriptors", "quiet"),
     *("down_frames", "down_speech", "down_descriptors", "down_idle", "down_handed"),
-    *("unused_up", "unused_pcm", "others"),
+    *("unused_up", "unused_pcm", "others", "utc"),
 )
 
 
@@ -169,17 +171,66 @@ def row_of_call(folder: Path, call: Call, bridges: Sequence[Bridge]) -> Row:
     }
 
 
-def calls(words: argparse.Namespace) -> Answer:
-    """The calls of a run by their lines."""
+def of_each_call(words: argparse.Namespace, what: Callable[..., Any]) -> List[Tuple[Call, Any]]:
+    """The calls of a run, or those that the words name, each with what this function says of its lines."""
     name = words.report or words.folder / "report.txt"
     report = run_texts.read_report(name)
     run_texts.hold_numbers(name, report, words.calls)
     pieces = [(words.folder, call, run_lines.bridges_of(call, report.bridges)) for call in run_lines.calls_of(report, words.calls)]
     octets = 2 * FRAME_OCTETS * sum(call.periods() for _, call, _ in pieces)
-    rows = list(Workers(words.processes).each("reading lines", row_of_call, pieces, octets))
-    notes = list(filter(None, map(note_on_others, rows)))
-    rows = [{column: row[column] for column in CALL_COLUMNS} for row in rows]
+    found = Workers(words.processes).each("reading lines", what, pieces, octets)
+    return [(call, each) for (_, call, _), each in zip(pieces, found)]
+
+
+def calls(words: argparse.Namespace) -> Answer:
+    """The calls of a run by their lines."""
+    times = Times(words.folder)
+    found = [{**row, "utc": times.said(call, call.span.start)} for call, row in of_each_call(words, row_of_call)]
+    notes = list(filter(None, map(note_on_others, found)))
+    rows = [{column: row[column] for column in CALL_COLUMNS} for row in found]
     return Answer(CALL_COLUMNS, rows, rows, notes=notes)
+
+
+# Each loss, and what the network did
+
+LOSS_COLUMNS = ("call", "period", "periods", "seconds", "until", "in_call", "repeated", "muted", "silence", "then", "utc")
+EVENT_COLUMNS = ("period", "seconds", "call", "what", "count", "utc")
+EVENT = re.compile(r"(\d{1,10}) call (\d{1,4})((?: \S+ \d{1,18})+)", re.ASCII)
+
+
+def rows_of_losses(folder: Path, call: Call, bridges: Sequence[Bridge]) -> List[Row]:
+    """The losses of a call's uplink, and what was made in place of the speech (docs/PROFILE.md, "Lost speech")."""
+    call.search(folder, bridges)
+    codes = call.heard()
+    rows: List[Row] = []
+    for loss in stretches(codes, Heard.LOST):
+        start, end = loss.start, loss.start + loss.length
+        seconds = [period / PERIODS_A_SECOND for period in (call.span.start + start, call.span.start + end, start)]
+        heard = (1, min(loss.length, SILENT_FROM_LOST - 1) - 1, max(0, loss.length - SILENT_FROM_LOST + 1))
+        then = HEARDS[codes[end]].value if end < len(codes) else "end"
+        rows.append(dict(zip(LOSS_COLUMNS, (call.number, call.span.start + start, loss.length, *seconds, *heard, then))))
+    return rows
+
+
+def losses(words: argparse.Namespace) -> Answer:
+    """Each loss of a run's uplinks."""
+    times = Times(words.folder)
+    found = of_each_call(words, rows_of_losses)
+    rows = [{**row, "utc": times.said(call, row["period"])} for call, of_call in found for row in of_call]
+    return Answer(LOSS_COLUMNS, rows, rows)
+
+
+def events(words: argparse.Namespace) -> Answer:
+    """What the network did to the calls of a recording."""
+    name, clock, rows = words.recording / "events.txt", Clock(words.recording), []
+    for number, line in enumerate(whole_lines(name), 1):
+        found = EVENT.fullmatch(line)
+        if not found:
+            raise Refusal(f"{name}: line {number} isn't one of a recording's events: {line[:60]!a}")
+        period, counts = int(found[1]), found[3].split()
+        row = {"period": period, "seconds": period / PERIODS_A_SECOND, "call": int(found[2]), "utc": clock.said(period)}
+        rows += [{**row, "what": what, "count": int(count)} for what, count in zip(counts[::2], counts[1::2])]
+    return Answer(EVENT_COLUMNS, rows, rows)
 
 
 # Two runs
@@ -368,6 +419,8 @@ def form(name: str, printed: Callable[[Answer], str], text: str) -> Option:
 
 JSON, CSV, TABLE = form("--json", as_json, "JSON"), form("--csv", as_csv, "CSV"), form("--table", as_text, "a table")
 UPLINK = option("uplink", type=Path, metavar="UPLINK", help="the Up line")
+FOLDER = option("folder", type=Path, metavar="FOLDER", help="the folder of the run")
+REPORT = option("--report", type=Path, metavar="FILE", help="the report of the run (default FOLDER/report.txt)")
 COMMANDS = (
     (
         text, "a report, checked, in sentences",
@@ -382,16 +435,38 @@ COMMANDS = (
     ),
     (
         calls, "losses, pauses and comfort noise of each call",
-        "A row for each call of a run. Uplink: periods of speech and of lost speech, the part of the lost ones in both (the frame\n"
-        "erasure rate), the longest loss and the period at which it begins; pauses, their periods of comfort noise, the longest\n"
-        "one; silence descriptors; quiet periods. Downlink: its frames by kind. Incoming lines: the periods that weren't used,\n"
-        "since the call had ended. Others: the uplink's frames that the report counts as `other`, by C1 to C5 (as `efr 731`). Below the\n"
-        "table a line names the kinds of each call that has no full rate speech, but such frames.",
+        "A row for each call of a run. Uplink: periods of `speech` and of `lost` speech, the `rate` of the lost ones in both (the frame\n"
+        "erasure rate), the `longest` loss and the period of the run in which it begins (`from`); `pauses`, their periods of comfort\n"
+        "`noise`, the longest one, and the period in which it begins; silence `descriptors`; `quiet` periods, in which nothing is heard\n"
+        "or the peer of a gateway hasn't begun. `down_..`: the downlink's frames by kind, 0 if it failed and is no file. `unused_..`:\n"
+        "whole periods of the incoming lines after the call's end. `others`: the frames that the report counts as `other`, by C1 to C5\n"
+        "(as `efr 731`). `utc`: when the call began, if its uplink is in a gateway's recording, or a link into one. Below the table a\n"
+        "line names the kinds of each call that has no full rate speech, but such frames.",
         one_of(JSON, CSV),
-        option("folder", type=Path, metavar="FOLDER", help="the folder of the run"),
-        option("--report", type=Path, metavar="FILE", help="the report of the run (default FOLDER/report.txt)"),
+        FOLDER,
+        REPORT,
         run_texts.CALLS,
         PROCESSES,
+    ),
+    (
+        losses, "each loss of the calls' speech",
+        "A row for each loss of an uplink, periods in a row whose speech was lost: its first `period`, how many `periods` it has, from\n"
+        "when (`seconds`) until when (`until`) it lasts in the run, and when it begins `in_call`, as in the sound of `lines.py listen`.\n"
+        "Instead of the speech were heard, or passed on in a bridge: the last good frame `repeated`, the same more and more `muted`,\n"
+        "`silence`; `then` came speech, noise (a pause), quiet or the call's end. `utc`: when it began, if the uplink is in a gateway's\n"
+        "recording, or a link into one. In a pause noise is heard of unusable frames: they may be lost or not sent, and aren't listed.",
+        one_of(JSON, CSV),
+        FOLDER,
+        REPORT,
+        run_texts.CALLS,
+        PROCESSES,
+    ),
+    (
+        events, "what the network did to the calls of a gateway's recording",
+        "A row for each count that rose: the period at which it was written, within a second, the call, the count with its side, by how\n"
+        "much, and UTC. `gateway.py --help` explains the counts.",
+        one_of(JSON, CSV),
+        option("recording", type=Path, metavar="RECORDING", help="the folder of the recording"),
     ),
     (
         compare, "what differs between two runs",

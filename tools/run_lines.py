@@ -11,10 +11,11 @@ from pathlib import Path
 from typing import Dict, Iterator, List, NamedTuple, Optional, Sequence
 
 import run_texts
-from core.frame import Sort
+from core.frame import Sort, bits_of, data_of
 from core.g711 import Law
 from core.lines import OCTETS_OF_SIDE, OUTGOING, SIDES, name_of
 from core.orders import Order
+from core.parameters import SILENCE, bits_of_parameters
 from core.profile import DOWN_IDLE, DOWN_SPEECH, FRAME_BITS, FRAME_OCTETS, PCM_OCTETS
 from core.report import Bridge, Reply, Report, Span
 from core.words import Refusal
@@ -32,7 +33,7 @@ class Heard(enum.Enum):
     SPEECH = "speech"
     LOST = "lost"  # made instead of lost speech
     NOISE = "noise"  # comfort noise, in a pause
-    QUIET = "quiet"  # nothing: before the first frame that can be used, and after an idle frame
+    QUIET = "quiet"  # nothing: before the first frame that can be used, and after an idle frame; of a gateway's call also until its peer begins
 
 
 def heard(sorts: Sequence[Sort]) -> Iterator[Heard]:
@@ -181,6 +182,8 @@ def sent(made: Made, octets: bytes) -> bytes:
 
 # A run
 
+SILENT_DATA = bits_of_parameters(SILENCE)  # D1 to D260
+
 
 @dataclass
 class Call:
@@ -193,6 +196,7 @@ class Call:
     sorts: bytes = b""  # the code of what each period yielded
     asking: List[Asking] = field(default_factory=list)
     made: List[Made] = field(default_factory=list)
+    is_primed: bool = False  # its first frame is one of silence, as a gateway makes it if the peer hasn't begun
 
     def periods(self) -> int:
         """How many periods it has."""
@@ -214,6 +218,7 @@ class Call:
     def take(self, octets: bytes, bridges: Sequence[Bridge]) -> None:
         """Takes the octets of the uplink over the call's periods."""
         self.sorts, self.asking = searched(octets)
+        self.is_primed = self.sorts[:1] == bytes([GOOD]) and data_of(bits_of(octets[:FRAME_OCTETS])) == SILENT_DATA
         self.made = list(frames_made(self.number, self.span.start, self.periods(), self.asking, bridges))
 
     def search(self, folder: Path, bridges: Sequence[Bridge]) -> None:
@@ -243,9 +248,13 @@ class Call:
         """The periods of the run in which the downlink's timing shifts, and by how many octets."""
         return (Asking(self.span.start + made.period(), made.shift) for made in self.made if made.shift)
 
+    def brought(self) -> bytes:
+        """The codes of what the base station sent in each period. A gateway's frame of silence counts as idle: nothing is lost after it."""
+        return bytes([IDLE]) + self.sorts[1:] if self.is_primed else self.sorts
+
     def heard(self) -> bytes:
         """The codes of what each period gives to be heard."""
-        return heard_codes(self.sorts)
+        return heard_codes(self.brought())
 
 
 def calls_of(report: Report, numbers: Optional[Sequence[int]] = None) -> Iterator[Call]:

@@ -23,6 +23,7 @@ PRINTS = (
     "orders.py check {}/orders.txt",
     "orders.py strip {}/orders.txt",
     "report.py text {}/report.txt",
+    "report.py losses {}",
     "report.py compare {} {}",
     "report.py --help",
     "timeline.py {} {}/run.svg",

@@ -244,6 +244,8 @@ class Listening(Recorded):
             said = self.lines("listen", up, self.path("1.wav"), "--trau", PROGRAM)
             wanted = "uplink good 31 sid 4 invalid 1 bad 117 idle 0 other 0 miss 0 none 0\n"
             self.assertEqual(said, f"listen samples 24480 {wanted}")
+            said = self.lines("listen", up, self.path("1.wav"), "--trau", PROGRAM, "--start", "1002")
+            self.assertEqual(said, f"listen samples 24480 {wanted[:-1]} run 20.04 to 23.10\n")
             self.lines("sound", WANTED / "1.out", self.path("other.wav"))
             octets = 44 + 2 * 160 * 120
             self.assertEqual(self.path("1.wav").read_bytes()[:octets], self.path("other.wav").read_bytes()[:octets])

@@ -1,4 +1,5 @@
-"""Tests of report.py: reports as JSON and CSV, the losses and pauses of calls, two runs beside each other, and lost sync."""
+"""Tests of report.py: reports as JSON and CSV, the losses and pauses of calls, what a gateway's recording says of its periods, two runs beside
+each other, and lost sync."""
 
 import csv
 import io
@@ -9,11 +10,15 @@ from collections import Counter
 
 from support import DATA, EXAMPLES, InFolder, frames_of_downlink
 
-from core.frame import Sort, bits_of, frame_of, octets_of
+from core.frame import Sort, UpFrame, bits_of, data_of, frame_of, octets_of, write_up
 from core.g711 import Law
+from core.parameters import SILENCE, bits_of_parameters
 from core.profile import DOWN_SPEECH, PCM_OCTETS
+from model.receive import Lost, needs
+from test_columns import frames_by_period
 from test_timeline import lay
 
+import looks
 import report
 import run_lines
 import run_texts
@@ -269,6 +274,146 @@ class Calls(Told):
         self.assert_refused(report.main, ["calls", folder], "2.up: gives good")
         (folder / "2.up").unlink()
         self.assert_refused(report.main, ["calls", folder], "2.up: No such file")
+
+
+SPEECH = data_of(bits_of((EXAMPLES / "7.up").read_bytes()[:40]))
+PRIMED = octets_of(write_up(UpFrame(Sort.GOOD, data=bits_of_parameters(SILENCE))))
+CLOCK = """0 every 1
+0 at 2026-11-30T22:59:40.000+00:00
+1010 given-up 100
+1025 at 2026-11-30T23:00:30.500+00:00
+1030 at 2026-11-30T23"""
+
+
+def kinds_of_loss(n):
+    """Which column counts the n-th lost frame."""
+    return "repeated" if n == 1 else "muted" if n <= 16 else "silence"
+
+
+class Recorded(Told):
+    """A run whose call 1 begins at period 1000, in its folder `run`."""
+
+    def setUp(self):
+        super().setUp()
+        self.run = self.folder / "run"
+        self.run.mkdir()
+
+    def lay_call(self, words, first=b""):
+        """Lays call 1, whose uplink has these sorts of frames in a row, after a first one."""
+        sorts = [Sort(word) for word in words.split()]
+        frames = first + b"".join(octets_of(write_up(UpFrame(sort, data=SPEECH))) for sort in sorts)
+        counts = Counter(sort.value for sort in (*sorts, *len(first) // 40 * [Sort.GOOD]))
+        periods = len(frames) // 40
+        said = " ".join(f"{sort.value} {counts[sort.value]}" for sort in Sort)
+        call = f"call 1 from 1000 to {1000 + periods} end up 0\ncounts 1 {said} made {periods}\n"
+        (self.run / "report.txt").write_text(f"order 1 ok\n{call}end period {1000 + periods} calls 1 left 0\n")
+        (self.run / "1.up").write_bytes(frames)
+        (self.run / "1.down").write_bytes(bytes(40 * periods))
+
+    def times(self, folder, command="losses"):
+        return [row["utc"] for row in self.rows(command, folder)]
+
+
+class Losses(Recorded):
+    WORDS = f"bad good {20 * 'bad '} good bad sid bad invalid good bad other idle bad good bad"
+
+    def test_rows(self):
+        self.lay_call(self.WORDS)
+        rows = self.rows("losses", self.run)
+        self.assertEqual(tuple(rows[0]), report.LOSS_COLUMNS)
+        wanted = """1 1002 20 20.04 20.44 0.04 1 15 4 speech
+1 1023 1 20.46 20.48 0.46 1 0 0 noise
+1 1028 2 20.56 20.6 0.56 1 1 0 quiet
+1 1033 1 20.66 20.68 0.66 1 0 0 end"""
+        self.assertEqual([list(row.values()) for row in rows], [[*line.split(), ""] for line in wanted.splitlines()])
+        self.assertEqual(json.loads(self.told("losses", self.run, "--json"))[3]["utc"], None)
+        self.assertEqual(self.told("losses", self.run).splitlines()[1].split(), [*wanted.split()[:10], "-"])
+        self.assertEqual(self.rows("losses", self.run, "--calls", "1", "--report", self.run / "report.txt"), rows)
+        self.assert_refused(report.main, ["losses", self.run, "--calls", "2"], "report.txt: has no call 2")
+        self.lay_call("good good sid bad bad")
+        self.assertEqual(self.told("losses", self.run), "  ".join(report.LOSS_COLUMNS) + "\n")
+
+    def test_what_is_heard_is_as_the_model_makes_it(self):
+        for name in ("mixed", "clean", "harsh", "mulaw"):
+            folder = lay_run(name, self.folder / name)
+            found = self.rows("losses", folder)
+            for number, call in run_lines.read_calls(folder, run_texts.read_report(folder / "report.txt")).items():
+                lost = [each.n for each in needs(frames_by_period(call.octets(folder, "up"))) if isinstance(each, Lost) and each.n]
+                rows = [row for row in found if row["call"] == str(number)]
+                for column in ("repeated", "muted", "silence"):
+                    wanted = sum(kinds_of_loss(n) == column for n in lost)
+                    self.assertEqual(sum(int(row[column]) for row in rows), wanted, (name, number, column))
+                self.assertEqual(sum(int(row["periods"]) for row in rows), len(lost))
+                self.assertEqual(len(rows), lost.count(1))
+
+    def test_a_peer_that_hasnt_begun_is_quiet(self):
+        # A gateway's uplink begins with a frame of silence, and has unusable frames until the base station sends.
+        for words, wanted, loss in (
+            ("bad bad invalid good good bad good", "quiet 4 speech 3 lost 1", "1006"),
+            ("bad bad sid bad", "quiet 3 speech 0 lost 0", None),
+            ("good bad", "quiet 1 speech 1 lost 1", "1002"),
+            ("bad bad bad", "quiet 4 speech 0 lost 0", None),
+        ):
+            self.lay_call(words, PRIMED)
+            row = self.rows("calls", self.run)[0]
+            self.assertEqual(" ".join(f"{word} {row[word]}" for word in ("quiet", "speech", "lost")), wanted, words)
+            self.assertEqual([row["period"] for row in self.rows("losses", self.run)], [loss] if loss else [])
+            self.assertIn(f"speech {row['speech']}, lost {row['lost']}", self.told("text", self.run / "report.txt"))
+        self.lay_call("bad bad", PRIMED)
+        (call,) = run_lines.read_calls(self.run, run_texts.read_report(self.run / "report.txt")).values()
+        self.assertEqual(looks.looks(call.brought()), bytes(looks.CODES[look] for look in (looks.Look.IDLE, looks.Look.QUIET, looks.Look.QUIET)))
+        # Speech is speech, and so is a frame of silence within it.
+        self.lay_call("good bad", octets_of(write_up(UpFrame(Sort.GOOD, data=SPEECH))) + PRIMED)
+        self.assertEqual([self.rows("calls", self.run)[0][word] for word in ("quiet", "speech", "lost")], ["0", "3", "1"])
+
+
+class Utc(Recorded):
+    TIMES = ["00.040", "02.460", "30.560", "30.660"]  # after 23:00:00
+
+    def setUp(self):
+        super().setUp()
+        self.lay_call(Losses.WORDS)
+        (self.run / "clock.txt").write_text(CLOCK)
+        (self.run / "orders.txt").write_text("1000 open 1\n1000 level 1 256\n")
+        self.wanted = [f"2026-11-30T23:00:{seconds}+00:00" for seconds in self.TIMES]
+
+    def test_of_a_recording(self):
+        self.assertEqual(self.times(self.run), self.wanted)
+        self.assertEqual(self.times(self.run, "calls"), ["2026-11-30T23:00:00.000+00:00"])
+
+    def test_of_a_replay(self):
+        # Its incoming lines are links into the recording, and its report is its own.
+        again = self.folder / "again"
+        again.mkdir()
+        (again / "1.up").symlink_to(self.run / "1.up")
+        (again / "1.down").write_bytes((self.run / "1.down").read_bytes())
+        (again / "report.txt").write_bytes((self.run / "report.txt").read_bytes())
+        self.assertEqual(self.times(again), self.wanted)
+
+    def test_of_other_lines(self):
+        # A clock says nothing of a run that opens the call at another period, or whose uplink is elsewhere.
+        (self.run / "orders.txt").write_text("1000 open 10\n999 open 1\n")
+        self.assertEqual(self.times(self.run), 4 * [""])
+        (self.run / "orders.txt").unlink()
+        self.assertEqual(self.times(self.run), 4 * [""])
+        (self.run / "clock.txt").write_text("no clock\n10 given-up 3\n")
+        self.assertEqual(self.times(self.run, "calls"), [""])
+        (self.run / "clock.txt").write_text("0 at 2026-13-30T22:59:40.000+00:00\n")
+        self.assert_refused(report.main, ["losses", self.run], "clock.txt: line 1 has no time: '0 at 2026-13")
+
+    def test_events(self):
+        events = self.run / "events.txt"
+        self.assert_refused(report.main, ["events", self.run], "events.txt: No such file")
+        events.write_text("1000 call 1 gsm-late 2 gsm-missing 3\n1050 call 12 pcm-other-port 1\n1100 call 1 gsm-la")
+        wanted = """1000 20.0 1 gsm-late 2 2026-11-30T23:00:00.000+00:00
+1000 20.0 1 gsm-missing 3 2026-11-30T23:00:00.000+00:00
+1050 21.0 12 pcm-other-port 1 2026-11-30T23:00:31.000+00:00"""
+        self.assertEqual([" ".join(row.values()) for row in self.rows("events", self.run)], wanted.splitlines())
+        (self.run / "clock.txt").unlink()
+        self.assertEqual(self.times(self.run, "events"), 3 * [""])
+        for bad in ("1000 call 1\n", "1000 call 1 gsm-late\n", "call 1 gsm-late 2\n", f"{10 ** 11} call 1 gsm-late 2\n"):
+            events.write_text(bad)
+            self.assert_refused(report.main, ["events", self.run], "events.txt: line 1 isn't one of a recording's events")
 
 
 class Compared(Told):
