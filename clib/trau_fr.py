@@ -13,6 +13,8 @@ The two sides of a call, a period at a time; the header trau_fr.h says what a ho
     samples = receiver.receive(octets)      # None for a period in which nothing came; by its code word a frame may be a descriptor
     frame = sender.send(samples, dtx=True)
     frame.octets, frame.speech              # 33 octets; False for a silence descriptor
+    line = receiver.receive_line(octets, law="alaw")    # the same for the 160 octets of a line, in less time
+    frame = sender.send_line(line, dtx=True, law="alaw")
 
 Samples have 16 bits, 8000 a second: array.array('h'), a numpy array of int16, or any other buffer of them. Bytes are taken as samples in
 the machine's byte order. Octets are bytes, a numpy array of uint8, or any other buffer of items of one octet. Arrays may be slices with
@@ -29,7 +31,7 @@ import enum
 import os
 from array import array
 from pathlib import Path
-from typing import Any, NamedTuple, Optional, Union
+from typing import Any, Dict, NamedTuple, Optional, Union
 
 SAMPLES = 160
 OCTETS = 33
@@ -136,12 +138,13 @@ class _SenderState(ctypes.Structure):
 
 
 _Samples = ctypes.c_int16 * SAMPLES
-_Octets = ctypes.c_uint8 * OCTETS
-_LineOctets = ctypes.c_uint8 * SAMPLES
-_TrauOctets = ctypes.c_uint8 * LINE_OCTETS
+_Octets = ctypes.c_char * OCTETS
+_LineOctets = ctypes.c_char * SAMPLES
+_TrauOctets = ctypes.c_char * LINE_OCTETS
 
 
-# The functions with a result or with arguments that aren't pointers; all others return nothing.
+# The functions with a result. Arguments are octets, arrays, references and integers, which the code below holds to their ranges; to have
+# ctypes convert them by declared types would take as long again as the call.
 _RESULTS = {
     "trau_fr_encoder_home": _EncoderState,
     "trau_fr_decoder_home": _DecoderState,
@@ -155,37 +158,32 @@ _RESULTS = {
     "trau_fr_read_uplink": ctypes.c_bool,
     "trau_fr_read_downlink": ctypes.c_bool,
 }
-_pointer, _kind, _flag = ctypes.c_void_p, ctypes.c_uint32, ctypes.c_bool
-_ARGUMENTS = {
-    "trau_fr_receiver_home": [ctypes.c_uint16],
-    "trau_fr_receive": [_pointer, _pointer, _kind, _flag, _pointer],
-    "trau_fr_hand": [_pointer, _pointer, _kind, _flag, _pointer],
-    "trau_fr_send": [_pointer, _pointer, ctypes.c_int16, _flag, _pointer],
-    "trau_fr_write_uplink": [_pointer, _kind, _flag, _pointer],
-    "trau_fr_write_downlink": [_pointer, _kind, _pointer],
-}
-_OTHERS = ("trau_fr_encode_octets", "trau_alaw_expand", "trau_alaw_compress", "trau_mulaw_expand", "trau_mulaw_compress")
+_OTHERS = ("trau_fr_encode_octets", "trau_fr_write_uplink", "trau_fr_write_downlink")
+_OTHERS += ("trau_alaw_expand", "trau_alaw_compress", "trau_mulaw_expand", "trau_mulaw_compress")
 
 
 def _load() -> ctypes.CDLL:
     """The library, with the types of its functions. Raises OSError if there is none, or one of an earlier version."""
     built = Path(os.environ.get("TRAU_CLIB") or Path(__file__).resolve().parent / "out") / "lib" / "libtrau_fr.so.1"
     library = ctypes.CDLL(str(built) if built.exists() else built.name)
-    for name in sorted({*_RESULTS, *_ARGUMENTS, *_OTHERS}):
+    for name in sorted({*_RESULTS, *_OTHERS}):
         function = getattr(library, name, None)
         if function is None:
             raise OSError(f"{library._name} has no {name}: it is of an earlier version")
         function.restype = _RESULTS.get(name)
-        if name in _ARGUMENTS:
-            function.argtypes = _ARGUMENTS[name]
     return library
 
 
 _library = _load()
+_EXPAND = {"alaw": _library.trau_alaw_expand, "mulaw": _library.trau_mulaw_expand}
+_COMPRESS = {"alaw": _library.trau_alaw_compress, "mulaw": _library.trau_mulaw_compress}
+_KINDS = tuple(Kind)
 
 
 def _octets_of(data: Buffer) -> bytes:
     """The octets of a buffer of octets."""
+    if type(data) is bytes:
+        return data
     view = memoryview(data)
     if view.itemsize != 1:
         raise ValueError(f"octets are wanted, and not items of the format {view.format}")
@@ -208,18 +206,24 @@ def _periods(data: bytes, size: int, what: str) -> int:
     return count
 
 
-def _frame_of(octets: Optional[Buffer]) -> Any:
+def _frame_of(octets: Optional[Buffer]) -> bytes:
     """The octets of one frame; zeros for None."""
-    data = bytes(OCTETS) if octets is None else _octets_of(octets)
+    data = octets if type(octets) is bytes else bytes(OCTETS) if octets is None else _octets_of(octets)
     if len(data) != OCTETS:
         raise ValueError(f"a frame has {OCTETS} octets, not {len(data)}")
-    return _Octets.from_buffer_copy(data)
+    return data
 
 
 def _in_range(value: int, least: int, most: int, what: str) -> int:
     if not least <= value <= most:
         raise ValueError(f"{what} {value} isn't from {least} to {most}")
     return value
+
+
+def _by_law(functions: Dict[str, Any], law: str) -> Any:
+    if law not in functions:
+        raise ValueError(f"{law}: the laws are alaw and mulaw")
+    return functions[law]
 
 
 class Encoder:
@@ -260,7 +264,7 @@ class Decoder:
 
 def kind_of(octets: Buffer) -> Kind:
     """The kind of a frame of 33 octets by its code word: Kind.LOST for one that can't be used."""
-    return Kind(_library.trau_fr_kind(_frame_of(octets)))
+    return _KINDS[_library.trau_fr_kind(_frame_of(octets))]
 
 
 class Receiver:
@@ -270,6 +274,7 @@ class Receiver:
     def __init__(self, seed: int = 0) -> None:
         """The seed starts the random numbers, 0 to 65535; `trau` takes the call's number."""
         self._state = _library.trau_fr_receiver_home(_in_range(seed, 0, 65535, "seed"))
+        self._samples, self._line = _Samples(), _LineOctets()
         self.quiet = True
 
     def _turn(self, function: Any, octets: Optional[Buffer], kind: Optional[int], taf: bool, out: Any) -> None:
@@ -277,21 +282,26 @@ class Receiver:
         if kind is None:
             kind = Kind.LOST if octets is None else _library.trau_fr_kind(frame)
         _in_range(kind, 0, 0xFFFFFFFF, "kind")
-        self.quiet = not function(ctypes.byref(self._state), frame, kind, taf, out)
+        self.quiet = not function(ctypes.byref(self._state), frame, kind, bool(taf), out)
 
     def receive(self, octets: Optional[Buffer], kind: Optional[int] = None, taf: bool = False) -> "array[int]":
         """The 160 samples of the next period, from the 33 octets of its frame, or None if none came. Without a kind, the code word of the
         frame says it. `taf`: the frame is lost, and a silence descriptor was due."""
-        samples, out = _Samples(), array("h")
-        self._turn(_library.trau_fr_receive, octets, kind, taf, samples)
-        out.frombytes(bytes(samples))
-        return out
+        self._turn(_library.trau_fr_receive, octets, kind, taf, self._samples)
+        return array("h", bytes(self._samples))
+
+    def receive_line(self, octets: Optional[Buffer], kind: Optional[int] = None, taf: bool = False, law: str = "alaw") -> bytes:
+        """The same, as 160 octets of a line."""
+        function = _by_law(_COMPRESS, law)
+        self._turn(_library.trau_fr_receive, octets, kind, taf, self._samples)
+        function(self._samples, self._line)
+        return self._line.raw
 
     def hand(self, octets: Optional[Buffer], kind: Optional[int] = None, taf: bool = False) -> bytes:
         """The next period in a bridge: the 33 octets that go on to the partner. The decoder is reset."""
         handed = _Octets()
         self._turn(_library.trau_fr_hand, octets, kind, taf, handed)
-        return bytes(handed)
+        return handed.raw
 
     def begin_bridge(self) -> None:
         """A bridge begins: the decoder is reset. `hand` does it in each period; this counts where the bridge ends before its first one."""
@@ -303,37 +313,48 @@ class Sender:
 
     def __init__(self) -> None:
         self._state = _library.trau_fr_sender_home()
+        self._samples, self._octets = _Samples(), _Octets()
 
     def send(self, samples: Buffer, level: int = LEVEL, dtx: bool = False) -> Sent:
         """What is sent for the next 160 samples. A frame whose peak is at least the level is speech; without `dtx`, each one is."""
-        data, octets = _samples_of(samples), _Octets()
+        data = _samples_of(samples)
         if len(data) != 2 * SAMPLES:
             raise ValueError(f"a period has {2 * SAMPLES} octets of samples, not {len(data)}")
-        period = _Samples.from_buffer_copy(data)
+        return self._turn(data, level, dtx)
+
+    def send_line(self, line: Buffer, level: int = LEVEL, dtx: bool = False, law: str = "alaw") -> Sent:
+        """The same for 160 octets of a line."""
+        data = _octets_of(line)
+        if len(data) != SAMPLES:
+            raise ValueError(f"a period has {SAMPLES} octets of a line, not {len(data)}")
+        _by_law(_EXPAND, law)(data, self._samples)
+        return self._turn(self._samples, level, dtx)
+
+    def _turn(self, samples: Any, level: int, dtx: bool) -> Sent:
         _in_range(level, -32768, 32767, "level")
-        speech = _library.trau_fr_send(ctypes.byref(self._state), period, level, dtx, octets)
-        return Sent(bytes(octets), speech)
+        speech = _library.trau_fr_send(ctypes.byref(self._state), samples, level, bool(dtx), self._octets)
+        return Sent(self._octets.raw, speech)
 
 
 def write_uplink(octets: Optional[Buffer], kind: int, taf: bool = False) -> bytes:
     """The 40 octets on the uplink of a TRAU line for what a period brought."""
     line = _TrauOctets()
-    _library.trau_fr_write_uplink(_frame_of(octets), _in_range(kind, 0, 0xFFFFFFFF, "kind"), taf, line)
-    return bytes(line)
+    _library.trau_fr_write_uplink(_frame_of(octets), _in_range(kind, 0, 0xFFFFFFFF, "kind"), bool(taf), line)
+    return line.raw
 
 
 def write_downlink(octets: Optional[Buffer], kind: int) -> bytes:
     """The 40 octets on the downlink of a TRAU line for a frame that is sent; an idle frame for Kind.IDLE."""
     line = _TrauOctets()
     _library.trau_fr_write_downlink(_frame_of(octets), _in_range(kind, 0, 0xFFFFFFFF, "kind"), line)
-    return bytes(line)
+    return line.raw
 
 
-def _line_of(octets: Buffer) -> Any:
+def _line_of(octets: Buffer) -> bytes:
     data = _octets_of(octets)
     if len(data) != LINE_OCTETS:
         raise ValueError(f"a frame on a line has {LINE_OCTETS} octets, not {len(data)}")
-    return _TrauOctets.from_buffer_copy(data)
+    return data
 
 
 def read_uplink(octets: Buffer) -> Line:
@@ -352,15 +373,9 @@ def read_downlink(octets: Buffer) -> Line:
     return Line(bytes(frame), Kind(kind.value), False)
 
 
-def _by_law(law: str, work: str) -> Any:
-    if law not in ("alaw", "mulaw"):
-        raise ValueError(f"{law}: the laws are alaw and mulaw")
-    return getattr(_library, f"trau_{law}_{work}")
-
-
 def expand(octets: Buffer, law: str = "alaw") -> "array[int]":
     """The samples of a line's octets, by "alaw" or "mulaw"; any number of octets."""
-    function, data = _by_law(law, "expand"), _octets_of(octets)
+    function, data = _by_law(_EXPAND, law), _octets_of(octets)
     samples, out = _Samples(), array("h")
     for at in range(0, len(data), SAMPLES):
         function(_LineOctets.from_buffer_copy(data[at : at + SAMPLES].ljust(SAMPLES, b"\0")), samples)
@@ -370,7 +385,7 @@ def expand(octets: Buffer, law: str = "alaw") -> "array[int]":
 
 def compress(samples: Buffer, law: str = "alaw") -> bytes:
     """The octets for samples on a line, by "alaw" or "mulaw"; any number of samples."""
-    function, data = _by_law(law, "compress"), _samples_of(samples)
+    function, data = _by_law(_COMPRESS, law), _samples_of(samples)
     octets, out = _LineOctets(), bytearray()
     count = _periods(data, 2, "samples")
     for at in range(0, len(data), 2 * SAMPLES):

@@ -6,11 +6,12 @@ octet for octet (docs/GATEWAY.md).
 sockets are open, and `ok` or `refused` for each line. It ends at an interrupt, SIGTERM, SIGHUP or --seconds. Status 0; 1 if a recording ended
 before; 2 if it was refused. `check` replays a recording and compares: status 0 if all is equal, 1 if not.
 
-Counts of a call: periods with speech, descriptor, invalid (a damaged descriptor), not-gsm, no-gsm, no-pcm. Of each side: packets that came,
+Counts of a call: periods with speech, descriptor, invalid (a damaged descriptor), not-gsm, no-gsm, no-pcm, and those held-up (late or given up,
+with the clock). Of each side: packets that came,
 those missing by their numbers, jitter in ms; late, doubled, far (a second off, once), jumps, slips-on, slips-back, given-up (with the clock),
 overflowed (no room in the kernel); refused: stranger, other-address (of this host), other-port, other-type, odd-size, empty, too-long, not-rtp,
 probation (of a new-source), fault (of the gateway); sent, unsent, unreachable (the peer's port is closed); rtcp, rtcp-sent, far-lost (by the
-peer's reports).
+peer's reports). What the last fault was, and why the last packet was unsent, comes after them.
 """
 
 from __future__ import annotations

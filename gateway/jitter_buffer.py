@@ -39,6 +39,7 @@ class JitterBuffer:
     def start(self, tick: int) -> None:
         """Begins anew: the sender's period 0 has come at this tick."""
         self.periods: Dict[int, Laid] = {}
+        self.newest = -1  # of all that were held
         self.played: List[Tuple[Optional[int], int]] = [(None, 0)] * KEPT  # period p at p % KEPT, with what it lacked
         self.shift = -tick - self.depth
         self.was_late = False  # the newest packet
@@ -64,6 +65,8 @@ class JitterBuffer:
 
     def laid(self, period: int) -> Laid:
         """What is held of a period, and which octets are neither held nor were played."""
+        if period > self.newest:  # as most are
+            return self.filler, self.whole
         laid = self.periods.get(period)
         if laid:
             return laid
@@ -75,17 +78,20 @@ class JitterBuffer:
         margin says something about the path."""
         octets, missing = self.laid(period)
         end = part + len(piece)
-        places = (1 << end) - (1 << part)
-        if not missing & places:
+        is_whole = len(piece) == len(self.filler)
+        places = missing if is_whole else missing & (1 << end) - (1 << part)
+        if not places:
             return "doubled"
-        margin = self.margin(period, tick)
+        margin = period - self.shift - tick
         if is_watched:
             self.margins.append(margin)
         if margin < 0:
             if is_watched:
                 self.straggle(margin, tick)
             return "late"
-        self.periods[period] = octets[:part] + piece + octets[end:], missing & ~places
+        self.periods[period] = (piece, 0) if is_whole else (octets[:part] + piece + octets[end:], missing ^ places)
+        if period > self.newest:
+            self.newest = period
         return ""
 
     def follow(self, margin: int, tick: int) -> None:

@@ -35,23 +35,26 @@ class Endpoint:
 
     def __init__(self, side: Side, is_strict: bool, incoming: Incoming) -> None:
         self.peer, self.is_strict, self.incoming = side.peer, is_strict, incoming
-        self.port: Optional[int] = None  # of the peer, that is heard
+        self.sender: Optional[Address] = None  # that is heard
 
     def arrived(self, data: bytes, sender: Address, tick: int, behind: int) -> None:
         """Takes a datagram, if it is the peer's."""
+        if sender == self.sender or self.hears(sender, tick):
+            try:
+                self.incoming.packet(data, tick, behind)
+            except Exception as failure:  # whatever one call's network brings, the others go on
+                self.incoming.fail("fault", failure)
+
+    def hears(self, sender: Address, tick: int) -> bool:
+        """Whether another sender than before is heard from now on."""
+        heard = self.incoming.heard
         if sender[0] != self.peer[0] or self.is_strict and sender != self.peer:
             self.incoming.counts["stranger"] += 1
-            return
-        heard = self.incoming.heard
-        if sender[1] != self.port:
-            if self.port is not None and heard is not None and tick - heard < KEEPS_PORT:
-                self.incoming.counts["other-port"] += 1
-                return
-            self.port = sender[1]
-        try:
-            self.incoming.packet(data, tick, behind)
-        except Exception:  # whatever one call's network brings, the others go on
-            self.incoming.counts["fault"] += 1
+        elif self.sender and heard is not None and tick - heard < KEEPS_PORT:
+            self.incoming.counts["other-port"] += 1
+        else:
+            self.sender = sender
+        return self.sender == sender
 
 
 def prepare(one: socket.socket, buffer: int) -> None:
@@ -157,8 +160,8 @@ class SocketEndpoint(Endpoint):
         """Counts the RTCP that came, and answers the peer's reports by one."""
         try:
             self.answer(reports, period)
-        except Exception:  # as in `arrived`
-            self.incoming.counts["fault"] += 1
+        except Exception as failure:  # as in `arrived`
+            self.incoming.fail("fault", failure)
 
     def answer(self, reports: Reports, period: int) -> None:
         """Answers all reports that came by one."""
@@ -178,21 +181,30 @@ class SocketEndpoint(Endpoint):
                 self.socket.recvmsg(0, 0, socket.MSG_ERRQUEUE)
                 self.incoming.counts["unreachable"] += 1
 
+    def receive(self) -> Tuple[bytes, Address]:
+        """The next datagram, and who sent it. Once a strict peer was heard, what comes is of it alone, and nobody asks the kernel."""
+        if self.is_strict and self.sender:
+            return self.socket.recv(MOST_DATAGRAM), self.sender
+        return self.socket.recvfrom(MOST_DATAGRAM)
+
     def close(self) -> None:
         """Closes the sockets."""
         self.opened.close()
 
     def send(self, datagram: bytes) -> None:
         """Sends to the peer; what can't be sent is counted and gone."""
-        for _ in range(2):  # at first, it may be the ICMP answer to an earlier packet that fails
+        for is_last in (False, True):  # at first, it may be the ICMP answer to an earlier packet that fails
             try:
-                self.socket.sendto(datagram, self.peer)
+                if self.is_strict:  # the socket is connected, which spares the kernel a search for the way
+                    self.socket.send(datagram)
+                else:
+                    self.socket.sendto(datagram, self.peer)
                 return
-            except ConnectionRefusedError:
-                self.incoming.counts["unreachable"] += self.is_strict  # else it is in the queue too
-            except OSError:
-                continue
-        self.incoming.counts["unsent"] += 1
+            except OSError as failure:
+                if isinstance(failure, ConnectionRefusedError):
+                    self.incoming.counts["unreachable"] += self.is_strict  # else it is in the queue too
+                if is_last:
+                    self.incoming.fail("unsent", failure)
 
 
 class Network:
@@ -250,7 +262,7 @@ class Network:
                 if events & select.EPOLLERR and not endpoint.is_strict:
                     endpoint.count_errors()
                 try:
-                    data, sender = endpoint.socket.recvfrom(MOST_DATAGRAM)
+                    data, sender = endpoint.receive()
                 except BlockingIOError:
                     continue
                 except OSError:  # an ICMP answer to what was sent

@@ -19,14 +19,17 @@ from typing import Callable, Dict, Iterable, List, Optional, Set, Tuple
 
 from core.lines import SIDES
 from core.profile import MOST_ORDERS, MOST_ORDER_OCTETS
+from core.words import Refusal
 
 NEW = os.O_WRONLY | os.O_CREAT | os.O_EXCL | os.O_APPEND
 FIRST_DOWN = b"\xff" * 40
 CLOSE_OCTETS = len("4294967294 close 4096\n")
 MOST_WAITING = 32 << 20  # octets that wait for the disk, some 8 s of 200 calls
 LAST_WRITES = 10  # seconds that the disk has at the end
+TO_BEGIN = 0.02  # seconds that it has to make a folder while calls go on
 CLOCK, EVENTS, ORDERS = "clock.txt", "events.txt", "orders.txt"
 
+Period = Tuple[bytes, bytes, bytes, bytes]  # of Up, Pcm, Down and Out
 Work = Callable[[], object]
 Given = Tuple[float, Optional[int], Work]  # since when it waits, its octets (None: it is done also after a failure), and what is done
 
@@ -78,10 +81,13 @@ class Recorder:
         self.folder, self.every, self.say, self.first = folder, every, say, first
         self.texts: Dict[str, int] = {}
         self.descriptors: Dict[int, List[int]] = {}
-        self.held: Dict[int, List[List[bytes]]] = {}
+        self.held: Dict[int, List[Period]] = {}
+        self.down: Dict[int, bytes] = {}  # that a call's Down has next
+        self.due: List[int] = []  # calls of which enough is held for a write
         self.used: Set[int] = set()  # numbers of calls: each serves once
         self.orders = self.order_octets = 0
         self.has_ended = self.is_behind = False
+        self.reason = ""  # why it has ended
         self.given = self.written = 0  # octets, by the two threads
         self.oldest: Optional[float] = None  # since when that waits which the thread does now
         self.work: "queue.SimpleQueue[Optional[Given]]" = queue.SimpleQueue()
@@ -94,6 +100,19 @@ class Recorder:
         for name in (ORDERS, CLOCK, EVENTS):
             self.texts[name] = os.open(self.folder / name, NEW, 0o600)
         write_all(self.texts[CLOCK], f"0 every {self.every}\n".encode())
+
+    def make_soon(self) -> None:
+        """Makes the folder by the thread, as the disk may be slow. Raises Refusal if it says in time that it can't be had; else that ends the
+        recording."""
+        said: List[str] = []
+        say, self.say, is_made = self.say, said.append, threading.Event()
+        self.attempt(0, self.make)
+        self.put(None, is_made.set)
+        is_made.wait(TO_BEGIN)
+        self.say = say
+        if self.has_ended:
+            self.end()
+            raise Refusal(self.reason)
 
     def has_room(self, orders: int, opens: int = 0) -> bool:
         """Whether a run will take so many orders more, and then a `close` of each open call."""
@@ -133,7 +152,7 @@ class Recorder:
     def fail(self, reason: str) -> None:
         """Ends the recording, and says so once."""
         if not self.has_ended:
-            self.has_ended = True
+            self.reason, self.has_ended = reason, True
             self.say(f"recording {self.folder} ended: {reason}")
 
     def look_after(self, period: int) -> None:
@@ -180,28 +199,36 @@ class Recorder:
         descriptors: List[int] = []
         self.descriptors[call] = descriptors
         self.used.add(call)
-        self.held[call] = [[], [], [FIRST_DOWN], []]
+        self.held[call], self.down[call] = [], FIRST_DOWN
         self.attempt(0, lambda: descriptors.extend(os.open(self.folder / f"{call}.{side}", NEW, 0o600) for side in SIDES))
 
-    def period(self, call: int, up: bytes, pcm: bytes, down: bytes, out: bytes) -> None:
+    def period(self, call: int, period: Period) -> None:
         """Holds a period of a call. It is written by `write`, after the packets of all calls have left."""
-        for row, octets in zip(self.held[call], (up, pcm, down, out)):
-            row.append(octets)
+        held = self.held[call]
+        held.append(period)
+        if len(held) >= self.every:
+            self.due.append(call)
 
-    def write(self, call: int, least: int = 0) -> None:
-        """Writes what is held of a call, if that is enough periods: one write for each line, as a kill hardly comes within one."""
-        periods, descriptors = len(self.held[call][0]), self.descriptors[call]
-        if periods < (least or self.every):
-            return
-        lines = [b"".join(row[:periods]) for row in self.held[call]]
-        for row in self.held[call]:
-            del row[:periods]
-        self.attempt(sum(map(len, lines)), lambda: [write_all(*each) for each in zip(descriptors, lines)])
+    def write(self) -> None:
+        """Writes what is held of the calls that are due: one write for each line, as a kill hardly comes within one."""
+        if self.due:
+            written = [(self.descriptors[call], self.lines(call)) for call in self.due if self.held[call]]
+            self.due = []
+            octets = sum(len(line) for _, lines in written for line in lines)
+            self.attempt(octets, lambda: [write_all(*each) for pair in written for each in zip(*pair)])
+
+    def lines(self, call: int) -> List[bytes]:
+        """Takes what is held of a call, as four parts of its lines."""
+        held, self.held[call] = self.held[call], []
+        up, pcm, down, out = zip(*held)
+        before, self.down[call] = self.down[call], down[-1]
+        return [b"".join(parts) for parts in (up, pcm, (before, *down[:-1]), out)]
 
     def close(self, call: int) -> None:
         """Writes what is held of a call and closes its lines."""
-        self.write(call, 1)
-        del self.held[call]
+        self.due.append(call)
+        self.write()
+        del self.held[call], self.down[call]
         descriptors = self.descriptors.pop(call)
         self.put(None, lambda: close_all(descriptors))
 

@@ -1,7 +1,8 @@
 """The check of a recording: `trau run` makes its outgoing lines again in another folder, and they are compared octet for octet.
 
 If clock.txt says that the recording ended, all must be there. Else a kill or a full disk has cut lines anywhere: only whole periods count, and
-all calls end at one period, since a bridge would else end elsewhere. A line that lacks more than that takes is a difference.
+all calls end at one period, since a bridge would else end elsewhere. A line that lacks more than that takes is a difference, and a recording
+of which nothing is left to compare isn't equal.
 """
 
 from __future__ import annotations
@@ -182,8 +183,8 @@ def compared(folder: Path, again: Path, call: Recorded, end: Optional[int]) -> s
 def replay_in(folder: Path, again: Path, program: str) -> bool:
     """Replays and compares in this folder; the result is whether all is equal."""
     orders = whole_orders(folder)
-    calls = calls_of(folder, orders)
-    short = short_ones(calls, slack_of(folder))
+    calls, slack = calls_of(folder, orders), slack_of(folder)
+    short = short_ones(calls, slack)
     calls = [call for call in calls if call not in short]
     end = end_of(calls)
     if end is not None:
@@ -201,6 +202,9 @@ def replay_in(folder: Path, again: Path, program: str) -> bool:
     lines = [compared(folder, again, call, end) for call in calls] if is_replayed else []
     differ = len(short) + sum(not line.endswith(" equal") for line in lines)
     print(*lines, f"calls {len(short) + len(lines)} differ {differ}", sep="\n")
+    if slack and not any(call.periods(end) for call in calls):
+        print("it has no end, and nothing was compared")
+        return False
     return differ == 0
 
 

@@ -8,7 +8,7 @@ import struct
 from collections import Counter
 from typing import List, Optional
 
-from rtp import NUMBERS, SAMPLES, STAMPS, Outgoing, Packet
+from rtp import NUMBERS, SAMPLES, STAMPS, Outgoing
 
 SENDER_REPORT, RECEIVER_REPORT, DESCRIPTION = 200, 201, 202  # packet types
 NAME = 1  # the item CNAME of a description
@@ -37,23 +37,24 @@ def signed(number: int, bits: int) -> int:
 class Reception:
     """What came of one source (A.3, A.8). Packets are read at ticks, so jitter is seen in whole ticks."""
 
-    def __init__(self, packet: Packet) -> None:
-        self.source, self.first, self.highest = packet.source, packet.number, packet.number - 1
+    def __init__(self, source: int, first: int) -> None:
+        """`first` is the number of the first packet."""
+        self.source, self.first, self.highest = source, first, first - 1
         self.received = self.jitter = 0  # packets; 16 times the jitter, in units of the time stamp
         self.transit: Optional[int] = None
         self.reported = 0, 0  # packets that were due, and that came, at the last report
         self.wild: Optional[int] = None  # the number with which a sender that begins anew goes on
 
-    def count(self, packet: Packet, tick: Optional[int]) -> None:
+    def count(self, number: int, stamp: int, tick: Optional[int]) -> None:
         """Counts a packet, also a late or doubled one. A late tick says nothing about its arrival, and is None."""
-        ahead = packet.number - self.highest & NUMBERS
-        if MOST_GAP < ahead < 0x10000 - MOST_GAP and not self.begins_anew(packet.number, ahead):
-            return
-        self.received += 1
+        ahead = number - self.highest & NUMBERS
         if ahead <= MOST_GAP:
             self.highest += ahead
-        before, self.transit = self.transit, None if tick is None else SAMPLES * tick - packet.stamp
-        if before is not None and self.transit is not None and (self.jitter or before != self.transit):
+        elif ahead < 0x10000 - MOST_GAP and not self.begins_anew(number, ahead):
+            return
+        self.received += 1
+        before, self.transit = self.transit, None if tick is None else SAMPLES * tick - stamp
+        if (self.jitter or before != self.transit) and before is not None and self.transit is not None:
             self.smooth(abs(signed(self.transit - before, 32)))
 
     def begins_anew(self, number: int, ahead: int) -> bool:

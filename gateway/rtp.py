@@ -4,7 +4,7 @@ from __future__ import annotations
 
 import os
 import struct
-from typing import Callable, NamedTuple
+from typing import Callable, Tuple
 
 MULAW, GSM, ALAW = 0, 3, 8  # payload types
 SAMPLES = 160  # of a period, in units of the time stamp
@@ -16,14 +16,7 @@ class Refused(Exception):
     """A packet that isn't taken; the text is the reason under which it is counted."""
 
 
-class Packet(NamedTuple):
-    """What came: payload type, sequence number, time stamp, source (SSRC) and payload."""
-
-    kind: int
-    number: int
-    stamp: int
-    source: int
-    payload: bytes
+Packet = Tuple[int, int, int, int, bytes]  # what came: payload type, sequence number, time stamp, source (SSRC) and payload
 
 
 def payload_of(data: bytes) -> bytes:
@@ -44,14 +37,15 @@ def payload_of(data: bytes) -> bytes:
 
 def parse(data: bytes) -> Packet:
     """The packet in a datagram. Raises Refused if it is none, or RTCP on the same port (RFC 5761)."""
-    if len(data) < HEADER.size or data[0] >> 6 != 2:
+    if len(data) < HEADER.size:
         raise Refused("not-rtp")
     first, second, number, stamp, source = HEADER.unpack_from(data)
+    if first >> 6 != 2:
+        raise Refused("not-rtp")
     kind = second & 127
     if 64 <= kind <= 95:
         raise Refused("rtcp")
-    payload = payload_of(data) if first & 63 else data[HEADER.size :]
-    return Packet(kind, number, stamp, source, payload)
+    return kind, number, stamp, source, payload_of(data) if first & 63 else data[HEADER.size :]
 
 
 class Outgoing:

@@ -31,23 +31,24 @@ class Connection:
     phase: int
     recorder: Union[Recorder, NoRecorder]
     endpoints: Dict[str, SocketEndpoint] = field(default_factory=dict)
-    noted: Counter[str] = field(default_factory=Counter)  # counts up to the last events
-    seen: Dict[str, Tuple[Optional[int], Counter[str]]] = field(default_factory=dict)  # by sides: when it was heard last, and the counts then
+    noted: Dict[str, int] = field(default_factory=dict)  # counts up to the last events
+    seen: Dict[str, Tuple[Optional[int], Dict[str, int]]] = field(default_factory=dict)  # by sides: when it was heard last, and the counts then
 
     def events(self) -> str:
         """What the network did since it was asked last: counts that rose."""
-        counts = Counter({f"{side}-{name}": count for side, stream in self.call.sides.items() for name, count in stream.faults().items()})
-        risen, self.noted = counts - self.noted, counts
-        return " ".join(f"{name} {count}" for name, count in sorted(risen.items()))
+        counts = {f"{side}-{name}": count for side, stream in self.call.sides.items() for name, count in stream.faults().items()}
+        before, self.noted = self.noted, counts
+        risen = {name: count - before.get(name, 0) for name, count in counts.items() if count > before.get(name, 0)}
+        return " ".join(f"{name} {count}" for name, count in sorted(risen.items())) + self.call.faults(risen)
 
     def reason(self, side: str) -> str:
         """What was refused most since a side was heard, to the second; empty if nothing was."""
         incoming = self.call.sides[side].incoming
-        heard, counts = self.seen.get(side, (None, Counter()))
+        heard, counts = self.seen.get(side, (None, {}))
         if heard != incoming.heard:
-            self.seen[side] = incoming.heard, incoming.counts.copy()
+            self.seen[side] = incoming.heard, dict(incoming.counts)
             return ""
-        risen = incoming.counts - counts
+        risen = incoming.counts - Counter(counts)
         return next((f": {reason} {count}" for reason, count in risen.most_common() if reason in REFUSED), "")
 
 
@@ -195,12 +196,12 @@ class Switchboard:
         self.say(self.connection(words[0]).call.summary(f"at {period}"))
 
     def record(self, words: List[str], period: int) -> None:
-        """Begins a recording in a new folder, for calls that are opened from now on. If the folder can't be made, it ends."""
+        """Begins a recording in a new folder, for calls that are opened from now on."""
         if "\0" in words[0]:
             raise Refusal("a folder's name has no NUL")
         recorder = Recorder(Path(words[0]), self.recorders[-1].every, self.say, period)
         if self.is_running:
-            recorder.attempt(0, recorder.make)
+            recorder.make_soon()
         else:
             recorder.make()
         recorder.time(period)
@@ -225,10 +226,13 @@ class Switchboard:
         for connection in connections:
             connection.call.hear(period)
         for connection in connections:
-            send_gsm, send_pcm = connection.endpoints["gsm"].send, connection.endpoints["pcm"].send
-            connection.recorder.period(connection.call.number, *connection.call.speak(period, send_gsm, send_pcm))
-        for connection in connections:
-            connection.recorder.write(connection.call.number)
+            call, endpoints = connection.call, connection.endpoints
+            connection.recorder.period(call.number, call.speak(period, endpoints["gsm"].send, endpoints["pcm"].send))
+        for recorder in self.recorders:
+            recorder.write()
+        if behind:
+            for connection in connections:
+                connection.call.counts["held-up"] += 1
 
     def give_up(self, periods: int, period: int) -> None:
         """The clock has given up time, in all calls alike. What came in it is old, and dropped."""

@@ -194,8 +194,9 @@ def calls(words: argparse.Namespace) -> Answer:
 # Each loss, and what the network did
 
 LOSS_COLUMNS = ("call", "period", "periods", "seconds", "until", "in_call", "repeated", "muted", "silence", "then", "utc")
-EVENT_COLUMNS = ("period", "seconds", "call", "what", "count", "utc")
-EVENT = re.compile(r"(\d{1,10}) call (\d{1,4})((?: \S+ \d{1,18})+)", re.ASCII)
+EVENT_COLUMNS = ("period", "seconds", "call", "what", "count", "why", "utc")
+EVENT = re.compile(r"(\d{1,10}) call (\d{1,4})((?: \S+ \d{1,18})+)((?:, .*)?)", re.ASCII)
+REASON = re.compile(r", ((?:gsm|pcm)-\S+): (.*?)(?=, (?:gsm|pcm)-\S+: |$)")
 
 
 def rows_of_losses(folder: Path, call: Call, bridges: Sequence[Bridge]) -> List[Row]:
@@ -229,7 +230,8 @@ def events(words: argparse.Namespace) -> Answer:
             raise Refusal(f"{name}: line {number} isn't one of a recording's events: {line[:60]!a}")
         period, counts = int(found[1]), found[3].split()
         row = {"period": period, "seconds": period / PERIODS_A_SECOND, "call": int(found[2]), "utc": clock.said(period)}
-        rows += [{**row, "what": what, "count": int(count)} for what, count in zip(counts[::2], counts[1::2])]
+        reasons = dict(REASON.findall(found[4]))
+        rows += [{**row, "what": what, "count": int(count), "why": reasons.get(what, "")} for what, count in zip(counts[::2], counts[1::2])]
     return Answer(EVENT_COLUMNS, rows, rows)
 
 
@@ -464,7 +466,7 @@ COMMANDS = (
     (
         events, "what the network did to the calls of a gateway's recording",
         "A row for each count that rose: the period at which it was written, within a second, the call, the count with its side, by how\n"
-        "much, and UTC. `gateway.py --help` explains the counts.",
+        "much, why (of a fault of the gateway), and UTC. `gateway.py --help` explains the counts.",
         one_of(JSON, CSV),
         option("recording", type=Path, metavar="RECORDING", help="the folder of the recording"),
     ),

@@ -150,6 +150,18 @@ class Sides(unittest.TestCase):
         self.assertEqual([each.speech for each in pause], [True] * 4 + [False] * 5)
         self.assertEqual(trau_fr.kind_of(pause[-1].octets), trau_fr.Kind.DESCRIPTOR)
 
+    def test_octets_of_a_line(self) -> None:
+        line = (VECTORS / "harsh.pcm").read_bytes()
+        for law in ("alaw", "mulaw"):
+            sender, receiver, whole, heard = trau_fr.Sender(), trau_fr.Receiver(7), trau_fr.Sender(), trau_fr.Receiver(7)
+            for at in range(0, len(line), 160):
+                sent = sender.send_line(line[at : at + 160], 9000, True, law)
+                self.assertEqual(sent, whole.send(trau_fr.expand(line[at : at + 160], law), 9000, True))
+                taf = at % 480 == 0
+                came = receiver.receive_line(sent.octets, trau_fr.Kind.LOST if taf else None, taf, law)
+                wanted = heard.receive(sent.octets, trau_fr.Kind.LOST if taf else None, taf)
+                self.assertEqual((came, receiver.quiet), (trau_fr.compress(wanted, law), heard.quiet))
+
     def test_buffers(self) -> None:
         samples = trau_fr.expand((VECTORS / "harsh.pcm").read_bytes()[:160])
         wanted, heard = trau_fr.Sender().send(samples), trau_fr.Receiver().receive(self.frame)
@@ -181,6 +193,10 @@ class Sides(unittest.TestCase):
             lambda: receiver.receive(samples[:33]),
             lambda: sender.send(samples[1:]),
             lambda: sender.send(samples, 32768),
+            lambda: sender.send_line(bytes(161)),
+            lambda: sender.send_line(bytes(160), law="beta"),
+            lambda: receiver.receive_line(self.frame, law="beta"),
+            lambda: receiver.receive_line(self.frame, -1),
             lambda: trau_fr.write_uplink(self.frame, -1),
         ):
             with self.assertRaises(ValueError):

@@ -79,9 +79,8 @@ class Packets(unittest.TestCase):
         sources = b"\x82" + fields + bytes(8)
         extension = b"\x90" + fields + b"\xbe\xde\x00\x01" + bytes(4)
         padding = b"\xa0" + fields
-        self.assertEqual(rtp.parse(sources + ONE).payload, ONE)
-        self.assertEqual(rtp.parse(extension + ONE).payload, ONE)
-        self.assertEqual(rtp.parse(padding + ONE + b"\0\0\3").payload, ONE)
+        for data in (sources + ONE, extension + ONE, padding + ONE + b"\0\0\3"):
+            self.assertEqual(rtp.parse(data)[-1], ONE)
 
     def test_no_packets(self):
         fields = header(3, 7, 160, 9)[1:]
@@ -251,9 +250,9 @@ class Receptions(unittest.TestCase):
 
     def reception(self, numbers, first=0):
         """What came of packets with these numbers, each in the tick of its number."""
-        came = Reception(rtp.Packet(3, first, 0, 5, ONE))
+        came = Reception(5, first)
         for number in numbers:
-            came.count(rtp.Packet(3, number & 0xFFFF, 160 * number & rtp.STAMPS, 5, ONE), number)
+            came.count(number & 0xFFFF, 160 * number & rtp.STAMPS, number)
         return came
 
     def block(self, came):
@@ -268,7 +267,7 @@ class Receptions(unittest.TestCase):
         came = self.reception([n for n in numbers if n % 4], 0xFFF0)
         self.assertEqual((came.missing(), self.block(came)), (8, (64, 8, 0x1000F, 0)))
         for _ in range(9):
-            came.count(rtp.Packet(3, 15, 0, 5, ONE), None)
+            came.count(15, 0, None)
         self.assertEqual(self.block(came), (0, 0xFFFFFF, 0x1000F, 0))
 
     def test_a_late_packet_isnt_lost(self):
@@ -283,13 +282,13 @@ class Receptions(unittest.TestCase):
         self.assertEqual((came.received, came.missing(), self.block(came)[2]), (201, 0, 200))
 
     def test_jitter(self):
-        came = Reception(rtp.Packet(3, 0, 0, 5, ONE))
+        came = Reception(5, 0)
         for number in range(1000):
-            came.count(rtp.Packet(3, number, 160 * number, 5, ONE), number + number % 2)
+            came.count(number, 160 * number, number + number % 2)
         self.assertEqual(self.block(came)[3], 159)  # it comes up to 160, and is cut down
         before = came.jitter
         for tick in (None, 5000, 9000):  # late ticks and jumps aren't jitter
-            came.count(rtp.Packet(3, 1000, 160_000, 5, ONE), tick)
+            came.count(1000, 160_000, tick)
         self.assertEqual(came.jitter, before)
 
 
@@ -316,7 +315,7 @@ class Answers(unittest.TestCase):
         wanted = struct.pack(">IIIIII", 5, 0, 4, 0, 0x33445566, 3 << 15)
         self.assertEqual(self.answer(1, came, reports)[1][28:52], wanted)
         reports.take(sender_report(6, 0x1122334455667788), self.NOW)  # of a source that isn't heard
-        came.count(rtp.Packet(3, 5, 800, 5, ONE), 5)
+        came.count(5, 800, 5)
         self.assertEqual(self.answer(1, came, reports)[1][44:52], bytes(8))
         self.assertEqual(self.answer(1, came, reports)[1][:4], bytes((0x80, 200, 0, 6)))  # nothing came since
 
@@ -379,9 +378,9 @@ class Fuzz(unittest.TestCase):
         whole, came, taken = b"\xb2" + header(3, 7, 160, 9)[1:] + bytes(8) + b"\xbe\xde\0\1" + bytes(4) + ONE + b"\0\0\3", None, 0
         for data in self.datagrams(50_000, lambda draw: hostile_packet(draw, 3), whole):
             with contextlib.suppress(rtp.Refused):
-                packet = rtp.parse(data)
-                came = came or Reception(packet)
-                came.count(packet, taken)
+                _, number, stamp, source, _ = rtp.parse(data)
+                came = came or Reception(source, number)
+                came.count(number, stamp, taken)
                 came.block(0, 0)
                 taken += 1
         self.assertGreater(taken, 5_000)
@@ -573,10 +572,20 @@ class Endpoints(unittest.TestCase):
 
     def test_a_fault_is_counted_and_ends_nothing(self):
         endpoint = Endpoint(Side(6000, self.PEER), True, gsm_stream())
-        with unittest.mock.patch.object(endpoint.incoming, "packet", side_effect=struct.error):
+        with unittest.mock.patch.object(endpoint.incoming, "packet", side_effect=struct.error("no\nroom")):
             endpoint.arrived(self.packet(1), self.PEER, 0, 0)
         endpoint.arrived(self.packet(1), self.PEER, 0, 0)
         self.assertEqual((endpoint.incoming.counts["fault"], endpoint.incoming.heard), (1, 0))
+        self.assertEqual(endpoint.incoming.faults, {"fault": "error no room"})
+
+    @with_loopback
+    def test_what_cant_be_sent_is_named(self):
+        for is_strict in (True, False):
+            _, endpoint, _, _ = self.opened(is_strict)
+            failure = OSError(errno.ENETUNREACH, "Network is unreachable")
+            endpoint.socket = unittest.mock.Mock(**{"send.side_effect": failure, "sendto.side_effect": failure, "fileno": endpoint.socket.fileno})
+            endpoint.send(ONE)
+            self.assertEqual((endpoint.incoming.counts, endpoint.incoming.faults), ({"unsent": 1}, {"unsent": "Network is unreachable"}))
 
     @with_loopback
     def test_a_fault_of_a_report_is_counted(self):
@@ -719,7 +728,7 @@ class Endpoints(unittest.TestCase):
         endpoint = Endpoint(Side(6000, self.PEER), False, gsm_stream())
         for tick, port in ((0, 7000), (1, 7002), (KEEPS_PORT, 7004)):
             endpoint.arrived(self.packet(tick), ("127.0.0.1", port), tick, 0)
-        self.assertEqual((endpoint.incoming.counts["other-port"], endpoint.port), (1, 7004))
+        self.assertEqual((endpoint.incoming.counts["other-port"], endpoint.sender), (1, ("127.0.0.1", 7004)))
 
 
 class Recordings(InFolder):
@@ -745,8 +754,8 @@ class Recordings(InFolder):
             recorder = self.made(every=every, name=str(every))
             recorder.open(1)
             for _ in range(7):
-                recorder.period(1, b"u" * 40, b"p" * 160, b"d" * 40, b"o" * 160)
-                recorder.write(1)
+                recorder.period(1, (b"u" * 40, b"p" * 160, b"d" * 40, b"o" * 160))
+                recorder.write()
             recorder.end()
             recorder.writer.join()
             read = {side: (self.folder / str(every) / f"1.{side}").read_bytes() for side in ("up", "pcm", "down", "out")}
@@ -766,8 +775,8 @@ class Recordings(InFolder):
             one.order(0, "open 1")
             one.open(1)
             for _ in range(periods):
-                one.period(1, b"u" * 40, b"p" * 160, b"d" * 40, b"o" * 160)
-                one.write(1)
+                one.period(1, (b"u" * 40, b"p" * 160, b"d" * 40, b"o" * 160))
+                one.write()
             self.assertFalse((one.folder / "1.out").exists())
             is_over.set()
             one.end(periods)

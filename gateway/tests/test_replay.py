@@ -111,6 +111,14 @@ class Checks(InFolder):
         status, lines = self.checked(folder)
         self.assertEqual((status, lines[-2]), (1, "calls 3 differ 3"))
 
+    def test_nothing_to_compare(self):
+        folder, said = self.killed(1), "it has no end, and nothing was compared"
+        (folder / "orders.txt").write_text("")
+        status, lines = self.checked(folder)
+        self.assertEqual((status, lines[:2]), (1, ["calls 0 differ 0", said]))
+        Turned(self.folder / "idle").run({}, 5)
+        self.assertEqual(self.checked(self.folder / "idle"), (0, ["calls 0 differ 0"]))
+
     def test_an_order_that_a_run_refuses(self):
         folder = self.record()
         orders = folder / "orders.txt"

@@ -263,6 +263,7 @@ class Late(InFolder):
         self.assertIn("late 135 latest 695 ms at 100", said)
         closing = next(line for line in said if line.startswith("call 1 from"))
         self.assertIn("gsm-given-up", closing)
+        self.assertRegex(closing, rf" held-up {34 + 164} ")
         for word in ("late", "jumps", "slips"):
             self.assertNotIn(word, closing)
         self.assert_replays(self.folder / "rec")
@@ -373,9 +374,34 @@ class Recorded(InFolder):
 
     @with_program
     def test_a_folder_that_cant_be_made(self):
-        _, said = self.run_two({20: [f"record {self.folder / 'rec'}", open_line(2)], 40: [f"record {self.folder / 'new'}", "close 2"]})
+        with unittest.mock.patch("recorder.TO_BEGIN", 60):
+            _, said = self.run_two({20: [f"record {self.folder / 'rec'}", open_line(2)]})
+        self.assertIn(f"refused 20 record {self.folder / 'rec'}: File exists", said)
+        self.assertEqual([line for line in said if "ended" in line], [])
+        self.assertEqual(self.assert_replays(self.folder / "rec")[-1], "calls 2 differ 0")
+
+    @with_program
+    def test_a_folder_that_cant_be_made_by_a_slow_disk(self):
+        is_over, really = threading.Event(), Path.mkdir
+
+        def mkdir(*given, **words):
+            is_over.wait(60)
+            really(*given, **words)
+
+        turned = Turned(self.folder / "rec")
+        process = turned.board.process
+
+        def until_40(phase, period, behind):
+            process(phase, period, behind)
+            if period == 40:
+                is_over.set()
+
+        turned.board.process = until_40
+        lines = {0: [open_line(1)], 20: [f"record {self.folder / 'rec'}", open_line(2)], 50: [f"record {self.folder / 'new'}", "close 2"]}
+        with unittest.mock.patch.object(Path, "mkdir", mkdir), unittest.mock.patch("recorder.TO_BEGIN", 0):
+            said = turned.run(lines, 80)
+        self.assertIn(f"ok 20 record {self.folder / 'rec'}", said)
         self.assertIn(f"recording {self.folder / 'rec'} ended: File exists", said)
-        self.assertEqual([line for line in said if line.startswith("refused")], [])
         self.assertEqual(self.assert_replays(self.folder / "rec"), ["call 1 periods 80 equal", "calls 1 differ 0"])
 
     @with_program
@@ -454,6 +480,28 @@ class Lines(InFolder):
         self.assertRegex(said[first + 4], "^refused 40 counts 1 2: it isn't open, close")
         self.assertEqual(sum(line.startswith("call 1 from 0 to 50 ") for line in said), 1)
         self.assertNotIn("counts", (self.folder / "rec/orders.txt").read_text())
+
+    def test_a_fault_is_named(self):
+        turned = Turned(self.folder / "rec")
+        turned.bring(1, schedule(SPEECH[:30], GSM, 1), schedule(LINE[:30], ALAW, 2))
+
+        def packet(data, tick, behind):
+            raise OSError(28, "No space\nleft")
+
+        process = turned.board.process
+
+        def faulty(phase, period, behind):
+            if period == 10:
+                turned.board.connections[1].call.gsm.packet = packet
+            process(phase, period, behind)
+
+        turned.board.process = faulty
+        said = turned.run({0: [open_line(1)], 40: ["counts 1"]}, 110)
+        named = ", gsm-fault: No space left"
+        self.assertEqual([line.endswith(f" pcm-sent {sent}{named}") for sent, line in zip((40, 110), said[-3::2])], [True, True], said)
+        events = [line for line in (self.folder / "rec/events.txt").read_text().splitlines() if "fault" in line]
+        self.assertEqual(len(events), 1)
+        self.assertRegex(events[0], rf"^51 call 1 .*gsm-fault 20{named}$")
 
     def test_the_most_calls(self):
         turned = Turned(self.folder / "rec")

@@ -219,6 +219,7 @@ class Package(InFolder):
         recording = self.path("recording")
         recording.mkdir()
         (recording / "orders.txt").write_text("")
+        (recording / "clock.txt").write_text("0 end 0\n")
         status, out, err = self.said(package / "gateway" / "gateway.py", "check", recording)
         self.assertEqual((status, out, err), (0, "calls 0 differ 0\n", ""))
 

@@ -404,13 +404,15 @@ class Utc(Recorded):
     def test_events(self):
         events = self.run / "events.txt"
         self.assert_refused(report.main, ["events", self.run], "events.txt: No such file")
-        events.write_text("1000 call 1 gsm-late 2 gsm-missing 3\n1050 call 12 pcm-other-port 1\n1100 call 1 gsm-la")
-        wanted = """1000 20.0 1 gsm-late 2 2026-11-30T23:00:00.000+00:00
-1000 20.0 1 gsm-missing 3 2026-11-30T23:00:00.000+00:00
-1050 21.0 12 pcm-other-port 1 2026-11-30T23:00:31.000+00:00"""
+        why = "gsm-unsent: No route, a, pcm-fault: No space"
+        events.write_text(f"1000 call 1 gsm-late 2 gsm-missing 3\n1050 call 12 pcm-fault 1 gsm-unsent 4, {why}\n1100 call 1 gsm-la")
+        wanted = """1000 20.0 1 gsm-late 2  2026-11-30T23:00:00.000+00:00
+1000 20.0 1 gsm-missing 3  2026-11-30T23:00:00.000+00:00
+1050 21.0 12 pcm-fault 1 No space 2026-11-30T23:00:31.000+00:00
+1050 21.0 12 gsm-unsent 4 No route, a 2026-11-30T23:00:31.000+00:00"""
         self.assertEqual([" ".join(row.values()) for row in self.rows("events", self.run)], wanted.splitlines())
         (self.run / "clock.txt").unlink()
-        self.assertEqual(self.times(self.run, "events"), 3 * [""])
+        self.assertEqual(self.times(self.run, "events"), 4 * [""])
         for bad in ("1000 call 1\n", "1000 call 1 gsm-late\n", "call 1 gsm-late 2\n", f"{10 ** 11} call 1 gsm-late 2\n"):
             events.write_text(bad)
             self.assert_refused(report.main, ["events", self.run], "events.txt: line 1 isn't one of a recording's events")
