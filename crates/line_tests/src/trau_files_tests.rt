@@ -214,17 +214,19 @@ fn many_lines_are_written_in_turn(rt: HostRuntime) {
     assert_rows(&rt, done(&rt, &MANY_LINES), 4);
 }
 
-// A stream that is interrupted before each operation that moves octets.
+// A stream that fails so before each operation that moves octets.
 #[derive(Drop)]
-struct Interrupted<T> {
+struct Faulty<T> {
     inner: T,
+    kind: ErrorKind,
     is_due: bool,
 }
 
-impl<T> Interrupted<T> {
-    fn new(inner: T) -> Interrupted<T> {
-        Interrupted {
+impl<T> Faulty<T> {
+    fn new(inner: T, kind: ErrorKind) -> Faulty<T> {
+        Faulty {
             inner,
+            kind,
             is_due: true,
         }
     }
@@ -234,19 +236,19 @@ impl<T> Interrupted<T> {
         if self.is_due {
             Ok(())
         } else {
-            Err(io::Error::from(ErrorKind::Interrupted))
+            Err(io::Error::from(self.kind))
         }
     }
 }
 
-impl<T: Read> Read for Interrupted<T> {
+impl<T: Read> Read for Faulty<T> {
     fn read(&mut self, buf: &mut [u8]) -> io::Result<usize> {
         self.call()?;
         self.inner.read(buf)
     }
 }
 
-impl<T: Write> Write for Interrupted<T> {
+impl<T: Write> Write for Faulty<T> {
     fn write(&mut self, bytes: &[u8]) -> io::Result<usize> {
         self.call()?;
         self.inner.write(bytes)
@@ -259,7 +261,7 @@ impl<T: Write> Write for Interrupted<T> {
 
 // Whether a read of at most two octets gives `count`.
 fn hears(
-    desk: &mut StdDesk<Interrupted<&[u8]>, Interrupted<&mut Vec<u8>>>,
+    desk: &mut StdDesk<Faulty<&[u8]>, Faulty<&mut Vec<u8>>>,
     octets: &mut [u8; 2],
     count: usize,
 ) -> bool {
@@ -267,26 +269,40 @@ fn hears(
 }
 
 // Whether three octets are read, the last one to the place of the first.
-fn is_heard(desk: &mut StdDesk<Interrupted<&[u8]>, Interrupted<&mut Vec<u8>>>) -> bool {
+fn is_heard(desk: &mut StdDesk<Faulty<&[u8]>, Faulty<&mut Vec<u8>>>) -> bool {
     let mut octets = [0; 2];
     let all = hears(desk, &mut octets, 2) && hears(desk, &mut octets, 1);
     all && octets == [7, 6] && hears(desk, &mut octets, 0)
 }
 
 // Whether a desk takes these two octets at once.
-fn is_told(
-    desk: &mut StdDesk<Interrupted<&[u8]>, Interrupted<&mut Vec<u8>>>,
-    octets: &[u8; 2],
-) -> bool {
+fn is_told(desk: &mut StdDesk<Faulty<&[u8]>, Faulty<&mut Vec<u8>>>, octets: &[u8; 2]) -> bool {
     desk.write(octets).ok() == Some(2)
 }
 
 #[test]
 fn a_desk_is_a_reader_and_a_writer(rt: HostRuntime) {
     let mut text = Vec::new(rt.alloc());
-    let orders = Interrupted::new([5, 6, 7].as_slice());
-    let mut desk = StdDesk::new(orders, Interrupted::new(&mut text));
+    let orders = Faulty::new([5, 6, 7].as_slice(), ErrorKind::Interrupted);
+    let mut desk = StdDesk::new(orders, Faulty::new(&mut text, ErrorKind::Interrupted));
     assert_row(&rt, 1, is_heard(&mut desk));
     assert_row(&rt, 2, is_told(&mut desk, &[1, 2]));
     assert_row(&rt, 3, text.as_slice() == [1, 2].as_slice());
+}
+
+// Whether the first read fails and the second one gives three octets' first two, and writes do likewise.
+fn fails_in_turn(desk: &mut StdDesk<Faulty<&[u8]>, Faulty<&mut Vec<u8>>>) -> bool {
+    let mut octets = [0; 2];
+    let heard = desk.read(&mut octets).is_err() && hears(desk, &mut octets, 2);
+    heard && desk.write(&[1, 2]).is_err() && is_told(desk, &[3, 4])
+}
+
+// An operation that failed isn't made again, unless it was interrupted.
+#[test]
+fn a_fault_of_a_stream_is_the_desks(rt: HostRuntime) {
+    let mut text = Vec::new(rt.alloc());
+    let orders = Faulty::new([5, 6, 7].as_slice(), ErrorKind::BrokenPipe);
+    let mut desk = StdDesk::new(orders, Faulty::new(&mut text, ErrorKind::BrokenPipe));
+    assert_row(&rt, 1, fails_in_turn(&mut desk));
+    assert_row(&rt, 2, text.as_slice() == [3, 4].as_slice());
 }

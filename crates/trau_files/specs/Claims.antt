@@ -1,5 +1,5 @@
 -- Which line has which file on a disk, so that no line is written to the file of another (this project's profile).
-use Rattle.std.specs.Prelude.{◌≡◌, ◌≢◌, ◌⊎◌, ℕ, List, Option, None, Some, slice_index_or}
+use Rattle.std.specs.Prelude.{◌≡◌, ◌≢◌, ◌⊎◌, ℕ, List, Option, None, Some, IsSome, slice_index_or}
 use Rattle.trau_files.specs.declared.trunk.claims.Claim.{Claim}
 use Rattle.trau_files.specs.declared.trunk.seats.Access.TheVariants.{Reading, Writing}
 
@@ -32,6 +32,10 @@ OthersKeep old new p = (k : ℕ) → k ≢ p → claim_at new k ≡ claim_at old
 abbrev pub StaysForWriting : List (Option Claim) → List (Option Claim) → ℕ → Type 0
 StaysForWriting old new p =
     (a b : Claim) → claim_at old p ≡ Some a → claim_at new p ≡ Some b → b.file ≡ a.file → a.access ≡ Writing → b.access ≡ Writing
+
+-- a line that has a note of a file has one afterwards, also if its opening fails; it may be of another file
+abbrev pub StaysNoted : List (Option Claim) → List (Option Claim) → ℕ → Type 0
+StaysNoted old new p = (a : Claim) → claim_at old p ≡ Some a → IsSome (claim_at new p)
 
 -- another line has this file, and one of the two is written
 pub record IsTaken (claims : List (Option Claim)) (p : ℕ) (c : Claim) (other : ℕ) : Type 0 where

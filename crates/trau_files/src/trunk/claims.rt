@@ -4,7 +4,7 @@ ghost use Rattle.std.specs.Prelude.{◌≡◌, ◌⊎◌, IfOk, IfErr, IfSome, I
 ghost use Rattle.std.specs.Fs.{IsFile, file_type};
 ghost use Rattle.trau_io.specs.Indices.{index_of_line};
 ghost use Rattle.trau_files.specs.declared.trunk.seats.Access.TheVariants.{Writing};
-ghost use Rattle.trau_files.specs.Claims.{AreApart, Has, IsTaken, MayHave, MayShare, OthersKeep, StaysForWriting, claim_at};
+ghost use Rattle.trau_files.specs.Claims.{AreApart, Has, IsTaken, MayHave, MayShare, OthersKeep, StaysForWriting, StaysNoted, claim_at};
 
 use super::name::name_of;
 use super::recordings::Recordings;
@@ -91,6 +91,7 @@ impl Claims {
         ensures apart { AreApart self.old → AreApart self.new }
         ensures others { OthersKeep self.old self.new (index_of_line line.call line.side) }
         ensures stays { StaysForWriting self.old self.new (index_of_line line.call line.side) }
+        ensures noted { StaysNoted self.old self.new (index_of_line line.call line.side) }
     {
         if !metadata.is_file() {
             return Ok(());
@@ -132,6 +133,7 @@ impl Claims {
         ensures has { IfOk result (λ _. Has (claim_at self.new (index_of_line line.call line.side)) claim) }
         ensures others { OthersKeep self.old self.new (index_of_line line.call line.side) }
         ensures stays { StaysForWriting self.old self.new (index_of_line line.call line.side) }
+        ensures noted { StaysNoted self.old self.new (index_of_line line.call line.side) }
         ensures taken { IfErr result (λ other. (self.new ≡ self.old) × IsTaken self.old (index_of_line line.call line.side) claim other) }
         ensures apart { AreApart self.new }
     {
