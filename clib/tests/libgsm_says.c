@@ -1,5 +1,5 @@
 /* Writes what a library with libgsm's interface does, to be compared with what another wrote: options, frames in both packings,
- * parameters both ways, prints, and refusals. */
+ * parameters both ways, prints, refusals, and edges. */
 #include <stdio.h>
 #include <string.h>
 
@@ -148,11 +148,46 @@ static void halves(void)
     gsm_destroy(decoder);
 }
 
+/* A first frame whose lags are out of range, refused octets, and an option that is set again between two frames; with the samples that the
+ * caller has afterwards. */
+static void edges(void)
+{
+    gsm encoder = gsm_create(), decoder = gsm_create(), other = gsm_create();
+    unsigned char octets[SHOWN];
+    short samples[160], values[76];
+    int off = 0;
+
+    for (int frame = 0; frame < 3; frame++) {
+        for (int i = 0; i < 76; i++)
+            values[i] = (short)random_word();
+        for (int block = 0; block < 4 && frame == 0; block++)
+            values[8 + 17 * block] = block % 2 ? 0 : 127;
+        gsm_implode(other, values, octets);
+        printf("edge %d: ", gsm_decode(decoder, octets, samples));
+        values_out(samples, 160);
+        octets[0] ^= 0x80;
+        printf("edge %d: ", gsm_decode(decoder, octets, samples));
+        values_out(samples, 160);
+    }
+    for (int frame = 0; frame < 3; frame++) {
+        samples_of(3 * frame + 1, samples);
+        memset(octets, 0xAA, sizeof octets);
+        gsm_option(encoder, WAV49, &off);
+        gsm_encode(encoder, samples, octets);
+        octets_out(octets);
+        values_out(samples, 160);
+    }
+    gsm_destroy(encoder);
+    gsm_destroy(decoder);
+    gsm_destroy(other);
+}
+
 int main(void)
 {
     options();
     frames(0);
     frames(1);
     halves();
+    edges();
     return 0;
 }

@@ -212,6 +212,25 @@ class Conform(InFolder):
         self.assertEqual(self.said("--homing"), (0, "seq01 encoder, 21 frames: equal\n"))
         self.assertEqual(self.said()[0], 1)
 
+    def test_homing_frames_of_a_decoder(self) -> None:
+        # So does the decoder; it then gives the encoder's homing frame for a further one.
+        frames, homing = (HERE / "data" / "harsh.gsm").read_bytes()[:330], array("h", [8] * 160)
+        decoder, frame = trau_fr.Decoder(), trau_fr.Encoder().encode(homing)
+        samples = struct.unpack("<1600h", (HERE / "data" / "harsh.samples").read_bytes()[:3200])
+        self.assertEqual(list(decoder.decode(frames)), list(samples))
+        sequence = frames + 2 * frame + frames
+        self.put(".COD", [value for at in range(0, len(sequence), 33) for value in conform.unpacked(sequence[at : at + 33])], "<")
+        self.put(".OUT", [*samples, *decoder.decode(frame), *homing, *samples], "<")
+        self.assertEqual(self.said("--homing"), (0, "seq01 decoder, 22 frames: equal\n"))
+
+    def test_a_sequence_that_is_too_short(self) -> None:
+        self.sequences()
+        file = self.folder / "SEQ01.OUT"
+        file.write_bytes(file.read_bytes()[:-320])
+        status, text = self.said()
+        self.assertEqual(status, 1)
+        self.assertIn("the sequence has 253 frames, and its input 254", text)
+
     def test_nothing_to_test(self) -> None:
         status, text = self.said()
         self.assertEqual((status, text.count("\n")), (2, 1))

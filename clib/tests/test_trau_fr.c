@@ -313,6 +313,153 @@ static void sent_frames(void)
     expect(right, "without DTX frames are sent as they are, and a pause has descriptors after four of them");
 }
 
+/* Periods of one kind, whose frames are handed over. */
+static void hear(struct trau_fr_receiver *receiver, const uint8_t frame[33], uint32_t kind, bool taf, int periods)
+{
+    uint8_t handed[33];
+
+    for (; periods > 0; periods--)
+        trau_fr_hand(receiver, frame, kind, taf, handed);
+}
+
+static int same_frame(const struct trau_fr_params *frame, const uint8_t octets[33])
+{
+    struct trau_fr_params wanted = {0};
+
+    return trau_fr_unpack(octets, &wanted) && same_fields(frame, &wanted);
+}
+
+static uint16_t after_draws(uint16_t source, int draws)
+{
+    for (; draws > 0; draws--)
+        source = (uint16_t)(25173u * source + 13849u);
+    return source;
+}
+
+static int same_decoder(const struct trau_fr_decoder *a, const struct trau_fr_decoder *b)
+{
+    return a->lag == b->lag && a->msr == b->msr && !memcmp(a->residuals, b->residuals, sizeof a->residuals)
+        && !memcmp(a->ratios, b->ratios, sizeof a->ratios) && !memcmp(a->sections, b->sections, sizeof a->sections);
+}
+
+/* Encoder and decoder have the same ratios after the same frame, and sections of their own; z1 is of the last sample (GSM 06.10, section
+ * 4.2.1). */
+static void codec_fields(void)
+{
+    struct trau_fr_encoder encoder = trau_fr_encoder_home();
+    struct trau_fr_decoder decoder = trau_fr_decoder_home();
+    struct trau_fr_params frame = {0};
+    int16_t samples[160];
+    int right;
+
+    trau_alaw_expand(line[50], samples);
+    trau_fr_encode(&encoder, samples, &frame);
+    right = encoder.preprocessing.z1 == (samples[159] >> 3) * 4;
+    trau_fr_decode(&decoder, &frame, samples);
+    right &= !memcmp(encoder.ratios, decoder.ratios, sizeof encoder.ratios);
+    expect(right, "an encoder's and a decoder's fields after a frame");
+}
+
+/* What a receive side keeps is in the fields that the header names. */
+static void receiver_fields(void)
+{
+    struct trau_fr_receiver receiver = trau_fr_receiver_home(7);
+    struct trau_fr_decoder decoder = trau_fr_decoder_home();
+    struct trau_fr_params first = {0}, second = {0};
+    int16_t samples[160];
+    int right = receiver.heard.tag == 0 && receiver.heard.source == 7;
+
+    trau_fr_receive(&receiver, gsm[100], TRAU_FR_SPEECH, false, samples);
+    trau_fr_decode_octets(&decoder, gsm[100], samples);
+    right &= receiver.heard.tag == 1 && receiver.heard.periods == 0 && same_frame(&receiver.heard.good, gsm[100]);
+    right &= same_decoder(&receiver.decoder, &decoder);
+    hear(&receiver, none, TRAU_FR_LOST, false, 1);
+    right &= receiver.heard.periods == 1 && receiver.heard.source == 7;
+    hear(&receiver, none, TRAU_FR_LOST, false, 1);
+    right &= receiver.heard.periods == 2 && receiver.heard.source == after_draws(7, 4);
+    hear(&receiver, none, TRAU_FR_LOST, false, 30);
+    right &= receiver.heard.tag == 1 && receiver.heard.periods == 17 && receiver.heard.source == after_draws(7, 60);
+    expect(right, "a receiver's fields after a good frame and in its place");
+
+    hear(&receiver, gsm[60], TRAU_FR_DESCRIPTOR, false, 1);
+    right = receiver.heard.tag == 2 && receiver.heard.step == 8 && receiver.heard.missed == 0 && receiver.heard.periods == 0;
+    right &= same_frame(&receiver.heard.good, gsm[60]) && same_frame(&receiver.heard.descriptor, gsm[60]);
+    hear(&receiver, none, TRAU_FR_LOST, true, 1);
+    right &= receiver.heard.step == 8 && receiver.heard.missed == 1 && receiver.heard.periods == 0;
+    hear(&receiver, gsm[61], TRAU_FR_DESCRIPTOR, false, 1);
+    right &= receiver.heard.step == 1 && receiver.heard.missed == 0;
+    right &= same_frame(&receiver.heard.good, gsm[60]) && same_frame(&receiver.heard.descriptor, gsm[61]);
+    hear(&receiver, none, TRAU_FR_LOST, false, 2);
+    right &= receiver.heard.step == 3;
+    hear(&receiver, gsm[62], TRAU_FR_DESCRIPTOR, false, 1);
+    trau_fr_unpack(gsm[60], &first);
+    trau_fr_unpack(gsm[61], &second);
+    for (int i = 0; i < 8; i++)
+        right &= receiver.heard.good.larc[i] == (5 * first.larc[i] + 3 * second.larc[i]) / 8;
+    for (int j = 0; j < 4; j++)
+        right &= receiver.heard.good.xmaxc[j] == (5 * first.xmaxc[j] + 3 * second.xmaxc[j]) / 8;
+    hear(&receiver, none, TRAU_FR_LOST, true, 2);
+    right &= receiver.heard.step == 3 && receiver.heard.missed == 2 && receiver.heard.periods == 1;
+    hear(&receiver, none, TRAU_FR_LOST, false, 30);
+    right &= receiver.heard.tag == 2 && receiver.heard.step == 8 && receiver.heard.missed == 2 && receiver.heard.periods == 17;
+    hear(&receiver, none, TRAU_FR_IDLE, false, 1);
+    expect(right && receiver.heard.tag == 0, "a receiver's fields in noise and after an idle frame");
+}
+
+static int same_encoder(const struct trau_fr_encoder *a, const struct trau_fr_encoder *b)
+{
+    return a->preprocessing.z1 == b->preprocessing.z1 && a->preprocessing.l_z2 == b->preprocessing.l_z2
+        && a->preprocessing.mp == b->preprocessing.mp && !memcmp(a->ratios, b->ratios, sizeof a->ratios)
+        && !memcmp(a->sections, b->sections, sizeof a->sections) && !memcmp(a->residuals, b->residuals, sizeof a->residuals);
+}
+
+/* The code of a block maximum (GSM 06.10, section 4.2.15). */
+static int coded_maximum(int maximum)
+{
+    int exponent = 0;
+
+    for (int high = maximum >> 9; high > 0 && exponent < 6; high >>= 1)
+        exponent++;
+    return (maximum >> (exponent + 5)) + 8 * exponent;
+}
+
+/* So is what a transmit side keeps. */
+static void sender_fields(void)
+{
+    struct trau_fr_sender sender = trau_fr_sender_home();
+    struct trau_fr_encoder encoder = trau_fr_encoder_home();
+    struct trau_fr_params frames[3] = {0};
+    int16_t samples[160], ratios[8];
+    uint8_t octets[33];
+    int right = sender.sent.run == 0 && sender.sent.elapsed == 24 && !sender.sent.hangs;
+
+    for (int k = 0; k < 3; k++) {
+        trau_alaw_expand(line[50 + k], samples);
+        trau_fr_encode(&encoder, samples, &frames[k]);
+        trau_fr_send(&sender, samples, TRAU_FR_LEVEL, false, octets);
+        if (k == 0)
+            memcpy(ratios, sender.sent.last[0].ratios, sizeof ratios);
+    }
+    right &= same_encoder(&sender.encoder, &encoder) && sender.sent.run == 0 && sender.sent.elapsed == 24;
+    right &= !memcmp(sender.sent.last[2].ratios, ratios, sizeof ratios);
+    for (int k = 0; k < 3; k++)
+        for (int j = 0; j < 4; j++)
+            right &= coded_maximum(sender.sent.last[2 - k].maxima[j]) == frames[k].xmaxc[j];
+    expect(right, "a sender's fields after speech");
+
+    right = 1;
+    for (int run = 1; run < 7; run++) {
+        trau_alaw_expand(line[52 + run], samples);
+        right &= trau_fr_send(&sender, samples, 32767, true, octets) == (run < 5) && sender.sent.hangs;
+        right &= sender.sent.run == (run < 5 ? run : 5) && sender.sent.elapsed == (run < 5 ? 24 : 0);
+        right &= run < 5 || same_frame(&sender.sent.descriptor, octets);
+    }
+    trau_fr_send(&sender, samples, 32767, false, octets);
+    right &= sender.sent.run == 0 && sender.sent.elapsed == 1;
+    right &= !trau_fr_send(&sender, samples, 32767, true, octets) && same_frame(&sender.sent.descriptor, octets);
+    expect(right && sender.sent.run == 1 && sender.sent.elapsed == 2 && !sender.sent.hangs, "a sender's fields in two pauses");
+}
+
 static void line_frames(void)
 {
     static const uint8_t start[4] = {0, 0, 0x88, 0x00};
@@ -355,6 +502,9 @@ int main(int argc, char **argv)
     quiet_calls();
     lost_frames();
     sent_frames();
+    codec_fields();
+    receiver_fields();
+    sender_fields();
     line_frames();
     return failed != 0;
 }

@@ -2,6 +2,7 @@
 
 from __future__ import annotations
 
+import ctypes
 import random
 import sys
 import unittest
@@ -15,6 +16,7 @@ sys.path[:0] = [str(HERE.parents[1] / "tools"), str(HERE.parents[1])]
 
 from core.frame import bits_of, data_of  # noqa: E402
 from core.parameters import data_of_gsm, gsm_of_data  # noqa: E402
+from core.profile import FIRST_LEVEL  # noqa: E402
 import code_word  # noqa: E402
 import trau_fr  # noqa: E402
 
@@ -67,8 +69,9 @@ class Codec(unittest.TestCase):
             trau_fr.Decoder().decode(bytes(34))
         with self.assertRaises(ValueError):
             trau_fr.Encoder().encode(array("h", [0] * 159))
-        with self.assertRaises(ValueError):
-            trau_fr.Encoder().encode(array("d", [0.0] * 160))
+        for other in (array("d", [0.0] * 160), array("H", [0] * 160), (ctypes.c_int16.__ctype_be__ * 160)()):
+            with self.assertRaises(ValueError):
+                trau_fr.Encoder().encode(other)
         with self.assertRaises(ValueError):
             trau_fr.Decoder().decode(array("h", [0] * 33))
         with self.assertRaises(ValueError):
@@ -76,7 +79,7 @@ class Codec(unittest.TestCase):
 
     def test_frames_before_a_refused_one(self) -> None:
         decoder, whole = trau_fr.Decoder(), trau_fr.Decoder().decode(self.octets[:99])
-        with self.assertRaises(trau_fr.Refused):
+        with self.assertRaisesRegex(trau_fr.Refused, "^frame 2 "):
             decoder.decode(self.octets[:66] + bytes(33))
         self.assertEqual(decoder.decode(self.octets[66:99]), whole[320:])
 
@@ -92,6 +95,10 @@ class Version(unittest.TestCase):
         changes = (HERE.parents[1] / "docs" / "CHANGELOG.md").read_text()
         newest = next(line for line in changes.splitlines() if line.startswith("## ")).split()[1].rstrip(",")
         self.assertIn(f'#define TRAU_FR_VERSION "{newest}"\n', (HERE.parent / "trau_fr.h").read_text())
+
+    def test_level_is_that_of_a_call(self) -> None:
+        self.assertEqual(trau_fr.LEVEL, FIRST_LEVEL)
+        self.assertIn(f"#define TRAU_FR_LEVEL {FIRST_LEVEL}\n", (HERE.parent / "trau_fr.h").read_text())
 
 
 class Sides(unittest.TestCase):
@@ -137,8 +144,9 @@ class Sides(unittest.TestCase):
     def test_a_bridge_that_ends_before_its_first_period(self) -> None:
         receiver = trau_fr.Receiver(7)
         receiver.receive(self.frame)
-        receiver.begin_bridge()
-        self.assertEqual(receiver.receive(self.frame), trau_fr.Decoder().decode(self.frame))
+        for octets in (self.frame, None):
+            receiver.begin_bridge()
+            self.assertEqual(receiver.receive(octets), trau_fr.Decoder().decode(self.frame))
 
     def test_a_sender(self) -> None:
         samples = trau_fr.expand((VECTORS / "harsh.pcm").read_bytes())
