@@ -11,7 +11,7 @@ import argparse
 import struct
 import sys
 from pathlib import Path
-from typing import Any, NoReturn, Optional
+from typing import Any, List, NoReturn, Optional, Tuple
 
 sys.path.insert(0, str(Path(__file__).resolve().parents[1]))
 
@@ -36,43 +36,71 @@ except (ImportError, ValueError) as missing:
     fail(f"GStreamer's Python bindings are missing: {missing}")
 
 PERIOD = 20 * 1000 * 1000  # nanoseconds, as GStreamer counts
+SAMPLES = 160
 CAPS = "application/x-rtp,media=audio,clock-rate=8000,encoding-name=GSM,payload=3"
 SOUND = "audio/x-raw,format=S16LE,rate=8000,channels=1,layout=interleaved"
 NUMBERS = 1 << 16
+STAMPS = 1 << 32
+MOST_MISSING = 250  # periods, 5 s; a sender that jumps further has begun anew
+
+
+def frames_of(octets: bytes) -> List[Optional[bytes]]:
+    """The frames of a packet of RTP (RFC 3550, section 5.1), mostly one. A packet without any, as base stations send for a lost frame, is a lost
+    period."""
+    start, end = 12 + 4 * (octets[0] & 15), len(octets)
+    if octets[0] & 16:
+        start += 4 + 4 * struct.unpack_from(">H", octets, start + 2)[0]
+    if octets[0] & 32:
+        end -= octets[-1]
+    size = trau_fr.OCTETS
+    return [octets[at : at + size] for at in range(start, end - size + 1, size)] or [None]
 
 
 class Heard:
     """The receive side behind a jitter buffer, whose packets and lost packets come in order to one pad."""
 
-    def __init__(self, seed: int, sound: Any) -> None:
-        self.receiver, self.sound = trau_fr.Receiver(seed), sound
-        self.expected: Optional[int] = None  # the number of the next packet
+    def __init__(self, seed: int, sound: Any, start: Optional[int] = 0) -> None:
+        """`start` is the time of the first period; if None, it is that of the pipeline when it is played."""
+        self.receiver, self.sound, self.start = trau_fr.Receiver(seed), sound, start
+        self.expected: Optional[Tuple[int, int]] = None  # number and time stamp of the next packet
+        self.frames = 1  # of the last packet, and so of one that is lost
         self.periods = self.lost = 0
 
     def play(self, frame: Optional[bytes]) -> None:
         """One period."""
+        if self.start is None:
+            self.start = int(self.sound.get_current_running_time())
         buffer = Gst.Buffer.new_wrapped(self.receiver.receive(frame).tobytes())
-        buffer.pts, buffer.duration = self.periods * PERIOD, PERIOD
+        buffer.pts, buffer.duration = self.start + self.periods * PERIOD, PERIOD
         self.sound.emit("push-buffer", buffer)
         self.periods += 1
         self.lost += frame is None
 
-    def conceal_up_to(self, number: int) -> None:
-        """Plays the packets that are missing before this number."""
-        missing = (number - (number if self.expected is None else self.expected)) % NUMBERS
-        for _ in range(missing if missing < NUMBERS // 2 else 0):
-            self.play(None)
-        self.expected = number % NUMBERS
+    def expect(self, number: int, stamp: int) -> None:
+        """The next packet has this number and this time stamp."""
+        self.expected = number % NUMBERS, stamp % STAMPS
 
     def packet(self, octets: bytes) -> None:
-        """A packet of RTP (RFC 3550, section 5.1), with one frame."""
-        start = 12 + 4 * (octets[0] & 15)
-        if octets[0] & 16:
-            start += 4 + 4 * struct.unpack_from(">H", octets, start + 2)[0]
-        number = struct.unpack_from(">H", octets, 2)[0]
-        self.conceal_up_to(number)
-        self.play(octets[start : start + trau_fr.OCTETS])
-        self.expected = (number + 1) % NUMBERS
+        """A packet, and before it what time stamps leave out: lost packets that weren't told of, and pauses."""
+        number, stamp = struct.unpack_from(">HI", octets, 2)
+        missing = 0 if self.expected is None else (stamp - self.expected[1]) % STAMPS // SAMPLES
+        for _ in range(missing if missing <= MOST_MISSING else 0):
+            self.play(None)
+        frames = frames_of(octets)
+        for frame in frames:
+            self.play(frame)
+        self.frames = len(frames)
+        self.expect(number + 1, stamp + SAMPLES * self.frames)
+
+    def lose(self, number: int) -> None:
+        """The packets up to this number are lost. (An event may stand for several; the next one, or the next packet, says how many.)"""
+        if self.expected is None:
+            return
+        missing = (number + 1 - self.expected[0]) % NUMBERS * self.frames
+        if missing <= MOST_MISSING:
+            for _ in range(missing):
+                self.play(None)
+            self.expect(number + 1, self.expected[1] + SAMPLES * missing)
 
     def on_pad(self, _pad: Any, info: Any) -> Any:
         """What the jitter buffer puts out."""
@@ -81,9 +109,7 @@ class Heard:
             return Gst.PadProbeReturn.OK
         event = info.get_event()
         if event.has_name("GstRTPPacketLost"):
-            said = event.get_structure()
-            count = max(1, round(said.get_uint64("duration")[1] / PERIOD))
-            self.conceal_up_to(said.get_uint("seqnum")[1] + count)
+            self.lose(event.get_structure().get_uint("seqnum")[1])
         elif event.type == Gst.EventType.EOS:
             self.sound.emit("end-of-stream")
         return Gst.PadProbeReturn.OK
@@ -129,13 +155,14 @@ def main() -> int:
     Gst.init(None)
     network = f"appsrc name=network format=time caps={CAPS}" if asked.file else f"udpsrc port={asked.port} caps={CAPS}"
     text = f"{network} ! rtpjitterbuffer do-lost=true latency={asked.latency} ! fakesink name=heard sync=false async=false "
+    live = "false" if asked.file else "true"
     try:
-        pipeline = Gst.parse_launch(text + f"appsrc name=sound format=time caps={SOUND} ! audioconvert ! {asked.sink}")
+        pipeline = Gst.parse_launch(text + f"appsrc name=sound format=time is-live={live} caps={SOUND} ! audioconvert ! {asked.sink}")
         frames = asked.file.read_bytes() if asked.file else b""
         lost = asked.lost.read_text() if asked.lost else ""
     except (GLib.Error, OSError) as error:
         fail(str(error))
-    heard = Heard(asked.seed, pipeline.get_by_name("sound"))
+    heard = Heard(asked.seed, pipeline.get_by_name("sound"), 0 if asked.file else None)
     kinds = Gst.PadProbeType.BUFFER | Gst.PadProbeType.EVENT_DOWNSTREAM
     pipeline.get_by_name("heard").get_static_pad("sink").add_probe(kinds, heard.on_pad)
     pipeline.set_state(Gst.State.PLAYING)

@@ -2,14 +2,19 @@
 
 from __future__ import annotations
 
+import errno
 import os
 import random
 import shutil
+import signal
+import socket
 import struct
 import subprocess
 import sys
 import tempfile
+import time
 import unittest
+import wave
 from array import array
 from pathlib import Path
 from typing import List, Sequence, Tuple
@@ -22,8 +27,10 @@ sys.path[:0] = [str(TOP), str(HERE.parent), str(EXAMPLES), str(HERE)]
 
 import conform  # noqa: E402
 import trau_fr  # noqa: E402
+from core.parameters import parameters_of_bits  # noqa: E402
+from model import call as calls_of_model  # noqa: E402
 from model.receive import effective_frames  # noqa: E402
-from random_sides import Period, uplink_frame  # noqa: E402
+from random_sides import Period, first_difference, packed, uplink_frame  # noqa: E402
 
 LIBRARY = Path(os.environ.get("TRAU_CLIB") or HERE.parent / "out").resolve()
 LOST = trau_fr.Kind.LOST
@@ -58,6 +65,19 @@ def brought(frame: bytes, lost: str) -> Period:
     return Period(LOST, False, bytes(33)) if lost == "1" else Period(trau_fr.kind_of(frame), False, frame)
 
 
+def damaged(descriptor: bytes) -> bytes:
+    """The same descriptor with three wrong bits of its code word: the first bits of pulses 1 to 3."""
+    number = int.from_bytes(descriptor, "big")
+    for at in (57, 60, 63):
+        number |= 1 << (263 - at)
+    return number.to_bytes(33, "big")
+
+
+def is_damaged(period: Period) -> bool:
+    """Whether a frame came in this period that isn't used."""
+    return period.kind == LOST and period.octets[0] != 0
+
+
 class InFolder(unittest.TestCase):
     def setUp(self) -> None:
         work = tempfile.TemporaryDirectory()
@@ -71,13 +91,13 @@ class InFolder(unittest.TestCase):
         (self.folder / "lost.txt").write_text(lost)
         return [brought(frame, digit) for frame, digit in zip(sent, lost)]
 
-    def out_line(self, periods: Sequence[Period]) -> bytes:
-        """What the model's `run` writes to Out of call 1, whose uplink has these periods."""
-        (self.folder / "1.up").write_bytes(b"".join(trau_fr.write_uplink(each.octets, each.kind, each.taf) for each in periods))
-        (self.folder / "1.pcm").write_bytes(b"\xd5" * 160 * len(periods))
+    def out_line(self, periods: Sequence[Period], call: int = 1) -> bytes:
+        """What the model's `run` writes to Out of a call whose uplink has these periods."""
+        (self.folder / f"{call}.up").write_bytes(b"".join(trau_fr.write_uplink(each.octets, each.kind, each.taf) for each in periods))
+        (self.folder / f"{call}.pcm").write_bytes(b"\xd5" * 160 * len(periods))
         words = [TOP / "model" / "trau", "run"]
-        subprocess.run(words, input=b"0 open 1\n", stdout=subprocess.DEVNULL, cwd=self.folder, check=True)
-        return (self.folder / "1.out").read_bytes()
+        subprocess.run(words, input=f"0 open {call}\n".encode(), stdout=subprocess.DEVNULL, cwd=self.folder, check=True)
+        return (self.folder / f"{call}.out").read_bytes()
 
 
 class Header(InFolder):
@@ -240,44 +260,152 @@ class Conform(InFolder):
 class Ecu(InFolder):
     """The error concealment unit, registered with libosmocodec, beside the model."""
 
-    def compared(self) -> List[str]:
+    # What a host does in a period: a frame goes in, or one comes out.
+    OUT, IN, BAD = range(3)
+
+    def built(self, *sources: Path) -> Path:
+        """A program of the unit and of these sources."""
         flags = run(["pkg-config", "--cflags", "--libs", "libosmocodec", "talloc"]).stdout.split()
-        sources = [EXAMPLES / "ecu.c", EXAMPLES / "ecu_compare.c"]
-        library = [f"-I{LIBRARY / 'include'}", LIBRARY / "lib" / "libtrau_fr.a"]
-        program = self.folder / "ecu_compare"
-        built = run([os.environ.get("CC", "cc"), "-O2", "-Wall", "-Wextra", "-o", program, *sources, *library, *flags])
+        library = [f"-I{LIBRARY / 'include'}", f"-I{EXAMPLES}", LIBRARY / "lib" / "libtrau_fr.a"]
+        program = self.folder / sources[0].stem
+        words = ["-O2", "-Wall", "-Wextra", "-o", program, EXAMPLES / "ecu.c", *sources, *library, *flags]
+        built = run([os.environ.get("CC", "cc"), *words])
         self.assertEqual((built.returncode, built.stderr), (0, ""))
-        done = run([program, self.folder / "frames.gsm", self.folder / "lost.txt"])
-        self.assertEqual(done.returncode, 0)
-        return [line for line in done.stdout.splitlines() if line.startswith("frame ")]
+        return program
+
+    def said(self, operations: Sequence[Tuple[int, int, int, bytes]]) -> List[str]:
+        """What ecu_host.c prints for these operations: the state, what is done, the number of octets, and a frame."""
+        given = b"".join(bytes((state, does, octets)) + frame.ljust(33, b"\0") for state, does, octets, frame in operations)
+        done = subprocess.run([self.built(HERE / "ecu_host.c")], input=given, stdout=subprocess.PIPE, check=True)
+        first, second, third, *lines, last = done.stdout.decode().splitlines()
+        busy = -errno.EBUSY
+        self.assertEqual((first, second, third, last), (f"register 0 again {busy} FR {busy}", "other none", "blocks 3", "blocks 1"))
+        return lines
 
     def test_maxima_are_those_of_the_model(self) -> None:
         periods = self.lossy(300)
         effective = effective_frames(1, [uplink_frame(period) for period in periods])
-        lines = self.compared()
+        done = run([self.built(EXAMPLES / "ecu_compare.c"), self.folder / "frames.gsm", self.folder / "lost.txt"])
+        self.assertEqual(done.returncode, 0)
+        lines = [line for line in done.stdout.splitlines() if line.startswith("frame ")]
         wanted = [sum(block.xmaxc for block in frame.blocks) for frame, period in zip(effective, periods) if period.kind == LOST]
         self.assertEqual([int(line.split(" trau ")[1].split()[0]) for line in lines], wanted)
+
+    def test_frames_are_those_of_the_model(self) -> None:
+        # Two calls at once: lost frames before the first good one, speech, pauses, damaged descriptors, and many lost in a row.
+        recorded, lost = lossy_recording(300)
+        frames = [damaged(frame) if k % 3 == 0 and trau_fr.kind_of(frame) == trau_fr.Kind.DESCRIPTOR else frame for k, frame in enumerate(recorded)]
+        calls = [[brought(frame, digit) for frame, digit in zip(part, "111" + lost[3:])] for part in (frames, frames[100:] + frames[:100])]
+        self.assertGreater(sum(is_damaged(period) for period in calls[0]), 3)
+        turns = [(state, period) for both in zip(*calls) for state, period in enumerate(both)]
+        lines = self.said([(state, self.IN if period.octets[0] else self.OUT, 33, period.octets) for state, period in turns])
+        for state, call in enumerate(calls):
+            uplink = [uplink_frame(period) for period in call]
+            handed = calls_of_model.handed(calls_of_model.Uplink([], uplink, effective_frames(1, uplink)), 0, len(call))
+            wanted = [
+                "0" if period.octets[0] else f"33 {packed(parameters_of_bits(bits)).hex()}" for period, bits in zip(call, handed)
+            ]
+            self.assertEqual((len(lines[state::2]), first_difference(wanted, lines[state::2])), (len(wanted), None))
+
+    def test_frames_that_do_nothing(self) -> None:
+        # Frames with bfi, and those of another length, which are refused, between lost ones: these go on as without them.
+        recorded, _ = lossy_recording(60)
+        speech, descriptor = recorded[:10], recorded[40]
+        self.assertEqual(trau_fr.kind_of(descriptor), trau_fr.Kind.DESCRIPTOR)
+        nothing = [(0, self.BAD, 33, speech[0]), (0, self.BAD, 0, b""), *((0, self.IN, octets, speech[0]) for octets in (0, 32, 34))]
+        comes, is_lost = [(0, self.IN, 33, frame) for frame in speech], (0, self.OUT, 0, b"")
+        for last in (speech[9], descriptor):
+            plain = self.said([*comes, (0, self.IN, 33, last), *[is_lost] * 20])
+            mixed = self.said([*comes, (0, self.IN, 33, last), *[each for _ in range(20) for each in (*nothing, is_lost)]])
+            refused = str(-errno.EINVAL)
+            wanted = plain[:11] + [line for out in plain[11:] for line in ("0", "0", refused, refused, refused, out)]
+            self.assertEqual((len(mixed), first_difference(wanted, mixed)), (len(wanted), None))
 
 
 def gstreamer() -> str:
     """A Python with GStreamer's bindings, or an empty word."""
     ask = "import gi; gi.require_version('Gst', '1.0'); from gi.repository import Gst; Gst.init(None); "
-    ask += "assert all(map(Gst.ElementFactory.find, ('rtpjitterbuffer', 'appsrc', 'audioconvert')))"
+    ask += "assert all(map(Gst.ElementFactory.find, ('rtpjitterbuffer', 'appsrc', 'audioconvert', 'audiorate', 'wavenc')))"
     return next((each for each in (sys.executable, "/usr/bin/python3") if answers([each, "-c", ask])), "")
 
 
-@unittest.skipUnless(gstreamer(), "GStreamer's rtpjitterbuffer, appsrc, audioconvert or Python bindings aren't installed")
+def free_port() -> int:
+    """A UDP port that nobody has just now."""
+    with socket.socket(socket.AF_INET, socket.SOCK_DGRAM) as one:
+        one.bind(("127.0.0.1", 0))
+        return int(one.getsockname()[1])
+
+
+def is_bound(port: int) -> bool:
+    """Whether somebody has this UDP port."""
+    return any(f":{port:04X} " in line for line in Path("/proc/net/udp").read_text().splitlines())
+
+
+@unittest.skipUnless(gstreamer(), "GStreamer's rtpjitterbuffer, appsrc, audioconvert, audiorate, wavenc or Python bindings aren't installed")
 class GStreamer(InFolder):
     """What the host plays of a lossy recording, beside what a run writes to Out for the same losses."""
 
+    def setUp(self) -> None:
+        super().setUp()
+        self.host = [gstreamer(), EXAMPLES / "gst_host.py"]
+        self.environment = {**os.environ, "GST_REGISTRY": str(self.folder / "registry")}
+
+    def heard(self, *words: str) -> "subprocess.CompletedProcess[str]":
+        """What the host prints for the recording and these words."""
+        given = ["--file", self.folder / "frames.gsm", "--lost", self.folder / "lost.txt", *words]
+        return run([*self.host, *given], env=self.environment, timeout=120)
+
+    def test_parts(self) -> None:
+        done = run([gstreamer(), HERE / "gst_parts.py"], env=self.environment, timeout=300)
+        self.assertEqual(done.returncode, 0, done.stderr)
+
     def test_sound_is_that_of_a_run(self) -> None:
+        # The first packet that comes is the call's first period. By their times audiorate would leave out samples or put some in.
         periods = self.lossy(150)
-        sound = self.folder / "sound"
-        words = ["--file", self.folder / "frames.gsm", "--lost", self.folder / "lost.txt", "--sink", f"filesink location={sound}"]
-        done = run([gstreamer(), EXAMPLES / "gst_host.py", *words], env={**os.environ, "GST_REGISTRY": str(self.folder / "registry")})
         lost = sum(period.kind == LOST for period in periods)
-        self.assertEqual((done.returncode, done.stdout), (0, f"periods 150 lost {lost}\n"))
-        self.assertEqual(trau_fr.compress(sound.read_bytes()), self.out_line(periods))
+        for call in (1, 7):
+            sound = self.folder / "sound.wav"
+            done = self.heard("--sink", f"audiorate ! wavenc ! filesink location={sound}", *(["--seed", "7"] if call == 7 else []))
+            self.assertEqual((done.returncode, done.stdout), (0, f"periods 150 lost {lost}\n"))
+            with wave.open(str(sound)) as file:
+                self.assertEqual(file.getparams()[:3], (1, 2, 8000))
+                samples = file.readframes(file.getnframes())
+            self.assertEqual(trau_fr.compress(samples), self.out_line(periods, call))
+
+    def test_sound_of_a_port(self) -> None:
+        # The numbers of the packets begin anew in them, up to 20 are lost in a row, and one comes half a second late, within the latency. The sink
+        # leaves out what comes 0.5 s too late by the pipeline's clock. An interrupt ends it.
+        periods, port, sound = self.lossy(150), free_port(), self.folder / "sound"
+        sink = f"filesink location={sound} buffer-mode=2 sync=true max-lateness=500000000"
+        words = [*self.host, "--port", port, "--seed", "7", "--latency", "1000", "--sink", sink]
+        pipe = subprocess.PIPE
+        host = subprocess.Popen([str(word) for word in words], env=self.environment, stdout=pipe, stderr=pipe, text=True)
+        self.addCleanup(host.communicate)
+        self.addCleanup(host.kill)
+        end = time.monotonic() + 60
+        while not is_bound(port) and host.poll() is None and time.monotonic() < end:
+            time.sleep(0.01)
+        time.sleep(1)
+        came = [k for k, period in enumerate(periods) if period.kind != LOST]
+        late = came[len(came) // 2]
+        with socket.socket(socket.AF_INET, socket.SOCK_DGRAM) as sender:
+            begun = time.monotonic()
+            for k in sorted(came, key=lambda k: k + 25 * (k == late)):
+                time.sleep(max(0, begun + 0.02 * (k + 25 * (k == late)) - time.monotonic()))
+                sender.sendto(struct.pack(">BBHII", 0x80, 3, (65500 + k) % 65536, 160 * k, 1) + periods[k].octets, ("127.0.0.1", port))
+        wanted = 320 * len(periods)
+        while (not sound.exists() or sound.stat().st_size < wanted) and host.poll() is None and time.monotonic() < end:
+            time.sleep(0.01)
+        host.send_signal(signal.SIGINT)
+        lost = len(periods) - len(came)
+        self.assertEqual((*host.communicate(timeout=60), host.returncode), (f"periods 150 lost {lost}\n", "", 0))
+        self.assertEqual(trau_fr.compress(sound.read_bytes()), self.out_line(periods, 7))
+
+    def test_an_error(self) -> None:
+        self.lossy(10)
+        done = self.heard("--sink", f"filesink location={self.folder / 'nowhere' / 'sound'}")
+        self.assertEqual((done.returncode, done.stdout, done.stderr.count("\n")), (2, "", 1))
+        self.assertRegex(done.stderr, "^gst_host.py: ")
 
 
 if __name__ == "__main__":
