@@ -67,6 +67,17 @@ Command = Callable[[argparse.Namespace, bytes], Made]
 # Frames of libgsm: to an uplink, and from a downlink
 
 
+def check_frames(name: Path, octets: bytes) -> None:
+    """Refuses a file that plainly isn't a line of frames, by its head, or by the name of a line of A-law or mu-law if it shows none."""
+    not_this = "no line of frames"
+    file_kinds.refuse_other(name, octets, not_this, tests=file_kinds.TESTS_OF_HEADS)
+    is_sound = recordings.name_within(name).suffix[1:] in ENDINGS_OF[OF_A_LAW]
+    if is_sound and not file_kinds.frames_of(octets[: file_kinds.HEAD_OCTETS]):
+        file_kinds.refuse_other(name, octets, not_this)
+        makes_sound = as_started(f"lines.py sound {recordings.quoted(name)} NEW.wav makes sound of it")
+        raise Refusal(f"{name}: is {OF_A_LAW} by its name, and {not_this}; {makes_sound}")
+
+
 def uplink(words: argparse.Namespace, given: bytes) -> Made:
     """An uplink, from frames of libgsm or from those of a WAV file."""
     marker = Marker(words.sid == "keep", words.dtxd == 1)
@@ -75,6 +86,7 @@ def uplink(words: argparse.Namespace, given: bytes) -> Made:
 
 def gsm(words: argparse.Namespace, given: bytes) -> Made:
     """Frames of libgsm, from a downlink."""
+    check_frames(words.given, given)
     treatments = {"speech": "keep", "silence": words.silence, "idle": words.idle, "other": "skip"}
     found = gsm_files.treated_downlink(words.given, given, treatments)
     frames = [gsm_of_data(data) for _, data in found.frames]
@@ -83,6 +95,7 @@ def gsm(words: argparse.Namespace, given: bytes) -> Made:
 
 def listen(words: argparse.Namespace, given: bytes) -> Made:
     """A WAV file, from a downlink or an uplink."""
+    check_frames(words.given, given)
     octets, said = listening.alaw_of_line(words.given, given, words.trau)
     if words.start is not None:
         start = words.start / PERIODS_A_SECOND

@@ -136,6 +136,15 @@ def note_on_others(row: Row) -> Optional[str]:
     return f"call {row['call']}: no full rate speech, but frames that trau doesn't decode: {kinds}"
 
 
+def note_on_the_end(row: Row) -> Optional[str]:
+    """That all was lost up to a call's end, as where its peer has gone before, and what was lost without that."""
+    last, lost = row["lost_at_end"], row["lost"] - row["lost_at_end"]
+    if last < SILENT_FROM_LOST or row["others"]:
+        return None
+    rest = f"without them {lost} of {row['speech'] + lost} are lost, {100 * lost / (row['speech'] + lost):.2f} %"
+    return f"call {row['call']}: its last {last} periods are lost, as if the peer had gone; {rest}"
+
+
 def row_of_call(folder: Path, call: Call, bridges: Sequence[Bridge]) -> Row:
     """What a call's uplink and downlink say of losses and pauses."""
     call.search(folder, bridges)
@@ -143,6 +152,7 @@ def row_of_call(folder: Path, call: Call, bridges: Sequence[Bridge]) -> Row:
     counts = {heard: values.count(code) for code, heard in enumerate(HEARDS)}
     speech, lost = counts[Heard.SPEECH], counts[Heard.LOST]
     loss, pause = longest(values, Heard.LOST), longest(values, Heard.NOISE)
+    at_end = [each.length for each in stretches(values, Heard.LOST)[-1:] if each.start + each.length == len(values)]
     down = frames_of_downlink(folder, call)
     codes = codes_of_others(folder, call)
     return {
@@ -168,6 +178,7 @@ def row_of_call(folder: Path, call: Call, bridges: Sequence[Bridge]) -> Row:
         "unused_pcm": unused_periods(folder, call, "pcm"),
         "others": frame_kinds.counted(codes),
         "codes": codes,
+        "lost_at_end": sum(at_end),
     }
 
 
@@ -186,7 +197,7 @@ def calls(words: argparse.Namespace) -> Answer:
     """The calls of a run by their lines."""
     times = Times(words.folder)
     found = [{**row, "utc": times.said(call, call.span.start)} for call, row in of_each_call(words, row_of_call)]
-    notes = list(filter(None, map(note_on_others, found)))
+    notes = [note for row in found for note in (note_on_others(row), note_on_the_end(row)) if note]
     rows = [{column: row[column] for column in CALL_COLUMNS} for row in found]
     return Answer(CALL_COLUMNS, rows, rows, notes=notes)
 

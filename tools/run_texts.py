@@ -8,6 +8,7 @@ from __future__ import annotations
 
 import argparse
 import re
+import shlex
 from pathlib import Path
 from typing import Dict, List, Optional, Sequence
 
@@ -17,7 +18,7 @@ from core.lines import SIDES
 from core.orders import BadLine, Order, TooLong, orders_of
 from core.profile import MOST_CALLS, MOST_PERIODS
 from core.report import COUNTS, Bridge, FailedLine, Reply, Report, Span
-from core.words import Refusal, option
+from core.words import Refusal, as_started, option
 from tool_files import read_file
 
 REFUSALS = {
@@ -160,7 +161,10 @@ def report_of(name: Path, content: bytes) -> Report:
 
 
 def read_report(name: Path) -> Report:
-    """Reads the file of a report."""
+    """Reads the file of a report. The recording of a gateway has none before it is replayed."""
+    if not name.exists() and (name.parent / "clock.txt").is_file():
+        replays = as_started(f"gateway.py check {shlex.quote(str(name.parent))} --again NEW")
+        raise Refusal(f"{name}: a recording has no report; {replays} makes a run of it, in the folder NEW")
     return report_of(name, read_file(name))
 
 

@@ -303,6 +303,22 @@ class Listening(Recorded):
             build.write_bytes(b"#!/bin/sh\n")
             self.assertFalse(listening.is_stale(self.folder))
 
+    def test_what_has_no_frames(self):
+        # Octets of speech have bits that look like a frame, so they made a file of silence.
+        sound, slot = self.path("1.pcm", 40 * (FARM / "4.pcm").read_bytes()), self.path("3.out", merged(4 * [(EXAMPLES / "7.up").read_bytes()]))
+        packed = self.path("2.out.gz", gzip.compress((WANTED / "1.out").read_bytes()))
+        for line, part in (
+            (sound, f"1.pcm: is A-law or mu-law by its name, and no line of frames; lines.py sound {sound} NEW.wav makes sound of it"),
+            (packed, f"2.out.gz: is A-law or mu-law by its name, and no line of frames; lines.py sound {packed} NEW.wav makes sound of it"),
+            (slot, "and no line of frames; lines.py slot "),
+            (DATA / "speech.gsm", "is 40 frames of libgsm, and no line of frames; lines.py uplink "),
+            (DATA / "sox.wav", ", and no line of frames; lines.py uplink "),
+        ):
+            self.assert_refused(lines.main, ["listen", line, self.path("new.wav")], part)
+            self.assert_refused(lines.main, ["gsm", line, self.path("new.gsm")], part)
+        # By its content a line of frames is one, whatever its name is.
+        self.lines("gsm", self.path("2.out", (WANTED / "2.down").read_bytes()), self.path("2.gsm"))
+
     def test_refused(self):
         down, new = WANTED / "2.down", self.path("2.wav")
         self.assert_refused(lines.main, ["listen", EXAMPLES / "7.up", new, "--trau", "/x"], "/x: No such file")

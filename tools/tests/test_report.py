@@ -366,6 +366,16 @@ class Losses(Recorded):
         self.lay_call("good bad", octets_of(write_up(UpFrame(Sort.GOOD, data=SPEECH))) + PRIMED)
         self.assertEqual([self.rows("calls", self.run)[0][word] for word in ("quiet", "speech", "lost")], ["0", "3", "1"])
 
+    def test_a_peer_that_has_gone(self):
+        # All is lost up to the call's end, longer than speech is repeated and muted: the table's rate isn't the network's.
+        said = "call 1: its last 17 periods are lost, as if the peer had gone; without them 1 of 4 are lost, 25.00 %"
+        for last, wanted in ((16, []), (17, [said])):
+            self.lay_call("good bad good good" + last * " bad")
+            self.assertEqual(self.rows("calls", self.run)[0]["lost"], str(1 + last))
+            self.assertEqual(self.told("calls", self.run).splitlines()[2:], wanted)
+        self.lay_call("good" + 17 * " bad" + " good")
+        self.assertEqual(self.told("calls", self.run).splitlines()[2:], [])
+
 
 class Utc(Recorded):
     TIMES = ["00.040", "02.460", "30.560", "30.660"]  # after 23:00:00
@@ -389,6 +399,14 @@ class Utc(Recorded):
         (again / "1.down").write_bytes((self.run / "1.down").read_bytes())
         (again / "report.txt").write_bytes((self.run / "report.txt").read_bytes())
         self.assertEqual(self.times(again), self.wanted)
+
+    def test_of_a_recording_that_isnt_replayed(self):
+        (self.run / "report.txt").unlink()
+        said = f"a recording has no report; gateway.py check {self.run} --again NEW makes a run of it"
+        for command in ("calls", "losses"):
+            self.assert_refused(report.main, [command, self.run], said)
+        (self.run / "clock.txt").unlink()
+        self.assert_refused(report.main, ["losses", self.run], "report.txt: No such file or directory")
 
     def test_of_other_lines(self):
         # A clock says nothing of a run that opens the call at another period, or whose uplink is elsewhere.
