@@ -34,6 +34,7 @@ module _ {D F : Type 0} (does : Operations D F) (call : ℕ) (side : Side) (acce
   is_short old mid claims first fault e failed is once lacks = record {
     folder = mid;
     fault = fault;
+    claims = claims;
     failed = subst (OpensOnce does old.folder mid old.claims claims call side access at) failed once;
     lacks = rw is lacks;
   }
@@ -49,7 +50,8 @@ module _ {D F : Type 0} (does : Operations D F) (call : ℕ) (side : Side) (acce
 
   same_short : (old : OpenFiles D F) (seats : List (Option (OpenLine F))) → IsShort does (freed old seats) call side access at →
       IsShort does old call side access at
-  same_short old seats short = record { folder = short.folder; fault = short.fault; failed = short.failed; lacks = short.lacks }
+  same_short old seats short =
+      record { folder = short.folder; fault = short.fault; claims = short.claims; failed = short.failed; lacks = short.lacks }
 
   -- the file wasn't opened
   pub frees_only : (old new : OpenFiles D F) (seats : List (Option (OpenLine F))) (fault : Fault) → OthersSit old.seats seats old.next →

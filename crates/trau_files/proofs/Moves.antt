@@ -2,8 +2,6 @@
 use Rattle.std.proofs.Common.{◌≡◌, ℕ, List, Option, None, Some, Result, Ok, Err, IfSome, IsSomeAnd, inr, subst}
 use Rattle.std.specs.declared.io.Error.{Error}
 use Rattle.trau_io.specs.declared.line.Side.{Side}
-use Rattle.trau_io.specs.Indices.{index_of_line}
-use Rattle.trau_files.specs.Claims.{OthersKeep}
 use Rattle.trau_files.specs.declared.trunk.claims.Claim.{Claim}
 use Rattle.trau_files.specs.declared.trunk.fault.Fault.{Fault}
 use Rattle.trau_files.specs.declared.trunk.fault.Fault.TheVariants.{System}
@@ -54,11 +52,10 @@ module _ {D F : Type 0} (does : Operations D F) (old new : OpenFiles D F) (mid :
 pub opens_again : {D F : Type 0} (does : Operations D F) (old mid new : D) (old_claims mid_claims new_claims : List (Option Claim)) (call : ℕ) (side : Side)
     (access : Access) (at : ℕ) (first result : Result F Fault) (fault : Fault) (e : Error) → first ≡ Err fault → fault ≡ System e →
     OpensOnce does old mid old_claims mid_claims call side access at first → LacksDescriptor (System e) →
-    OthersKeep old_claims mid_claims (index_of_line call side) → OpensOnce does mid new mid_claims new_claims call side access at result → Opens does old new old_claims new_claims call side access at result
-opens_again does old mid new old_claims mid_claims new_claims call side access at first result fault e failed is once lacks others second = inr (record {
+    OpensOnce does mid new mid_claims new_claims call side access at result → Opens does old new old_claims new_claims call side access at result
+opens_again does old mid new old_claims mid_claims new_claims call side access at first result fault e failed is once lacks second = inr (record {
   folder = mid;
   claims = mid_claims;
-  others = others;
   fault = fault;
   first = subst (OpensOnce does old mid old_claims mid_claims call side access at) failed once;
   lacks = rw is lacks;

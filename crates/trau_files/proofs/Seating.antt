@@ -181,6 +181,14 @@ module _ {F : Type 0} where
         set_there seats seat (Some file) None within,
       )
 
+  -- a line that has no file open has none after files were closed
+  pub closed_still : (old new : List (Option (OpenLine F))) (call : ℕ) (side : Side) → OnlyCloses old new → IsFileOf old call side None →
+      IsFileOf new call side None
+  closed_still old new call side closes closed = record {
+    only = λ k o there c s. elim (closes k) [ inl e ↦ closed.only k o (sym e ∙ there) c s | inr e ↦ let none = e in cc ];
+    there = tt;
+  }
+
   -- the file in a seat stays, or is closed
   module _ (seats : List (Option (OpenLine F))) (seat : ℕ) (file : Option (OpenLine F)) (others : (file ≡ in_seat seats seat) ⊎ (file ≡ None)) where
     pub only_closes : OnlyCloses seats (slice_set seats seat file)

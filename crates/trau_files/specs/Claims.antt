@@ -1,9 +1,11 @@
 -- Which line has which file on a disk, so that no line is written to the file of another (this project's profile).
-use Rattle.std.specs.Prelude.{◌≡◌, ◌≢◌, ◌⊎◌, ℕ, List, Option, None, Some, IsSome, slice_index_or}
+use Rattle.std.specs.Prelude.{◌≡◌, ◌≢◌, ◌⊎◌, ℕ, List, Option, None, Some, slice_index_or}
+use Rattle.std.specs.Fs.{IsFile, file_type}
+use Rattle.std.specs.declared.fs.attrs.Metadata.{Metadata}
 use Rattle.trau_files.specs.declared.trunk.claims.Claim.{Claim}
 use Rattle.trau_files.specs.declared.trunk.seats.Access.TheVariants.{Reading, Writing}
 
--- the last file on a disk that the line with this index was opened with, if there is one
+-- a line's note: the last file on a disk that the line with this index was opened with, if there is one
 abbrev pub claim_at : List (Option Claim) → ℕ → Option Claim
 claim_at claims k = slice_index_or claims k None
 
@@ -28,14 +30,19 @@ Has (Some held) c = (held.file ≡ c.file) × (c.access ≡ Writing → held.acc
 abbrev pub OthersKeep : List (Option Claim) → List (Option Claim) → ℕ → Type 0
 OthersKeep old new p = (k : ℕ) → k ≢ p → claim_at new k ≡ claim_at old k
 
--- a line that has a file for writing has it for writing as long as it has this file
-abbrev pub StaysForWriting : List (Option Claim) → List (Option Claim) → ℕ → Type 0
-StaysForWriting old new p =
-    (a b : Claim) → claim_at old p ≡ Some a → claim_at new p ≡ Some b → b.file ≡ a.file → a.access ≡ Writing → b.access ≡ Writing
+-- the line gets this file of a disk: if it has it, no note changes; else the file is its note, and
+-- no other note changes
+abbrev pub NotesDiskFile : List (Option Claim) → List (Option Claim) → ℕ → Claim → Type 0
+NotesDiskFile old new p c =
+    (Has (claim_at old p) c × (new ≡ old))
+    ⊎ ((Has (claim_at old p) c → ⊥) × (claim_at new p ≡ Some c) × OthersKeep old new p)
 
--- a line that has a note of a file has one afterwards, also if its opening fails; it may be of another file
-abbrev pub StaysNoted : List (Option Claim) → List (Option Claim) → ℕ → Type 0
-StaysNoted old new p = (a : Claim) → claim_at old p ≡ Some a → IsSome (claim_at new p)
+-- the line gets a file that has these metadata: if it is one of a disk, it is noted so; if it is a
+-- pipe or a device, no note changes
+abbrev pub NotesFile : List (Option Claim) → List (Option Claim) → ℕ → Metadata → Claim → Type 0
+NotesFile old new p metadata c =
+    (IsFile (file_type metadata) × NotesDiskFile old new p c)
+    ⊎ ((IsFile (file_type metadata) → ⊥) × (new ≡ old))
 
 -- another line has this file, and one of the two is written
 pub record IsTaken (claims : List (Option Claim)) (p : ℕ) (c : Claim) (other : ℕ) : Type 0 where

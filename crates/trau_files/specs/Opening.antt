@@ -13,7 +13,7 @@ use Rattle.trau_files.specs.declared.trunk.fault.Fault.{Fault}
 use Rattle.trau_files.specs.declared.trunk.fault.Fault.TheVariants.{System, Shared}
 use Rattle.trau_files.specs.declared.trunk.seats.Access.{Access}
 use Rattle.trau_files.specs.declared.trunk.seats.Access.TheVariants.{Writing}
-use Rattle.trau_files.specs.Claims.{Has, IsTaken, OthersKeep, claim_at}
+use Rattle.trau_files.specs.Claims.{IsTaken, NotesFile}
 use Rattle.trau_files.specs.Files.{file_name, options_for}
 use Rattle.trau_files.specs.Folder.{Operations}
 
@@ -44,33 +44,39 @@ pub record IsSeen {D F : Type 0} (does : Operations D F) (old new : D) (call : �
   pub opened : OpensOrMakes does old new call side access at made (Ok file)
   pub told : does.told file (Ok metadata)
 
--- this open file is the line's: it was opened by the line's name, noted for the line if it is on a disk, and goes on at this octet
-pub record IsOpened {D F : Type 0} (does : Operations D F) (old new : D) (claims : List (Option Claim)) (call : ℕ) (side : Side) (access : Access) (at : ℕ)
-    (file : F) : Type 0 where
-  pub fresh : F
+-- a line's file was opened and has these metadata; if it is one of a disk, it is noted for the line, and no other note changes
+pub record IsClaimed {D F : Type 0} (does : Operations D F) (old new : D) (old_claims new_claims : List (Option Claim)) (call : ℕ) (side : Side)
+    (access : Access) (at : ℕ) (file : F) (metadata : Metadata) : Type 0 where
   pub made : Bool
-  pub metadata : Metadata
-  pub mid : D
-  pub seen : IsSeen does old mid call side access at fresh made metadata
-  pub started : Starts does access at metadata mid new fresh file (Ok tt)
+  pub seen : IsSeen does old new call side access at file made metadata
   pub identity : FileIdentity
   pub identified : does.identified metadata identity
-  pub noted : IsFile (file_type metadata) → Has (claim_at claims (index_of_line call side)) (record { file = identity; access = access })
+  pub noted : NotesFile old_claims new_claims (index_of_line call side) metadata (record { file = identity; access = access })
 
--- an operation of the folder failed with this error; an open file was closed as that operation left it
-abbrev pub IsRefused : {D F : Type 0} → Operations D F → D → D → ℕ → Side → Access → ℕ → Error → Type 0
-IsRefused {D = D} {F = F} does old new call side access at e =
-    ((made : Bool) × OpensOrMakes does old new call side access at made (Err e))
-    ⊎ ((file : F) × (made : Bool) × (mid : D) × OpensOrMakes does old mid call side access at made (Ok file) × does.told file (Err e)
-    × does.closed mid new file)
-    ⊎ ((fresh : F) × (made : Bool) × (metadata : Metadata) × (file : F) × (mid : D) × (started : D)
-    × IsSeen does old mid call side access at fresh made metadata × Starts does access at metadata mid started fresh file (Err e)
+-- this open file is the line's: it was opened by the line's name, noted for the line if it is on a disk, and goes on at this octet
+pub record IsOpened {D F : Type 0} (does : Operations D F) (old new : D) (old_claims new_claims : List (Option Claim)) (call : ℕ) (side : Side)
+    (access : Access) (at : ℕ) (file : F) : Type 0 where
+  pub fresh : F
+  pub metadata : Metadata
+  pub mid : D
+  pub claimed : IsClaimed does old mid old_claims new_claims call side access at fresh metadata
+  pub started : Starts does access at metadata mid new fresh file (Ok tt)
+
+-- an operation of the folder failed with this error; an open file was closed as that operation left it. Only if the file was to go to its
+-- octet, or to be emptied, was it noted before
+abbrev pub IsRefused : {D F : Type 0} → Operations D F → D → D → List (Option Claim) → List (Option Claim) → ℕ → Side → Access → ℕ → Error → Type 0
+IsRefused {D = D} {F = F} does old new old_claims new_claims call side access at e =
+    ((new_claims ≡ old_claims) × (made : Bool) × OpensOrMakes does old new call side access at made (Err e))
+    ⊎ ((new_claims ≡ old_claims) × (file : F) × (made : Bool) × (mid : D) × OpensOrMakes does old mid call side access at made (Ok file)
+    × does.told file (Err e) × does.closed mid new file)
+    ⊎ ((fresh : F) × (metadata : Metadata) × (file : F) × (mid : D) × (started : D)
+    × IsClaimed does old mid old_claims new_claims call side access at fresh metadata × Starts does access at metadata mid started fresh file (Err e)
     × does.closed started new file)
 
 -- the file is one of a disk that another line has, one of the two to be written, or that is to be written and was found as a recording;
--- it is closed as it was opened, and what the name leads to is removed only if it was made now and is empty
-pub record IsShared {D F : Type 0} (does : Operations D F) (old new : D) (claims : List (Option Claim)) (call : ℕ) (side : Side) (access : Access) (at : ℕ)
-    (other : ℕ) : Type 0 where
+-- it is closed as it was opened, and what the name leads to is removed only if it was made now and is empty; no note changes
+pub record IsShared {D F : Type 0} (does : Operations D F) (old new : D) (old_claims new_claims : List (Option Claim)) (call : ℕ) (side : Side)
+    (access : Access) (at : ℕ) (other : ℕ) : Type 0 where
   pub file : F
   pub made : Bool
   pub metadata : Metadata
@@ -79,21 +85,22 @@ pub record IsShared {D F : Type 0} (does : Operations D F) (old new : D) (claims
   pub disk : IsFile (file_type metadata)
   pub identity : FileIdentity
   pub identified : does.identified metadata identity
-  pub taken : IsTaken claims (index_of_line call side) (record { file = identity; access = access }) other ⊎ (access ≡ Writing)
+  pub same_claims : new_claims ≡ old_claims
+  pub taken : IsTaken old_claims (index_of_line call side) (record { file = identity; access = access }) other ⊎ (access ≡ Writing)
   pub without : D
   pub closed : does.closed mid without file
   pub left : (new ≡ without) ⊎ ((made ≡ true) × (metadata_len metadata ≡ 0) × does.removed without new (file_name call side))
 
 -- why a line's file wasn't opened
-abbrev pub FailsToOpen : {D F : Type 0} → Operations D F → D → D → List (Option Claim) → ℕ → Side → Access → ℕ → Fault → Type 0
-FailsToOpen does old new claims call side access at (System e) = IsRefused does old new call side access at e
-FailsToOpen does old new claims call side access at (Shared other) = IsShared does old new claims call side access at other
+abbrev pub FailsToOpen : {D F : Type 0} → Operations D F → D → D → List (Option Claim) → List (Option Claim) → ℕ → Side → Access → ℕ → Fault → Type 0
+FailsToOpen does old new old_claims new_claims call side access at (System e) = IsRefused does old new old_claims new_claims call side access at e
+FailsToOpen does old new old_claims new_claims call side access at (Shared other) = IsShared does old new old_claims new_claims call side access at other
 
 -- one attempt to open a line's file
 abbrev pub OpensOnce : {D F : Type 0} → Operations D F → D → D → List (Option Claim) → List (Option Claim) → ℕ → Side → Access → ℕ → Result F Fault → Type 0
 OpensOnce does old new old_claims new_claims call side access at result =
-    MatchResult result (λ file. IsOpened does old new new_claims call side access at file)
-    (λ fault. FailsToOpen does old new old_claims call side access at fault)
+    MatchResult result (λ file. IsOpened does old new old_claims new_claims call side access at file)
+    (λ fault. FailsToOpen does old new old_claims new_claims call side access at fault)
 
 -- the system had no descriptor left: in this process (EMFILE), or anywhere (ENFILE)
 abbrev pub LacksDescriptor : Fault → Type 0
@@ -105,9 +112,8 @@ pub record OpensAgain {D F : Type 0} (does : Operations D F) (old new : D) (old_
     (access : Access) (at : ℕ) (result : Result F Fault) : Type 0 where
   pub folder : D
   pub claims : List (Option Claim)
-  pub others : OthersKeep old_claims claims (index_of_line call side)
   pub fault : Fault
-  pub first : FailsToOpen does old folder old_claims call side access at fault
+  pub first : FailsToOpen does old folder old_claims claims call side access at fault
   pub lacks : LacksDescriptor fault
   pub second : OpensOnce does folder new claims new_claims call side access at result
 

@@ -1,6 +1,7 @@
 -- Which seats are freed for a file that is opened (this project's profile).
 use Rattle.std.specs.Prelude.{◌≡◌, ◌≢◌, ◌⊎◌, ℕ, ◌+◌, ◌-◌, min, List, Option, None, Some, Result, Ok, Err, IfOk}
 use Rattle.trau_io.specs.declared.line.Side.{Side}
+use Rattle.trau_files.specs.declared.trunk.claims.Claim.{Claim}
 use Rattle.trau_files.specs.declared.trunk.fault.Fault.{Fault}
 use Rattle.trau_files.specs.declared.trunk.seats.Access.{Access}
 use Rattle.trau_files.specs.Files.{IsOpenAt, OpenFiles, OpenLine, OthersSit, in_seat}
@@ -15,7 +16,8 @@ NoneWasOpen seats call side access at = (k : ℕ) → IsOpenAt (in_seat seats k)
 pub record IsShort {D F : Type 0} (does : Operations D F) (old : OpenFiles D F) (call : ℕ) (side : Side) (access : Access) (at : ℕ) : Type 0 where
   pub folder : D
   pub fault : Fault
-  pub failed : FailsToOpen does old.folder folder old.claims call side access at fault
+  pub claims : List (Option Claim)
+  pub failed : FailsToOpen does old.folder folder old.claims claims call side access at fault
   pub lacks : LacksDescriptor fault
 
 -- no seat is given up; or, where no descriptor was left, the one before the next: it is freed, and is the last one that is given

@@ -4,7 +4,7 @@ ghost use Rattle.std.specs.Prelude.{◌≡◌, ◌<◌, None, All, vec_len, leng
 ghost use Rattle.trau_io.specs.Lines.{Reads, Writes, OthersStay};
 ghost use Rattle.trau_io.specs.Indices.{index_of_line};
 ghost use Rattle.trau_io.specs.declared.line_table.TheConstants.{LINE_INDICES};
-ghost use Rattle.trau_files.specs.Claims.{AreApart, OthersKeep, StaysNoted};
+ghost use Rattle.trau_files.specs.Claims.{AreApart, OthersKeep};
 ghost use Rattle.trau_files.specs.Files.{states_of};
 ghost use Rattle.trau_files.specs.Trunk.{TrunkFiles, TrunkReads, TrunkWrites};
 
@@ -86,7 +86,6 @@ impl<D: Folder + Eprint + Drop> Trunk for FileTrunk<D> {
         ensures after { IfSome (slice_get self.old.lines (index_of_line line.call line.side)) (λ l. TrunkReads D.does D.File.reading self.old self.new line.call line.side l result buf.new) }
         ensures apart { AreApart self.new.files.claims }
         ensures kept { OthersKeep self.old.files.claims self.new.files.claims (index_of_line line.call line.side) }
-        ensures noted { StaysNoted self.old.files.claims self.new.files.claims (index_of_line line.call line.side) }
     {
         self.lines[line_index(line)].read(&mut self.files, line, buf)
     }
@@ -98,7 +97,6 @@ impl<D: Folder + Eprint + Drop> Trunk for FileTrunk<D> {
         ensures after { IfSome (slice_get self.old.lines (index_of_line line.call line.side)) (λ l. TrunkWrites D.does D.File.writing self.old self.new line.call line.side l result bytes.now) }
         ensures apart { AreApart self.new.files.claims }
         ensures kept { OthersKeep self.old.files.claims self.new.files.claims (index_of_line line.call line.side) }
-        ensures noted { StaysNoted self.old.files.claims self.new.files.claims (index_of_line line.call line.side) }
     {
         self.lines[line_index(line)].write(&mut self.files, line, bytes)
     }

@@ -4,7 +4,7 @@ ghost use Rattle.std.specs.Prelude.{◌≡◌, ◌⊎◌, IfOk, IfErr, IfSome, I
 ghost use Rattle.std.specs.Fs.{IsFile, file_type};
 ghost use Rattle.trau_io.specs.Indices.{index_of_line};
 ghost use Rattle.trau_files.specs.declared.trunk.seats.Access.TheVariants.{Writing};
-ghost use Rattle.trau_files.specs.Claims.{AreApart, Has, IsTaken, MayHave, MayShare, OthersKeep, StaysForWriting, StaysNoted, claim_at};
+ghost use Rattle.trau_files.specs.Claims.{AreApart, Has, IsTaken, MayHave, MayShare, NotesDiskFile, NotesFile, OthersKeep};
 
 use super::name::name_of;
 use super::recordings::Recordings;
@@ -84,14 +84,12 @@ impl Claims {
         metadata: &Metadata,
         is_new: bool,
     ) -> Result<(), usize>
-        ensures has { IfOk result (λ _. IsFile (file_type metadata.now) → Has (claim_at self.new (index_of_line line.call line.side)) claim) }
+        ensures noted { IfOk result (λ _. NotesFile self.old self.new (index_of_line line.call line.side) metadata.now claim) }
         ensures refused { IfErr result (λ _. self.new ≡ self.old) }
         ensures causes { IfErr result (λ other. IsFile (file_type metadata.now)
             × (IsTaken self.old (index_of_line line.call line.side) claim other ⊎ (claim.access ≡ Writing))) }
         ensures apart { AreApart self.old → AreApart self.new }
         ensures others { OthersKeep self.old self.new (index_of_line line.call line.side) }
-        ensures stays { StaysForWriting self.old self.new (index_of_line line.call line.side) }
-        ensures noted { StaysNoted self.old self.new (index_of_line line.call line.side) }
     {
         if !metadata.is_file() {
             return Ok(());
@@ -130,10 +128,8 @@ impl Claims {
 
     /// Gives the file to the line, unless another line has it and one of the two is written. The error is that line's index.
     pub fn claim(&mut self, line: Line, claim: Claim) -> Result<(), usize>
-        ensures has { IfOk result (λ _. Has (claim_at self.new (index_of_line line.call line.side)) claim) }
+        ensures noted { IfOk result (λ _. NotesDiskFile self.old self.new (index_of_line line.call line.side) claim) }
         ensures others { OthersKeep self.old self.new (index_of_line line.call line.side) }
-        ensures stays { StaysForWriting self.old self.new (index_of_line line.call line.side) }
-        ensures noted { StaysNoted self.old self.new (index_of_line line.call line.side) }
         ensures taken { IfErr result (λ other. (self.new ≡ self.old) × IsTaken self.old (index_of_line line.call line.side) claim other) }
         ensures apart { AreApart self.new }
     {
@@ -167,7 +163,7 @@ impl Claims {
 // Whether a line has this file already, for the same access or for writing.
 fn has(held: Option<Claim>, claim: Claim) -> bool
     ensures has { IsTrue result → Has held claim }
-    ensures lacks { result ≡ false → IfSome held (λ a. claim.file ≡ a.file → a.access ≡ Writing → ⊥) }
+    ensures lacks { result ≡ false → Has held claim → ⊥ }
 {
     match held {
         Some(held) => {

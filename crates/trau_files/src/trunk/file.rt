@@ -3,7 +3,7 @@
 ghost use Rattle.std.specs.Prelude.{◌≡◌, ◌≤◌};
 ghost use Rattle.trau_io.specs.Lines.{Reads, Writes};
 ghost use Rattle.trau_io.specs.Indices.{index_of_line};
-ghost use Rattle.trau_files.specs.Claims.{AreApart, OthersKeep, StaysNoted};
+ghost use Rattle.trau_files.specs.Claims.{AreApart, OthersKeep};
 ghost use Rattle.trau_files.specs.Files.{FileLine, raised, after_read, after_write, state_of};
 ghost use Rattle.trau_files.specs.Trunk.{PassesOn, ReadsFile, WritesFile};
 ghost use Rattle.trau_files.specs.Seats.{FreesSeats};
@@ -54,7 +54,6 @@ impl LineFile {
         ensures freed { FreesSeats D.does files.old files.new line.call line.side Reading self.old.read }
         ensures apart { AreApart files.new.claims }
         ensures others { OthersKeep files.old.claims files.new.claims (index_of_line line.call line.side) }
-        ensures noted { StaysNoted files.old.claims files.new.claims (index_of_line line.call line.side) }
     {
         match files.read_at(line, self.read, buf) {
             Ok(count) => {
@@ -78,7 +77,6 @@ impl LineFile {
         ensures freed { FreesSeats D.does files.old files.new line.call line.side Writing self.old.written }
         ensures apart { AreApart files.new.claims }
         ensures others { OthersKeep files.old.claims files.new.claims (index_of_line line.call line.side) }
-        ensures noted { StaysNoted files.old.claims files.new.claims (index_of_line line.call line.side) }
     {
         match files.write_at(line, self.written, bytes) {
             Ok(count) => {

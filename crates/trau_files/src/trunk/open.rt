@@ -5,7 +5,7 @@ ghost use Rattle.std.specs.IoError.{raw_os_error};
 ghost use Rattle.std.specs.Io.{ReadsAtMost, WritesAtMost};
 ghost use Rattle.trau_io.specs.Indices.{index_of_line};
 ghost use Rattle.trau_files.specs.declared.trunk.seats.Access.TheVariants.{Reading, Writing};
-ghost use Rattle.trau_files.specs.Claims.{AreApart, OthersKeep, StaysForWriting, StaysNoted};
+ghost use Rattle.trau_files.specs.Claims.{AreApart, OthersKeep};
 ghost use Rattle.trau_files.specs.Files.{IsOpenAt, IsFileOf, OnlyCloses, OpenAfter, file_name, in_seat, options_for};
 ghost use Rattle.trau_files.specs.Opening.{IsSeen, IsOpened, IsShared, FailsToOpen, Opens, OpensOnce, OpensOrMakes, Starts, LacksDescriptor, IsToBeMade};
 ghost use Rattle.trau_files.specs.Seats.{FreesNext, FreesSeats, HoldsOrLessens};
@@ -78,7 +78,6 @@ impl<D: Folder + Drop> LineFiles<D> {
         ensures freed { FreesSeats D.does self.old self.new line.call line.side Reading at }
         ensures apart { AreApart self.new.claims }
         ensures others { OthersKeep self.old.claims self.new.claims (index_of_line line.call line.side) }
-        ensures noted { StaysNoted self.old.claims self.new.claims (index_of_line line.call line.side) }
     {
         let seat = self.seat(line, Access::Reading, at)?;
         self.seats.read(seat, buf)
@@ -92,7 +91,6 @@ impl<D: Folder + Drop> LineFiles<D> {
         ensures freed { FreesSeats D.does self.old self.new line.call line.side Writing at }
         ensures apart { AreApart self.new.claims }
         ensures others { OthersKeep self.old.claims self.new.claims (index_of_line line.call line.side) }
-        ensures noted { StaysNoted self.old.claims self.new.claims (index_of_line line.call line.side) }
     {
         let seat = self.seat(line, Access::Writing, at)?;
         self.seats.write(seat, bytes)
@@ -107,7 +105,6 @@ impl<D: Folder + Drop> LineFiles<D> {
         ensures freed { FreesSeats D.does self.old self.new line.call line.side access at }
         ensures apart { AreApart self.new.claims }
         ensures others { OthersKeep self.old.claims self.new.claims (index_of_line line.call line.side) }
-        ensures noted { StaysNoted self.old.claims self.new.claims (index_of_line line.call line.side) }
     {
         match self.seats.find(line, access, at) {
             Some(seat) => Ok(seat),
@@ -130,7 +127,6 @@ impl<D: Folder + Drop> LineFiles<D> {
         ensures freed { FreesNext D.does self.old self.new line.call line.side access at }
         ensures apart { AreApart self.new.claims }
         ensures others { OthersKeep self.old.claims self.new.claims (index_of_line line.call line.side) }
-        ensures noted { StaysNoted self.old.claims self.new.claims (index_of_line line.call line.side) }
     {
         self.seats.free(self.place.next);
         let file = self.open_or_lessen(line, access, at)?;
@@ -156,7 +152,6 @@ impl<D: Folder + Drop> LineFiles<D> {
         ensures number { length self.new.seats ≡ length self.old.seats }
         ensures apart { AreApart self.new.claims }
         ensures others { OthersKeep self.old.claims self.new.claims (index_of_line line.call line.side) }
-        ensures noted { StaysNoted self.old.claims self.new.claims (index_of_line line.call line.side) }
     {
         match open_at(&mut self.folder, &mut self.claims, line, access, at) {
             Err(Fault::System(fault)) if lacks_descriptor(&fault) => {
@@ -195,8 +190,6 @@ fn open_at<D: Folder>(
     ensures opens { OpensOnce D.does folder.old folder.new claims.old claims.new line.call line.side access at result }
     ensures apart { AreApart claims.old → AreApart claims.new }
     ensures others { OthersKeep claims.old claims.new (index_of_line line.call line.side) }
-    ensures stays { StaysForWriting claims.old claims.new (index_of_line line.call line.side) }
-    ensures noted { StaysNoted claims.old claims.new (index_of_line line.call line.side) }
 {
     let (mut file, is_new) = open_or_make(folder, line, access, at)?;
     let metadata = match folder.ask(&file) {

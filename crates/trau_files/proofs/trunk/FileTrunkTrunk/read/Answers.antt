@@ -2,7 +2,7 @@ use Rattle.std.proofs.Common.{sym, subst, List, Option, ◌∙◌, ap, slice_set
 use Rattle.trau_io.proofs.Tables.{replaced}
 use Rattle.trau_io.specs.Indices.{index_of_line}
 use Rattle.trau_files.specs.declared.trunk.claims.Claim.{Claim}
-use Rattle.trau_files.specs.Claims.{OthersKeep, StaysNoted}
+use Rattle.trau_files.specs.Claims.{OthersKeep}
 use Rattle.trau_files.specs.Files.{OpenFiles, known_line}
 use Rattle.trau_files.specs.declared.trunk.seats.Access.TheVariants.{Reading}
 use Rattle.trau_files.specs.Seats.{FreesSeats}
@@ -23,13 +23,10 @@ returns g c =
     c.index_mut.result.now.read) files_seen c.read.ensures.freed in
     let kept = subst (λ (cs : List (Option Claim)). OthersKeep cs c.read.new.files.claims
     (index_of_line c.args.line.call c.args.line.side)) claims_seen c.read.ensures.others in
-    let noted = subst (λ (cs : List (Option Claim)). StaysNoted cs c.read.new.files.claims
-    (index_of_line c.args.line.call c.args.line.side)) claims_seen c.read.ensures.noted in
     record {
       this = rw (line.was, line.is) c.read.ensures.reads;
       others = line.others;
       after = rw line.found (record { lines = lines; files = files; seats = seats });
       apart = c.read.ensures.apart;
       kept = kept;
-      noted = noted;
     }

@@ -2,7 +2,7 @@ use Rattle.std.proofs.Common.{sym, subst, List, Option, ◌∙◌, ap, slice_set
 use Rattle.trau_io.proofs.Tables.{replaced}
 use Rattle.trau_io.specs.Indices.{index_of_line}
 use Rattle.trau_files.specs.declared.trunk.claims.Claim.{Claim}
-use Rattle.trau_files.specs.Claims.{OthersKeep, StaysNoted}
+use Rattle.trau_files.specs.Claims.{OthersKeep}
 use Rattle.trau_files.specs.Files.{OpenFiles, known_line}
 use Rattle.trau_files.specs.declared.trunk.seats.Access.TheVariants.{Writing}
 use Rattle.trau_files.specs.Seats.{FreesSeats}
@@ -23,13 +23,10 @@ returns g c =
     c.index_mut.result.now.written) files_seen c.write.ensures.freed in
     let kept = subst (λ (cs : List (Option Claim)). OthersKeep cs c.write.new.files.claims
     (index_of_line c.args.line.call c.args.line.side)) claims_seen c.write.ensures.others in
-    let noted = subst (λ (cs : List (Option Claim)). StaysNoted cs c.write.new.files.claims
-    (index_of_line c.args.line.call c.args.line.side)) claims_seen c.write.ensures.noted in
     record {
       this = rw (line.was, line.is) c.write.ensures.writes;
       others = line.others;
       after = rw line.found (record { lines = lines; files = files; seats = seats });
       apart = c.write.ensures.apart;
       kept = kept;
-      noted = noted;
     }

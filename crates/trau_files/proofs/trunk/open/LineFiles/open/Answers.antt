@@ -1,9 +1,18 @@
 use Rattle.std.proofs.Common.{None, Ok, subst, sym}
-use Rattle.trau_files.specs.Files.{IsFileOf, OpenFiles}
+use Rattle.trau_files.specs.Files.{IsFileOf, OnlyCloses, OpenFiles}
 use Rattle.trau_files.specs.Opening.{Opens}
 use Rattle.trau_files.specs.Seats.{FreesNext, HoldsOrLessens}
 use Rattle.trau_files.proofs.Freeing.{frees_for_it, frees_only, freed}
+use Rattle.trau_files.proofs.Seating.{closed_still}
 use Rattle.trau_files.proofs.trunk.open.LineFiles.open.Goals as goal
+
+pub put-requires : goal.put-requires
+put-requires g c =
+    let line = c.args.line in
+    let closed = subst (λ (f : OpenFiles _ _). IsFileOf f.seats line.call line.side None) (sym c.self.view_is) c.requires in
+    let closes = subst (λ (f : OpenFiles _ _). OnlyCloses c.free.new.self f.seats) (sym c.self-2.view_is) c.open_or_lessen.ensures.seats in
+    closed_still c.free.new.self c.self-2.inside.seats line.call line.side closes
+    (closed_still c.self.inside.seats c.free.new.self line.call line.side c.free.ensures.others closed)
 
 pub returns-in_err-file-clause-freed : goal.returns-in_err-file-clause-freed
 returns-in_err-file-clause-freed g c =

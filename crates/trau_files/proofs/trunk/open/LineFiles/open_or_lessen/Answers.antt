@@ -38,7 +38,7 @@ returns-in-Err-System-clause-opens g c =
     rw (sym (ap (λ (f : OpenFiles _ _). f.folder) c.self.view_is), sym (ap (λ (f : OpenFiles _ _). f.claims) c.self.view_is))
     (opens_again g.D.Folder.does _ _ _ _ _ _ c.args.line.call c.args.line.side c.args.access c.args.at c.open_at.result c.open_at-in-Err-System.result
     c.in-Err-System.field-0 c.in-Err-System.fault c.in-Err-System.is c.in-Err-System.field-0-is c.open_at.ensures.opens (c.lacks_descriptor.ensures.0 c.if-lacks_descriptor.true)
-    c.open_at.ensures.others c.open_at-in-Err-System.ensures.opens)
+    c.open_at-in-Err-System.ensures.opens)
 
 pub returns-in_default-clause-seats : goal.returns-in_default-clause-seats
 returns-in_default-clause-seats g c = λ k. inl (ap (λ (f : OpenFiles _ _). in_seat f.seats k) c.self.view_is)
