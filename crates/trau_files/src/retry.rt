@@ -64,13 +64,14 @@ pub fn read_again<R: ReadOnce>(reader: &mut R, buf: &mut [u8]) -> io::Result<usi
 fn try_read<R: ReadOnce>(reader: &mut R, buf: &mut [u8]) -> io::Result<usize>
     ensures { IsOfLastTry (OneRead R.reading) reader.old reader.new result buf.new }
 {
-    for _ in 0..TRIES {
+    // With another call after the loop, here and in `try_write`, the compiler would copy each result several times.
+    for tries in 0..TRIES {
         let done = reader.read_once(buf);
-        if !was_interrupted(&done) {
+        if tries + 1 == TRIES || !was_interrupted(&done) {
             return done;
         }
     }
-    reader.read_once(buf)
+    unreachable!()
 }
 
 /// One write of at least one octet, made again if a signal interrupted it. A writer that takes none fails, since callers would
@@ -90,13 +91,13 @@ pub fn write_some<W: WriteOnce>(writer: &mut W, bytes: &[u8]) -> io::Result<usiz
 fn try_write<W: WriteOnce>(writer: &mut W, bytes: &[u8]) -> io::Result<usize>
     ensures { IsOfLastTry (OneWrite W.writing) writer.old writer.new result bytes.now }
 {
-    for _ in 0..TRIES {
+    for tries in 0..TRIES {
         let done = writer.write_once(bytes);
-        if !was_interrupted(&done) {
+        if tries + 1 == TRIES || !was_interrupted(&done) {
             return done;
         }
     }
-    writer.write_once(bytes)
+    unreachable!()
 }
 
 // Whether a signal came before an operation had moved an octet.

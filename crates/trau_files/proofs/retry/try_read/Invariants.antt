@@ -1,8 +1,11 @@
 -- Each read so far was interrupted.
-use Rattle.std.proofs.Common.{ℕ}
+use Rattle.std.proofs.Common.{◌<◌, ℕ}
 use Rattle.trau_files.specs.Folder.{OneRead}
 use Rattle.trau_files.specs.Tries.{Interruptions}
 use Rattle.trau_files.proofs.retry.try_read.Given as goal
 
-abbrev pub invariant-loop : goal.invariant-loop
-invariant-loop g l = (n : ℕ) × Interruptions (OneRead g.R.ReadOnce.reading) n l.initial.reader l.reader
+abbrev pub invariant-loop-tries : goal.invariant-loop-tries
+invariant-loop-tries g l = record {
+  bound : l.tries < 1000;
+  before : (n : ℕ) × Interruptions (OneRead g.R.ReadOnce.reading) n l.initial.reader l.reader;
+}

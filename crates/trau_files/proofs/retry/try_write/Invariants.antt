@@ -1,8 +1,11 @@
 -- Each write so far was interrupted.
-use Rattle.std.proofs.Common.{ℕ}
+use Rattle.std.proofs.Common.{◌<◌, ℕ}
 use Rattle.trau_files.specs.Folder.{OneWrite}
 use Rattle.trau_files.specs.Tries.{Interruptions}
 use Rattle.trau_files.proofs.retry.try_write.Given as goal
 
-abbrev pub invariant-loop : goal.invariant-loop
-invariant-loop g l = (n : ℕ) × Interruptions (OneWrite g.W.WriteOnce.writing) n l.initial.writer l.writer
+abbrev pub invariant-loop-tries : goal.invariant-loop-tries
+invariant-loop-tries g l = record {
+  bound : l.tries < 1000;
+  before : (n : ℕ) × Interruptions (OneWrite g.W.WriteOnce.writing) n l.initial.writer l.writer;
+}
