@@ -1,7 +1,6 @@
 """The two programs, for x86-64-v2 and for x86-64-v3, in turns on the same lines."""
 
 import collections
-import os
 import statistics
 
 import farm
@@ -44,12 +43,8 @@ def tasks(bench):
 def same(task):
     """The files that a command made, to compare with those of the other program."""
     command = next(iter(task.commands.values()))
-    found = {}
-    for name in sorted(os.listdir(command.folder)):
-        if name.endswith((".down", ".out")) or name == command.output:
-            with open(os.path.join(command.folder, name), "rb") as made:
-                found[name] = made.read()
-    return found
+    made = (path for path in sorted(command.folder.iterdir()) if path.suffix in (".down", ".out") or path.name == command.output)
+    return {path.name: path.read_bytes() for path in made}
 
 
 def taken(task, turns):

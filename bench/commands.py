@@ -1,10 +1,9 @@
 """Whole commands, with their files: this program beside toast and untoast."""
 
 import collections
-import os
 
 import frames
-from kernels import DECODE, ENCODE, read
+from kernels import DECODE, ENCODE
 from measure import Command, best_times, say
 
 Row = collections.namedtuple("Row", "command reads writes times")
@@ -17,8 +16,7 @@ def lay(bench):
     up = bench.speech(DECODE.side, DECODE.octets_in, bench.frames)
     gsm = frames.frames_for("libgsm", up)
     for name, octets in (("7.pcm", pcm), ("7.up", up), ("8.up", up), ("7.gsm", gsm)):
-        with open(os.path.join(folder, name), "wb") as line:
-            line.write(octets)
+        (folder / name).write_bytes(octets)
     return folder
 
 
@@ -42,8 +40,5 @@ def measured(bench):
     say("whole commands")
     folder = lay(bench)
     found = list(rows(bench, folder))
-    down = frames.frames_for("libgsm", read(folder, "7.down"))
-    return found, {
-        "toast": frames.equal(down, read(folder, "toast.gsm"), 33),
-        "untoast": frames.equal(read(folder, "7.out"), read(folder, "untoast.out"), 160),
-    }
+    down, toast, out, untoast = ((folder / name).read_bytes() for name in ("7.down", "toast.gsm", "7.out", "untoast.out"))
+    return found, {"toast": frames.equal(frames.frames_for("libgsm", down), toast, 33), "untoast": frames.equal(out, untoast, 160)}

@@ -1,7 +1,6 @@
 """Runs of many calls."""
 
 import collections
-import os
 import sys
 
 from kernels import DECODE, ENCODE
@@ -16,10 +15,8 @@ def lay(bench, calls, periods):
     for way in (DECODE, ENCODE):
         line = bench.speech(way.side, way.octets_in, periods)
         for call in range(1, calls + 1):
-            with open(os.path.join(folder, f"{call}.{way.side}"), "wb") as made:
-                made.write(line)
-    with open(os.path.join(folder, "orders"), "w") as orders:
-        orders.writelines(f"0 open {call}\n" for call in range(1, calls + 1))
+            (folder / f"{call}.{way.side}").write_bytes(line)
+    (folder / "orders").write_text("".join(f"0 open {call}\n" for call in range(1, calls + 1)))
     return folder
 
 
@@ -29,8 +26,7 @@ def run_of(bench, folder, batch, workers):
 
 
 def check_report(folder, calls, periods):
-    with open(os.path.join(folder, "report")) as report:
-        last = report.read().splitlines()[-1]
+    last = (folder / "report").read_text().splitlines()[-1]
     if last != f"end period {periods} calls {calls} left 0":
         sys.exit(f"bench: the run of {calls} calls ended with: {last}")
 

@@ -4,6 +4,7 @@ import datetime
 import os
 import platform
 import subprocess
+from pathlib import Path
 
 
 def version(package):
@@ -12,15 +13,16 @@ def version(package):
 
 
 def processor():
-    with open("/proc/cpuinfo") as lines:
-        names = [line.partition(":")[2].strip() for line in lines if line.startswith("model name")]
+    lines = Path("/proc/cpuinfo").read_text().splitlines()
+    names = [line.partition(":")[2].strip() for line in lines if line.startswith("model name")]
     return f"{len(names)} processors ({names[0]})" if names else platform.machine()
 
 
+def machine(held=""):
+    """The day and the machine, with how many of its processors are used, if not all."""
+    date, load = datetime.date.today().isoformat(), os.getloadavg()[0]
+    return f"On {date}, {held}{processor()}, Linux {platform.release()}, load {load:.1f} at the start"
+
+
 def heading(words):
-    load = os.getloadavg()[0]
-    date = datetime.date.today().isoformat()
-    return (
-        f"On {date}, {processor()}, Linux {platform.release()}, load {load:.1f} at the start; libgsm {version('libgsm1')}, "
-        f"spandsp {version('libspandsp2')}. By `{words}`.\n"
-    )
+    return f"{machine()}; libgsm {version('libgsm1')}, spandsp {version('libspandsp2')}. By `{words}`.\n"

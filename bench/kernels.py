@@ -1,7 +1,6 @@
 """The codec: this program beside libgsm and spandsp on the same frames."""
 
 import collections
-import os
 
 import files
 import frames  # puts the top of the repository on the path
@@ -29,19 +28,14 @@ RELAY = Way("relay", "up", "down", FRAME_OCTETS)
 def ours(bench, way, count):
     """The program on a line of this many frames, in a folder of its own."""
     folder = bench.folder(f"{way.name}-{count}")
-    with open(os.path.join(folder, f"7.{way.side}"), "wb") as line:
-        line.write(bench.speech(way.side, way.octets_in, count))
+    (folder / f"7.{way.side}").write_bytes(bench.speech(way.side, way.octets_in, count))
     return Command([bench.program, way.name, "7"], folder, makes=(f"7.{way.made}",))
-
-
-def given_to(codec, way, line):
-    return frames.samples_of(line) if way is ENCODE else frames.frames_for(codec, line)
 
 
 def peer(bench, codec, way, count):
     folder = bench.folder(f"{way.name}-{count}")
-    with open(os.path.join(folder, f"{codec}.in"), "wb") as given:
-        given.write(given_to(codec, way, bench.speech(way.side, way.octets_in, count)))
+    line = bench.speech(way.side, way.octets_in, count)
+    (folder / f"{codec}.in").write_bytes(frames.samples_of(line) if way is ENCODE else frames.frames_for(codec, line))
     made = f"{codec}.made"
     return Command([bench.peers, codec, way.name, f"{codec}.in", made], folder, makes=(made,))
 
@@ -66,15 +60,10 @@ def peer_row(bench, codec, way, time):
     return Row(PEERS[codec].format(way=way.name), contains, sum(by_function.values()), time)
 
 
-def read(folder, name):
-    with open(os.path.join(folder, name), "rb") as made:
-        return made.read()
-
-
 def equal_frames(bench, codec, way):
     """The number of frames in which a peer's output equals ours, both as the last timed runs wrote them."""
     folder = bench.folder(f"{way.name}-{bench.frames}")
-    mine, theirs = read(folder, f"7.{way.made}"), read(folder, f"{codec}.made")
+    mine, theirs = ((folder / name).read_bytes() for name in (f"7.{way.made}", f"{codec}.made"))
     if way is ENCODE:
         mine, length = frames.frames_for(codec, mine), 76 if codec == "spandsp-76" else 33
     else:

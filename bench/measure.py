@@ -1,12 +1,12 @@
 """Times, memory and instructions of one command."""
 
 import collections
-import glob
 import os
 import re
 import subprocess
 import sys
 import time
+from pathlib import Path
 
 GNU_TIME = "/usr/bin/time"
 
@@ -34,12 +34,9 @@ def text_of(command):
     return " ".join(words)
 
 
-def opened(command, name, mode):
-    return open(os.path.join(command.folder, name) if name else os.devnull, mode)
-
-
 def start(command, before=()):
-    with opened(command, command.input, "rb") as given, opened(command, command.output, "wb") as made:
+    reads, writes = (Path(command.folder, name or os.devnull) for name in (command.input, command.output))
+    with open(reads, "rb") as given, open(writes, "wb") as made:
         return subprocess.Popen([*before, *command.words], cwd=command.folder, stdin=given, stdout=made)
 
 
@@ -52,8 +49,8 @@ def clear(command):
     """Removes what an earlier run made. If a file is truncated, some file systems (ext4) write it out when it
     is closed, and the command would wait for that."""
     for pattern in [*command.makes, *([command.output] if command.output else [])]:
-        for path in glob.glob(os.path.join(command.folder, pattern)):
-            os.remove(path)
+        for path in Path(command.folder).glob(pattern):
+            path.unlink()
 
 
 def times_once(command):
@@ -87,26 +84,23 @@ def least_processor(commands, runs):
 def peak_kilobytes(command):
     """The peak of resident memory. GNU time starts the command, since a child of a large process would report the
     parent's peak."""
-    report = os.path.join(command.folder, "peak")
+    report = Path(command.folder, "peak")
     check(command, start(command, [GNU_TIME, "-f", "%M", "-o", report]).wait())
-    with open(report) as lines:
-        return int(lines.read().split()[-1])
+    return int(report.read_text().split()[-1])
 
 
 def system_calls(command):
     """How many calls of the system a command and its threads make, as strace counts them."""
     clear(command)
-    report = os.path.join(command.folder, "strace.out")
+    report = Path(command.folder, "strace.out")
     check(command, start(command, ["strace", "-f", "-c", "-o", report]).wait())
-    with open(report) as lines:
-        counts = [line.split()[3] for line in lines if line.split()[-1:] == ["total"]]
-    return int(counts[-1])
+    return int([line.split()[3] for line in report.read_text().splitlines() if line.split()[-1:] == ["total"]][-1])
 
 
 def instructions(command):
     """The instructions of a command by function, as callgrind counts them."""
     say(f"callgrind: {text_of(command)}")
-    report = os.path.join(command.folder, "callgrind.out")
+    report = Path(command.folder, "callgrind.out")
     valgrind = ["valgrind", "-q", "--tool=callgrind", f"--callgrind-out-file={report}"]
     check(command, start(command, valgrind).wait())
     with open(report) as lines:

@@ -4,15 +4,13 @@ A mount namespace of its own hides what the toolchain has kept on this machine: 
 """
 
 import contextlib
-import datetime
 import os
 import pathlib
-import platform
 import shutil
 import subprocess
 import tempfile
 
-from heading import processor
+from heading import machine
 
 TOP = os.path.dirname(os.path.dirname(os.path.abspath(__file__)))
 HIDDEN = 'mount --bind "$1" "$2" && shift 2 && exec "$@"'
@@ -52,7 +50,4 @@ def heading(words, held):
     """The day, the machine with the number of processors that are used, the toolchain and the commit."""
     kit = subprocess.run(["rt", "version"], capture_output=True, text=True).stdout.strip()
     commit = subprocess.run(["git", "-C", TOP, "log", "-1", "--format=%h"], capture_output=True, text=True).stdout.strip()
-    return (
-        f"On {datetime.date.today().isoformat()}, {held} of {processor()}, Linux {platform.release()}, "
-        f"load {os.getloadavg()[0]:.1f} at the start, {kit}, commit {commit}. By `{words}`.\n"
-    )
+    return f"{machine(f'{held} of ')}, {kit}, commit {commit}. By `{words}`.\n"

@@ -1,6 +1,7 @@
 """The processes of this machine, by /proc. If one has ended meanwhile, what is asked of it raises OSError."""
 
 import os
+from pathlib import Path
 
 
 def numbers():
@@ -9,8 +10,7 @@ def numbers():
 
 def read(number, name):
     """What a file of the process says."""
-    with open(f"/proc/{number}/{name}", "rb") as file:
-        return file.read().decode(errors="replace")
+    return Path(f"/proc/{number}/{name}").read_bytes().decode(errors="replace")
 
 
 def words(number):

@@ -1,12 +1,13 @@
 """How much processor time other guests of the same host take, by /proc/stat."""
 
+from pathlib import Path
+
 # The fields of its first line, in ticks: user, nice, system, idle, iowait, irq, softirq, steal.
 IDLE, WAITING, STEAL = 3, 4, 7
 
 
 def ticks():
-    with open("/proc/stat") as lines:
-        return [int(word) for word in lines.readline().split()[1:9]]
+    return [int(word) for word in Path("/proc/stat").read_text().split()[1:9]]
 
 
 class Stolen:

@@ -104,10 +104,9 @@ def script(session):
 
 def run(session, folder):
     """What a session prints, run in this folder."""
-    folder.mkdir()
-    (folder / "tmp").mkdir()
     place = folder / "trau"
-    place.mkdir()
+    for made in (folder, folder / "tmp", place):
+        made.mkdir()
     for name in ("trau", "demo"):
         if (TOP / name).exists():
             (place / name).symlink_to(TOP / name)
@@ -117,16 +116,9 @@ def run(session, folder):
     shutil.copytree(TOP / "examples/farm/wanted", place / "examples/farm/wanted", dirs_exist_ok=True)
     surroundings = {name: value for name, value in os.environ.items() if name not in LEFT_OUT}
     surroundings.update(LC_ALL="C", TMPDIR=str(folder / "tmp"), HOME=str(folder / "tmp"), PYTHONDONTWRITEBYTECODE="1")
+    streams = {"stdin": subprocess.DEVNULL, "stdout": subprocess.PIPE, "stderr": subprocess.STDOUT}
     try:
-        ran = subprocess.run(
-            ["sh", "-c", script(session)],
-            cwd=place,
-            env=surroundings,
-            stdin=subprocess.DEVNULL,
-            stdout=subprocess.PIPE,
-            stderr=subprocess.STDOUT,
-            timeout=PATIENCE,
-        )
+        ran = subprocess.run(["sh", "-c", script(session)], cwd=place, env=surroundings, timeout=PATIENCE, **streams)
         text = ran.stdout.decode(errors="replace")
     except subprocess.TimeoutExpired:
         text = f"no end within {PATIENCE} seconds"
@@ -200,9 +192,7 @@ def main():
             got = run(session, WORK / f"{number}")
             new.append((start, end, got))
             if compared(got) != compared(session):
-                differences += difflib.unified_diff(
-                    session, got, f"{name}, line {start + 1}", "what the commands print", lineterm=""
-                )
+                differences += difflib.unified_diff(session, got, f"{name}, line {start + 1}", "what the commands print", lineterm="")
         if WRITE and differences:
             for start, end, got in reversed(new):
                 lines[start:end] = [(INDENT + line).rstrip() for line in got]

@@ -7,7 +7,7 @@ import sys
 
 DATA = [place for place in range(33, 304) if place % 16] + list(range(305, 310))
 CONTROL = dict(zip(range(1, 16), range(17, 32))) | dict(zip(range(16, 22), range(310, 316)))
-SPEECH = {1: 1, 2: 1, 3: 1, 4: 0, 5: 0}
+SPEECH = {1: 1, 2: 1, 3: 1, **dict.fromkeys(range(4, 12), 0)}
 
 
 def bits_of(octets):
@@ -21,13 +21,9 @@ def octets_of(bits):
 def downlink_frame(uplink_frame):
     """A downlink speech frame with the same data bits and SP 1."""
     given = bits_of(uplink_frame)
-    bits = [1] * 320
-    for place in range(16):
-        bits[place] = 0
+    bits = [0] * 16 + [1] * 304
     for control, bit in SPEECH.items():
         bits[CONTROL[control]] = bit
-    for control in range(6, 12):
-        bits[CONTROL[control]] = 0
     for place in DATA:
         bits[place] = given[place]
     return octets_of(bits)

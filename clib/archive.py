@@ -6,8 +6,6 @@ here the toolchain's `rattle` is called: it checks trau_c alone, against these s
 of processor begins with what the first one kept, in this call.
 """
 
-from __future__ import annotations
-
 import argparse
 import os
 import shutil

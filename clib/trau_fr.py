@@ -24,8 +24,6 @@ samples or octets that isn't a whole number of periods, raise ValueError.
 The library is libtrau_fr.so.1 in lib/ of the folder that TRAU_CLIB names, or else of clib/out, or else the system's.
 """
 
-from __future__ import annotations
-
 import ctypes
 import enum
 import os
@@ -69,73 +67,22 @@ class Line(NamedTuple):
     taf: bool  # False on a downlink
 
 
-class _Preprocessing(ctypes.Structure):
-    _fields_ = [("z1", ctypes.c_int16), ("l_z2", ctypes.c_int32), ("mp", ctypes.c_int16)]
+def _structure(name: str, **fields: Any) -> Any:
+    """A structure of C with these fields, in their order."""
+    return type(name, (ctypes.Structure,), {"_fields_": list(fields.items())})
 
 
-class _EncoderState(ctypes.Structure):
-    _fields_ = [
-        ("preprocessing", _Preprocessing),
-        ("ratios", ctypes.c_int16 * 8),
-        ("sections", ctypes.c_int16 * 8),
-        ("residuals", ctypes.c_int16 * 120),
-    ]
-
-
-class _DecoderState(ctypes.Structure):
-    _fields_ = [
-        ("lag", ctypes.c_uint8),
-        ("residuals", ctypes.c_int16 * 120),
-        ("ratios", ctypes.c_int16 * 8),
-        ("sections", ctypes.c_int16 * 8),
-        ("msr", ctypes.c_int16),
-    ]
-
-
-class _Frame(ctypes.Structure):
-    _fields_ = [
-        ("larc", ctypes.c_uint8 * 8),
-        ("nc", ctypes.c_uint8 * 4),
-        ("bc", ctypes.c_uint8 * 4),
-        ("mc", ctypes.c_uint8 * 4),
-        ("xmaxc", ctypes.c_uint8 * 4),
-        ("xmc", ctypes.c_uint8 * 13 * 4),
-    ]
-
-
-class _Heard(ctypes.Structure):
-    _fields_ = [
-        ("tag", ctypes.c_uint8),
-        ("periods", ctypes.c_uint8),
-        ("step", ctypes.c_uint8),
-        ("missed", ctypes.c_uint8),
-        ("source", ctypes.c_uint16),
-        ("good", _Frame),
-        ("descriptor", _Frame),
-    ]
-
-
-class _ReceiverState(ctypes.Structure):
-    _fields_ = [("heard", _Heard), ("decoder", _DecoderState)]
-
-
-class _Trace(ctypes.Structure):
-    _fields_ = [("ratios", ctypes.c_int16 * 8), ("maxima", ctypes.c_int16 * 4)]
-
-
-class _Pauses(ctypes.Structure):
-    _fields_ = [
-        ("run", ctypes.c_uint8),
-        ("elapsed", ctypes.c_uint8),
-        ("hangs", ctypes.c_bool),
-        ("descriptor", _Frame),
-        ("last", _Trace * 3),
-    ]
-
-
-class _SenderState(ctypes.Structure):
-    _fields_ = [("encoder", _EncoderState), ("sent", _Pauses)]
-
+# The states, as the header has them.
+_u8, _i16 = ctypes.c_uint8, ctypes.c_int16
+_Preprocessing = _structure("_Preprocessing", z1=_i16, l_z2=ctypes.c_int32, mp=_i16)
+_EncoderState = _structure("_EncoderState", preprocessing=_Preprocessing, ratios=_i16 * 8, sections=_i16 * 8, residuals=_i16 * 120)
+_DecoderState = _structure("_DecoderState", lag=_u8, residuals=_i16 * 120, ratios=_i16 * 8, sections=_i16 * 8, msr=_i16)
+_Frame = _structure("_Frame", larc=_u8 * 8, nc=_u8 * 4, bc=_u8 * 4, mc=_u8 * 4, xmaxc=_u8 * 4, xmc=_u8 * 13 * 4)
+_Heard = _structure("_Heard", tag=_u8, periods=_u8, step=_u8, missed=_u8, source=ctypes.c_uint16, good=_Frame, descriptor=_Frame)
+_ReceiverState = _structure("_ReceiverState", heard=_Heard, decoder=_DecoderState)
+_Trace = _structure("_Trace", ratios=_i16 * 8, maxima=_i16 * 4)
+_Pauses = _structure("_Pauses", run=_u8, elapsed=_u8, hangs=ctypes.c_bool, descriptor=_Frame, last=_Trace * 3)
+_SenderState = _structure("_SenderState", encoder=_EncoderState, sent=_Pauses)
 
 _Samples = ctypes.c_int16 * SAMPLES
 _Octets = ctypes.c_char * OCTETS
@@ -145,18 +92,14 @@ _TrauOctets = ctypes.c_char * LINE_OCTETS
 
 # The functions with a result. Arguments are octets, arrays, references and integers, which the code below holds to their ranges; to have
 # ctypes convert them by declared types would take as long again as the call.
+_TESTS = ("trau_fr_decode_octets", "trau_fr_receive", "trau_fr_hand", "trau_fr_send", "trau_fr_read_uplink", "trau_fr_read_downlink")
 _RESULTS = {
+    **dict.fromkeys(_TESTS, ctypes.c_bool),
     "trau_fr_encoder_home": _EncoderState,
     "trau_fr_decoder_home": _DecoderState,
     "trau_fr_receiver_home": _ReceiverState,
     "trau_fr_sender_home": _SenderState,
-    "trau_fr_decode_octets": ctypes.c_bool,
-    "trau_fr_receive": ctypes.c_bool,
-    "trau_fr_hand": ctypes.c_bool,
     "trau_fr_kind": ctypes.c_uint32,
-    "trau_fr_send": ctypes.c_bool,
-    "trau_fr_read_uplink": ctypes.c_bool,
-    "trau_fr_read_downlink": ctypes.c_bool,
 }
 _OTHERS = ("trau_fr_encode_octets", "trau_fr_write_uplink", "trau_fr_write_downlink")
 _OTHERS += ("trau_alaw_expand", "trau_alaw_compress", "trau_mulaw_expand", "trau_mulaw_compress")

@@ -59,8 +59,7 @@ def norm(value: int) -> int:
 def div(numerator: int, denominator: int) -> int:
     """The quotient as a fraction of 15 bits, of 0 <= numerator <= denominator (GSM 06.10 section 4, "div").
 
-    It is 0 where the numerator is 0, whatever the denominator is, and 32767 where both are one (this project's profile for 0 / 0).
-    """
+    It is 0 where the numerator is 0, whatever the denominator is, and 32767 where both are one (this project's profile for 0 / 0)."""
     if numerator == 0:
         return 0
     return min((numerator << 15) // denominator, MOST)

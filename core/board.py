@@ -3,8 +3,6 @@
 Every rule here is this project's profile. Periods are those of the run.
 """
 
-from __future__ import annotations
-
 import enum
 from dataclasses import dataclass
 from typing import Callable, Dict, List, Optional, Tuple
@@ -40,8 +38,7 @@ class Bridge:
 
 class Board:
     """What is known as orders are executed, one after another. `end_of` has the period at which the lines of a call end, by the order that
-    opens it; None where nobody knows (docs/OPERATORS.md, "When an order takes effect").
-    """
+    opens it; None where nobody knows (docs/OPERATORS.md, "When an order takes effect")."""
 
     def __init__(self, end_of: Callable[[Order], Optional[int]]) -> None:
         self.end_of = end_of

@@ -4,8 +4,6 @@ Bits are texts of the characters 0 and 1, the first bit of a line first. The pla
 C1 to C5 and the meanings of the other control bits are this project's profile, modelled on GSM 08.60.
 """
 
-from __future__ import annotations
-
 import enum
 from typing import NamedTuple
 
@@ -46,8 +44,7 @@ def data_of(frame: Bits) -> Bits:
 
 class Sort(enum.Enum):
     """What a period of an uplink yields: a speech frame by its class, modelled on GSM 06.31, another frame by its kind, the miss of a frame, or
-    nothing. The value is its word in texts (docs/FILES.md, "Classes"; docs/commands/frames.md).
-    """
+    nothing. The value is its word in texts (docs/FILES.md, "Classes"; docs/commands/frames.md)."""
 
     GOOD = "good"
     SID = "sid"  # a valid silence descriptor

@@ -64,19 +64,13 @@ def samples_by_octet(law: Law) -> List[int]:
     return samples
 
 
-def codes_by_magnitude(law: Law) -> List[int]:
-    """The interval, 0 to 127, in which each of the 32,768 magnitudes lies; the last has all above it (G.711)."""
-    ends = [sum(interval(law, segment, step)) for segment, step in STEPS[:-1]] + [MAGNITUDES]
-    return [code for code, (start, end) in enumerate(zip([0] + ends, ends)) for _ in range(start, end)]
-
-
 @lru_cache(maxsize=None)
 def octets_by_sample(law: Law) -> bytes:
     """The octet of each sample, by the sample modulo 65,536 (G.711).
 
-    The magnitude of a sample x below 0 is -1 - x under both laws (this project's profile).
-    """
-    codes = codes_by_magnitude(law)
+    The magnitude of a sample x below 0 is -1 - x under both laws (this project's profile)."""
+    ends = [sum(interval(law, segment, step)) for segment, step in STEPS[:-1]] + [MAGNITUDES]  # the last interval has all above it
+    codes = [code for code, (start, end) in enumerate(zip([0] + ends, ends)) for _ in range(start, end)]
     positive = [octet(law, False, code) for code in codes]
     negative = [octet(law, True, code) for code in codes]
     return bytes(positive + negative[::-1])

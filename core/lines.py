@@ -1,7 +1,5 @@
 """The lines of a call as files: `7.up` is the Up line of call 7 (docs/FILES.md)."""
 
-from __future__ import annotations
-
 from pathlib import Path
 
 from .profile import FRAME_OCTETS, PCM_OCTETS

@@ -1,7 +1,5 @@
 """Comfort noise, and the random source that it is drawn from (docs/PROFILE.md, "Comfort noise" and "Random numbers")."""
 
-from __future__ import annotations
-
 from . import profile
 from .parameters import Block, Parameters
 

@@ -1,7 +1,5 @@
 """The grammar of orders: text in, orders or the first bad line out (docs/OPERATORS.md, "Orders"; this project's profile)."""
 
-from __future__ import annotations
-
 from typing import List, NamedTuple, Tuple
 
 from . import profile
@@ -71,8 +69,7 @@ def lines_of(text: bytes) -> List[bytes]:
 
 def orders_of(text: bytes) -> List[Order]:
     """The orders of a text within the limits; else raises what is wrong with it: its size or its number of lines, or its first bad line
-    (docs/OPERATORS.md, "Orders").
-    """
+    (docs/OPERATORS.md, "Orders")."""
     lines = lines_of(text)
     if len(text) > profile.MOST_ORDER_OCTETS or len(lines) > profile.MOST_ORDERS:
         raise TooLong(len(text), len(lines))
@@ -88,8 +85,7 @@ def orders_of(text: bytes) -> List[Order]:
 
 def read_order(place: int, line: str, least_stamp: int = 0) -> Order:
     """The order of a line: its stamp and its words, one space between each; raises NoOrder if it isn't in the grammar. A stamp below that of the
-    line before makes its own line bad (docs/OPERATORS.md, "Orders").
-    """
+    line before makes its own line bad (docs/OPERATORS.md, "Orders")."""
     stamp, *words = line.split(" ")
     form = next((form for form in FORMS.get(words[0], ()) if len(words) == 1 + len(form)), None) if words else None
     if form is None or number(stamp, 0, profile.MOST_STAMP) is None:

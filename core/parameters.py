@@ -1,7 +1,5 @@
 """The 76 parameters of a full rate frame (GSM 06.10 section 1.7): as D1 to D260 of a TRAU frame, and as the frames of 33 octets of libgsm."""
 
-from __future__ import annotations
-
 from typing import List, NamedTuple, Sequence, Tuple
 
 from . import profile

@@ -1,8 +1,6 @@
 """What the full rate encoder does to samples first (GSM 06.10 sections 4.2.1 to 4.2.3). The peaks of frames, which discontinuous
 transmission compares with a call's level, are those of its answer."""
 
-from __future__ import annotations
-
 from typing import Iterable, List
 
 from .arithmetic import add, mult_r, saturate, saturate_long

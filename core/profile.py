@@ -101,14 +101,7 @@ DRILL_MODULUS = 1 << 32
 DRILL_CALLS = 4_096  # call C begins at the seed times this, plus C
 DRILL_DRAWS = 256  # a draw is the highest octet of the generator
 # The frame on Up: from which draw on it is of which sort (frame.py); None: no frame.
-DRILL_FRAMES = (
-    (250, None),
-    (244, "idle"),
-    (230, "bad"),
-    (220, "invalid"),
-    (200, "sid"),
-    (0, "good"),
-)
+DRILL_FRAMES = ((250, None), (244, "idle"), (230, "bad"), (220, "invalid"), (200, "sid"), (0, "good"))
 DRILL_FIELDS = {0: 39, 1: 63}  # the alignment fields that draws stand for; any other draw stands for 0
 DRILL_TAF_PERIODS = 24  # TAF is 1 in the last of each
 DRILL_PCM_PERIODS = 32  # so many periods of an idle Pcm line and as many that are drawn, in turn

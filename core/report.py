@@ -1,7 +1,5 @@
 """The report of a run, line by line (docs/OPERATORS.md, "The report, line by line"; this project's profile)."""
 
-from __future__ import annotations
-
 from dataclasses import dataclass, field
 from typing import Dict, List, NamedTuple, Optional, Sequence, Tuple
 
@@ -18,8 +16,7 @@ def text_of(lines: Sequence[str]) -> str:
 
 class Reply(NamedTuple):
     """What became of an executed order: nothing where it was accepted, else the number of its refusal, the call that it was refused for,
-    and where the reason has one that call's partner (docs/OPERATORS.md, "Refusals").
-    """
+    and where the reason has one that call's partner (docs/OPERATORS.md, "Refusals")."""
 
     refusal: Optional[int] = None
     call: Optional[int] = None
@@ -33,11 +30,9 @@ class Reply(NamedTuple):
         return f"order {order} refused {int(self.refusal)} call {self.call}{partner}"
 
 
-@dataclass(frozen=True)
-class Bridge:
+class Bridge(NamedTuple):
     """A bridge of two calls, from its first period to the one after its last; of the frames of each how many went out on the other's downlink,
-    and how many were lost (docs/OPERATORS.md, "The report, line by line").
-    """
+    and how many were lost (docs/OPERATORS.md, "The report, line by line")."""
 
     calls: Tuple[int, int]
     start: int
@@ -51,11 +46,9 @@ class Bridge:
         return f"bridge {self.calls[0]} {self.calls[1]} from {self.start} to {self.end} {frames}"
 
 
-@dataclass(frozen=True)
-class Span:
+class Span(NamedTuple):
     """A call's first period, the one after its last, why it ended there, and its counts: what was found on its uplink by kind and class, and
-    how many frames were made for its downlink (docs/OPERATORS.md, "The report, line by line").
-    """
+    how many frames were made for its downlink (docs/OPERATORS.md, "The report, line by line")."""
 
     start: int
     end: int

@@ -4,8 +4,6 @@ Places are counted in bits from the start of the line. The lock from the first p
 this project's profile.
 """
 
-from __future__ import annotations
-
 import re
 from typing import Iterator, List, NamedTuple, Optional
 
@@ -47,8 +45,7 @@ def search(line: Bits) -> Iterator[Yield]:
     """All yields of a line: those whose last bit it has (docs/commands/frames.md).
 
     The search locks on the first place at which all sync bits match, expects a frame each 320 bits from there, and hunts anew after
-    the third miss in a row.
-    """
+    the third miss in a row."""
     place, misses = 0, MISSES_TO_HUNT
     while place + FRAME_BITS <= len(line):
         is_locked = misses < MISSES_TO_HUNT

@@ -1,7 +1,5 @@
 """Time slots of 64 kbit/s with four channels of 16 kbit/s (CCITT I.460, docs/FILES.md, "Time slots")."""
 
-from __future__ import annotations
-
 from typing import List, Sequence
 
 from .profile import CHANNELS

@@ -102,8 +102,7 @@ def runs(wanted: Sequence[bool], breaks: Sequence[bool]) -> List[Tuple[int, int]
 def out_line(call: Call) -> bytes:
     """The Out line: the decoded effective frames, and idle octets in bridges and where the call is quiet (docs/PROFILE.md, "The Out line").
 
-    The decoder begins at home after each idle period and at each start of a bridge, also of one without a period.
-    """
+    The decoder begins at home after each idle period and at each start of a bridge, also of one without a period."""
     starts = {span.start for span in call.spans}
     plain = [frame is not None and not covered for frame, covered in zip(call.up.effective, in_bridge(call))]
     blocks = [bytes([call.law.idle()]) * profile.PCM_OCTETS] * call.periods
@@ -175,17 +174,13 @@ def breaks_of_coding(call: Call, made: Sequence[Made]) -> List[bool]:
 # The whole.
 
 
-def counts_of(call: Call, made: int) -> List[int]:
-    """The counts of a call's report (docs/OPERATORS.md, "The report, line by line")."""
-    sorts = call.up.sorts[:call.periods]
-    return [*map(sorts.count, Sort), made]
-
-
 def outgoing(call: Call) -> Outgoing:
-    """The Out and Down lines of a call, its counts, and how many handed frames went out of each bridge."""
+    """The Out and Down lines of a call, its report's counts, and how many handed frames went out of each bridge (docs/OPERATORS.md, "The report,
+    line by line")."""
     made = made_frames(call.periods, asked_shifts(call.up.frames[:call.periods]), [(span.start, span.end) for span in call.spans])
     bits = [write_down(frame) for frame in down_frames(call, made)]
     carried = [frame.item.span for frame in made if frame.item is not None]
     sent = [carried.count(span) for span in range(len(call.spans))]
     down = octets_of(down_bits(made, bits, call.periods))
-    return Outgoing(out_line(call), down, counts_of(call, len(made)), sent)
+    counts = [*map(call.up.sorts[:call.periods].count, Sort), len(made)]
+    return Outgoing(out_line(call), down, counts, sent)

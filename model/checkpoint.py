@@ -1,7 +1,5 @@
 """A run in two parts: the mark that `save` prints and `resume` reads (docs/FILES.md, "A mark"; this project's profile)."""
 
-from __future__ import annotations
-
 import re
 from typing import List, NamedTuple, Optional, Sequence, Tuple
 
@@ -36,8 +34,7 @@ def sum_of(octets: bytes) -> int:
 
 def mark_of(farm: Farm, period: int) -> Mark:
     """The mark of a run that ended at this period: the calls that this end met, with the sums of their lines (docs/FILES.md, "A
-    mark").
-    """
+    mark")."""
     at_limit = [call for call in farm.calls if call.end.cause is Cause.LIMIT]
     return Mark(period, [MarkCall(call.number, call.opening, sum_of(call.outgoing.out), sum_of(call.outgoing.down)) for call in at_limit])
 
@@ -50,8 +47,7 @@ def text_of_mark(mark: Mark) -> str:
 
 def differs(mark: Mark, other: Mark) -> Optional[int]:
     """The least number of a call that has another entry in the other mark, or that only one of both has; None where none has
-    (docs/COMMANDS.md, "Statuses").
-    """
+    (docs/COMMANDS.md, "Statuses")."""
     different = set(mark.calls) ^ set(other.calls)
     return min((call.call for call in different), default=None)
 
@@ -59,8 +55,7 @@ def differs(mark: Mark, other: Mark) -> Optional[int]:
 def read_mark(text: bytes) -> Tuple[Mark, bytes]:
     """The mark at the beginning of a text, and what follows it; else raises the first line that isn't in the grammar (docs/FILES.md, "A mark").
 
-    A line without its line feed isn't in the grammar. Where the text ends before the line `orders`, the line after its last is bad.
-    """
+    A line without its line feed isn't in the grammar. Where the text ends before the line `orders`, the line after its last is bad."""
     *lines, _ = text.split(b"\n")
     period = _period_of(lines[0]) if lines else None
     if period is None:
@@ -84,8 +79,7 @@ def _period_of(line: bytes) -> Optional[int]:
 
 def _call_of(line: bytes, period: int, above: int) -> Optional[MarkCall]:
     """A mark's line of a call, or None: its number is above the one before, its opening before the mark's period (docs/FILES.md, "A
-    mark").
-    """
+    mark")."""
     words = re.fullmatch("call ([0-9]+) from ([0-9]+) out ([0-9]+) down ([0-9]+)", line.decode("latin-1"))
     if not words:
         return None

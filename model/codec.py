@@ -27,8 +27,7 @@ class Trace(NamedTuple):
 class Encoded(NamedTuple):
     """What the encoder makes of a frame: its parameters, their measures before coding, and its peak.
 
-    The peak is the greatest magnitude of its samples after preprocessing (GSM 06.10 section 4.2.4, "smax").
-    """
+    The peak is the greatest magnitude of its samples after preprocessing (GSM 06.10 section 4.2.4, "smax")."""
 
     parameters: Parameters
     trace: Trace
@@ -121,8 +120,7 @@ def coefficients_by_section(before: Sequence[int], now: Sequence[int]) -> List[L
     """For each of the eight filter sections, the coefficient at each of a frame's 160 samples (GSM 06.10 section 4.2.9.1).
 
     `before` and `now` are the decoded log area ratios of the frame before and of this frame; over the first forty samples they are
-    interpolated.
-    """
+    interpolated."""
 
     def section(old: int, new: int) -> List[int]:
         first = add(add(old >> 2, new >> 2), old >> 1)
@@ -138,8 +136,7 @@ def short_term_analysis(sections: Sequence[Sequence[int]], memory: Sequence[int]
     """The short term residual of a frame, and the filter's memory after it (GSM 06.10 section 4.2.10).
 
     Each section takes a forward list (the residual so far) and a backward list; it sees the backward list a sample late, and its
-    memory is that list's last value of the frame before.
-    """
+    memory is that list's last value of the frame before."""
     forward = backward = list(samples)
     after = []
     for coefficients, last in zip(sections, memory):
@@ -154,8 +151,7 @@ def lag_and_gain(residual: Sequence[int], past: Sequence[int]) -> Tuple[int, int
     """The lag and the coded gain of a block of 40 (GSM 06.10 section 4.2.11).
 
     `past` is the last 120 values of the reconstructed residual, the oldest first. The lag is the least of those whose correlation is
-    the greatest, where that is above 0, else 40.
-    """
+    the greatest, where that is above 0, else 40."""
     shift = scaling(residual, 6)
     scaled = [value >> shift for value in residual]
     correlations = [sum(map(mul, scaled, past[MOST_LAG - lag:])) for lag in range(LEAST_LAG, MOST_LAG + 1)]
@@ -278,8 +274,7 @@ class Encoder:
 def short_term_synthesis(sections: Sequence[Sequence[int]], memory: Sequence[int], residual: Sequence[int]) -> Tuple[List[int], List[int]]:
     """The speech of a frame of residual, and the filter's memory after it (GSM 06.10 section 4.3.4).
 
-    Of each sample the sections are passed from the eighth to the first; each leaves what the next sample finds in the section above.
-    """
+    Of each sample the sections are passed from the eighth to the first; each leaves what the next sample finds in the section above."""
     state = list(memory)
     speech = []
     for value, coefficients in zip(residual, zip(*sections)):
@@ -316,8 +311,7 @@ class Decoder:
     def block(self, block: Block) -> List[int]:
         """The reconstructed residual of the next block (GSM 06.10 sections 4.3.1 and 4.3.2).
 
-        A lag outside 40 to 120 is taken as the one before.
-        """
+        A lag outside 40 to 120 is taken as the one before."""
         if LEAST_LAG <= block.nc <= MOST_LAG:
             self.lag = block.nc
         rebuilt = place_pulses(block.mc, decode_pulses(block.xmc, block.xmaxc))

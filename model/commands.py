@@ -4,7 +4,9 @@ What a command makes of its line is made of the whole line; only then it is writ
 reads and writes, since a fault stops it there.
 """
 
-from typing import Callable, Dict, Iterable, List, NamedTuple, Optional, Sequence
+from functools import partial
+from itertools import takewhile
+from typing import Callable, Dict, Iterable, List, NamedTuple, Optional, Sequence, Tuple
 
 from core import profile
 from core.frame import Bits, DownFrame, Kind, Sort, bits_of, octets_of, read_up, write_down, write_up
@@ -15,10 +17,9 @@ from core.search import FRAME, end_of_text, yields_by_period
 from core.slots import merge, split
 from core.words import number
 
-from .basestation import Heard, answers, heard_by_period
+from .basestation import answers, heard_by_period
 from .codec import Decoder, Encoder
-from .outside import Desk, Given, Lines
-from .status import Status
+from .outside import Desk, Given, Lines, Status
 
 
 class Stopped(Exception):
@@ -73,13 +74,7 @@ def speech_of(octets: bytes) -> Optional[Bits]:
 
 def good_blocks(given: Given) -> List[Bits]:
     """The data bits of the blocks before the first that isn't a good speech frame (docs/commands/relay.md)."""
-    data: List[Bits] = []
-    for octets in blocks_of(given.octets, profile.FRAME_OCTETS):
-        speech = speech_of(octets)
-        if speech is None:
-            break
-        data.append(speech)
-    return data
+    return list(takewhile(lambda data: data is not None, map(speech_of, blocks_of(given.octets, profile.FRAME_OCTETS))))
 
 
 def relayed(data: Sequence[Bits]) -> List[bytes]:
@@ -93,45 +88,22 @@ def decoded(data: Sequence[Bits]) -> List[bytes]:
     return [compress_all(Law.A, decoder.decode(parameters_of_bits(bits))) for bits in data]
 
 
-class SpeechCommand(NamedTuple):
-    """A command that takes blocks of good speech frames."""
-
-    word: str
-    side: str  # where what is made of the blocks goes
-    make: Callable[[Sequence[Bits]], List[bytes]]  # of the data bits of all blocks the octets of each
-
-
-RELAY = SpeechCommand("relay", DOWN, relayed)
-DECODE = SpeechCommand("decode", OUT, decoded)
-
-
-def work_speech(asked_for: SpeechCommand, call: int, lines: Lines, desk: Desk) -> Status:
-    """`relay` or `decode` (docs/commands/relay.md, docs/commands/decode.md).
+def speech(word: str, side: str, make: Callable[[Sequence[Bits]], List[bytes]], call: int, lines: Lines, desk: Desk) -> str:
+    """`relay C` or `decode C`, by the word: the good speech frames of an aligned uplink to the side on which goes what is made of the data
+    bits of all blocks (docs/commands/relay.md, docs/commands/decode.md).
 
     What is made of a block is written before the next one is read. So a fault in writing goes before a refused block, and a refused
-    block before a fault of reading behind it.
-    """
+    block before a fault of reading behind it."""
     given = read_line(lines, call, UP)
     data = good_blocks(given)
-    for octets in asked_for.make(data):
-        write_line(lines, call, asked_for.side, octets)
+    for octets in make(data):
+        write_line(lines, call, side, octets)
     following = block(given.octets, profile.FRAME_OCTETS, len(data))
     if len(following) == profile.FRAME_OCTETS or following and not given.failed:
-        raise Stopped(Status.REFUSED, "%s refused %d\n" % (asked_for.word, len(data)))
+        raise Stopped(Status.REFUSED, f"{word} refused {len(data)}\n")
     if given.failed:
         raise line_failure(call, UP)
-    write_text(desk, "%s frames %d\n" % (asked_for.word, len(data)))
-    return Status.DONE
-
-
-def relay(call: int, lines: Lines, desk: Desk) -> Status:
-    """`relay C`: the good speech frames of an aligned uplink to the downlink (docs/commands/relay.md)."""
-    return work_speech(RELAY, call, lines, desk)
-
-
-def decode(call: int, lines: Lines, desk: Desk) -> Status:
-    """`decode C`: the good speech frames of an aligned uplink to A-law (docs/commands/decode.md)."""
-    return work_speech(DECODE, call, lines, desk)
+    return f"{word} frames {len(data)}\n"
 
 
 # `encode`.
@@ -145,7 +117,7 @@ def encoded(blocks: Sequence[bytes]) -> Iterable[bytes]:
         yield octets_of(write_down(DownFrame(Kind.SPEECH, bits_of_parameters(parameters))))
 
 
-def encode(call: int, lines: Lines, desk: Desk) -> Status:
+def encode(call: int, lines: Lines, desk: Desk) -> str:
     """`encode C`: a line from the exchange to downlink speech frames (docs/commands/encode.md)."""
     given = read_line(lines, call, PCM)
     blocks = blocks_of(given.octets, profile.PCM_OCTETS)
@@ -153,14 +125,13 @@ def encode(call: int, lines: Lines, desk: Desk) -> Status:
         write_line(lines, call, DOWN, octets)
     if given.failed:
         raise line_failure(call, PCM)
-    write_text(desk, "encode frames %d left %d\n" % (len(blocks), len(given.octets) % profile.PCM_OCTETS))
-    return Status.DONE
+    return f"encode frames {len(blocks)} left {len(given.octets) % profile.PCM_OCTETS}\n"
 
 
 # `frames`.
 
 
-def frames(call: int, lines: Lines, desk: Desk) -> Status:
+def frames(call: int, lines: Lines, desk: Desk) -> str:
     """`frames C`: the yields of the search on an uplink (docs/commands/frames.md)."""
     given = read_line(lines, call, UP)
     yields = [one for one in yields_by_period(bits_of(given.octets)) if one is not None]
@@ -168,14 +139,13 @@ def frames(call: int, lines: Lines, desk: Desk) -> Status:
         write_text(desk, one.line())
     if given.failed:
         raise line_failure(call, UP)
-    write_text(desk, end_of_text(len(yields), len(given.octets)))
-    return Status.DONE
+    return end_of_text(len(yields), len(given.octets))
 
 
 # `split` and `merge`.
 
 
-def split_slot(call: int, lines: Lines, desk: Desk) -> Status:
+def split_slot(call: int, lines: Lines, desk: Desk) -> str:
     """`split C`: the channels of a time slot to the Down lines of four calls (docs/commands/split.md)."""
     given = read_line(lines, call, PCM)
     blocks = blocks_of(given.octets, profile.PCM_OCTETS)
@@ -186,15 +156,13 @@ def split_slot(call: int, lines: Lines, desk: Desk) -> Status:
     if given.failed:
         raise line_failure(call, PCM)
     left = len(rest) % 4
-    write_text(desk, "split octets %d left %d\n" % (len(given.octets) - left, left))
-    return Status.DONE
+    return f"split octets {len(given.octets) - left} left {left}\n"
 
 
-def merge_slot(call: int, lines: Lines, desk: Desk) -> Status:
+def merge_slot(call: int, lines: Lines, desk: Desk) -> str:
     """`merge C`: the Up lines of four calls to a time slot (docs/commands/merge.md).
 
-    All four lines are read, block by block, before anything of a block is written; the first block that is short on a line is the last.
-    """
+    All four lines are read, block by block, before anything of a block is written; the first block that is short on a line is the last."""
     given = [read_line(lines, call + channel, UP) for channel in range(profile.CHANNELS)]
     whole = min(len(one.octets) // profile.FRAME_OCTETS for one in given)
     for place in range(whole):
@@ -206,78 +174,67 @@ def merge_slot(call: int, lines: Lines, desk: Desk) -> Status:
     used = min(map(len, last))
     write_line(lines, call, OUT, merge([octets[:used] for octets in last]))
     taken = profile.CHANNELS * (profile.FRAME_OCTETS * whole + used)
-    write_text(desk, "merge octets %d left %s\n" % (taken, " ".join(str(len(octets) - used) for octets in last)))
-    return Status.DONE
+    return f"merge octets {taken} left {' '.join(str(len(octets) - used) for octets in last)}\n"
 
 
 # `follow`.
 
 
-def line_of_heard(one: Heard) -> str:
-    """The line of text of a frame that was found (docs/commands/follow.md)."""
-    return "%d %s\n" % (one.place, one.frame.kind.value)
-
-
-def follow(call: int, wanted: int, lines: Lines, desk: Desk) -> Status:
+def follow(call: int, wanted: int, lines: Lines, desk: Desk) -> str:
     """`follow C W`: the base station's end of a downlink (docs/commands/follow.md).
 
-    The answer of a period is written before the lines of text of its frames.
-    """
+    The answer of a period is written before the lines of text of its frames."""
     given = read_line(lines, call, UP)
     by_period = heard_by_period(given.octets)
     for heard, frame in zip(by_period, answers(by_period, wanted)):
         write_line(lines, call, DOWN, octets_of(write_up(frame)))
-        write_text(desk, "".join(map(line_of_heard, heard)))
+        write_text(desk, "".join(f"{one.place} {one.frame.kind.value}\n" for one in heard))
     if given.failed:
         raise line_failure(call, UP)
-    write_text(desk, "follow frames %d left %d\n" % (sum(map(len, by_period)), len(given.octets) % profile.FRAME_OCTETS))
-    return Status.DONE
+    return f"follow frames {sum(map(len, by_period))} left {len(given.octets) % profile.FRAME_OCTETS}\n"
 
 
 # Words.
 
 
 class Command(NamedTuple):
-    """A command on one call."""
+    """A command on one call: what does it and answers the text at its end, and the least and greatest numbers that its words may be."""
 
-    work: Callable[[int, Lines, Desk], Status]
-    most_call: int = profile.MOST_CALLS
+    work: Callable[..., str]
+    ranges: Sequence[Tuple[int, int]] = ((1, profile.MOST_CALLS),)
 
 
 COMMANDS: Dict[str, Command] = {
-    "relay": Command(relay),
-    "decode": Command(decode),
+    "relay": Command(partial(speech, "relay", DOWN, relayed)),
+    "decode": Command(partial(speech, "decode", OUT, decoded)),
     "encode": Command(encode),
     "frames": Command(frames),
-    "split": Command(split_slot, profile.MOST_SLOT_CALL),
-    "merge": Command(merge_slot, profile.MOST_SLOT_CALL),
+    "split": Command(split_slot, ((1, profile.MOST_SLOT_CALL),)),
+    "merge": Command(merge_slot, ((1, profile.MOST_SLOT_CALL),)),
+    "follow": Command(follow, ((1, profile.MOST_CALLS), (0, profile.MOST_WANTED))),
 }
-FOLLOW = "follow"
 
 
-def asked(words: Sequence[str]) -> Optional[Callable[[Lines, Desk], Status]]:
-    """What the words of a command ask for, or None where they are wrong (docs/commands)."""
-    if words[0] == FOLLOW:
-        call = number(words[1], 1, profile.MOST_CALLS) if len(words) == 3 else None
-        wanted = number(words[2], 0, profile.MOST_WANTED) if len(words) == 3 else None
-        if call is None or wanted is None or wanted % profile.WANTED_STEP != 0:
-            return None
-        return lambda lines, desk: follow(call, wanted, lines, desk)
-    named = COMMANDS[words[0]]
-    call = number(words[1], 1, named.most_call) if len(words) == 2 else None
-    return None if call is None else lambda lines, desk: named.work(call, lines, desk)
+def asked(words: Sequence[str]) -> Optional[List[int]]:
+    """The numbers that the words of a command name, a call and what `follow` asks for, or None where they are wrong (docs/commands)."""
+    ranges = COMMANDS[words[0]].ranges
+    numbers = [number(word, *ends) for word, ends in zip(words[1:], ranges)]
+    if len(words) != 1 + len(ranges) or None in numbers or any(wanted % profile.WANTED_STEP for wanted in numbers[1:]):
+        return None
+    return numbers
 
 
 def command(words: Sequence[str], lines: Lines, desk: Desk) -> Optional[int]:
     """Runs a command on one call and gives its status; None where the first word names none of them (docs/commands)."""
-    if not words or (words[0] not in COMMANDS and words[0] != FOLLOW):
+    if not words or words[0] not in COMMANDS:
         return None
-    work = asked(words)
-    if work is None:
+    numbers = asked(words)
+    if numbers is None:
         desk.write("usage\n")
         return int(Status.USAGE)
     try:
-        return int(work(lines, desk))
+        write_text(desk, COMMANDS[words[0]].work(*numbers, lines, desk))
+        return int(Status.DONE)
     except Stopped as stopped:
         if stopped.text and not desk.write(stopped.text):
             return int(Status.UNWRITTEN)

@@ -1,7 +1,5 @@
 """Runs a trial by two programs, and says where octets, text and status differ."""
 
-from __future__ import annotations
-
 import os
 import resource
 import shutil
@@ -52,7 +50,9 @@ def run_step(program: Path, step: Step, before: bytes, folder: Path) -> Answer:
     """What a program gives for a step; `before` is what the step before printed."""
     printed = folder.with_name(folder.name + ".text")
     given = folder.with_name(folder.name + ".stdin")
-    given.write_bytes(standard_input(step, before))
+    change = step.change
+    marked = b"" if change is None else before.replace(change.old, change.new, 1) if change.old else before
+    given.write_bytes(marked + (step.stdin or b""))
 
     def limit() -> None:
         if step.most_octets is not None:
@@ -71,13 +71,6 @@ def run_step(program: Path, step: Step, before: bytes, folder: Path) -> Answer:
         os.close(reads)
         os.close(writes)
     return Answer(status, printed.read_bytes() if printed.exists() else b"", contents(folder))
-
-
-def standard_input(step: Step, before: bytes) -> bytes:
-    """The octets of a step's standard input."""
-    change = step.change
-    marked = b"" if change is None else before.replace(change.old, change.new, 1) if change.old else before
-    return marked + (step.stdin or b"")
 
 
 def answers(program: Path, trial: Trial, folder: Path) -> List[Answer]:

@@ -47,8 +47,7 @@ def asked_shifts(frames: Sequence[Optional[UpFrame]]) -> Dict[int, int]:
 def made_frames(periods: int, asked: Dict[int, int], spans: Sequence[Tuple[int, int]]) -> List[Made]:
     """The frames that are made in so many periods (docs/PROFILE.md, "The downlink").
 
-    `spans` has the first period of each bridge and the first that it doesn't have, in order, a period or more between them.
-    """
+    `spans` has the first period of each bridge and the first that it doesn't have, in order, a period or more between them."""
     starts = [start for start, _ in spans]
     made: List[Made] = []
     when: List[int] = []  # their periods
@@ -75,8 +74,7 @@ def shift_taken(asked: Dict[int, int], since: int, period: int) -> int:
 def item_of(period: int, when: Sequence[int], starts: Sequence[int], spans: Sequence[Tuple[int, int]]) -> Optional[Item]:
     """The handed frame that the next frame carries, where it is made in this period (docs/PROFILE.md, "The downlink").
 
-    `when` has the periods of the frames before. Frames that are made from a bridge's start on carry its items in order, while it has any.
-    """
+    `when` has the periods of the frames before. Frames that are made from a bridge's start on carry its items in order, while it has any."""
     span = bisect_right(starts, period) - 1
     if span < 0:
         return None

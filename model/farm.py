@@ -1,20 +1,17 @@
-"""A run: orders and lines in, the octets of each outgoing line and all that the report says out (docs/commands/run.md).
+"""A run: orders and lines in, the octets of each outgoing line and the report out (docs/commands/run.md).
 
 A run is a function of its orders, its number of periods and what its incoming lines gave. Rounds matter only where a line
 fails: how far lines are read ahead decides which failures come to light. All rules of this module are this project's profile.
 """
 
-from __future__ import annotations
-
 import enum
 from typing import Dict, List, Mapping, NamedTuple, Optional, Sequence, Tuple
 
-from core import profile
+from core import profile, report
 from core.board import Board, Bridge
-from core.g711 import Law
-from core.lines import DOWN, OUT, PCM, SIDES, UP
+from core.lines import DOWN, INCOMING, OCTETS_OF_SIDE, OUT, SIDES
 from core.orders import Order
-from core.report import FailedLine, Reply
+from core.report import COUNTS, FailedLine, Reply, Report
 
 from .call import Call, Outgoing, Setting, Span, Uplink, handed, outgoing, uplink
 from .outside import Given, Lines
@@ -39,6 +36,11 @@ class End(NamedTuple):
     side: Optional[str] = None
     left: int = 0
 
+    def words(self) -> str:
+        """`closed`, `limit`, `end SIDE LEFT` or `fault SIDE` (docs/OPERATORS.md, "Ends and their causes")."""
+        side = f" {self.side}" if self.side else ""
+        return self.cause.value + side + (f" {self.left}" if self.cause is Cause.END else "")
+
 
 class Incoming(NamedTuple):
     """What the two incoming lines of a call gave."""
@@ -49,7 +51,7 @@ class Incoming(NamedTuple):
     @property
     def periods(self) -> int:
         """The number of whole periods that both lines give (docs/FILES.md)."""
-        return min(len(self.up.octets) // profile.FRAME_OCTETS, len(self.pcm.octets) // profile.PCM_OCTETS)
+        return min(len(given.octets) // OCTETS_OF_SIDE[side] for side, given in zip(INCOMING, self))
 
 
 class Plan(NamedTuple):
@@ -75,19 +77,11 @@ class CallOfRun(NamedTuple):
     outgoing: Outgoing
 
 
-class BridgeOfRun(NamedTuple):
-    """A bridge, and how many frames of its first and of its second call went out on the other's downlink."""
-
-    bridge: Bridge
-    sent_of_first: int
-    sent_of_second: int
-
-
 class Farm(NamedTuple):
     """What a run gives: the replies, the bridges as they were accepted, the calls by number, the orders that weren't executed."""
 
     replies: Sequence[Reply]
-    bridges: Sequence[BridgeOfRun]
+    bridges: Sequence[report.Bridge]
     calls: Sequence[CallOfRun]
     left: int
 
@@ -97,15 +91,13 @@ class Farm(NamedTuple):
 
 def executed(orders: Sequence[Order], periods: int) -> List[Order]:
     """The orders that a run of so many periods executes: those with a stamp below that (docs/OPERATORS.md, "When an order takes
-    effect").
-    """
+    effect")."""
     return [order for order in orders if order.stamp < periods]
 
 
 def openings(orders: Sequence[Order]) -> Dict[int, int]:
     """The opening of each call, by number: the stamp of its first `open`, which is never refused (docs/OPERATORS.md, "When an order
-    takes effect").
-    """
+    takes effect")."""
     return {order.calls[0]: order.stamp for order in reversed(orders) if order.verb == "open"}
 
 
@@ -113,8 +105,7 @@ def last_moments(orders: Sequence[Order], periods: int) -> Dict[int, int]:
     """For each opened call the period past which it can't go: the stamp of its first `close` after its `open`, else `periods`
     (docs/OPERATORS.md, "When an order takes effect").
 
-    That `close` is accepted, or the call's lines have ended by then. A call for which this is its opening has no period.
-    """
+    That `close` is accepted, or the call's lines have ended by then. A call for which this is its opening has no period."""
     latest: Dict[int, int] = {}
     closed: Dict[int, int] = {}
     for order in orders:
@@ -129,21 +120,15 @@ def read_incoming(orders: Sequence[Order], periods: int, lines: Lines) -> Dict[i
     """What the incoming lines of each opened call gave, as far as the run can need them, Up before Pcm, by rising number
     (docs/OPERATORS.md, "When an order takes effect").
 
-    A call that can have no period, as it is closed where it is opened, isn't read at all.
-    """
+    A call that can have no period, as it is closed where it is opened, isn't read at all."""
     known = executed(orders, periods)
     opening, last = openings(known), last_moments(known, periods)
     given = {}
     for number in sorted(opening):
         most = last[number] - opening[number]
-        given[number] = _read_both(number, most, lines) if most else Incoming(Given(b"", False), Given(b"", False))
+        up, pcm = (lines.read(number, side, most * OCTETS_OF_SIDE[side]) if most else Given(b"", False) for side in INCOMING)
+        given[number] = Incoming(up, pcm)
     return given
-
-
-def _read_both(number: int, most: int, lines: Lines) -> Incoming:
-    """Both incoming lines of a call, to so many periods at most (docs/commands/run.md)."""
-    up = lines.read(number, UP, most * profile.FRAME_OCTETS)
-    return Incoming(up, lines.read(number, PCM, most * profile.PCM_OCTETS))
 
 
 # What follows from orders and lines
@@ -169,17 +154,15 @@ def ended_bridge(bridge: Bridge, ends: Mapping[int, End]) -> Bridge:
 
 def end_of(opening: int, incoming: Incoming, closing: Optional[int], periods: int) -> End:
     """A call's end: `closed` goes before `limit`, and `limit` before the ends of its lines, of which Up goes before Pcm
-    (docs/OPERATORS.md, "Ends and their causes").
-    """
+    (docs/OPERATORS.md, "Ends and their causes")."""
     natural = opening + incoming.periods
     if closing is not None:
         return End(closing, Cause.CLOSED)
     if natural >= periods:
         return End(periods, Cause.LIMIT)
-    lacks_up = len(incoming.up.octets) // profile.FRAME_OCTETS == incoming.periods
-    side, given = (UP, incoming.up) if lacks_up else (PCM, incoming.pcm)
-    unit = profile.FRAME_OCTETS if lacks_up else profile.PCM_OCTETS
-    return End(natural, Cause.FAULT, side) if given.failed else End(natural, Cause.END, side, len(given.octets) % unit)
+    ended = (each for each in zip(INCOMING, incoming) if len(each[1].octets) // OCTETS_OF_SIDE[each[0]] == incoming.periods)
+    side, given = next(ended)
+    return End(natural, Cause.FAULT, side) if given.failed else End(natural, Cause.END, side, len(given.octets) % OCTETS_OF_SIDE[side])
 
 
 # What the calls send
@@ -192,8 +175,14 @@ def farm_of(plan: Plan) -> Farm:
         for number, end in plan.ends.items()
     }
     calls = {number: _call_of(plan, uplinks, number) for number in plan.ends}
-    bridges = [BridgeOfRun(each, *(_sent_to(plan, calls, each, call) for call in reversed(each.calls))) for each in plan.bridges]
-    return Farm(plan.replies, bridges, list(calls.values()), plan.left)
+    return Farm(plan.replies, [_reported(plan, calls, bridge) for bridge in plan.bridges], list(calls.values()), plan.left)
+
+
+def _reported(plan: Plan, calls: Mapping[int, CallOfRun], bridge: Bridge) -> report.Bridge:
+    """A bridge's calls and periods; of the frames of each how many went out on the other's downlink, and how many were lost
+    (docs/OPERATORS.md, "The report, line by line")."""
+    sent = [calls[to].outgoing.sent[_bridges_of_call(plan, to).index(bridge)] for to in reversed(bridge.calls)]
+    return report.Bridge(bridge.calls, bridge.start, bridge.end, tuple(sent), tuple(bridge.end - bridge.start - each for each in sent))
 
 
 def _call_of(plan: Plan, uplinks: Mapping[int, Uplink], number: int) -> CallOfRun:
@@ -202,13 +191,9 @@ def _call_of(plan: Plan, uplinks: Mapping[int, Uplink], number: int) -> CallOfRu
     spans = [_span_of_call(plan, uplinks, number, bridge) for bridge in _bridges_of_call(plan, number)]
     settings = [_setting(order, opening) for order in plan.accepted if order.verb in ("level", "dtx") and order.calls[0] == number]
     pcm = plan.incoming[number].pcm.octets
-    sent = outgoing(Call(number, law_of(plan, number), end.at - opening, uplinks[number], pcm, settings, spans))
+    law = next(order.law() for order in plan.accepted if order.verb == "open" and order.calls[0] == number)
+    sent = outgoing(Call(number, law, end.at - opening, uplinks[number], pcm, settings, spans))
     return CallOfRun(number, opening, end, sent)
-
-
-def law_of(plan: Plan, number: int) -> Law:
-    """The law of a call: that of the order that opened it (docs/OPERATORS.md, "Orders")."""
-    return next(order.law() for order in plan.accepted if order.verb == "open" and order.calls[0] == number)
 
 
 def _setting(order: Order, opening: int) -> Setting:
@@ -231,13 +216,6 @@ def _span_of_call(plan: Plan, uplinks: Mapping[int, Uplink], number: int, bridge
     return Span(bridge.start - opening, bridge.end - opening, items)
 
 
-def _sent_to(plan: Plan, calls: Mapping[int, CallOfRun], bridge: Bridge, number: int) -> int:
-    """How many of the frames that a bridge handed to one of its calls went out on that call's downlink (docs/OPERATORS.md, "The
-    report, line by line").
-    """
-    return calls[number].outgoing.sent[_bridges_of_call(plan, number).index(bridge)]
-
-
 # What is read ahead, and what fails
 
 
@@ -245,8 +223,7 @@ def rounds(plan: Plan, batch: int, also: Sequence[int] = ()) -> List[Tuple[int, 
     """The rounds of a run, each by its first period and the first that it doesn't have (docs/commands/run.md).
 
     Where a call is open at the clock, a round goes to the next stamp, to the run's end or as far as the batch allows; where none
-    is, the clock goes to the next stamp. A round doesn't pass the periods `also` named.
-    """
+    is, the clock goes to the next stamp. A round doesn't pass the periods `also` named."""
     stops = sorted({order.stamp for order in plan.orders} | set(also) | {plan.periods})
     clock, found = 0, []
     while clock < plan.periods:
@@ -262,24 +239,21 @@ def is_read_at(plan: Plan, number: int, clock: int) -> bool:
     """Whether a call's lines are read in a round that begins at the clock: it is open there after the orders of that stamp
     (docs/OPERATORS.md, "Faults").
 
-    At its natural end a call is open still: that its lines have ended is seen by reading on.
-    """
+    At its natural end a call is open still: that its lines have ended is seen by reading on."""
     end = plan.ends[number]
     return plan.opening[number] <= clock and (clock < end.at if end.cause in (Cause.CLOSED, Cause.LIMIT) else clock <= end.at)
 
 
 def faults_met(plan: Plan, batch: int, also: Sequence[int] = ()) -> List[Tuple[int, str]]:
     """The incoming lines that failed in a run: those of which a round asked for more octets than they gave before a failure
-    (docs/OPERATORS.md, "Faults").
-    """
+    (docs/OPERATORS.md, "Faults")."""
     failing = [number for number, both in plan.incoming.items() if both.up.failed or both.pcm.failed]
     turns = rounds(plan, batch, also) if failing else []
     found: List[Tuple[int, str]] = []
     for number in failing:
         asked = [stop - plan.opening[number] for start, stop in turns if is_read_at(plan, number, start)]
-        most, both = max(asked, default=0), plan.incoming[number]
-        found += [(number, UP)] if both.up.failed and len(both.up.octets) < most * profile.FRAME_OCTETS else []
-        found += [(number, PCM)] if both.pcm.failed and len(both.pcm.octets) < most * profile.PCM_OCTETS else []
+        most, both = max(asked, default=0), zip(INCOMING, plan.incoming[number])
+        found += [(number, side) for side, given in both if given.failed and len(given.octets) < most * OCTETS_OF_SIDE[side]]
     return found
 
 
@@ -287,19 +261,25 @@ def write_outgoing(farm: Farm, lines: Lines, since: int = 0) -> List[Tuple[int, 
     """Writes the octets of all calls' periods from `since` on, and answers the lines that failed, Down before Out, by number
     (docs/commands/run.md).
 
-    A line that has no octets isn't touched.
-    """
+    A line that has no octets isn't touched."""
     failed = []
     for call in farm.calls:
         past = max(0, since - call.opening)
-        for side, octets in (
-            (DOWN, call.outgoing.down[profile.FRAME_OCTETS * past :]),
-            (OUT, call.outgoing.out[profile.PCM_OCTETS * past :]),
-        ):
-            failed += [(call.number, side)] if octets and not lines.write(call.number, side, octets) else []
+        for side, octets in ((DOWN, call.outgoing.down), (OUT, call.outgoing.out)):
+            fresh = octets[OCTETS_OF_SIDE[side] * past :]
+            failed += [(call.number, side)] if fresh and not lines.write(call.number, side, fresh) else []
     return failed
 
 
 def in_order(failed: Sequence[Tuple[int, str]]) -> List[FailedLine]:
     """Failed lines by call, and of a call in the order up, pcm, down, out (docs/OPERATORS.md, "The report, line by line")."""
     return sorted(FailedLine(call, SIDES.index(side)) for call, side in failed)
+
+
+def report_of(farm: Farm, failed: Sequence[FailedLine]) -> Report:
+    """The report: replies, bridges, calls with their counts, and the lines that failed (docs/OPERATORS.md, "The report, line by line")."""
+    calls = {
+        call.number: report.Span(call.opening, call.end.at, call.end.words(), dict(zip(COUNTS, call.outgoing.counts)))
+        for call in farm.calls
+    }
+    return Report(list(farm.replies), list(farm.bridges), calls, list(failed), farm.left)

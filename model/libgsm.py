@@ -4,8 +4,9 @@ decoders. libgsm is another's implementation of GSM 06.10; what it is compared o
 import ctypes
 import ctypes.util
 import random
+from operator import add as add_up
 from pathlib import Path
-from typing import Dict, Iterator, List, NamedTuple, Optional, Sequence, Tuple
+from typing import Dict, List, NamedTuple, Optional, Sequence, Tuple
 
 from core.arithmetic import saturate
 from core.g711 import Law, expand_all
@@ -59,20 +60,17 @@ def find(name: Optional[str] = None) -> Optional[ctypes.CDLL]:
 # Samples and parameters to compare with.
 
 
-def recorded(draw: random.Random) -> List[int]:
-    """Fifty frames of a recording, from any sample on, by a gain of 1/32 to 4."""
-    samples = expand_all(Law.A, (DATA / draw.choice(RECORDINGS[:2])).read_bytes())
+def recorded(draw: random.Random, names: Sequence[str] = RECORDINGS[:2], least: int = -5, most: int = 2) -> List[int]:
+    """Fifty frames of a recording, from any sample on, by a gain of 2 to the power of these."""
+    samples = expand_all(Law.A, (DATA / draw.choice(names)).read_bytes())
     start = draw.randrange(len(samples) - SAMPLES * FRAMES)
-    gain = 2 ** draw.uniform(-5, 2)
+    gain = 2 ** draw.uniform(least, most)
     return [saturate(int(sample * gain)) for sample in samples[start:start + SAMPLES * FRAMES]]
 
 
 def saturating(draw: random.Random) -> List[int]:
     """Fifty frames of a recording so loud that most samples are cut."""
-    samples = expand_all(Law.A, (DATA / draw.choice(RECORDINGS)).read_bytes())
-    start = draw.randrange(len(samples) - SAMPLES * FRAMES)
-    gain = 2 ** draw.uniform(3, 8)
-    return [saturate(int(sample * gain)) for sample in samples[start:start + SAMPLES * FRAMES]]
+    return recorded(draw, RECORDINGS, 3, 8)
 
 
 def noise(draw: random.Random) -> List[int]:
@@ -158,27 +156,23 @@ def decoders(library: ctypes.CDLL, parameters: Sequence[Parameters]) -> Compared
     return compared
 
 
-def compare(library: ctypes.CDLL, seed: int, streams: int) -> Iterator[Tuple[str, Compared]]:
-    """Compares streams of fifty frames: of each what it is of, and how many frames differ.
+def table(library: ctypes.CDLL, seed: int, streams: int) -> Dict[str, Compared]:
+    """Compares streams of fifty frames: of each kind how many frames were compared, and how many of them differ.
 
-    Half of the streams go through the encoders, and what the model made of them through the decoders; the others through the decoders.
-    """
+    Half of the streams go through the encoders, and what the model made of them through the decoders; the others through the decoders."""
     draw = random.Random(seed)
+    sums: Dict[str, Compared] = {}
+
+    def add(kind: str, compared: Compared) -> None:
+        sums[kind] = Compared(*map(add_up, sums.get(kind, Compared(0, 0)), compared))
+
     for number in range(streams):
         if number % 2 == 0:
             kind = list(SIGNALS)[number // 2 % len(SIGNALS)]
             encoded, parameters = encoders(library, SIGNALS[kind](draw))
-            yield "encoding " + kind, encoded
+            add("encoding " + kind, encoded)
         else:
             kind = list(PARAMETERS)[number // 2 % len(PARAMETERS)]
             parameters = PARAMETERS[kind](draw)
-        yield "decoding " + kind, decoders(library, parameters)
-
-
-def table(library: ctypes.CDLL, seed: int, streams: int) -> Dict[str, Compared]:
-    """How many frames of each kind were compared, and how many of them differ."""
-    sums: Dict[str, Compared] = {}
-    for kind, compared in compare(library, seed, streams):
-        before = sums.get(kind, Compared(0, 0))
-        sums[kind] = Compared(before.frames + compared.frames, before.different + compared.different)
+        add("decoding " + kind, decoders(library, parameters))
     return sums

@@ -5,8 +5,6 @@ a line whose file is another line's fails here. Incoming lines are read before a
 line leads to a file that this run writes, the model names the outgoing line also where a run of rounds names the incoming one.
 """
 
-from __future__ import annotations
-
 import os
 import stat
 from pathlib import Path
@@ -80,44 +78,32 @@ class Folder:
         """The next octets of a line, `most` at most; the file is opened for it, so a missing one fails here (docs/FILES.md)."""
         name = name_of(call, side)
         try:
-            descriptor = os.open(name, os.O_RDONLY)
+            with open(name, "rb", buffering=0) as line:
+                self._claim(line.fileno(), name, is_written=False)
+                line.seek(self._moved.get((call, side), 0))
+                given = read_all(line.read, most)
         except OSError:
             return Given(b"", True)
-        try:
-            self._claim(descriptor, name, is_written=False)
-            os.lseek(descriptor, self._moved.get((call, side), 0), os.SEEK_SET)
-            given = read_all(lambda size: os.read(descriptor, size), most)
-        except OSError:
-            return Given(b"", True)
-        finally:
-            os.close(descriptor)
         self._moved[call, side] = self._moved.get((call, side), 0) + len(given.octets)
         return given
 
     def write(self, call: int, side: str, octets: bytes) -> bool:
         """Appends octets to what this program wrote of the line; the first write makes its file, or empties an older one
-        (docs/FILES.md).
-        """
+        (docs/FILES.md)."""
         name, before = name_of(call, side), self._moved.get((call, side), 0)
         try:
-            descriptor = os.open(name, os.O_WRONLY | (0 if before else os.O_CREAT), 0o666)
+            with open(os.open(name, os.O_WRONLY | (0 if before else os.O_CREAT), 0o666), "wb", buffering=0) as line:
+                self._claim(line.fileno(), name, is_written=True, is_emptied=before == 0)
+                line.seek(before)
+                done = write_all(line.fileno(), octets)
         except OSError:
             return False
-        try:
-            self._claim(descriptor, name, is_written=True)
-            if before == 0:
-                self._empty(descriptor, name)
-            os.lseek(descriptor, before, os.SEEK_SET)
-            done = write_all(descriptor, octets)
-        except OSError:
-            return False
-        finally:
-            os.close(descriptor)
         self._moved[call, side] = before + done
         return done == len(octets)
 
-    def _claim(self, descriptor: int, name: str, is_written: bool) -> None:
-        """Has the file be the line's, unless it is another line's and one of both is written (docs/FILES.md)."""
+    def _claim(self, descriptor: int, name: str, is_written: bool, is_emptied: bool = False) -> None:
+        """Has the file be the line's, unless it is another line's and one of both is written; and empties an older one, unless it is a recording
+        of this folder by another name (docs/FILES.md)."""
         found = os.fstat(descriptor)
         if not stat.S_ISREG(found.st_mode):
             return
@@ -126,15 +112,10 @@ class Folder:
             if other != name and (is_written or other_is_written):
                 raise SharedFile(other)
         lines[name] = lines.get(name, False) or is_written
-
-    def _empty(self, descriptor: int, name: str) -> None:
-        """Empties an older file, unless it is a recording of this folder by another name (docs/FILES.md)."""
-        found = os.fstat(descriptor)
-        if not stat.S_ISREG(found.st_mode):
-            return
-        if (Path(name).is_symlink() or found.st_nlink > 1) and is_recording(identity_of(found)):
-            raise SharedFile(name)
-        os.ftruncate(descriptor, 0)
+        if is_emptied:
+            if (Path(name).is_symlink() or found.st_nlink > 1) and is_recording(identity_of(found)):
+                raise SharedFile(name)
+            os.ftruncate(descriptor, 0)
 
 
 class Streams:

@@ -1,6 +1,21 @@
-"""Lines and the standard streams as the commands see them: what can be read and written, and that it can fail (docs/FILES.md)."""
+"""Lines and the standard streams as the commands see them: what can be read and written, and that it can fail (docs/FILES.md); statuses."""
 
+import enum
 from typing import Dict, Iterable, List, NamedTuple, Optional, Protocol, Tuple
+
+
+class Status(enum.IntEnum):
+    """How the program ended (docs/COMMANDS.md, "Statuses"). Status 5, out of memory, the model never has."""
+
+    DONE = 0
+    USAGE = 1
+    BAD_LINE = 2
+    UNREAD = 3
+    UNWRITTEN = 4
+    LINE_FAILED = 6
+    TOO_LONG = 7
+    REFUSED = 8
+    DIFFERS = 9
 
 
 class Given(NamedTuple):

@@ -75,8 +75,7 @@ def stretches(frames: Sequence[Optional[UpFrame]]) -> List[List[Optional[UpFrame
 def falls(stretch: Sequence[Optional[UpFrame]]) -> List[int]:
     """How far noise has fallen in each period from a silence descriptor on (docs/PROFILE.md, "Comfort noise").
 
-    From the period on in which the second descriptor that was due didn't come it falls by one a period, down to silence.
-    """
+    From the period on in which the second descriptor that was due didn't come it falls by one a period, down to silence."""
     missed = [k for k, frame in enumerate(stretch) if k > 0 and missed_descriptor(frame)]
     if len(missed) < profile.FALL_FROM_MISSED:
         return [0] * len(stretch)
@@ -87,8 +86,7 @@ def falls(stretch: Sequence[Optional[UpFrame]]) -> List[int]:
 def noise(stretch: Sequence[Optional[UpFrame]], before: Need) -> List[Need]:
     """The noise of each period from a silence descriptor on; `before` is what the period before it needed.
 
-    A descriptor after noise that hasn't begun to fall is approached from where that stands, any other one is there at once.
-    """
+    A descriptor after noise that hasn't begun to fall is approached from where that stands, any other one is there at once."""
     assert stretch[0] is not None
     new = parameters_of_bits(stretch[0].data)
     old = before.base if isinstance(before, Noise) and before.fall == 0 else new
@@ -119,7 +117,6 @@ def needs(frames: Sequence[Optional[UpFrame]]) -> List[Need]:
 def effective_frames(number: int, frames: Sequence[Optional[UpFrame]]) -> List[Effective]:
     """The effective frame of each period of the call of this number (docs/PROFILE.md, "Lost speech" and "Comfort noise").
 
-    `frames` has the frame of each period, None for a miss and for a period without a yield. The draws go on over the whole call.
-    """
+    `frames` has the frame of each period, None for a miss and for a period without a yield. The draws go on over the whole call."""
     source = RandomSource(number)
     return [need.made(source) if need else None for need in needs(frames)]

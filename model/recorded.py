@@ -4,8 +4,6 @@ Their inputs are recorded lines, orders and words; of `checks/follow` the downli
 the picture of the farm of examples.
 """
 
-from __future__ import annotations
-
 import subprocess
 import sys
 from pathlib import Path

@@ -44,8 +44,7 @@ class Sent(NamedTuple):
 def silence_descriptor(frames: Sequence[Coded]) -> Parameters:
     """The silence descriptor of four frames: the means of what they had before coding (GSM 06.12, numbers of this project's profile).
 
-    A mean is cut to the next whole number below it.
-    """
+    A mean is cut to the next whole number below it."""
     traces = [frame.encoded.trace for frame in frames]
     lar = [sum(ratios) // len(traces) for ratios in zip(*(trace.lar for trace in traces))]
     maxima = [xmax for trace in traces for xmax in trace.xmax]

@@ -4,8 +4,6 @@ Lines are put together of speech, silence descriptors, losses, slips, broken syn
 sense, and some that don't; in two of five trials a line, a stream or the size of files is made to fail.
 """
 
-from __future__ import annotations
-
 import random
 from pathlib import Path
 from typing import Dict, List, NamedTuple, Optional, Sequence, Tuple, Union

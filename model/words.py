@@ -4,8 +4,6 @@ The grammar is that of docs/commands, section "Options" of each page, and of doc
 commands on lines of their own (`relay` to `follow`) read their words in commands.py.
 """
 
-from __future__ import annotations
-
 from typing import Dict, Mapping, NamedTuple, Optional, Sequence, Tuple
 
 from core import profile
@@ -17,8 +15,7 @@ Range = Tuple[int, int, Optional[int]]
 
 class Asked(NamedTuple):
     """A command, and its numbers: the most periods of a round, the periods at which a run ends or of a drill, and what a drill's lines
-    are drawn from; 0 is one that the command doesn't have. Workers, slices, callers and inboxes change nothing.
-    """
+    are drawn from; 0 is one that the command doesn't have. Workers, slices, callers and inboxes change nothing."""
 
     command: str
     batch: int
@@ -32,8 +29,7 @@ def options(words: Sequence[str], ranges: Mapping[str, Range]) -> Optional[Dict[
     "Options").
 
     A value is the next word, or follows `=`. Options come in any order, each at most once, and no name is shortened.
-    A last word `--` is taken (this project's profile; the manner of the library that reads the words).
-    """
+    A last word `--` is taken (this project's profile; the manner of the library that reads the words)."""
     rest = iter(words[:-1] if words and words[-1] == "--" else words)
     given: Dict[str, Optional[int]] = {}
     for word in rest:

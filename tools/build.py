@@ -27,7 +27,7 @@ import tempfile
 import threading
 import time
 from pathlib import Path
-from typing import Callable, Collection, Dict, FrozenSet, Iterator, List, NoReturn, Optional, Sequence, Set, TextIO, Tuple
+from typing import Callable, Collection, Dict, Iterator, List, NoReturn, Optional, Sequence, Set, TextIO, Tuple
 
 from core.words import Refusal, Words
 from side_by_side import number_in, processors
@@ -144,7 +144,6 @@ class Plan:
         usual = sorted(weights.values())[len(weights) // 2] if weights else 1.0
         self.below, self.at_once = below, at_once
         self.weights = {name: max(0.1, weights.get(name, usual)) for name in below}
-        self.known: Dict[FrozenSet[str], float] = {}
         self.chains: Dict[str, float] = {}
         for name in below:
             self.chain(name)
@@ -157,14 +156,7 @@ class Plan:
         return self.chains[name]
 
     def seconds(self, crates: Collection[str]) -> float:
-        """How long these crates take, where all others are done."""
-        key = frozenset(crates)
-        if key not in self.known:
-            self.known[key] = self.reckoned(key)
-        return self.known[key]
-
-    def reckoned(self, crates: Collection[str]) -> float:
-        """The same, computed: of the crates that may begin, those with the longest chain after them come first."""
+        """How long these crates take, where all others are done: of those that may begin, the ones with the longest chain after them come first."""
         left, ends, now = sorted(crates, key=lambda name: -self.chains[name]), {}, 0.0
         while left:
             waits = {name for name, end in ends.items() if end > now} | set(left)

@@ -8,8 +8,6 @@ statements of the libraries in TOP/crates/*/out, holds the verdict to the same w
 program may call to HANDLES. It loads the toolchain's own `rt` for that. It makes crates/CRATE/out/CRATE.KIND. Status 0: the program is proved and built.
 """
 
-from __future__ import annotations
-
 import tool_start  # first, for what comes after it
 
 import importlib.machinery

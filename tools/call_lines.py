@@ -1,7 +1,5 @@
 """What a picture shows of a call's lines beside its uplink: the frames of its downlink, and the levels of its Pcm and Out lines."""
 
-from __future__ import annotations
-
 from pathlib import Path
 from typing import Dict, NamedTuple
 
@@ -10,22 +8,12 @@ import looks
 from core.lines import name_of
 from core.profile import FRAME_OCTETS, PCM_OCTETS
 from run_lines import Call, Run
-from side_by_side import Workers
+from side_by_side import results_of
 
 LEVEL_SIDES = ("pcm", "out")
 LOWEST_LEVEL = -60  # of a picture, in dBm0
 QUARTERS = 4
 PERIODS_TOGETHER = 5000  # of a line whose levels are taken
-
-
-class Asked(NamedTuple):
-    """What to read of lines: the periods of the run, the first and the one after the last, the number of periods in a column, and whether
-    levels are wanted."""
-
-    first: int
-    last: int
-    column: int
-    levels: bool
 
 
 class Lines(NamedTuple):
@@ -34,14 +22,6 @@ class Lines(NamedTuple):
 
     down: bytes
     levels: Dict[str, bytes]
-
-
-def down_of(folder: Path, call: Call, first: int, last: int) -> bytes:
-    """The codes of a downlink's looks, from a period of the call on to another."""
-    if not (folder / f"{call.number}.down").is_file():
-        return b""
-    # A frame that begins in the last of them has its control bits after it.
-    return looks.down_looks(call, call.octets(folder, "down", first, last + 1), first, last)
 
 
 def quarters(level: float) -> int:
@@ -62,19 +42,23 @@ def levels_of(folder: Path, call: Call, side: str, periods: range) -> bytes:
     return bytes(found)
 
 
-def lines_of(folder: Path, call: Call, asked: Asked) -> Lines:
-    """What the lines of a call have in the periods asked for."""
-    first, last = max(0, asked.first - call.span.start), min(call.span.end, asked.last) - call.span.start
+def lines_of(folder: Path, call: Call, columns: range, with_levels: bool) -> Lines:
+    """What the lines of a call have in periods of the run, given by those at which columns begin."""
+    first, last = max(0, columns.start - call.span.start), min(call.span.end, columns.stop) - call.span.start
     if last <= first:
         return Lines(b"", {side: b"" for side in LEVEL_SIDES})
-    sides = LEVEL_SIDES if asked.levels else ()
-    found = {side: levels_of(folder, call, side, range(first, last, asked.column)) for side in sides}
-    return Lines(down_of(folder, call, first, last), found)
+    sides = LEVEL_SIDES if with_levels else ()
+    found = {side: levels_of(folder, call, side, range(first, last, columns.step)) for side in sides}
+    down = b""
+    if (folder / f"{call.number}.down").is_file():
+        # A frame that begins in the last period has its control bits after it.
+        down = looks.down_looks(call, call.octets(folder, "down", first, last + 1), first, last)
+    return Lines(down, found)
 
 
-def read_lines(run: Run, asked: Asked, workers: Workers) -> Dict[int, Lines]:
-    """What the lines of a run's calls have in the periods asked for."""
-    octets = FRAME_OCTETS + (len(LEVEL_SIDES) * PCM_OCTETS if asked.levels else 0)
-    pieces = [(run.folder, call, asked) for call in run.calls]
-    found = workers.each("reading lines", lines_of, pieces, octets * sum(call.periods() for call in run.calls))
+def read_lines(run: Run, columns: range, with_levels: bool, processes: int) -> Dict[int, Lines]:
+    """What the lines of a run's calls have in periods of the run, given by those at which columns begin."""
+    octets = FRAME_OCTETS + (len(LEVEL_SIDES) * PCM_OCTETS if with_levels else 0)
+    pieces = [(run.folder, call, columns, with_levels) for call in run.calls]
+    found = results_of(processes, "reading lines", lines_of, pieces, octets * sum(call.periods() for call in run.calls))
     return {call.number: lines for call, lines in zip(run.calls, found)}

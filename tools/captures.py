@@ -4,12 +4,11 @@ captures that other programs play.
 The library dpkt reads and writes captures and their packets. Without it, these commands are refused with a word.
 """
 
-from __future__ import annotations
-
+import argparse
 import io
 from collections import Counter
 from pathlib import Path
-from typing import Iterable, Iterator, List, Mapping, NamedTuple, Optional, Sequence, Tuple
+from typing import Iterable, Iterator, List, NamedTuple, Optional, Sequence, Tuple
 
 import run_lines
 import uplink_frames
@@ -21,10 +20,10 @@ from core.parameters import SILENCE, bits_of_parameters, data_of_gsm, gsm_of_dat
 from core.profile import PCM_OCTETS, SAMPLES_A_SECOND
 from core.search import FRAME_OF_DOWNLINK, sort_of_period, yields_by_period
 from core.words import Refusal
-from rtp_packets import GSM, NAMES, PCMA, PCMU, Packet, Streams, chosen, kind_of, library, periods_between, streams_of
+from rtp_packets import GSM, NAMES, PCMA, PCMU, PLAIN_TYPES, Packet, Streams, chosen, kind_of, library, periods_between, streams_of
 from rtp_streams import EMPTY, SEQUENCES, STAMPS, Counts, Gap, Lost, Stretch, stretches, without_wrong
-from run_lines import Heard
 from uplink_frames import UplinkFrames
+from uplink_periods import SORTS
 
 LAWS = {PCMA: Law.A, PCMU: Law.MU}
 IDLE_UPLINK = uplink_frames.IDLE
@@ -36,9 +35,9 @@ IDLE_UPLINK = uplink_frames.IDLE
 LOST, GAP, EMPTIED, PAUSED = "lost", "gap", "empty", "paused"
 
 
-def uplink_of(found: Iterable[Stretch], marker: Marker, gaps_are_idle: bool) -> Tuple[bytes, Counter]:
-    """An uplink: the frames as they are marked, and unusable ones for those that didn't come, which let the noise of a pause go on. If gaps are
-    idle, the sender has no descriptors and sends nothing in pauses. And how many frames didn't come."""
+def uplink_of(found: Iterable[Stretch], lead: int, marker: Marker, gaps_are_idle: bool) -> Tuple[bytes, str]:
+    """An uplink after a lead of idle frames, and what it has: the frames as they are marked, and unusable ones for those that didn't come, which
+    let the noise of a pause go on. If gaps are idle, the sender has no descriptors and sends nothing in pauses."""
     line = UplinkFrames(marker)
     missing: Counter = Counter()
     for stretch in found:
@@ -52,19 +51,8 @@ def uplink_of(found: Iterable[Stretch], marker: Marker, gaps_are_idle: bool) -> 
             line.idle(stretch.units)
         else:
             line.lose(stretch.units)
-    return line.line(), missing
-
-
-def pcm_of(found: Iterable[Stretch], sent: Law, law: Law) -> bytes:
-    """A Pcm line, as far as it goes: each octet of the law that was sent as one of the line's, and idle ones where none came."""
-    table, idle = sent.table_to(law), bytes([law.idle()])
-    octets: List[bytes] = []
-    for stretch in found:
-        if isinstance(stretch, (Lost, Gap)):
-            octets.append(stretch.units * idle)
-        else:
-            octets.append(bytes(stretch).translate(table))
-    return b"".join(octets)
+    didnt_come = " ".join(f"{what} {missing[what]}" for what in (LOST, GAP, EMPTIED, PAUSED))
+    return lead * IDLE_UPLINK + line.line(), f"frames {sum(marker.counts.values())} {marker.said()} {didnt_come} lead {lead}"
 
 
 def total(found: Sequence[Stretch], kind: type) -> int:
@@ -72,17 +60,15 @@ def total(found: Sequence[Stretch], kind: type) -> int:
     return sum(len(each) if isinstance(each, list) else each.units for each in found if isinstance(each, kind))
 
 
-class Asked(NamedTuple):
-    """What a line is made of: streams, one after the other, from the beginning of another stream on if one is given; the kinds of payload
-    types; the law of a Pcm line; whether gaps are idle frames; and whether streams that begin anew, and captures that were cut, are taken."""
-
-    streams: Sequence[int]
-    since: Optional[int]
-    types: Mapping[int, int]
-    law: Law
-    gaps_are_idle: bool
-    restart: bool
-    partial: bool
+def pcm_of(found: Iterable[Stretch], lead: int, sent: Law, law: Law) -> Tuple[bytes, str]:
+    """A Pcm line of whole periods after a lead of idle ones, and what it has, in octets: each octet of the law that was sent as one of the
+    line's, and idle ones where none came."""
+    table, idle, parts = sent.table_to(law), bytes([law.idle()]), list(found)
+    octets = (bytes(each).translate(table) if isinstance(each, list) else each.units * idle for each in parts)
+    line = b"".join([lead * PCM_OCTETS * idle, *octets])
+    padded = -len(line) % PCM_OCTETS
+    said = f"octets {total(parts, list)} lost {total(parts, Lost)} gap {total(parts, Gap)} lead {lead} padded {padded}"
+    return line + padded * idle, said
 
 
 MOST_OVERLAP = 1.0  # seconds, in which the streams of a call may overlap that are joined
@@ -102,10 +88,11 @@ def chosen_streams(name: Path, streams: Streams, numbers: Sequence[int]) -> List
     return found
 
 
-def line_of(name: Path, content: bytes, asked: Asked, marker: Marker) -> Tuple[bytes, str, bool]:
-    """A line of a capture's streams, an uplink of GSM and a Pcm line of the others; what was found; and whether it is an uplink."""
-    streams = streams_of(name, content, asked.partial, asked.types)
-    packets = chosen_streams(name, streams, asked.streams)
+def line_of(name: Path, content: bytes, asked: argparse.Namespace, marker: Marker) -> Tuple[bytes, str, bool]:
+    """A line of the streams of a capture that the words ask for, an uplink of GSM and a Pcm line of the others; what was found; and whether it
+    is an uplink."""
+    streams = streams_of(name, content, asked.partial, {**PLAIN_TYPES, **dict(asked.type)})
+    packets = chosen_streams(name, streams, asked.stream)
     lead = 0
     if asked.since is not None:
         lead = periods_between(name, chosen(name, streams, "--since", asked.since), packets[0])
@@ -113,29 +100,15 @@ def line_of(name: Path, content: bytes, asked: Asked, marker: Marker) -> Tuple[b
     counts = Counts()
     packets = [without_wrong(name, each, asked.partial, counts) for each in packets]
     found = stretches(name, packets, kind, asked.restart, counts)
-    line, units = uplink_and_said(found, lead, asked, marker) if kind == GSM else pcm_and_said(found, lead, LAWS[kind], asked.law)
+    if kind == GSM:
+        line, units = uplink_of(found, lead, marker, asked.gap == "idle")
+    else:
+        line, units = pcm_of(found, lead, LAWS[kind], asked.law)
     said = f"pcap {NAMES[kind]} packets {counts.packets} late {counts.late} doubled {counts.doubled} others {counts.others} {units}"
     said += f" over {counts.over}" if counts.over else ""
     said += f" restarts {counts.restarts}" if asked.restart else ""
     said += f" cut {streams.cut} wrong {counts.wrong}" if asked.partial else ""
     return line, said, kind == GSM
-
-
-def uplink_and_said(found: Iterable[Stretch], lead: int, asked: Asked, marker: Marker) -> Tuple[bytes, str]:
-    """An uplink after a lead of idle frames, and what it has."""
-    line, missing = uplink_of(found, marker, asked.gaps_are_idle)
-    didnt_come = " ".join(f"{what} {missing[what]}" for what in (LOST, GAP, EMPTIED, PAUSED))
-    return lead * IDLE_UPLINK + line, f"frames {sum(marker.counts.values())} {marker.said()} {didnt_come} lead {lead}"
-
-
-def pcm_and_said(found: Iterable[Stretch], lead: int, sent: Law, law: Law) -> Tuple[bytes, str]:
-    """A Pcm line of whole periods after a lead of idle ones, and what it has, in octets."""
-    parts = list(found)
-    idle = bytes([law.idle()])
-    line = lead * PCM_OCTETS * idle + pcm_of(parts, sent, law)
-    padded = -len(line) % PCM_OCTETS
-    said = f"octets {total(parts, list)} lost {total(parts, Lost)} gap {total(parts, Gap)} lead {lead} padded {padded}"
-    return line + padded * idle, said
 
 
 # From lines
@@ -154,15 +127,16 @@ def sounds_of_uplink(octets: bytes) -> Iterator[Sound]:
     sorts = [sort_of_period(each) for each in yields]
     source = RandomSource(1)
     descriptor = SILENCE
-    for period, (each, sort, value) in enumerate(zip(yields, sorts, run_lines.heard(sorts))):
+    heard = run_lines.heard_codes(bytes(map(SORTS.index, sorts)))
+    for period, (each, sort, code) in enumerate(zip(yields, sorts, heard)):
         stamp = period * PCM_OCTETS
         if sort is Sort.SID:
             descriptor = parameters_of_bits(data_of(each.frame))
-        if value is Heard.SPEECH:
+        if code == run_lines.SPEECH_HEARD:
             yield Sound(stamp, gsm_of_data(data_of(each.frame)))
-        elif value is Heard.NOISE:
+        elif code == run_lines.NOISE_HEARD:
             yield Sound(stamp, gsm_of_data(bits_of_parameters(comfort_noise(descriptor, source))))
-        elif value is Heard.LOST:
+        elif code == run_lines.LOST_HEARD:
             yield Sound(stamp, None)
 
 

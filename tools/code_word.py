@@ -4,8 +4,6 @@ A base station looks for the code word and marks the frame by C13 and C14 of its
 marks, so the tools that make uplinks from them do this work of the base station.
 """
 
-from __future__ import annotations
-
 import enum
 from collections import Counter
 from typing import Tuple
@@ -21,18 +19,13 @@ PULSE_BITS = 3
 PULSES_OF_LAST_BLOCK = 4
 
 
-def first_bit(block: int, pulse: int) -> int:
-    """The place of the least significant bit of a pulse, counted from D1 as 0; blocks and pulses count from 0."""
-    before_pulses = sum(BLOCK_WIDTHS) - PULSES * PULSE_BITS
-    return sum(LARC_WIDTHS) + block * sum(BLOCK_WIDTHS) + before_pulses + PULSE_BITS * pulse
-
-
 def code_word_bits() -> Tuple[int, ...]:
     """The bits of the pulses that class I of GSM 05.03 has: the highest bit of each, and the middle bit of all but nine."""
     found = []
     for block in range(BLOCKS):
+        end = sum(LARC_WIDTHS) + (block + 1) * sum(BLOCK_WIDTHS)  # the pulses are the last parameters of a block
         for pulse in range(PULSES):
-            least = first_bit(block, pulse)
+            least = end - PULSE_BITS * (PULSES - pulse)  # the place of the pulse's least significant bit, counted from D1 as 0
             has_middle = block < BLOCKS - 1 or pulse < PULSES_OF_LAST_BLOCK
             found += [least + 1, least + 2] if has_middle else [least + 2]
     return tuple(found)

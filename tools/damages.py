@@ -1,12 +1,9 @@
 """Damage to an uplink: pauses, unusable frames, zeros, alignment fields and slips of bits, at named frames."""
 
-from __future__ import annotations
-
 import argparse
 import re
-from dataclasses import dataclass
 from pathlib import Path
-from typing import List, NamedTuple, Optional, Set, Tuple
+from typing import Callable, List, NamedTuple, Optional, Sequence, Set, Tuple
 
 from core.frame import SPEECH, Sort, bits_of, octets_of, read_up, write_up
 from core.parameters import Block, Parameters, bits_of_parameters, parameters_of_bits
@@ -23,52 +20,47 @@ class Part(NamedTuple):
     step: int
 
 
-@dataclass(frozen=True)
-class Frames:
-    """Numbers of frames, as a word of the command line names them: parts `A`, `A-B` and `every:N` with commas between."""
-
-    parts: Tuple[Part, ...]
-
-    @staticmethod
-    def parse(word: str) -> Frames:
-        """Reads the word."""
-        return Frames(tuple(map(Frames.parse_part, word.split(","))))
-
-    @staticmethod
-    def parse_part(word: str) -> Part:
-        """Reads one part of the word."""
-        found = re.fullmatch(r"(\d+)(?:-(\d+))?|every:(\d+)", word, re.ASCII)
-        if not found:
-            raise argparse.ArgumentTypeError(f"'{word}' isn't a frame A, frames A-B or every:N")
-        if found[3]:
-            part = Part(int(found[3]) - 1, None, int(found[3]))
-        else:
-            part = Part(int(found[1]), int(found[2] or found[1]), 1)
-        if part.step == 0 or part.last is not None and part.last < part.first:
-            raise argparse.ArgumentTypeError(f"'{word}' names no frames")
-        return part
-
-    def within(self, count: int) -> Set[int]:
-        """The numbers that are named, all below `count`."""
-        numbers: Set[int] = set()
-        for part in self.parts:
-            last = count - 1 if part.last is None else part.last
-            if last >= count:
-                raise Refusal(f"there is no frame {last}; the uplink has frames 0 to {count - 1}")
-            numbers.update(range(part.first, last + 1, part.step))
-        return numbers
+def part_named(word: str) -> Part:
+    """Reads a part `A`, `A-B` or `every:N` of a word that names frames."""
+    found = re.fullmatch(r"(\d+)(?:-(\d+))?|every:(\d+)", word, re.ASCII)
+    if not found:
+        raise argparse.ArgumentTypeError(f"'{word}' isn't a frame A, frames A-B or every:N")
+    if found[3]:
+        part = Part(int(found[3]) - 1, None, int(found[3]))
+    else:
+        part = Part(int(found[1]), int(found[2] or found[1]), 1)
+    if part.step == 0 or part.last is not None and part.last < part.first:
+        raise argparse.ArgumentTypeError(f"'{word}' names no frames")
+    return part
 
 
-@dataclass(frozen=True)
-class AtFrame:
+def frames_named(word: str) -> List[Part]:
+    """The numbers of frames that a word of the command line names: parts with commas between."""
+    return list(map(part_named, word.split(",")))
+
+
+def numbers_within(parts: Sequence[Part], count: int) -> Set[int]:
+    """The numbers that are named, all below `count`."""
+    numbers: Set[int] = set()
+    for part in parts:
+        last = count - 1 if part.last is None else part.last
+        if last >= count:
+            raise Refusal(f"there is no frame {last}; the uplink has frames 0 to {count - 1}")
+        numbers.update(range(part.first, last + 1, part.step))
+    return numbers
+
+
+class AtFrame(NamedTuple):
     """A value for one frame, as a word `FRAME:VALUE` gives it."""
 
     frame: int
     value: int
 
-    @staticmethod
-    def parse(word: str, least: int, most: int) -> AtFrame:
-        """Reads the word, whose value is within these ends, and not 0 where it may be negative."""
+
+def at_frame(least: int, most: int) -> Callable[[str], AtFrame]:
+    """Reads a word `FRAME:VALUE` whose value is within these ends, and not 0 where it may be negative."""
+
+    def read(word: str) -> AtFrame:
         found = re.fullmatch(r"(\d+):([+-]?\d+)", word, re.ASCII)
         if not found:
             raise argparse.ArgumentTypeError(f"'{word}' isn't FRAME:NUMBER")
@@ -77,20 +69,7 @@ class AtFrame:
             raise argparse.ArgumentTypeError(f"'{word}': the number isn't {least} to {most}{' without 0' * (least < 0)}")
         return AtFrame(int(found[1]), value)
 
-
-def slip_word(word: str) -> AtFrame:
-    """A word of `--slip`."""
-    return AtFrame.parse(word, -FRAME_BITS, FRAME_BITS)
-
-
-def align_word(word: str) -> AtFrame:
-    """A word of `--align`."""
-    return AtFrame.parse(word, 0, 63)
-
-
-def lost(frame: str) -> str:
-    """A speech frame, marked as unusable."""
-    return write_up(read_up(frame)._replace(sort=Sort.BAD))
+    return read
 
 
 def silence_descriptor(speech: Parameters) -> Parameters:
@@ -107,11 +86,6 @@ def paused(frame: str, number: int, begins: bool) -> str:
         return write_up(speech._replace(sort=Sort.BAD, taf=False))
     data = bits_of_parameters(silence_descriptor(parameters_of_bits(speech.data)))
     return write_up(speech._replace(sort=Sort.SID, taf=taf, data=data))
-
-
-def aligned(frame: str, field: int) -> str:
-    """A frame with another alignment field, which is C6 to C11."""
-    return frame[:22] + f"{field:06b}" + frame[28:]
 
 
 class Uplink:
@@ -136,10 +110,6 @@ class Uplink:
         """Whether a yield is a speech frame, of whatever class."""
         return self.sorts[number] in SPEECH
 
-    def has_field(self, number: int) -> bool:
-        """Whether a yield is a frame that has an alignment field."""
-        return self.is_speech(number) or self.sorts[number] is Sort.IDLE
-
     def slip(self, number: int, bits: int) -> None:
         """Puts ones before a frame, or leaves out the last bits before it."""
         if bits > 0:
@@ -159,31 +129,20 @@ class Uplink:
         return "".join(before + frame for before, frame in zip(self.before, self.frames)) + self.rest
 
 
-@dataclass(frozen=True)
-class Damages:
-    """The requested damages: frames of each kind, alignment fields and slips."""
-
-    sid: Optional[Frames]
-    drop: Optional[Frames]
-    zero: Optional[Frames]
-    align: Tuple[AtFrame, ...]
-    slip: Tuple[AtFrame, ...]
-
-
-def damaged(name: Path, octets: bytes, asked: Damages) -> Tuple[bytes, str]:
-    """An uplink with damages, done in the order of the kinds, and the number of each."""
+def damaged(name: Path, octets: bytes, asked: argparse.Namespace) -> Tuple[bytes, str]:
+    """An uplink with the damages that the words ask for, done in the order of the kinds, and the number of each."""
     line = Uplink(name, octets)
     count = len(line.frames)
 
-    def named(option: Optional[Frames]) -> Set[int]:
+    def named(parts: Sequence[Part]) -> Set[int]:
         """The speech frames that an option names."""
-        return set() if option is None else {number for number in option.within(count) if line.is_speech(number)}
+        return set(filter(line.is_speech, numbers_within(parts, count)))
 
     pause, drop, zero = named(asked.sid), named(asked.drop), named(asked.zero)
     for number in pause:
         line.frames[number] = paused(line.frames[number], number, number - 1 not in pause)
     for number in drop:
-        line.frames[number] = lost(line.frames[number])
+        line.frames[number] = write_up(read_up(line.frames[number])._replace(sort=Sort.BAD))
     for number in zero:
         line.frames[number] = FRAME_BITS * "0"
 
@@ -191,9 +150,10 @@ def damaged(name: Path, octets: bytes, asked: Damages) -> Tuple[bytes, str]:
         if change.frame >= count:
             raise Refusal(f"there is no frame {change.frame}; the uplink has frames 0 to {count - 1}")
     for align in asked.align:
-        if align.frame in zero or not line.has_field(align.frame):
+        frame = line.frames[align.frame]
+        if align.frame in zero or not line.is_speech(align.frame) and line.sorts[align.frame] is not Sort.IDLE:
             raise Refusal(f"frame {align.frame} has no alignment field")
-        line.frames[align.frame] = aligned(line.frames[align.frame], align.value)
+        line.frames[align.frame] = frame[:22] + f"{align.value:06b}" + frame[28:]  # C6 to C11
     for slip in asked.slip:
         line.slip(slip.frame, slip.value)
 

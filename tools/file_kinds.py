@@ -10,7 +10,6 @@ import enum
 import itertools
 import re
 from collections import Counter
-from dataclasses import dataclass, replace
 from pathlib import Path
 from typing import Callable, Dict, List, Mapping, NamedTuple, NoReturn, Optional, Sequence, Tuple
 
@@ -27,7 +26,7 @@ from core.search import FRAME_OF_DOWNLINK
 from core.slots import CHANNELS, SLOTS_OF_E1, channel_octets, octets_from, octets_turned
 from core.words import Refusal, as_started
 from readings import Reading
-from tool_files import STREAM, read_file
+from tool_files import STREAM, opened, read_file
 
 HEAD_OCTETS = 1 << 16
 
@@ -54,8 +53,7 @@ class Kind(enum.Enum):
     UNKNOWN = "unknown"
 
 
-@dataclass(frozen=True)
-class Look:
+class Look(NamedTuple):
     """What a file is: its kind, the same in words, the command that makes something of it, whether its octets have their bits in the other
     order, and what its slots are. In the command {} stands for the file's name."""
 
@@ -194,51 +192,33 @@ LEAST_COVERED = 0.5
 WAYS = ("up", "down")
 
 
-def way_of(code: str) -> str:
-    """What frames with these bits C1 to C5 have in common with those beside them: the way of the line, or their kind."""
-    if code in frame_kinds.UP or code in frame_kinds.DOWN:
-        return "up" if code in frame_kinds.UP else "down"
-    return code
-
-
-class Rows:
-    """The frames of a line as they are found: how many of each way, and the most in a row, each of which begins where the one before ended, or
-    after a shift of the timing."""
-
-    def __init__(self) -> None:
-        self.ways: Counter = Counter()
-        self.most: Counter = Counter()
-        self.first: Optional[int] = None
-        self.way, self.end, self.length = "", 0, 0
-
-    def take(self, found: re.Match) -> None:
-        """One frame more."""
-        way = way_of(frame_kinds.code_of(found.group()))
-        goes_on = way == self.way and found.start() - self.end < FRAME_BITS
-        self.length = self.length + 1 if goes_on else 1
-        self.way, self.end = way, found.end()
-        self.ways[way] += 1
-        self.most[way] = max(self.most[way], self.length)
-        if self.first is None and way in (*WAYS, *frame_kinds.OTHERS):
-            self.first = found.start()
-
-
 def frames_of(octets: bytes) -> Optional[Frames]:
     """The frames of a line. Sync bits alone may come by chance, so most frames must have known code words. Some of full rate speech must follow
-    one another, or the frames must be most of what is there."""
+    one another, or the frames must be most of what is there. Those in a row are of one way, or of one other kind, and each begins where the one
+    before ended, or after a shift of the timing."""
     bits = bits_of(octets)
-    rows = Rows()
+    counts: Counter = Counter()
+    most_in_row: Counter = Counter()
+    first: Optional[int] = None
+    way, end, row = "", 0, 0
     for found in FRAME_OF_DOWNLINK.finditer(bits):
-        rows.take(found)
-    ways, others = rows.ways, {code: count for code, count in rows.ways.items() if code in frame_kinds.OTHERS}
-    known = ways["up"] + ways["down"] + sum(others.values())
-    if rows.first is None or 2 * known < sum(ways.values()):
+        before, code = way, frame_kinds.code_of(found.group())
+        way = "up" if code in frame_kinds.UP else "down" if code in frame_kinds.DOWN else code
+        row = row + 1 if way == before and found.start() - end < FRAME_BITS else 1
+        end = found.end()
+        counts[way] += 1
+        most_in_row[way] = max(most_in_row[way], row)
+        if first is None and way in (*WAYS, *frame_kinds.OTHERS):
+            first = found.start()
+    others = {code: count for code, count in counts.items() if code in frame_kinds.OTHERS}
+    known = counts["up"] + counts["down"] + sum(others.values())
+    if first is None or 2 * known < sum(counts.values()):
         return None
-    covered = known * FRAME_BITS / (len(bits) - rows.first)
-    are_few = max(rows.most.values()) < LEAST_ROW and known * FRAME_BITS < LEAST_COVERED * len(bits)
-    if max(rows.most["up"], rows.most["down"]) < LEAST_ROW and (are_few or covered < LEAST_COVERED):
+    covered = known * FRAME_BITS / (len(bits) - first)
+    are_few = max(most_in_row.values()) < LEAST_ROW and known * FRAME_BITS < LEAST_COVERED * len(bits)
+    if max(most_in_row["up"], most_in_row["down"]) < LEAST_ROW and (are_few or covered < LEAST_COVERED):
         return None
-    return Frames(ways["up"], ways["down"], others, rows.first, covered)
+    return Frames(counts["up"], counts["down"], others, first, covered)
 
 
 def others_said(frames: Frames) -> str:
@@ -258,11 +238,7 @@ def line_said(frames: Frames) -> Tuple[Kind, str]:
     return kind, f"{kind.value}, {place}{others_said(frames)}"
 
 
-COMMANDS = {
-    Kind.UPLINK: "trau run takes it as C.up, and makes sound of it",
-    Kind.DOWNLINK: "lines.py listen {} NEW.wav",
-    Kind.OTHER_FRAMES: "",
-}
+COMMANDS = {Kind.UPLINK: "trau run takes it as C.up, and makes sound of it", Kind.DOWNLINK: "lines.py listen {} NEW.wav"}
 LSB_FIRST = " --lsb-first"
 TURN = f"lines.py slot {{}} NEW{LSB_FIRST}"
 TURNED = ", with the bits of each octet in the other order"
@@ -275,7 +251,7 @@ def by_frames(head: bytes, size: int) -> Optional[Look]:
     if not frames:
         return None
     kind, said = line_said(frames)
-    return Look(kind, said + TURNED * turned, TURN if turned else COMMANDS[kind], turned)
+    return Look(kind, said + TURNED * turned, TURN if turned else COMMANDS.get(kind, ""), turned)
 
 
 def frames_of_channels(slot: bytes) -> Dict[int, Frames]:
@@ -393,7 +369,7 @@ def by_constant(head: bytes, more: int) -> Optional[Look]:
         return None
     said = f"idle{' at its start' * (more > 0)}: each octet is 0x{head[0]:02x}"
     law = next((law for law in Law if law.idle() | 0x80 == head[0] | 0x80), None)
-    return replace(look_of_reading(Reading(law, False)), said=f"{said}, silence of {law.title()}") if law else Look(Kind.UNKNOWN, said)
+    return look_of_reading(Reading(law, False))._replace(said=f"{said}, silence of {law.title()}") if law else Look(Kind.UNKNOWN, said)
 
 
 def look_of_reading(reading: Reading) -> Look:
@@ -444,12 +420,9 @@ def head_of(path: Path, octets: int = HEAD_OCTETS) -> Tuple[bytes, int]:
     if path == STREAM:
         content = read_file(path)
         return content[:octets], len(content)
-    try:
-        with open(path, "rb") as file:
-            head = file.read(octets)
-            return head, max(len(head), path.stat().st_size)
-    except OSError as failure:
-        raise Refusal(f"{path}: {failure.strerror}") from None
+    with opened(path) as file:
+        head = file.read(octets)
+        return head, max(len(head), path.stat().st_size)
 
 
 def of_line(found: Look, name: Path) -> Look:
@@ -457,7 +430,7 @@ def of_line(found: Look, name: Path) -> Look:
     if found.kind is not Kind.LAW or found.turned or recordings.name_within(name).suffix not in (".out", ".pcm"):
         return found
     law = " --law mulaw" if found.command.endswith(" --law mulaw") else ""
-    return replace(found, command=f"lines.py sound {{}} NEW.wav{law}")
+    return found._replace(command=f"lines.py sound {{}} NEW.wav{law}")
 
 
 def command_for(found: Look, name: Path) -> str:

@@ -1,8 +1,6 @@
 """The kinds of TRAU frames at 16 kbit/s by C1 to C5: the code words of GSM 08.60 section 3.5, and those that GSM 08.61 adds for half rate
 channels. `trau` decodes full rate speech alone; of the others it takes the idle frames, and counts the rest as `other`."""
 
-from __future__ import annotations
-
 from collections import Counter
 from typing import Iterator, Mapping, NamedTuple
 
@@ -44,9 +42,9 @@ NAMES = {
 
 def word_of(code: str) -> str:
     """The word of frames with these bits C1 to C5 that aren't known on the line."""
-    if code in UP or code in DOWN:
-        return "downlink" if code in DOWN else "uplink"
-    return OTHERS[code].word if code in OTHERS else code
+    if code in OTHERS:
+        return OTHERS[code].word
+    return "downlink" if code in DOWN else "uplink" if code in UP else code
 
 
 def name_of(code: str) -> str:

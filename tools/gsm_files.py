@@ -1,7 +1,5 @@
 """Files of full rate frames: those of libgsm (.gsm), of 33 octets each, and WAV files of GSM frames, to an uplink; and of a downlink."""
 
-from __future__ import annotations
-
 from collections import Counter
 from pathlib import Path
 from typing import List, Mapping, NamedTuple, Optional, Tuple
@@ -9,7 +7,7 @@ from typing import List, Mapping, NamedTuple, Optional, Tuple
 import file_kinds
 import wav_files
 from code_word import Marker
-from core.frame import DownFrame, Kind, bits_of, read_down, read_up
+from core.frame import Kind, bits_of, read_down, read_up
 from core.noise import RandomSource, comfort_noise
 from core.parameters import GSM_MAGIC, GSM_OCTETS, SILENCE, WAV_BLOCK_OCTETS, bits_of_parameters, data_of_gsm, data_of_wav_block, parameters_of_bits
 from core.profile import SAMPLES_A_SECOND
@@ -96,11 +94,6 @@ def uplink_of(name: Path, given: bytes, marker: Marker, partial: bool, zeros_are
 SORTS = ("speech", "silence", "idle", "other")
 
 
-def sort_of_downlink_frame(frame: DownFrame) -> str:
-    """What a frame of a downlink is."""
-    return "silence" if frame.kind is Kind.SPEECH and not frame.sp else frame.kind.value
-
-
 def treated(data: str, treatment: str, source: RandomSource) -> Optional[str]:
     """D1 to D260 as they are written, or None where nothing is."""
     if treatment == "noise":
@@ -127,7 +120,7 @@ def treated_downlink(name: Path, octets: bytes, treatments: Mapping[str, str]) -
     written, inside, of_uplink = 0, 0, 0
     for found in FRAME_OF_DOWNLINK.finditer(bits):
         frame = read_down(found.group())
-        sort = sort_of_downlink_frame(frame)
+        sort = "silence" if frame.kind is Kind.SPEECH and not frame.sp else frame.kind.value
         counts[sort] += 1
         inside += found.end() - found.start()
         of_uplink += frame.kind is Kind.OTHER and read_up(found.group()).is_speech()

@@ -2,8 +2,6 @@
 and one that just meets those of mu-law +3.17 dBm0. The sums of squares are exact, with the library numpy, where it is installed, as without
 it."""
 
-from __future__ import annotations
-
 import math
 import zlib
 from typing import List
@@ -55,12 +53,7 @@ def sums(octets: bytes, law: Law) -> List[int]:
 
 
 def level_of_sum(total: int, law: Law) -> float:
-    """The level of a period by its sum."""
+    """The level of a period by its sum. Mu-law has octets of the sample 0, and nothing but these have no level."""
     overload, overload_level = OVERLOADS[law]
     mean = total * UNITS[law] ** 2 / PCM_OCTETS
     return overload_level + 10 * math.log10(2 * mean / overload**2) if total else -math.inf
-
-
-def levels(octets: bytes, law: Law = Law.A) -> List[float]:
-    """The level of each whole period of a line. Mu-law has octets of the sample 0, and nothing but these have no level."""
-    return [level_of_sum(total, law) for total in sums(octets, law)]

@@ -8,17 +8,14 @@ to standard error. Each command unpacks a file whose name ends with .gz as it re
 line on standard error, exits with status 2 and writes nothing.
 """
 
-from __future__ import annotations
-
 import tool_start  # first, for what comes after it
 
 import argparse
 import itertools
 import sys
 from array import array
-from dataclasses import replace
 from pathlib import Path
-from typing import Callable, List, NamedTuple, Sequence, Tuple
+from typing import List, NamedTuple, Sequence, Tuple
 
 import captures
 import damages
@@ -31,7 +28,7 @@ import wav_files
 from code_word import Marker
 from core.g711 import Law, expand_all
 from core.parameters import gsm_of_data
-from core.profile import MOST_STAMP, PCM_OCTETS, PERIODS_A_SECOND, SAMPLES_A_SECOND
+from core.profile import FRAME_BITS, MOST_STAMP, PCM_OCTETS, PERIODS_A_SECOND, SAMPLES_A_SECOND
 from core.slots import CHANNELS, MOST_SLOTS, channel_octets, octets_turned
 from core.words import Option, Refusal, Words, as_started, number_within, one_of, option, switch
 from file_kinds import Kind, Look
@@ -61,8 +58,6 @@ SOUND_OF = {UPLINK: "lines.py listen NEW.up", OF_A_LAW: "lines.py sound NEW.pcm"
 
 
 # A command makes a file of the words of the command line and the octets of the file that they name.
-Command = Callable[[argparse.Namespace, bytes], Made]
-
 
 # Frames of libgsm: to an uplink, and from a downlink
 
@@ -123,22 +118,16 @@ def check_law(words: argparse.Namespace, name: Path, octets: bytes) -> None:
     other = file_kinds.other_than_law(octets, words.law)
     if other and other.kind is Kind.LAW and not other.turned:
         law = "" if words.law is Law.MU else f" --law {Law.MU}"
-        other = replace(other, command=f"lines.py {words.made.__name__} {{}} {MADE_OF_A_LAW[words.made.__name__]}{law}")
+        other = other._replace(command=f"lines.py {words.made.__name__} {{}} {MADE_OF_A_LAW[words.made.__name__]}{law}")
     if other:
         file_kinds.refuse(name, other, not_this, "; --trust takes it as it is")
-
-
-def raw_octets(words: argparse.Namespace, given: bytes) -> bytes:
-    """Octets of a law and nothing else."""
-    octets = octets_turned(given) if words.lsb_first else given
-    check_law(words, words.given, octets)
-    return octets
 
 
 def pcm(words: argparse.Namespace, given: bytes) -> Made:
     """A Pcm line of whole periods, from a WAV file or raw octets of its law."""
     if words.raw:
-        octets = raw_octets(words, given)
+        octets = octets_turned(given) if words.lsb_first else given
+        check_law(words, words.given, octets)
     else:
         if not wav_files.is_wav(given):
             file_kinds.refuse_other(words.given, given, "no plain WAV file", Kind.LAW)
@@ -179,9 +168,7 @@ def pcap(words: argparse.Namespace, given: bytes) -> Made:
     """An uplink or a Pcm line, from streams of a capture."""
     file_kinds.refuse_other(words.given, given, "no capture in pcap or pcapng", Kind.CAPTURE)
     marker = Marker(words.sid == "keep")
-    types = {**rtp_packets.PLAIN_TYPES, **dict(words.type)}
-    asked = captures.Asked(words.stream, words.since, types, words.law, words.gap == "idle", words.restart, words.partial)
-    line, said, is_uplink = captures.line_of(words.given, given, asked, marker)
+    line, said, is_uplink = captures.line_of(words.given, given, words, marker)
     return Made(line, said, UPLINK if is_uplink else OF_A_LAW)
 
 
@@ -223,8 +210,7 @@ def idle(words: argparse.Namespace, _: bytes) -> Made:
 
 def damage(words: argparse.Namespace, given: bytes) -> Made:
     """An uplink with damages of the kinds that the options name."""
-    asked = damages.Damages(words.sid, words.drop, words.zero, tuple(words.align), tuple(words.slip))
-    return Made(*damages.damaged(words.given, given, asked), UPLINK)
+    return Made(*damages.damaged(words.given, given, words), UPLINK)
 
 
 # What is read and written
@@ -292,7 +278,7 @@ def looked_at(name: Path) -> Tuple[Look, List[str]]:
     if found.said == file_kinds.PACKED_BY_GZIP and name.suffix == recordings.PACKED:
         head = b"".join(itertools.islice(recordings.blocks_of(name, partial=True), BLOCKS_LOOKED_INTO))
         found = file_kinds.look(head[: file_kinds.HEAD_OCTETS], len(head))
-        found = replace(found, said=f"{file_kinds.PACKED_BY_GZIP}: {found.said}")
+        found = found._replace(said=f"{file_kinds.PACKED_BY_GZIP}: {found.said}")
     elif found.kind is Kind.CAPTURE and name != STREAM:
         head, _ = file_kinds.head_of(name, LOOKED_INTO)
     streams = streams_said(name, head) if found.kind is Kind.CAPTURE else []
@@ -537,18 +523,18 @@ COMMANDS = (
         "number of changes of each kind.",
         "7.up 8.up --sid 100-160 --drop 20-22,every:50 --slip 200:-3",
         option(
-            "--sid", type=damages.Frames.parse, metavar="FRAMES",
+            "--sid", type=damages.frames_named, default=(), metavar="FRAMES",
             help=     "replace speech frames by a pause: a silence descriptor at its start and at each 24th frame (23, 47"
             " and so on), which has TAF 1, and unusable frames between. A descriptor has the frame's spectrum and its least block maximum",
         ),
-        option("--drop", type=damages.Frames.parse, metavar="FRAMES", help="mark speech frames as unusable: BFI 1"),
-        option("--zero", type=damages.Frames.parse, metavar="FRAMES", help="replace speech frames by 320 zeros"),
+        option("--drop", type=damages.frames_named, default=(), metavar="FRAMES", help="mark speech frames as unusable: BFI 1"),
+        option("--zero", type=damages.frames_named, default=(), metavar="FRAMES", help="replace speech frames by 320 zeros"),
         option(
-            "--align", type=damages.align_word, action="append", default=[], metavar="FRAME:FIELD",
+            "--align", type=damages.at_frame(0, 63), action="append", default=[], metavar="FRAME:FIELD",
             help="set the alignment field, 0 to 63, of a speech frame or an idle frame; may be repeated",
         ),
         option(
-            "--slip", type=damages.slip_word, action="append", default=[], metavar="FRAME:BITS",
+            "--slip", type=damages.at_frame(-FRAME_BITS, FRAME_BITS), action="append", default=[], metavar="FRAME:BITS",
             help=     "put up to 320 ones before a frame or, with a minus, leave out up to 320 bits before it; may be repeated."
             " Ones then fill the line up to a whole period",
         ),
@@ -556,8 +542,9 @@ COMMANDS = (
 )
 
 
-def parser() -> Words:
-    """The parser of the words."""
+@tool("lines.py")
+def main(words: Sequence[str]) -> int:
+    """Runs the words of the command line, and returns the exit status."""
     program = Words(__doc__)
     add = program.commands()
     add(look, "what files are", LOOK, option("files", type=Path, nargs="+", metavar="FILE", help="a file, or - for standard input"), example="*")
@@ -566,13 +553,7 @@ def parser() -> Words:
         of = PERIODS if given == "PERIODS" else name
         to = option("new", type=Path, metavar=new, help="the file to write, or - for standard output; never the one that is read")
         add(made, f"{given} to {new}", text, of, to, *options, example=example, given=None, tag=WAV_LINEAR, made=made, runs=make_file)
-    return program
-
-
-@tool("lines.py")
-def main(words: Sequence[str]) -> int:
-    """Runs the words of the command line, and returns the exit status."""
-    asked = parser().parse_args(words)
+    asked = program.parse_args(words)
     return asked.runs(asked)
 
 

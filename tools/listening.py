@@ -1,8 +1,6 @@
 """Lines of frames as sound. The frames of a downlink are decoded by the C library if it is built, else by the program `trau`; both give the
 same. An uplink is run by `trau` with an idle Pcm line, so that losses and pauses sound as in a call."""
 
-from __future__ import annotations
-
 import os
 import subprocess
 import sys
@@ -60,12 +58,6 @@ def library_beside() -> Optional[ModuleType]:
     return trau_fr
 
 
-def decoded_by_library(frames: List[str], library: ModuleType) -> bytes:
-    """The A-law of frames, D1 to D260 each, by the C library and without a file."""
-    octets = b"".join(gsm_of_data(data) for data in frames)
-    return library.compress(library.Decoder().decode(octets), "alaw")
-
-
 def from_here() -> Dict[str, str]:
     """The environment for a program that is started in another folder: TRAU_PROGRAM may name a path from this one. The word `model` is none."""
     named = os.environ.get("TRAU_PROGRAM")
@@ -74,10 +66,8 @@ def from_here() -> Dict[str, str]:
 
 def said_by_program(trau: str, words: Sequence[str], folder: str, given: bytes = b"") -> bytes:
     """What the program prints on standard output for these words and this standard input, in a folder of lines."""
-    try:
+    with naming(Path(trau)):
         ended = subprocess.run([trau, *words], cwd=folder, input=given, stdout=subprocess.PIPE, env=from_here())
-    except OSError as failure:
-        raise Refusal(f"{trau}: {failure.strerror}") from None
     if ended.returncode:
         said = ended.stdout.decode("latin-1").strip().replace("\n", ", ")
         raise Refusal(f"{trau} {words[0]}: status {ended.returncode}{f', {said}' if said else ''}")
@@ -101,7 +91,9 @@ def decoded_by_program(frames: List[str], trau: str) -> bytes:
 def decoded(frames: List[str], trau: Optional[str]) -> bytes:
     """The A-law of frames (D1 to D260 each), by this program, or if none is named, by the library if there is one."""
     library = None if trau else library_beside()
-    return decoded_by_library(frames, library) if library else decoded_by_program(frames, trau or program_beside())
+    if not library:
+        return decoded_by_program(frames, trau or program_beside())
+    return library.compress(library.Decoder().decode(b"".join(map(gsm_of_data, frames))), "alaw")
 
 
 def alaw_of_downlink(name: Path, octets: bytes, trau: Optional[str]) -> Tuple[bytes, str]:

@@ -1,8 +1,6 @@
 """How the periods of a call look in a picture: their names, and their colours, of a palette that colour-blind people
 tell apart; and columns of periods, where these are narrower than can be drawn."""
 
-from __future__ import annotations
-
 import enum
 import re
 from typing import Any, Dict, Iterator, List, NamedTuple, Optional, Sequence, Tuple, Type

@@ -1,7 +1,5 @@
 """A mark, as `trau save` prints it and `trau resume` reads it before the orders, and what is wrong with its lines."""
 
-from __future__ import annotations
-
 from dataclasses import dataclass, field
 from typing import Dict, List, Optional, Tuple
 

@@ -1,8 +1,6 @@
 """Octets that stand at the same place of frames in a row, taken together: a column has an octet of each frame. Columns are changed by tables
 of 256 octets and combined as one large number, so that thousands of frames take a few steps."""
 
-from __future__ import annotations
-
 from typing import Callable
 
 from core.profile import FRAME_OCTETS

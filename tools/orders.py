@@ -15,7 +15,7 @@ import os
 import sys
 from dataclasses import dataclass, field
 from pathlib import Path
-from typing import Callable, Dict, List, NamedTuple, Optional, Sequence, Tuple
+from typing import Dict, List, NamedTuple, Optional, Sequence, Tuple
 
 import file_kinds
 import marks
@@ -128,14 +128,15 @@ def has_unending(folder: Path, call: int) -> bool:
     return any(is_unending(folder / name_of(call, side)) for side in INCOMING)
 
 
-def end_by_lines(folder: Path, call: int, stamp: int) -> Optional[int]:
-    """The period at which a call ends that is opened at a stamp: both its incoming lines give those before it. None if nobody knows."""
-    return None if has_unending(folder, call) else stamp + min(periods_of_lines(folder, call).values())
-
-
 def board_of(folder: Optional[Path]) -> Board:
-    """The board before any order. Where a folder of lines is given, calls also end with their lines."""
-    return Board(lambda order: None if folder is None else end_by_lines(folder, order.calls[0], order.stamp))
+    """The board before any order. Where a folder of lines is given, calls also end with their lines, unless nobody knows where these end."""
+
+    def end_of(order: Order) -> Optional[int]:
+        if folder is None or has_unending(folder, order.calls[0]):
+            return None
+        return order.stamp + min(periods_of_lines(folder, order.calls[0]).values())
+
+    return Board(end_of)
 
 
 def said_of_refusal(board: Board, reply: Reply) -> str:
@@ -331,19 +332,19 @@ def level(words: argparse.Namespace) -> int:
     return 0
 
 
-def figure_within(least: float, most: float) -> Callable[[str], float]:
-    """Reads a figure between these ends."""
+def figure(name: str, least: float, most: float, what: str) -> Option:
+    """An argument that is a figure between these ends."""
 
     def read(word: str) -> float:
         try:
-            figure = float(word)
+            found = float(word)
         except ValueError:
-            figure = math.nan
-        if not least <= figure <= most:
+            found = math.nan
+        if not least <= found <= most:
             raise argparse.ArgumentTypeError(f"{word} isn't {least:g} to {most:g}")
-        return figure
+        return found
 
-    return read
+    return option(name, type=read, metavar=name.upper(), help=f"{what}, {least:g} to {most:g}")
 
 
 # The words of the command line
@@ -384,11 +385,6 @@ LEVEL_TEXT = (
     "from which on none does; between them its phase decides. The peaks of its frames are computed as the encoder does it (GSM\n"
     "06.10, sections 4.2.1 to 4.2.3), for 200 frames at all phases."
 )
-
-
-def figure(name: str, least: float, most: float, what: str) -> Option:
-    """An argument that is a figure between these ends."""
-    return option(name, type=figure_within(least, most), metavar=name.upper(), help=f"{what}, {least:g} to {most:g}")
 
 
 LEVEL_OPTIONS = (

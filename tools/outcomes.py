@@ -1,12 +1,8 @@
 """Outcomes of calls: how much of their speech was lost, their longest gap, and which are the worst."""
 
-from __future__ import annotations
+from typing import List, NamedTuple, Optional, Sequence
 
-from typing import Dict, List, NamedTuple, Optional, Sequence
-
-import looks
 from core.profile import PERIODS_A_SECOND
-from core.report import Bridge
 from run_lines import LOST_HEARD, SPEECH_HEARD, Call, Heard, longest
 
 class Outcome(NamedTuple):
@@ -39,19 +35,13 @@ def outcome_of(call: Call) -> Outcome:
     """The outcome of a call."""
     heard = call.heard()
     gap = longest(heard, Heard.LOST)
-    return Outcome(heard.count(SPEECH_HEARD), heard.count(LOST_HEARD), gap.length if gap else 0, gap.start if gap else None)
+    return Outcome(heard.count(SPEECH_HEARD), heard.count(LOST_HEARD), gap.length, gap.start)
 
 
 def badness(call: Call) -> tuple:
     """What calls are sorted by, the worst first: lines that failed, the part of the speech that was lost, the longest gap, the number."""
     outcome = outcome_of(call)
     return (-len(call.failed), -outcome.rate(), -outcome.longest, call.number)
-
-
-def by_number(calls: Sequence[Call], bridges: Sequence[Bridge]) -> List[Call]:
-    """The calls by their numbers, each partner of a bridge next to its call."""
-    numbered: Dict[int, Call] = {call.number: call for call in calls}
-    return [numbered[number] for number in looks.order_of_rows(list(numbered), [bridge.calls for bridge in bridges])]
 
 
 def worst_first(calls: Sequence[Call]) -> List[Call]:

@@ -1,14 +1,11 @@
 """The picture of a run as SVG: a row for each call, with what its uplink and its downlink held, levels, bridges and shifts;
 the orders above, and their words below."""
 
-from __future__ import annotations
-
 import math
 import xml.etree.ElementTree as ElementTree
-from dataclasses import dataclass
 from enum import Enum
 from itertools import groupby
-from typing import Callable, Dict, List, Optional, Sequence, Tuple, Type
+from typing import Callable, Dict, List, NamedTuple, Optional, Sequence, Tuple, Type
 
 import call_lines
 import looks
@@ -19,7 +16,6 @@ from core.profile import PERIODS_A_SECOND
 from core.report import Bridge
 from looks import DOWN_LOSSES, LOSSES, DownLook, Look
 from run_lines import Answered, Call, Run
-from side_by_side import ALONE, Workers
 
 # Lengths are in pixels.
 LEFT, TOP, RIGHT = 130, 24, 24
@@ -47,8 +43,7 @@ text { font-family: 'DejaVu Sans', Verdana, Arial, sans-serif; font-size: 12px; 
 """
 
 
-@dataclass(frozen=True)
-class Shape:
+class Shape(NamedTuple):
     """The heights of the parts of a row, from its top: marks of shifts, uplink, downlink, levels, bridges."""
 
     marks: int
@@ -60,7 +55,7 @@ class Shape:
 
     def height(self) -> int:
         """The height of a row."""
-        return self.marks + self.band + self.down + self.level + self.bridge + self.space
+        return sum(self)
 
 
 FULL = Shape(marks=16, band=22, down=12, level=30, bridge=15, space=9)
@@ -110,15 +105,9 @@ class Picture:
         longest = max(text_width(each, 12) for each in [*words, self.missing_words()])
         self.width = math.ceil(max(LEAST_WIDTH, self.plot_right + 12 + longest)) + RIGHT
         self.place_rows()
-        self.root = ElementTree.Element(
-            "svg",
-            {
-                "xmlns": "http://www.w3.org/2000/svg",
-                "width": f"{self.width:.0f}",
-                "height": f"{self.height:.0f}",
-                "viewBox": f"0 0 {self.width:.0f} {self.height:.0f}",
-            },
-        )
+        width, height = f"{self.width:.0f}", f"{self.height:.0f}"
+        place = {"width": width, "height": height, "viewBox": f"0 0 {width} {height}"}
+        self.root = ElementTree.Element("svg", {"xmlns": "http://www.w3.org/2000/svg", **place})
 
     # Places
 
@@ -148,21 +137,11 @@ class Picture:
         """Whether a period is within the picture."""
         return self.first <= period < self.last
 
-    def band_top(self, call: int) -> float:
-        """Where the band of a call's uplink begins."""
-        return self.rows[call] + self.shape.marks
-
-    def down_top(self, call: int) -> float:
-        """Where the strip of a call's downlink begins."""
-        return self.band_top(call) + self.shape.band + 1
-
-    def level_top(self, call: int) -> float:
-        """Where the levels of a call's lines begin."""
-        return self.band_top(call) + self.shape.band + self.shape.down + 2
-
-    def bridge_top(self, call: int) -> float:
-        """Where the bars of a call's bridges begin."""
-        return self.band_top(call) + self.shape.band + self.shape.down + self.shape.level + 1
+    def top(self, call: int, part: str = "band") -> float:
+        """Where a part of a call's row begins: the band of its uplink, the strip of its downlink, its levels, or the bars of its bridges."""
+        shape, band_end = self.shape, self.shape.marks + self.shape.band
+        down_end = band_end + shape.down
+        return self.rows[call] + {"band": shape.marks, "down": band_end + 1, "level": down_end + 2, "bridge": down_end + shape.level + 1}[part]
 
     # Pieces
 
@@ -181,14 +160,13 @@ class Picture:
 
     def text(self, x: float, y: float, text: str, kind: str = "", anchor: str = "start") -> None:
         attributes = {"class": kind} if kind else {}
-        self.add("text", text=text, x=float(x), y=float(y), text_anchor=anchor, **attributes)
+        self.add("text", text=text, x=x, y=y, text_anchor=anchor, **attributes)
 
     def box(self, x: float, y: float, width: float, height: float, fill: str, title: str = "", **more: object) -> None:
-        self.add("rect", title, x=float(x), y=float(y), width=float(width), height=float(height), fill=fill, **more)
+        self.add("rect", title, x=x, y=y, width=width, height=height, fill=fill, **more)
 
     def line(self, x1: float, y1: float, x2: float, y2: float, stroke: str, width: float = 1, title: str = "") -> None:
-        places = {"x1": float(x1), "y1": float(y1), "x2": float(x2), "y2": float(y2)}
-        self.add("line", title, stroke=stroke, stroke_width=width, **places)
+        self.add("line", title, stroke=stroke, stroke_width=width, x1=x1, y1=y1, x2=x2, y2=y2)
 
     def triangle(self, x: float, y: float, title: str = "", filled: bool = True) -> None:
         """The mark of a shift, which points down at a place; one that waits isn't filled."""
@@ -206,14 +184,13 @@ class Picture:
 
     # Layers
 
-    def read_lines(self, column: int, workers: Workers) -> Dict[int, call_lines.Lines]:
+    def read_lines(self, column: int, processes: int) -> Dict[int, call_lines.Lines]:
         """What the calls' lines have, by columns of this many periods."""
-        asked = call_lines.Asked(self.first, self.last, column, bool(self.shape.level))
-        return call_lines.read_lines(self.run, asked, workers)
+        return call_lines.read_lines(self.run, range(self.first, self.last, column), bool(self.shape.level), processes)
 
-    def draw(self, workers: Workers = ALONE) -> bytes:
+    def draw(self, processes: int = 1) -> bytes:
         """The picture's file."""
-        self.lines = self.read_lines(self.column, workers)
+        self.lines = self.read_lines(self.column, processes)
         self.add("title", text="The periods of a run's calls")
         self.add("style", text=STYLE)
         self.draw_hatching()
@@ -251,18 +228,12 @@ class Picture:
     def legend(self) -> List[Tuple[str, Callable[[float, float], None]]]:
         """What the legend says, and what draws a sample of it around a place."""
 
-        def swatch(look, height: int) -> Callable[[float, float], None]:
-            return lambda x, y: self.box(x - 13, y - height / 2, 26, height, look.colour, stroke=INK, stroke_width=0.75)
-
-        def bridge(x: float, y: float) -> None:
-            self.box(x - 13, y - 6, 26, 12, BRIDGE_COLOUR)
+        def swatch(colour: str, height: int, **more: object) -> Callable[[float, float], None]:
+            return lambda x, y: self.box(x - 13, y - height / 2, 26, height, colour, **more)
 
         def shift(x: float, y: float) -> None:
             self.triangle(x - 9, y + 4)
             self.text(x - 3, y + 4, "+2", "tiny")
-
-        def waiting(x: float, y: float) -> None:
-            self.triangle(x - 9, y + 4, filled=False)
 
         def orders(x: float, y: float) -> None:
             self.tick(x - 9, y)
@@ -273,13 +244,15 @@ class Picture:
 
         shown = [look for look in Look if look is not Look.PAUSE]
         shown.insert(shown.index(Look.SID) + 1, Look.PAUSE)
-        entries = [(look.words, swatch(look, 14)) for look in shown] + [(DownLook.HANDED.words, swatch(DownLook.HANDED, 8))]
+        edge = {"stroke": INK, "stroke_width": 0.75}
+        entries = [(look.words, swatch(look.colour, 14, **edge)) for look in shown]
+        entries.append((DownLook.HANDED.words, swatch(DownLook.HANDED.colour, 8, **edge)))
         if self.shape.level:
             entries += [("level of Out", level(OUT_COLOUR)), ("level of Pcm", level(PCM_COLOUR))]
         return entries + [
-            ("bridge, over its periods", bridge),
+            ("bridge, over its periods", swatch(BRIDGE_COLOUR, 12)),
             ("the downlink's timing shifts, in octets", shift),
-            ("a shift is asked for, and waits", waiting),
+            ("a shift is asked for, and waits", lambda x, y: self.triangle(x - 9, y + 4, filled=False)),
             ("orders; a refused one among them", orders),
         ]
 
@@ -294,7 +267,7 @@ class Picture:
     def draw_axis(self) -> None:
         """Grid, axis, and the tracks of the rows."""
         for call in self.rows:
-            self.box(LEFT, self.band_top(call), self.plot_right - LEFT, self.shape.band, PALE)
+            self.box(LEFT, self.top(call), self.plot_right - LEFT, self.shape.band, PALE)
         step = self.tick_step()
         for period in range(-(-self.first // step) * step, self.last + 1, step):
             x = self.x(period)
@@ -321,7 +294,7 @@ class Picture:
         """The bars that tie the rows of a bridge's calls, drawn behind the rows between them."""
         if not all(call in self.rows for call in bridge.calls):
             return
-        upper, lower = sorted(self.bridge_top(number) for number in bridge.calls)
+        upper, lower = sorted(self.top(number, "bridge") for number in bridge.calls)
         left, right = self.x(bridge.start), self.x(bridge.end)
         self.box(left, upper + self.shape.bridge, right - left, lower - upper - self.shape.bridge, BRIDGE_COLOUR, fill_opacity=0.045)
         for x in (left, right):
@@ -338,7 +311,7 @@ class Picture:
         for number, partner in (bridge.calls, bridge.calls[::-1]):
             if number not in self.rows:
                 continue
-            top = self.bridge_top(number)
+            top = self.top(number, "bridge")
             self.box(left, top, max(right - left, 2), self.shape.bridge - 3, BRIDGE_COLOUR, title)
             if self.shape is not COMPACT:
                 fitting = (f"bridge with call {partner}", f"with {partner}", str(partner), "")
@@ -359,7 +332,7 @@ class Picture:
 
     def draw_call(self, call: Call) -> None:
         """The row of a call."""
-        top = self.band_top(call.number)
+        top = self.top(call.number)
         left, right = self.x(call.span.start), self.x(call.span.end)
         if self.shape is COMPACT:
             self.text(LEFT - 14, top + 9, f"call {call.number}", "tiny", "end")
@@ -368,7 +341,8 @@ class Picture:
             self.text(LEFT - 34, top + 26, f"{call.span.start} to {call.span.end}", "small", "end")
         shown = slice(max(0, self.first - call.span.start), max(0, self.last - call.span.start))
         self.draw_band(call, looks.looks(call.brought())[shown], Look, LOSSES, top, self.shape.band, "")
-        self.draw_downlink(call)
+        down = (self.top(call.number, "down"), self.shape.down - 3, "downlink ")
+        self.draw_band(call, self.lines[call.number].down, DownLook, DOWN_LOSSES, *down)
         if self.shape.level:
             self.draw_levels(call)
         frame = {"fill": "none", "stroke": INK, "stroke_width": 0.75, "pointer_events": "none"}
@@ -396,14 +370,9 @@ class Picture:
                 self.box(**place, fill=look.colour, title=title, shape_rendering="crispEdges")
                 y += high
 
-    def draw_downlink(self, call: Call) -> None:
-        """The strip of a call's downlink, if the line exists."""
-        codes = self.lines[call.number].down
-        self.draw_band(call, codes, DownLook, DOWN_LOSSES, self.down_top(call.number), self.shape.down - 3, "downlink ")
-
     def draw_levels(self, call: Call) -> None:
         """The levels of a call's Pcm and Out line."""
-        top, height = self.level_top(call.number), self.shape.level - 4
+        top, height = self.top(call.number, "level"), self.shape.level - 4
         drawn = self.lines[call.number].levels
         if not any(drawn.values()):
             return

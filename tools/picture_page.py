@@ -1,8 +1,6 @@
 """A page of HTML of a run: its totals, failed lines and worst calls, and below them a picture that is drawn anew as one zooms, whose axis and
 names stay as one moves. It is one file, which asks no other for anything."""
 
-from __future__ import annotations
-
 import base64
 import json
 import zlib
@@ -92,7 +90,7 @@ def data_of(picture: Picture, lines: Dict[int, call_lines.Lines]) -> Dict[str, A
     return {
         "first": picture.first,
         "last": picture.last,
-        "shape": vars(picture.shape),
+        "shape": picture.shape._asdict(),
         "colours": {"out": OUT_COLOUR, "pcm": PCM_COLOUR, "bridge": BRIDGE_COLOUR, "alarm": ALARM},
         "looks": looks_of(Look, LOSSES),
         "downLooks": looks_of(DownLook, DOWN_LOSSES),

@@ -1,8 +1,6 @@
 """A report in sentences: what became of its orders, bridges and calls. The report's count `bad` has lost frames and the empty frames of
 pauses; the calls' uplinks tell them apart."""
 
-from __future__ import annotations
-
 from pathlib import Path
 from typing import Iterator, List, NamedTuple, Optional, Sequence
 
@@ -11,7 +9,7 @@ from core.profile import FRAME_OCTETS, PERIODS_A_SECOND
 from core.report import Bridge, Reply, Report
 from core.words import Refusal
 from run_lines import HEARDS, Call, Heard, longest
-from side_by_side import Workers
+from side_by_side import results_of
 
 # Why an order was refused: {call} is the call that its line names, {partner} the other one.
 REASONS = {
@@ -114,12 +112,12 @@ def said_of_bridge(bridge: Bridge) -> str:
     return f"calls {a} and {b}: bridged for {span}: frames to {b} {to_b}, to {a} {to_a}, lost {lost}"
 
 
-def sentences(report: Report, name: Path, folder: Optional[Path], workers: Workers) -> List[str]:
+def sentences(report: Report, name: Path, folder: Optional[Path], processes: int) -> List[str]:
     """The report in sentences. The uplinks are in the folder, or if none is named, perhaps in that of the report."""
     where = folder or name.parent
     pieces = [(where, call, run_lines.bridges_of(call, report.bridges), folder is not None) for call in run_lines.calls_of(report)]
     octets = FRAME_OCTETS * sum(call.periods() for _, call, _, _ in pieces)
-    rows = list(workers.each("searching uplinks", row_of_call, pieces, octets))
+    rows = list(results_of(processes, "searching uplinks", row_of_call, pieces, octets))
     said = [*said_of_orders(report.replies, report.left), *map(said_of_bridge, report.bridges), *(row.said for row in rows)]
     if not all(row.is_told_apart for row in rows):
         said.append(HOW_TO_TELL)

@@ -6,8 +6,6 @@ figure of a reading is the logarithm of its roughness (the power of the differen
 and of its loudness, and the least figure is the best.
 """
 
-from __future__ import annotations
-
 import math
 import operator
 import sys

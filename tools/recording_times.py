@@ -1,8 +1,6 @@
 """The time (UTC) of a run's periods, if its lines are of a gateway's recording (docs/GATEWAY.md): clock.txt has the time of some periods, and how
 many periods the clock gave up at which."""
 
-from __future__ import annotations
-
 import os
 import re
 from datetime import datetime, timedelta

@@ -1,17 +1,13 @@
 """Recordings as they are read: files, standard input, and files that gzip packed, whose names end with .gz."""
 
-from __future__ import annotations
-
-import contextlib
 import shlex
-import sys
 import zlib
 from pathlib import Path
-from typing import BinaryIO, Iterable, Iterator
+from typing import Iterable, Iterator
 
 from core.slots import octets_from, octets_turned
 from core.words import Refusal
-from tool_files import STREAM
+from tool_files import opened
 
 
 BLOCK_OCTETS = 1 << 20
@@ -37,18 +33,6 @@ def command_of_others(command: str, path: Path) -> str:
     return said if within == path else f"gunzip -k {quoted(path)}; {said}"
 
 
-@contextlib.contextmanager
-def opened(path: Path) -> Iterator[BinaryIO]:
-    """A file, or standard input, to be read."""
-    if path != STREAM:
-        with open(path, "rb") as file:
-            yield file
-    elif sys.stdin is None:
-        raise Refusal("standard input is closed")
-    else:
-        yield sys.stdin.buffer
-
-
 def unpacked(path: Path, packed: Iterator[bytes], partial: bool) -> Iterator[bytes]:
     """What gzip packed into these blocks, as far as it goes where `partial` says so."""
     reader = zlib.decompressobj(GZIP_WINDOW)
@@ -70,12 +54,9 @@ def unpacked(path: Path, packed: Iterator[bytes], partial: bool) -> Iterator[byt
 
 def blocks_of(path: Path, partial: bool = False) -> Iterator[bytes]:
     """The octets of a recording, in blocks."""
-    try:
-        with opened(path) as file:
-            blocks = iter(lambda: file.read(BLOCK_OCTETS), b"")
-            yield from unpacked(path, blocks, partial) if path.suffix == PACKED else blocks
-    except OSError as failure:
-        raise Refusal(f"{path}: {failure.strerror}") from None
+    with opened(path) as file:
+        blocks = iter(lambda: file.read(BLOCK_OCTETS), b"")
+        yield from unpacked(path, blocks, partial) if path.suffix == PACKED else blocks
 
 
 def read_recording(path: Path, partial: bool = False) -> bytes:

@@ -6,8 +6,6 @@
 which period on. `sync` prints where and why the search for frames lost an uplink, and `kinds` of which kinds its frames are.
 """
 
-from __future__ import annotations
-
 import tool_start  # first, for what comes after it
 
 import argparse
@@ -17,6 +15,7 @@ import json
 import re
 import sys
 from collections import Counter
+from itertools import zip_longest
 from pathlib import Path
 from typing import Any, Callable, Dict, Iterator, List, NamedTuple, Optional, Sequence, Tuple
 
@@ -33,7 +32,7 @@ from core.search import period_of, search
 from core.words import Option, Refusal, Words, one_of, option, switch
 from recording_times import Clock, Times, whole_lines
 from run_lines import HEARDS, Call, Heard, Sent, longest, stretches
-from side_by_side import PROCESSES, Workers
+from side_by_side import PROCESSES, results_of
 from tool_ends import tool
 from tool_files import read_file
 
@@ -62,7 +61,7 @@ def whole_report(report: Report) -> Row:
             {"order": order, **{name: value for name, value in reply._asdict().items() if value is not None}}
             for order, reply in enumerate(report.replies, 1)
         ],
-        "bridges": [{"calls": each.calls, "start": each.start, "end": each.end, "sent": each.sent, "lost": each.lost} for each in report.bridges],
+        "bridges": [bridge._asdict() for bridge in report.bridges],
         "calls": rows_of_calls(report),
         "failed": [{"call": failed.call, "side": SIDES[failed.side]} for failed in report.failed],
         "end": report.end(),
@@ -70,22 +69,16 @@ def whole_report(report: Report) -> Row:
     }
 
 
+REPORT_COLUMNS = ("call", "start", "end", "cause", *COUNTS, "failed")
+
+
 def rows_of_calls(report: Report) -> List[Row]:
     """A report's calls with their counts and their lines that failed."""
+    failed = {call: " ".join(SIDES[each.side] for each in report.failed if each.call == call) for call in report.calls}
     return [
-        {
-            "call": number,
-            "start": span.start,
-            "end": span.end,
-            "cause": span.cause,
-            **span.counts,
-            "failed": " ".join(SIDES[failed.side] for failed in report.failed if failed.call == number),
-        }
-        for number, span in report.calls.items()
+        dict(zip(REPORT_COLUMNS, (call, span.start, span.end, span.cause, *span.counts.values(), failed[call])))
+        for call, span in report.calls.items()
     ]
-
-
-REPORT_COLUMNS = ("call", "start", "end", "cause", *COUNTS[:-1], "made", "failed")
 
 
 def text(words: argparse.Namespace) -> Answer:
@@ -93,7 +86,7 @@ def text(words: argparse.Namespace) -> Answer:
     report = run_texts.read_report(words.report)
     said: List[str] = []
     if words.form is as_sentences:
-        said = read_aloud.sentences(report, words.report, words.lines, Workers(words.processes))
+        said = read_aloud.sentences(report, words.report, words.lines, words.processes)
     return Answer(REPORT_COLUMNS, rows_of_calls(report), whole_report(report), sentences=said)
 
 
@@ -148,37 +141,22 @@ def note_on_the_end(row: Row) -> Optional[str]:
 def row_of_call(folder: Path, call: Call, bridges: Sequence[Bridge]) -> Row:
     """What a call's uplink and downlink say of losses and pauses."""
     call.search(folder, bridges)
-    values = call.heard()
-    counts = {heard: values.count(code) for code, heard in enumerate(HEARDS)}
-    speech, lost = counts[Heard.SPEECH], counts[Heard.LOST]
-    loss, pause = longest(values, Heard.LOST), longest(values, Heard.NOISE)
-    at_end = [each.length for each in stretches(values, Heard.LOST)[-1:] if each.start + each.length == len(values)]
+    codes = call.heard()
+    speech, lost, noise, quiet = map(codes.count, range(len(HEARDS)))
+    loss, pause = longest(codes, Heard.LOST), longest(codes, Heard.NOISE)
+    at_end = [each.length for each in stretches(codes, Heard.LOST)[-1:] if each.start + each.length == len(codes)]
+    loss_from, pause_from = (None if each.start is None else call.span.start + each.start for each in (loss, pause))
     down = frames_of_downlink(folder, call)
-    codes = codes_of_others(folder, call)
+    others = codes_of_others(folder, call)
+    rate = round(lost / (speech + lost), 4) if speech + lost else None
     return {
-        "call": call.number,
-        "periods": call.periods(),
-        "speech": speech,
-        "lost": lost,
-        "rate": round(lost / (speech + lost), 4) if speech + lost else None,
-        "longest": loss.length if loss else 0,
-        "from": call.span.start + loss.start if loss else None,
-        "pauses": len(stretches(values, Heard.NOISE)),
-        "noise": counts[Heard.NOISE],
-        "longest_pause": pause.length if pause else 0,
-        "pause_from": call.span.start + pause.start if pause else None,
-        "descriptors": call.span.counts["sid"],
-        "quiet": counts[Heard.QUIET],
-        "down_frames": sum(down.values()),
-        "down_speech": down[Sent.SPEECH],
-        "down_descriptors": down[Sent.SILENCE],
-        "down_idle": down[Sent.IDLE],
-        "down_handed": down[Sent.HANDED],
-        "unused_up": unused_periods(folder, call, "up"),
-        "unused_pcm": unused_periods(folder, call, "pcm"),
-        "others": frame_kinds.counted(codes),
-        "codes": codes,
-        "lost_at_end": sum(at_end),
+        **{"call": call.number, "periods": call.periods(), "speech": speech, "lost": lost, "rate": rate},
+        **{"longest": loss.length, "from": loss_from},
+        **{"pauses": len(stretches(codes, Heard.NOISE)), "noise": noise, "longest_pause": pause.length, "pause_from": pause_from},
+        **{"descriptors": call.span.counts["sid"], "quiet": quiet, "down_frames": sum(down.values()), "down_speech": down[Sent.SPEECH]},
+        **{"down_descriptors": down[Sent.SILENCE], "down_idle": down[Sent.IDLE], "down_handed": down[Sent.HANDED]},
+        **{"unused_up": unused_periods(folder, call, "up"), "unused_pcm": unused_periods(folder, call, "pcm")},
+        **{"others": frame_kinds.counted(others), "codes": others, "lost_at_end": sum(at_end)},
     }
 
 
@@ -189,7 +167,7 @@ def of_each_call(words: argparse.Namespace, what: Callable[..., Any]) -> List[Tu
     run_texts.hold_numbers(name, report, words.calls)
     pieces = [(words.folder, call, run_lines.bridges_of(call, report.bridges)) for call in run_lines.calls_of(report, words.calls)]
     octets = 2 * FRAME_OCTETS * sum(call.periods() for _, call, _ in pieces)
-    found = Workers(words.processes).each("reading lines", what, pieces, octets)
+    found = results_of(words.processes, "reading lines", what, pieces, octets)
     return [(call, each) for (_, call, _), each in zip(pieces, found)]
 
 
@@ -265,10 +243,8 @@ def periods_that_differ(one: bytes, other: bytes, octets: int) -> List[int]:
 
 def first_octet_that_differs(one: bytes, other: bytes, start: int) -> int:
     """The first octet from a start on in which two lines differ, or the end of the shorter."""
-    for place, (a, b) in enumerate(zip(one[start:], other[start:]), start):
-        if a != b:
-            return place
-    return min(len(one), len(other))
+    differing = (place for place, (a, b) in enumerate(zip(one[start:], other[start:]), start) if a != b)
+    return next(differing, min(len(one), len(other)))
 
 
 def row_of_line(number: int, side: str, start: int, one: Optional[bytes], other: Optional[bytes]) -> Optional[Row]:
@@ -295,14 +271,12 @@ def said_of_size(line: Optional[bytes]) -> str:
 
 def rows_of_reports(one: Report, other: Report) -> Iterator[Row]:
     """What differs between two reports."""
-    for number in range(max(len(one.replies), len(other.replies))):
-        said = [each.replies[number].line(number + 1) if number < len(each.replies) else "-" for each in (one, other)]
-        if said[0] != said[1]:
-            yield {"what": f"order {number + 1}", "one": said[0], "other": said[1]}
-    for number in range(max(len(one.bridges), len(other.bridges))):
-        said = [each.bridges[number].line() if number < len(each.bridges) else "-" for each in (one, other)]
-        if said[0] != said[1]:
-            yield {"what": f"bridge {number + 1}", "one": said[0], "other": said[1]}
+    orders = [[reply.line(order) for order, reply in enumerate(each.replies, 1)] for each in (one, other)]
+    bridges = [[bridge.line() for bridge in each.bridges] for each in (one, other)]
+    for what, lines in (("order", orders), ("bridge", bridges)):
+        for number, (a, b) in enumerate(zip_longest(*lines, fillvalue="-"), 1):
+            if a != b:
+                yield {"what": f"{what} {number}", "one": a, "other": b}
     for number in sorted({*one.calls, *other.calls}):
         said = [each.calls[number].lines(number) if number in each.calls else ["-", "-"] for each in (one, other)]
         for what, a, b in zip(("span", "counts"), *said):
@@ -334,15 +308,9 @@ SYNC_COLUMNS = ("due", "period", "misses", "broken", "hunted_from", "match", "sl
 def row_of_loss(loss: sync_losses.Loss) -> Row:
     """A loss, for text and CSV: of its first miss the sync bits that broke."""
     return {
-        "due": loss.due(),
-        "period": period_of(loss.due()),
-        "misses": len(loss.misses),
-        "broken": " ".join(map(str, loss.misses[0].broken)),
-        "hunted_from": loss.unlocked(),
-        "match": loss.match,
-        "slip": loss.slip(),
-        "found": loss.found,
-        "found_period": None if loss.found is None else period_of(loss.found),
+        **{"due": loss.due(), "period": period_of(loss.due()), "misses": len(loss.misses)},
+        **{"broken": " ".join(map(str, loss.misses[0].broken)), "hunted_from": loss.unlocked(), "match": loss.match, "slip": loss.slip()},
+        **{"found": loss.found, "found_period": None if loss.found is None else period_of(loss.found)},
     }
 
 
@@ -353,16 +321,8 @@ def sync(words: argparse.Namespace) -> Answer:
     if not trace.frames:
         raise Refusal(f"{words.uplink}: has no frame at any bit; is it an uplink?")
     rows = [row_of_loss(loss) for loss in trace.losses]
-    whole = {
-        "periods": trace.periods,
-        "frames": trace.frames,
-        "misses": trace.misses,
-        "first": trace.first,
-        "losses": [
-            {**row, "broken": [{"place": miss.place, "sync_bits": miss.broken} for miss in loss.misses]}
-            for row, loss in zip(rows, trace.losses)
-        ],
-    }
+    broken = ([{"place": miss.place, "sync_bits": miss.broken} for miss in loss.misses] for loss in trace.losses)
+    whole = {**trace._asdict(), "losses": [{**row, "broken": misses} for row, misses in zip(rows, broken)]}
     return Answer(SYNC_COLUMNS, rows, whole)
 
 
@@ -379,13 +339,10 @@ def kinds(words: argparse.Namespace) -> Answer:
             places.setdefault(frame_kinds.code_of(each.frame), []).append(each.place)
     if not places:
         raise Refusal(f"{words.uplink}: has no frame at any bit; is it an uplink?")
-    rows = [
-        {
-            **{"code": code, "kind": frame_kinds.name_of(code), "frames": len(found)},
-            **{"first": found[0], "first_period": period_of(found[0]), "last": found[-1], "last_period": period_of(found[-1])},
-        }
-        for code, found in sorted(places.items(), key=lambda item: (-len(item[1]), item[0]))
-    ]
+    rows = []
+    for code, found in sorted(places.items(), key=lambda item: (-len(item[1]), item[0])):
+        ends = (found[0], period_of(found[0]), found[-1], period_of(found[-1]))
+        rows.append(dict(zip(KIND_COLUMNS, (code, frame_kinds.name_of(code), len(found), *ends))))
     return Answer(KIND_COLUMNS, rows, rows)
 
 
@@ -433,7 +390,6 @@ def form(name: str, printed: Callable[[Answer], str], text: str) -> Option:
 JSON, CSV, TABLE = form("--json", as_json, "JSON"), form("--csv", as_csv, "CSV"), form("--table", as_text, "a table")
 UPLINK = option("uplink", type=Path, metavar="UPLINK", help="the Up line")
 FOLDER = option("folder", type=Path, metavar="FOLDER", help="the folder of the run")
-REPORT = option("--report", type=Path, metavar="FILE", help="the report of the run (default FOLDER/report.txt)")
 COMMANDS = (
     (
         text, "a report, checked, in sentences",
@@ -457,7 +413,7 @@ COMMANDS = (
         "line names the kinds of each call that has no full rate speech, but such frames.",
         one_of(JSON, CSV),
         FOLDER,
-        REPORT,
+        run_texts.REPORT,
         run_texts.CALLS,
         PROCESSES,
     ),
@@ -470,7 +426,7 @@ COMMANDS = (
         "recording, or a link into one. In a pause noise is heard of unusable frames: they may be lost or not sent, and aren't listed.",
         one_of(JSON, CSV),
         FOLDER,
-        REPORT,
+        run_texts.REPORT,
         run_texts.CALLS,
         PROCESSES,
     ),
@@ -510,19 +466,14 @@ COMMANDS = (
 )
 
 
-def parser() -> Words:
-    """The words of the command line."""
-    words = Words(__doc__, epilog="example: report.py text report.txt --json")
-    add = words.commands()
-    for runs, *about in COMMANDS:
-        add(runs, *about, form=as_sentences if runs is text else as_text)
-    return words
-
-
 @tool("report.py")
 def main(words: Sequence[str]) -> int:
     """Runs the words of the command line, and returns the exit status."""
-    asked = parser().parse_args(words)
+    parser = Words(__doc__, epilog="example: report.py text report.txt --json")
+    add = parser.commands()
+    for runs, *about in COMMANDS:
+        add(runs, *about, form=as_sentences if runs is text else as_text)
+    asked = parser.parse_args(words)
     answer = asked.runs(asked)
     sys.stdout.write(asked.form(answer))
     return answer.status

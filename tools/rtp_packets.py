@@ -3,8 +3,6 @@
 The library dpkt reads the files of captures and their packets; without it, what is here is refused with a word.
 """
 
-from __future__ import annotations
-
 import importlib
 import io
 import ipaddress
@@ -198,6 +196,12 @@ def type_said(kind: int, packets: Sequence[Packet]) -> str:
     return f"{kind} ({payload_said(payload)})"
 
 
+def types_said(packets: Sequence[Packet]) -> str:
+    """The payload types of packets without speech, in words."""
+    kinds = sorted({packet.kind for packet in packets})
+    return ", ".join(type_said(kind, [packet for packet in packets if packet.kind == kind]) for kind in kinds)
+
+
 class Streams(NamedTuple):
     """The RTP packets of a capture by their flows, in their order; how many with speech weren't captured whole; the streams without speech
     of the three kinds; and how many of all packets were cut off, in words."""
@@ -206,14 +210,6 @@ class Streams(NamedTuple):
     cut: int
     others: Dict[Flow, List[Packet]]
     cut_off: str
-
-    def other_types(self) -> str:
-        """The payload types of the streams without speech, in words."""
-        found: Dict[int, List[Packet]] = {}
-        for packets in self.others.values():
-            for packet in packets:
-                found.setdefault(packet.kind, []).append(packet)
-        return ", ".join(type_said(kind, found[kind]) for kind in sorted(found))
 
 
 def streams_of(name: Path, content: bytes, partial: bool = False, types: Mapping[int, int] = PLAIN_TYPES) -> Streams:
@@ -268,16 +264,15 @@ def listed(streams: Dict[Flow, List[Packet]]) -> List[str]:
 
 def flow_said(flow: Flow, packets: Sequence[Packet]) -> str:
     """A stream without speech, in words."""
-    kinds = {packet.kind for packet in packets}
-    types = ", ".join(type_said(kind, [packet for packet in packets if packet.kind == kind]) for kind in sorted(kinds))
-    return f"{flow.said()}, packets {len(packets)}, payload types {types}"
+    return f"{flow.said()}, packets {len(packets)}, payload types {types_said(packets)}"
 
 
 def chosen(name: Path, found: Streams, option: str, number: Optional[int]) -> List[Packet]:
     """The packets of the stream with the number that an option gives, counted from 1, or of the only one."""
     streams = found.by_flow
     if not streams:
-        types = f"; its streams have the payload types {found.other_types()}" if found.others else ""
+        others = types_said([packet for packets in found.others.values() for packet in packets])
+        types = f"; its streams have the payload types {others}" if others else ""
         raise Refusal(f"{name}: has no RTP stream with GSM, PCMA or PCMU (payload types 3, 8 and 0){types}{found.cut_off}")
     if number is None and len(streams) == 1:
         number = 1

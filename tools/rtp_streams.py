@@ -1,8 +1,6 @@
 """What a stream of RTP carried, in the order of its time stamps: units that came, and units that didn't. A unit is a frame of GSM, or a sample
 of A-law or mu-law. A stream may begin anew with other numbers and stamps; the times of the capture then say how it goes on."""
 
-from __future__ import annotations
-
 from dataclasses import dataclass
 from pathlib import Path
 from typing import Any, Dict, Iterator, List, NamedTuple, Optional, Sequence, Tuple, Union

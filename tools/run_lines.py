@@ -11,7 +11,7 @@ from pathlib import Path
 from typing import Dict, Iterator, List, NamedTuple, Optional, Sequence
 
 import run_texts
-from core.frame import Sort, bits_of, data_of
+from core.frame import bits_of, data_of
 from core.g711 import Law
 from core.lines import OCTETS_OF_SIDE, OUTGOING, SIDES, name_of
 from core.orders import Order
@@ -20,7 +20,7 @@ from core.profile import DOWN_IDLE, DOWN_SPEECH, FRAME_BITS, FRAME_OCTETS, PCM_O
 from core.report import Bridge, Reply, Report, Span
 from core.words import Refusal
 from octet_columns import Frames, joined, table
-from side_by_side import ALONE, Workers
+from side_by_side import results_of
 from tool_files import read_part
 from uplink_periods import GOOD, IDLE, SID, SORTS, Asking, by_what_came_before, searched
 
@@ -34,21 +34,6 @@ class Heard(enum.Enum):
     LOST = "lost"  # made instead of lost speech
     NOISE = "noise"  # comfort noise, in a pause
     QUIET = "quiet"  # nothing: before the first frame that can be used, and after an idle frame; of a gateway's call also until its peer begins
-
-
-def heard(sorts: Sequence[Sort]) -> Iterator[Heard]:
-    """What each period gives, by the class of its frame and what came before."""
-    state = Heard.QUIET
-    for sort in sorts:
-        if sort is Sort.GOOD:
-            state = Heard.SPEECH
-        elif sort is Sort.SID:
-            state = Heard.NOISE
-        elif sort is Sort.IDLE:
-            state = Heard.QUIET
-        elif state is Heard.SPEECH:
-            state = Heard.LOST
-        yield state
 
 
 HEARDS = tuple(Heard)
@@ -65,10 +50,10 @@ def heard_codes(sorts: bytes) -> bytes:
 
 
 class Stretch(NamedTuple):
-    """Periods in a row that give the same: how many, and the first."""
+    """Periods in a row that give the same: how many, and the first, if there is one."""
 
     length: int
-    start: int
+    start: Optional[int]
 
 
 def stretches(heard: bytes, wanted: Heard) -> List[Stretch]:
@@ -77,9 +62,9 @@ def stretches(heard: bytes, wanted: Heard) -> List[Stretch]:
     return [Stretch(len(found.group()), found.start()) for found in re.finditer(code + b"+", heard)]
 
 
-def longest(heard: bytes, wanted: Heard) -> Optional[Stretch]:
-    """The first of the longest stretches of a value's code, if there is one."""
-    return max(stretches(heard, wanted), key=lambda stretch: stretch.length, default=None)
+def longest(heard: bytes, wanted: Heard) -> Stretch:
+    """The first of the longest stretches of a value's code; one of no period if there is none."""
+    return max(stretches(heard, wanted), key=lambda stretch: stretch.length, default=Stretch(0, None))
 
 
 # The downlink
@@ -221,8 +206,8 @@ class Call:
         self.is_primed = self.sorts[:1] == bytes([GOOD]) and data_of(bits_of(octets[:FRAME_OCTETS])) == SILENT_DATA
         self.made = list(frames_made(self.number, self.span.start, self.periods(), self.asking, bridges))
 
-    def search(self, folder: Path, bridges: Sequence[Bridge]) -> None:
-        """Searches the uplink over the call's periods, and holds the report to it."""
+    def search(self, folder: Path, bridges: Sequence[Bridge]) -> Call:
+        """The call itself, once it has searched the uplink over its periods, and held the report to it."""
         name = folder / f"{self.number}.up"
         octets = self.octets(folder, "up")
         if len(octets) < self.periods() * FRAME_OCTETS:
@@ -232,6 +217,7 @@ class Call:
             if self.span.counts[what] != count:
                 raise Refusal(f"{name}: gives {what} {count}, and the report has {self.span.counts[what]}: it is of another run")
         self.check_outgoing(folder)
+        return self
 
     def check_outgoing(self, folder: Path) -> None:
         """Refuses an outgoing line that hasn't the octets of the call's periods. One that failed may have fewer; one of a call without
@@ -265,23 +251,17 @@ def calls_of(report: Report, numbers: Optional[Sequence[int]] = None) -> Iterato
             yield Call(number, span, failed=sides)
 
 
-def searched_call(folder: Path, call: Call, bridges: Sequence[Bridge]) -> Call:
-    """A call whose uplink has been searched."""
-    call.search(folder, bridges)
-    return call
-
-
 def bridges_of(call: Call, bridges: Sequence[Bridge]) -> List[Bridge]:
     """The bridges of a call."""
     return [bridge for bridge in bridges if call.number in bridge.calls]
 
 
-def read_calls(folder: Path, report: Report, numbers: Optional[Sequence[int]] = None, workers: Workers = ALONE) -> Dict[int, Call]:
+def read_calls(folder: Path, report: Report, numbers: Optional[Sequence[int]] = None, processes: int = 1) -> Dict[int, Call]:
     """The calls of a report, or those of them with these numbers, and what their uplinks in a folder give."""
     calls = list(calls_of(report, numbers))
-    works = [(folder, call, bridges_of(call, report.bridges)) for call in calls]
+    works = [(call, folder, bridges_of(call, report.bridges)) for call in calls]
     weight = FRAME_OCTETS * sum(call.periods() for call in calls)
-    return {call.number: call for call in workers.each("searching uplinks", searched_call, works, weight)}
+    return {call.number: call for call in results_of(processes, "searching uplinks", Call.search, works, weight)}
 
 
 class Asked(NamedTuple):
@@ -311,8 +291,7 @@ def asked_while_frozen(call: Call, bridges: Sequence[Bridge]) -> List[Asked]:
 # A run as a whole
 
 
-@dataclass(frozen=True)
-class Answered:
+class Answered(NamedTuple):
     """An order that was executed, with its reply."""
 
     order: Order
@@ -334,7 +313,7 @@ class Run:
     folder: Path
 
     @staticmethod
-    def read(folder: Path, orders: Path, report_name: Path, numbers: Optional[Sequence[int]] = None, workers: Workers = ALONE) -> Run:
+    def read(folder: Path, orders: Path, report_name: Path, numbers: Optional[Sequence[int]] = None, processes: int = 1) -> Run:
         """Reads a run, and holds its report to its orders, and its uplinks to its report."""
         report = run_texts.read_report(report_name)
         if not report.calls:
@@ -342,7 +321,7 @@ class Run:
         given = run_texts.read_orders(orders)
         run_texts.hold_to_orders(report_name, report, given, run_texts.periods_told(report, given))
         run_texts.hold_numbers(report_name, report, numbers)
-        calls = list(read_calls(folder, report, numbers, workers).values())
+        calls = list(read_calls(folder, report, numbers, processes).values())
         shown = {call.number for call in calls}
         answered = [Answered(order, reply) for order, reply in zip(given, report.replies)]
         laws = run_texts.laws_of(report, given)

@@ -4,8 +4,6 @@ A report is taken only where it is whole: its lines stand in their order, its su
 the program writes.
 """
 
-from __future__ import annotations
-
 import argparse
 import re
 import shlex
@@ -45,6 +43,8 @@ def calls_named(word: str) -> List[int]:
     return sorted(set(calls))
 
 
+ORDERS = option("--orders", type=Path, metavar="FILE", help="the orders of the run (default FOLDER/orders.txt)")
+REPORT = option("--report", type=Path, metavar="FILE", help="the report of the run (default FOLDER/report.txt)")
 CALLS = option("--calls", type=calls_named, metavar="CALLS", help="only these calls: parts A and A-B with commas")
 
 
@@ -70,70 +70,38 @@ REPORT_LINES = {
 }
 
 
-def take_order(report: Report, words: Sequence[str]) -> None:
-    """Takes an order's line."""
-    refusal, call, partner = (None if word is None else int(word) for word in words)
-    if refusal is not None and (partner is None) == (refusal in REFUSALS_WITH_PARTNER):
-        raise ValueError
-    report.replies.append(Reply(refusal, call, partner))
-
-
-def take_bridge(report: Report, words: Sequence[str]) -> None:
-    """Takes a bridge's line, of whose periods each gives a frame each way."""
-    a, b, start, end, sent_a, sent_b, lost_a, lost_b = map(int, words)
-    if not sent_a + lost_a == sent_b + lost_b == end - start:
-        raise ValueError
-    report.bridges.append(Bridge((a, b), start, end, (sent_a, sent_b), (lost_a, lost_b)))
-
-
-def take_call(report: Report, words: Sequence[str]) -> None:
-    """Takes a call's line; calls stand in rising order."""
-    call, start, end = map(int, words[:3])
-    if end < start or not 1 <= call <= MOST_CALLS or report.calls and call <= max(report.calls):
-        raise ValueError
-    report.calls[call] = Span(start, end, words[3], {})
-
-
-def take_counts(report: Report, words: Sequence[str]) -> None:
-    """Takes a call's counts, which follow its line and add up to its periods."""
-    counts = dict(zip(COUNTS, map(int, words[1:])))
-    call = max(report.calls)
-    span = report.calls[call]
-    if int(words[0]) != call or span.counts or sum(counts.values()) - counts["made"] != span.end - span.start:
-        raise ValueError
-    span.counts.update(counts)
-
-
-def take_failed(report: Report, words: Sequence[str]) -> None:
-    """Takes the line of a line that failed; these stand by their calls, and then by their sides."""
-    failed = FailedLine(int(words[0]), SIDES.index(words[1]))
-    if failed.call not in report.calls or report.failed and failed <= report.failed[-1]:
-        raise ValueError
-    report.failed.append(failed)
-
-
-def take_end(report: Report, words: Sequence[str]) -> None:
-    """Takes the last line."""
-    report.left = int(words[0])
-
-
-TAKEN_BY = {
-    "order": take_order,
-    "bridge": take_bridge,
-    "call": take_call,
-    "counts": take_counts,
-    "line": take_failed,
-    "end": take_end,
-}
-
-
 def take_line(report: Report, line: str) -> None:
     """Takes a line of a report's text; raises ValueError if it isn't one that may stand there."""
     kind = line.split(" ")[0]
     found = REPORT_LINES[kind].fullmatch(line) if kind in REPORT_LINES else None
     if not found:
         raise ValueError
-    TAKEN_BY[kind](report, found.groups())
+    words, is_wrong = found.groups(), False
+    if kind == "order":
+        refusal, call, partner = (None if word is None else int(word) for word in words)
+        is_wrong = refusal is not None and (partner is None) == (refusal in REFUSALS_WITH_PARTNER)
+        report.replies.append(Reply(refusal, call, partner))
+    elif kind == "bridge":  # each of its periods gives a frame each way
+        a, b, start, end, sent_a, sent_b, lost_a, lost_b = map(int, words)
+        is_wrong = not sent_a + lost_a == sent_b + lost_b == end - start
+        report.bridges.append(Bridge((a, b), start, end, (sent_a, sent_b), (lost_a, lost_b)))
+    elif kind == "call":  # these stand in rising order
+        call, start, end = map(int, words[:3])
+        is_wrong = end < start or not max(report.calls, default=0) < call <= MOST_CALLS
+        report.calls[call] = Span(start, end, words[3], {})
+    elif kind == "counts":  # which follow their call's line and add up to its periods
+        call, counts = max(report.calls), dict(zip(COUNTS, map(int, words[1:])))
+        span = report.calls[call]
+        is_wrong = int(words[0]) != call or bool(span.counts) or sum(counts.values()) - counts["made"] != span.end - span.start
+        span.counts.update(counts)
+    elif kind == "line":  # these stand by their calls, and then by their sides
+        failed = FailedLine(int(words[0]), SIDES.index(words[1]))
+        is_wrong = failed.call not in report.calls or bool(report.failed) and failed <= report.failed[-1]
+        report.failed.append(failed)
+    else:
+        report.left = int(words[0])
+    if is_wrong:
+        raise ValueError
 
 
 def report_of(name: Path, content: bytes) -> Report:

@@ -120,11 +120,6 @@ def parts_of(pieces: Sequence[Tuple[int, FrozenSet[int]]], count: int) -> List[P
     return [part for part in parts if part.calls]
 
 
-def link_line(source: Path, target: Path) -> None:
-    """Puts a link to a line into a part. By a link to an outgoing line that isn't there, the part's run makes it."""
-    target.symlink_to(os.path.abspath(source))
-
-
 def copy_line(source: Path, target: Path, side: str) -> None:
     """Puts a copy of an incoming line into a part. Of an outgoing one it only refuses what the part's line couldn't replace."""
     if os.path.lexists(source) and not source.is_file():
@@ -175,8 +170,8 @@ def lay_part(folder: Path, words: argparse.Namespace, orders: Sequence[Order]) -
             source, target = (place / name_of(call, side) for place in (words.folder, folder))
             if words.copy:
                 copy_line(source, target, side)
-            else:
-                link_line(source, target)
+            else:  # by a link to an outgoing line that isn't there, the part's run makes it
+                target.symlink_to(os.path.abspath(source))
 
 
 def lay_cut(place: Path, words: argparse.Namespace, orders: Sequence[Order], parts: Sequence[Part]) -> None:
@@ -189,12 +184,7 @@ def lay_cut(place: Path, words: argparse.Namespace, orders: Sequence[Order], par
     write_new(place / ORDERS, "".join(f"{order.line()}\n" for order in orders))
     if parts:
         write_new(place / SLURM, array_of(words, parts))
-    noted = {
-        "farm": os.path.abspath(words.folder),
-        "copied": words.copy,
-        "periods": words.periods or MOST_PERIODS,
-        "orders_of_parts": numbers,
-    }
+    noted = {"farm": os.path.abspath(words.folder), "copied": words.copy, "periods": words.periods or MOST_PERIODS, "orders_of_parts": numbers}
     write_new(place / CUT, json.dumps(noted) + "\n")
 
 
@@ -221,20 +211,18 @@ def alone_in(farm: Path) -> Iterator[None]:
 
 def make_cut(words: argparse.Namespace, orders: Sequence[Order], parts: Sequence[Part]) -> None:
     """Makes the folder of a cut farm, whole or not at all."""
-    try:
+    with naming(words.cut):
         place = Path(tempfile.mkdtemp(dir=words.cut.absolute().parent, prefix=f".{words.cut.name}."))
-    except OSError as failure:
-        raise Refusal(f"{words.cut}: {failure.strerror}") from None
     try:
         lay_cut(place, words, orders, parts)
-        place.chmod(0o777 & ~current_mask())
+        mask = os.umask(0)  # which can't be read alone
+        os.umask(mask)
+        place.chmod(0o777 & ~mask)
         place.rename(words.cut)
-    except OSError as failure:
+    except BaseException as failure:
         shutil.rmtree(place)
-        name = str(failure.filename).replace(str(place), str(words.cut))
-        raise Refusal(f"{name}: {failure.strerror}") from None
-    except BaseException:
-        shutil.rmtree(place)
+        if isinstance(failure, OSError):
+            failure.filename = str(failure.filename).replace(str(place), str(words.cut))
         raise
 
 
@@ -259,13 +247,6 @@ def cut(words: argparse.Namespace) -> int:
         + (f" array 0-{len(parts) - 1}" if parts else "")
     )
     return 0
-
-
-def current_mask() -> int:
-    """The mask of new files' modes."""
-    mask = os.umask(0)
-    os.umask(mask)
-    return mask
 
 
 # The joining
@@ -365,23 +346,17 @@ def joined(cut: Cut) -> Report:
     )
 
 
-def outgoing_lines(cut: Cut) -> Iterator[Path]:
-    """The outgoing lines in the parts of a copied cut."""
-    for number in range(len(cut.orders_of_parts)):
-        for line in sorted(cut.part(number).iterdir()):
-            if re.fullmatch(rf"\d+\.(?:{'|'.join(OUTGOING)})", line.name, re.ASCII):
-                yield line
-
-
 def join(words: argparse.Namespace) -> int:
     """Joins the reports of a farm that was cut. If the lines were copied, brings the outgoing ones to the farm's folder."""
     cut = Cut.read(words.cut)
     check_all_were_run(cut)
     report = joined(cut)
     if cut.copied:
+        lines = (line for number in range(len(cut.orders_of_parts)) for line in sorted(cut.part(number).iterdir()))
         with alone_in(cut.farm):
-            for line in outgoing_lines(cut):
-                write_file(cut.farm / line.name, read_file(line), [])
+            for line in lines:
+                if re.fullmatch(rf"\d+\.(?:{'|'.join(OUTGOING)})", line.name, re.ASCII):
+                    write_file(cut.farm / line.name, read_file(line), [])
     sys.stdout.write(report.text())
     return report.status()
 
@@ -402,7 +377,7 @@ CUT_OPTIONS = (
     option("folder", type=Path, metavar="FOLDER", help="the farm: its lines and orders"),
     option("cut", type=Path, metavar="CUT", help="the folder to make"),
     option("--parts", type=number_within(1, MOST_CALLS), required=True, metavar="K", help="the greatest number of parts"),
-    option("--orders", type=Path, metavar="FILE", help="the orders of the run (default FOLDER/orders.txt)"),
+    run_texts.ORDERS,
     switch("--copy", "copy the incoming lines instead of linking them"),
     option("--trau", type=listening.program_named, default=listening.program_beside(), metavar="PROGRAM", help="the program (default %(default)s)"),
     option("--workers", type=number_within(1, 64), default=1, metavar="N", help="as of trau run (default 1)"),

@@ -1,8 +1,5 @@
 """Pieces of work side by side, in as many processes as there are processors, with the progress on standard error."""
 
-from __future__ import annotations
-
-import math
 import os
 import signal
 import sys
@@ -38,66 +35,40 @@ def processors() -> int:
     return min(found, max(1, quota // period)) if quota and period else found
 
 
-def leave_interrupts() -> None:
-    """Ignores interrupts: the process that started this one ends it."""
-    signal.signal(signal.SIGINT, signal.SIG_IGN)
-
-
-class Progress:
-    """How many pieces of work are done, on standard error: at a terminal in one line, else in a line now and then. It shows nothing in the
-    first seconds."""
-
-    def __init__(self, what: str, pieces: int, quiet_seconds: float) -> None:
-        self.what, self.pieces, self.done = what, pieces, 0
-        self.terminal = sys.stderr.isatty()
-        self.next = time.monotonic() + quiet_seconds
-        self.shown = False
-
-    def step(self) -> None:
-        """Counts a piece, and shows the count if it is time to."""
-        self.done += 1
-        now = time.monotonic()
-        if now >= self.next and self.done < self.pieces:
-            self.next = now + (0.2 if self.terminal else SECONDS_BETWEEN_LINES)
-            self.shown = True
-            end = "\r" if self.terminal else "\n"
-            print(f"{self.what}: {self.done} of {self.pieces} calls", end=end, file=sys.stderr, flush=True)
-
-    def end(self) -> None:
-        """Clears the line at a terminal."""
-        if self.shown and self.terminal:
+def with_progress(what: str, results: Iterator[Result], pieces: int) -> Iterator[Result]:
+    """The results of so many pieces of work, and how many there are so far on standard error: at a terminal in one line, which it clears, else
+    in a line now and then. It shows nothing in the first seconds."""
+    terminal, shown = sys.stderr.isatty(), False
+    due = time.monotonic() + QUIET_SECONDS
+    try:
+        for done, result in enumerate(results, 1):
+            now = time.monotonic()
+            if now >= due and done < pieces:
+                due, shown = now + (0.2 if terminal else SECONDS_BETWEEN_LINES), True
+                print(f"{what}: {done} of {pieces} calls", end="\r" if terminal else "\n", file=sys.stderr, flush=True)
+            yield result
+    finally:
+        if shown and terminal:
             print("\x1b[K", end="", file=sys.stderr, flush=True)
 
 
-class Workers:
-    """Processes for pieces of work. A piece is the arguments of a function."""
-
-    def __init__(self, processes: int) -> None:
-        self.processes = processes
-
-    def each(self, what: str, function: Callable[..., Result], pieces: Sequence[Tuple[Any, ...]], octets: int) -> Iterator[Result]:
-        """The function's results for the pieces, in order. `octets` is what they read together. An exception of one of them is raised."""
-        small = octets < LEAST_OCTETS
-        progress = Progress(what, len(pieces), math.inf if small else QUIET_SECONDS)
-        alone = self.processes == 1 or len(pieces) < 2 or small
-        results = (function(*piece) for piece in pieces) if alone else self.results(function, pieces)
+def by_processes(processes: int, function: Callable[..., Result], pieces: Sequence[Tuple[Any, ...]]) -> Iterator[Result]:
+    """The function's results for the pieces of work, in order, by this many processes, which leave interrupts to this one."""
+    ignoring = {"initializer": signal.signal, "initargs": (signal.SIGINT, signal.SIG_IGN)}
+    with ProcessPoolExecutor(min(processes, len(pieces)), **ignoring) as pool:
         try:
-            for result in results:
-                progress.step()
-                yield result
-        finally:
-            progress.end()
-
-    def results(self, function: Callable[..., Result], pieces: Sequence[Tuple[Any, ...]]) -> Iterator[Result]:
-        """The results of processes, in order."""
-        with ProcessPoolExecutor(min(self.processes, len(pieces)), initializer=leave_interrupts) as pool:
-            try:
-                yield from pool.map(function, *zip(*pieces))
-            except BrokenProcessPool:
-                raise Refusal("a process ended early; was there enough memory?") from None
+            yield from pool.map(function, *zip(*pieces))
+        except BrokenProcessPool:
+            raise Refusal("a process ended early; was there enough memory?") from None
 
 
-ALONE = Workers(1)
+def results_of(processes: int, what: str, function: Callable[..., Result], pieces: Sequence[Tuple[Any, ...]], octets: int) -> Iterator[Result]:
+    """The function's results for pieces of work, each the arguments of a call of it, in order, by this many processes. `octets` is what they
+    read together. An exception of one of them is raised."""
+    small = octets < LEAST_OCTETS
+    alone = processes == 1 or len(pieces) < 2 or small
+    results = (function(*piece) for piece in pieces) if alone else by_processes(processes, function, pieces)
+    return results if small else with_progress(what, results, len(pieces))
 
 
 PROCESSES = option(

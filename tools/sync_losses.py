@@ -1,12 +1,8 @@
-"""Where and why the search for frames lost an uplink: which of the 35 sync bits broke, what the search did, and where the next match
-is.
-"""
-
-from __future__ import annotations
+"""Where and why the search for frames lost an uplink: which of the 35 sync bits broke, what the search did, and where the next match is."""
 
 from dataclasses import dataclass, field
 from pathlib import Path
-from typing import Iterator, List, Optional, Sequence
+from typing import Iterator, List, NamedTuple, Optional, Sequence
 
 from core.frame import bits_of
 from core.profile import FRAME_BITS, FRAME_OCTETS, MISSES_TO_HUNT
@@ -24,8 +20,7 @@ def broken_bits(bits: str, place: int) -> List[int]:
     return [at for at in SYNC_ZEROS if frame[at] != "0"] + [at for at in SYNC_ONES if frame[at] != "1"]
 
 
-@dataclass
-class Miss:
+class Miss(NamedTuple):
     """A frame that was due at a place, and the sync bits that broke there."""
 
     place: int
@@ -79,18 +74,7 @@ def matched(bits: str, loss: Loss) -> Loss:
     return Loss(loss.misses, loss.found, match.start() if match else None)
 
 
-def first_frame(yields: Sequence[Yield]) -> Optional[int]:
-    """Where the first frame begins."""
-    return yields[0].place if yields else None
-
-
-def text_of_frames(yields: Sequence[Yield], octets: int) -> str:
-    """What `trau frames` prints for an uplink of this many octets with these yields."""
-    return "".join(each.line() for each in yields) + end_of_text(len(yields), octets)
-
-
-@dataclass
-class Trace:
+class Trace(NamedTuple):
     """An uplink as it was searched."""
 
     periods: int
@@ -105,8 +89,10 @@ def trace_of(name: Path, octets: bytes, frames_text: Optional[bytes]) -> Trace:
     periods = len(octets) // FRAME_OCTETS
     bits = bits_of(octets[: periods * FRAME_OCTETS])
     yields = list(search(bits))
-    if frames_text is not None and frames_text != text_of_frames(yields, len(octets)).encode():
-        raise Refusal(f"{name}: the command `frames` printed other frames: it is of another line")
+    if frames_text is not None:
+        wanted = "".join(each.line() for each in yields) + end_of_text(len(yields), len(octets))
+        if frames_text != wanted.encode():
+            raise Refusal(f"{name}: the command `frames` printed other frames: it is of another line")
     losses = list(losses_of(bits, yields))
     misses = sum(len(loss.misses) for loss in losses)
-    return Trace(periods, len(yields) - misses, misses, first_frame(yields), losses)
+    return Trace(periods, len(yields) - misses, misses, yields[0].place if yields else None, losses)

@@ -6,24 +6,23 @@ It reads the folder of a run, with the calls' lines, the orders and the report, 
 of the report, or a file isn't what it should be, it prints one line on standard error, exits with status 2 and writes nothing.
 """
 
-from __future__ import annotations
-
 import tool_start  # first, for what comes after it
 
 import argparse
 import sys
 from pathlib import Path
-from typing import List, Sequence
+from typing import Sequence
 
+import looks
 import outcomes
 import picture_page
 import run_texts
 from core.lines import SIDES, name_of
 from core.profile import MOST_PERIODS
 from core.words import Refusal, Words, number_within, option
-from picture import COMPACT, FULL, WITHOUT_LEVELS, Picture, Shape
+from picture import COMPACT, FULL, WITHOUT_LEVELS, Picture
 from run_lines import Run
-from side_by_side import PROCESSES, Workers
+from side_by_side import PROCESSES
 from tool_ends import tool
 from tool_files import write_file
 
@@ -32,21 +31,41 @@ WIDTHS = 200, 100_000  # the least and the greatest, in pixels
 PICTURES = (".svg", ".html")  # how the names of pictures end
 
 
-def shape_of(word: str, calls: int) -> Shape:
-    """The shape of the rows: the one that the word names, or for `auto` the one for this number of calls."""
-    if word == "full" or word == "auto" and calls <= MOST_FULL_ROWS:
-        return FULL
-    return COMPACT if word in ("compact", "auto") else WITHOUT_LEVELS
+def draw(asked: argparse.Namespace) -> Run:
+    """Draws the picture, and gives the run."""
+    if asked.picture.suffix not in PICTURES:
+        raise Refusal(f"{asked.picture}: a picture's name ends with {' or '.join(PICTURES)}")
+    run = Run.read(asked.folder, asked.orders, asked.report, asked.calls, asked.processes)
+    first = run.start() if asked.first is None else asked.first
+    last = max(first + 1, run.end()) if asked.last is None else asked.last
+    if first >= last:
+        raise Refusal(f"there are no periods from {first} to {last}")
+    run.calls = [call for call in run.calls if call.span.start <= last and call.span.end >= first]
+    calls = {call.number: call for call in run.calls}
+    rows = looks.order_of_rows(list(calls), [bridge.calls for bridge in run.bridges])
+    run.calls = outcomes.worst_first(run.calls) if asked.sort == "worst" else [calls[number] for number in rows]
+    if not run.calls:
+        raise Refusal(f"no call is open from {first} to {last}")
+    shapes = {"auto": FULL if len(run.calls) <= MOST_FULL_ROWS else COMPACT, "full": FULL, "plain": WITHOUT_LEVELS, "compact": COMPACT}
+    drawn = Picture(run, asked.width, shapes[asked.rows], first, last)
+    if asked.picture.suffix == ".html":
+        content = picture_page.page_of(drawn, drawn.read_lines(1, asked.processes))
+    else:
+        content = drawn.draw(asked.processes)
+    lines = [asked.folder / name_of(call.number, side) for call in run.calls for side in SIDES]
+    write_file(asked.picture, content, [path for path in (asked.orders, asked.report, *lines) if path.exists()])
+    return run
 
 
-def parser() -> Words:
-    """The words of the command line."""
-    return Words(
+@tool("timeline.py")
+def main(words: Sequence[str]) -> int:
+    """Runs the words of the command line, and returns the exit status."""
+    parser = Words(
         __doc__,
         option("folder", type=Path, metavar="FOLDER", help="the folder of the run, with the calls' lines"),
         option("picture", type=Path, metavar="OUT", help="the picture to write: OUT.svg, or OUT.html, which zooms"),
-        option("--orders", type=Path, metavar="FILE", help="the orders of the run (default FOLDER/orders.txt)"),
-        option("--report", type=Path, metavar="FILE", help="the report of the run (default FOLDER/report.txt)"),
+        run_texts.ORDERS,
+        run_texts.REPORT,
         option("--width", type=number_within(*WIDTHS), default=1300, metavar="PIXELS", help="the width of all periods (default 1300)"),
         run_texts.CALLS,
         option("--from", type=number_within(0, MOST_PERIODS), dest="first", metavar="PERIOD", help="the first period to draw"),
@@ -64,41 +83,7 @@ def parser() -> Words:
         PROCESSES,
         epilog="example: timeline.py . run.svg, in a folder where `trau run <orders.txt >report.txt` was run",
     )
-
-
-def inputs_of(asked: argparse.Namespace, run: Run) -> List[Path]:
-    """The files that were read."""
-    lines = [asked.folder / name_of(call.number, side) for call in run.calls for side in SIDES]
-    return [path for path in (asked.orders, asked.report, *lines) if path.exists()]
-
-
-def draw(asked: argparse.Namespace) -> Run:
-    """Draws the picture, and gives the run."""
-    if asked.picture.suffix not in PICTURES:
-        raise Refusal(f"{asked.picture}: a picture's name ends with {' or '.join(PICTURES)}")
-    workers = Workers(asked.processes)
-    run = Run.read(asked.folder, asked.orders, asked.report, asked.calls, workers)
-    first = run.start() if asked.first is None else asked.first
-    last = max(first + 1, run.end()) if asked.last is None else asked.last
-    if first >= last:
-        raise Refusal(f"there are no periods from {first} to {last}")
-    run.calls = [call for call in run.calls if call.span.start <= last and call.span.end >= first]
-    run.calls = outcomes.worst_first(run.calls) if asked.sort == "worst" else outcomes.by_number(run.calls, run.bridges)
-    if not run.calls:
-        raise Refusal(f"no call is open from {first} to {last}")
-    drawn = Picture(run, asked.width, shape_of(asked.rows, len(run.calls)), first, last)
-    if asked.picture.suffix == ".html":
-        content = picture_page.page_of(drawn, drawn.read_lines(1, workers))
-    else:
-        content = drawn.draw(workers)
-    write_file(asked.picture, content, inputs_of(asked, run))
-    return run
-
-
-@tool("timeline.py")
-def main(words: Sequence[str]) -> int:
-    """Runs the words of the command line, and returns the exit status."""
-    asked = parser().parse_args(words)
+    asked = parser.parse_args(words)
     asked.orders = asked.orders or asked.folder / "orders.txt"
     asked.report = asked.report or asked.folder / "report.txt"
     run = draw(asked)

@@ -1,8 +1,6 @@
 """The peaks of a tone's frames, which discontinuous transmission compares with a call's level: the greatest magnitude of a frame's samples
 after preprocessing (GSM 06.10, sections 4.2.1 to 4.2.3, and this project's profile)."""
 
-from __future__ import annotations
-
 import math
 from typing import List
 
@@ -28,16 +26,11 @@ def tone(dbm0: float, hertz: float, phase: float, law: Law, samples: int) -> byt
     return compress_all(law, map(saturate, values))
 
 
-def peaks_of(octets: bytes, law: Law) -> List[int]:
-    """The peak of each whole frame of a line."""
-    magnitudes = [magnitude(sample) for sample in Preprocessing().run(expand_all(law, octets))]
-    starts = range(0, len(magnitudes) - PCM_OCTETS + 1, PCM_OCTETS)
-    return [max(magnitudes[start : start + PCM_OCTETS]) for start in starts]
-
-
 def peaks_of_tone(dbm0: float, hertz: float, law: Law) -> List[int]:
-    """The peaks of frames of a tone, once the preprocessing has settled. So that the samples also meet a tone at all its phases whose
+    """The peaks of whole frames of a tone, once the preprocessing has settled. So that the samples also meet a tone at all its phases whose
     frequency divides theirs, it goes by a turn too fast over all these frames."""
     samples = PCM_OCTETS * (SETTLING_FRAMES + FRAMES)
     drift = SAMPLES_A_SECOND / (PCM_OCTETS * FRAMES)
-    return peaks_of(tone(dbm0, hertz + drift, 0, law, samples), law)[SETTLING_FRAMES:]
+    octets = tone(dbm0, hertz + drift, 0, law, samples)
+    magnitudes = [magnitude(sample) for sample in Preprocessing().run(expand_all(law, octets))]
+    return [max(magnitudes[start : start + PCM_OCTETS]) for start in range(PCM_OCTETS * SETTLING_FRAMES, samples, PCM_OCTETS)]

@@ -4,8 +4,6 @@ Status 2: the tool refused its input, a file or standard output failed, or memor
 tool of this folder ends with a traceback.
 """
 
-from __future__ import annotations
-
 import contextlib
 import functools
 import os

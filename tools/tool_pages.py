@@ -1,7 +1,5 @@
 """Man pages of the tools, made from their --help under the names that they are installed with."""
 
-from __future__ import annotations
-
 import contextlib
 import importlib
 import io

@@ -4,8 +4,6 @@ What runs lies below /usr/lib/trau, with links in /usr/bin; documents lie below 
 system's loader and compilers look for it, and libgsm's interface in a folder of its own beside it, so that no program takes it unasked.
 """
 
-from __future__ import annotations
-
 import gzip
 import hashlib
 import os
@@ -159,14 +157,6 @@ def common(name: str, author: str, year: str) -> Dict[str, bytes]:
     return {f"usr/share/doc/{name}/{file}": content for file, content in texts.items()}
 
 
-def data(files: Dict[str, bytes]) -> Dict[str, bytes]:
-    """The files of the program's package, by their paths."""
-    found = dict(place(name, content) for name, content in files.items() if name not in ("install", "SHA256SUMS"))
-    programs = sorted(path for path, content in found.items() if content.startswith(b"\x7fELF"))
-    found["usr/share/lintian/overrides/trau"] = "".join(map(OVERRIDE.format, programs)).encode()
-    return found
-
-
 def links(found: Dict[str, bytes]) -> Dict[str, str]:
     """The links of the package, by their paths: the commands, and the documents beside the scripts."""
     pages = (Path(name).name[: -len(".1.gz")] for name in found if name.endswith(".1.gz"))
@@ -177,7 +167,10 @@ def links(found: Dict[str, bytes]) -> Dict[str, str]:
 
 def program(files: Dict[str, bytes]) -> Package:
     """The package of the program and its tools."""
-    found = data({name: content for name, content in files.items() if not name.startswith(BUILT)})
+    others = ("install", "SHA256SUMS")
+    found = dict(place(name, content) for name, content in files.items() if name not in others and not name.startswith(BUILT))
+    programs = sorted(path for path, content in found.items() if content.startswith(b"\x7fELF"))
+    found["usr/share/lintian/overrides/trau"] = "".join(map(OVERRIDE.format, programs)).encode()
     return Package("trau", PROGRAM, PROGRAM_DESCRIPTION, found, links(found))
 
 

@@ -7,8 +7,6 @@ or there is no C compiler, a library that isn't built yet is left out, as --with
 library give the same octets. The version is that of docs/CHANGELOG.md.
 """
 
-from __future__ import annotations
-
 import gzip
 import hashlib
 import io
@@ -95,20 +93,15 @@ def is_built(kind: str) -> bool:
     return subprocess.run([TOP / "trau"], env={**os.environ, "TRAU_IS_BUILT": kind}).returncode == 0
 
 
-def proved_program() -> bytes:
-    """The program for x86-64-v2. Unless TRAU_PROGRAM names one, tools/build.py proves and builds it and the one for the other kind, if one of
-    them isn't built."""
+def programs() -> Dict[str, bytes]:
+    """The programs by their names in the package: the one for x86-64-v2, which any machine runs, and the one for the other kind. Unless
+    TRAU_PROGRAM names one, tools/build.py proves and builds both, if one of them isn't built."""
     named = os.environ.get("TRAU_PROGRAM")
     if not named and not (is_built(FIRST) and is_built(KIND)):
         subprocess.run([sys.executable, TOP / "tools" / "build.py", "--both"], stdin=subprocess.DEVNULL)
     if not named and not is_built(FIRST):
         raise Refusal("there is no program that is proved and built")
-    return read_file(Path(named or PROGRAM))
-
-
-def programs() -> Dict[str, bytes]:
-    """The programs by their names in the package: the one for x86-64-v2, which any machine runs, and the one for the other kind."""
-    found = {PROGRAM.name: proved_program()}
+    found = {PROGRAM.name: read_file(Path(named or PROGRAM))}
     if is_given():
         return found
     if is_built(KIND):

@@ -6,14 +6,11 @@ in bash.
 The documents say the same at greater length; the tests of the tools hold both to each other.
 """
 
-from __future__ import annotations
-
 import tool_start  # first, for what comes after it
 
 import sys
 import textwrap
-from dataclasses import dataclass
-from typing import Iterable, List, Sequence, Tuple
+from typing import Iterable, List, NamedTuple, Sequence, Tuple
 
 from core import profile
 from core.words import Words
@@ -24,8 +21,7 @@ NAME = "trau"
 PURPOSE = "the GSM transcoder and rate adaptor unit, on recorded lines"
 
 
-@dataclass(frozen=True)
-class Command:
+class Command(NamedTuple):
     """A command, with its words behind the name, the statuses that it ends with, what it does, with the lines that it takes and writes,
     and the greatest number of a call that it takes."""
 
@@ -36,8 +32,7 @@ class Command:
     last_call: int = profile.MOST_CALLS
 
 
-@dataclass(frozen=True)
-class Option:
+class Option(NamedTuple):
     """An option of `run`, `save`, `resume`, `drill` or `live`, with the range of its value, and its value where it isn't given."""
 
     name: str
@@ -47,21 +42,12 @@ class Option:
     means: str
 
 
-@dataclass(frozen=True)
-class Status:
+class Status(NamedTuple):
     """A status of the program, and the text on standard output."""
 
     number: int
     means: str
     text: str
-
-
-@dataclass(frozen=True)
-class Order:
-    """An order of a run."""
-
-    words: str
-    does: str
 
 
 CALL = "C"
@@ -142,13 +128,13 @@ OPTIONS_OF = {
 ALSO = {"run": ("save", "resume")}
 
 ORDERS = (
-    Order("S open C", "the call begins"),
-    Order("S open C mulaw", "it begins, with mu-law from and to the exchange in place of A-law"),
-    Order("S close C", "the call ends"),
-    Order("S bridge C D", "frames of the two calls are handed over without decoding"),
-    Order("S unbridge C", "they are handed over no more"),
-    Order("S level C V", "a frame whose peak is below this level counts as one without speech"),
-    Order("S dtx C on|off|uplink", "silence descriptors instead of frames without speech: always, never, or as the uplink asks"),
+    ("S open C", "the call begins"),
+    ("S open C mulaw", "it begins, with mu-law from and to the exchange in place of A-law"),
+    ("S close C", "the call ends"),
+    ("S bridge C D", "frames of the two calls are handed over without decoding"),
+    ("S unbridge C", "they are handed over no more"),
+    ("S level C V", "a frame whose peak is below this level counts as one without speech"),
+    ("S dtx C on|off|uplink", "silence descriptors instead of frames without speech: always, never, or as the uplink asks"),
 )
 
 STATUSES = (
@@ -218,9 +204,10 @@ def table(rows: Iterable[Tuple[str, str]]) -> List[str]:
     return lines
 
 
-def range_of(option: Option) -> str:
-    """The range of an option's value."""
-    return f"{grouped(option.least)} to {grouped(option.most)}, else {grouped(option.default)}"
+def rows_of(options: Iterable[Option]) -> List[Tuple[str, str]]:
+    """Options, and what they mean with the ranges of their values."""
+    ranges = ((option, f"{grouped(option.least)} to {grouped(option.most)}, else {grouped(option.default)}") for option in options)
+    return [(f"{option.name} N", f"{option.means} ({of_it})") for option, of_it in ranges]
 
 
 def with_its_options(command: str, joined: str) -> str:
@@ -234,12 +221,9 @@ def help_text() -> str:
     lines = [f"{NAME}: {PURPOSE}", ""]
     lines += table((f"{NAME} {command.name} {command.words}", command.does) for command in COMMANDS)
     for command, options in OPTIONS_OF.items():
-        lines += ["", f"Options of {with_its_options(command, ' and ')}:", ""]
-        lines += table((f"{option.name} N", f"{option.means} ({range_of(option)})") for option in options)
-    lines += ["", *folded(NOTE_ON_ORDERS, ""), ""]
-    lines += table((order.words, order.does) for order in ORDERS)
-    lines += ["", *folded(NOTE_ON_FILES, ""), ""]
-    lines += table(FILES)
+        lines += ["", f"Options of {with_its_options(command, ' and ')}:", "", *table(rows_of(options))]
+    lines += ["", *folded(NOTE_ON_ORDERS, ""), "", *table(ORDERS)]
+    lines += ["", *folded(NOTE_ON_FILES, ""), "", *table(FILES)]
     lines += ["", "Statuses:", ""]
     lines += table((str(status.number), status.means) for status in STATUSES)
     lines += ["", *folded(NOTE_ON_LOCK, ""), "", *folded(NOTE_ON_PROGRAMS, "")]
@@ -257,13 +241,11 @@ def page(command: Command) -> str:
     options = options_of(command)
     lines = [f"{NAME} {command.name} {command.words}", "", *folded(command.does[0].upper() + command.does[1:] + ".", "")]
     if options:
-        lines += ["", *folded(NOTE_ON_OPTIONS, ""), ""]
-        lines += table((f"{option.name} N", f"{option.means} ({range_of(option)})") for option in options)
+        lines += ["", *folded(NOTE_ON_OPTIONS, ""), "", *table(rows_of(options))]
     if CALL in command.words.split():
         lines += ["", f"C is a call's number, 1 to {grouped(command.last_call)}, in decimal digits without leading zeros."]
     if "ORDERS" in command.words or "MARKED" in command.words:
-        lines += ["", *folded(NOTE_ON_ORDERS, ""), ""]
-        lines += table((order.words, order.does) for order in ORDERS)
+        lines += ["", *folded(NOTE_ON_ORDERS, ""), "", *table(ORDERS)]
     lines += ["", "Statuses, and what standard output has:", ""]
     of_it = (status for status in STATUSES if status.number in command.statuses)
     lines += table((str(status.number), f"{status.means}: {status.text}") for status in of_it)
@@ -316,12 +298,8 @@ def man_page(version: str, date: str) -> str:
     lines += paragraphs((f"{command.name} {command.words}", command.does) for command in COMMANDS)
     lines += [".PP", escaped(NOTE_ON_HELP), ".PP", escaped(NOTE_ON_LOCK), ".PP", escaped(NOTE_ON_PROGRAMS)]
     for name, options in OPTIONS_OF.items():
-        lines += [f".SH OPTIONS OF {with_its_options(name, ' AND ').upper()}"]
-        lines += [NOTE_ON_OPTIONS]
-        lines += paragraphs((f"{option.name} N", f"{option.means} ({range_of(option)})") for option in options)
-    lines += [".SH ORDERS", escaped(NOTE_ON_ORDERS)]
-    lines += paragraphs((order.words, order.does) for order in ORDERS)
-    lines += [".SH FILES", *paragraphs(FILES)]
+        lines += [f".SH OPTIONS OF {with_its_options(name, ' AND ').upper()}", NOTE_ON_OPTIONS, *paragraphs(rows_of(options))]
+    lines += [".SH ORDERS", escaped(NOTE_ON_ORDERS), *paragraphs(ORDERS), ".SH FILES", *paragraphs(FILES)]
     lines += [".SH EXIT STATUS", "The text on standard output follows the meaning."]
     said = ((str(each.number), each.means + (f": {each.text}" if each.text else "")) for each in STATUSES)
     return "\n".join([*lines, *paragraphs(said)]) + "\n"
@@ -381,17 +359,10 @@ def completion() -> str:
 @tool("trau_words.py")
 def main(words: Sequence[str]) -> int:
     """Prints what is asked for, and gives the status."""
+    made = {"help": help_text, "pages": pages_text, "grammar": grammar_text, "man": lambda: man_page("trau", ""), "completion": completion}
     parser = Words(__doc__)
-    parser.add_argument("what", choices=("help", "pages", "grammar", "man", "completion"), help="what is printed")
-    asked = parser.parse_args(words)
-    made = {
-        "help": help_text,
-        "pages": pages_text,
-        "grammar": grammar_text,
-        "man": lambda: man_page("trau", ""),
-        "completion": completion,
-    }
-    sys.stdout.write(made[asked.what]())
+    parser.add_argument("what", choices=made, help="what is printed")
+    sys.stdout.write(made[parser.parse_args(words).what]())
     return 0
 
 

@@ -1,8 +1,6 @@
 """The frames of an uplink that is made of full rate frames, as a base station sends them: what came, unusable frames for what didn't, and
 idle frames."""
 
-from __future__ import annotations
-
 from typing import Iterable, List, Optional
 
 from code_word import FrameKind, Marker

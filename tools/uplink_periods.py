@@ -1,8 +1,6 @@
 """What each period of an uplink yields, by columns of octets. It is the search of `core.search`, which goes bit by bit; a period
 takes an octet here, and an hour of a line some hundredths of a second."""
 
-from __future__ import annotations
-
 import re
 from typing import Iterator, List, NamedTuple, Optional, Tuple
 

@@ -11,14 +11,16 @@ from __future__ import annotations
 import tool_start  # first, for what comes after it
 
 import argparse
+import contextlib
 import importlib
 import sys
 import time
 from dataclasses import dataclass
 from pathlib import Path
-from typing import Any, Dict, List, NamedTuple, Optional, Sequence, Union
+from typing import Callable, Dict, Iterator, List, NamedTuple, Optional, Sequence
 
 import run_texts
+from core.board import Board
 from core.lines import INCOMING, OUTGOING, name_of, whole_periods
 from core.orders import Order
 from core.profile import MOST_PERIODS
@@ -29,18 +31,13 @@ from tool_files import read_file
 
 def expected_periods(folder: Path, orders: Sequence[Order], periods: int) -> Dict[int, int]:
     """How many periods each call will have, if no line fails and its orders are accepted."""
-    opened: Dict[int, int] = {}
-    closed: Dict[int, int] = {}
+    board, expected = Board(lambda order: None), {}
     for order in orders:
-        call = order.calls[0]
-        if order.verb == "open":
-            opened.setdefault(call, order.stamp)
-        elif order.verb == "close" and call in opened:
-            closed.setdefault(call, order.stamp)
-    expected = {}
-    for call, start in opened.items():
+        board.execute(order)
+    for call, opening in board.opened.items():
         lines = min(whole_periods(folder, call, side) for side in INCOMING)
-        expected[call] = max(0, min(lines, closed.get(call, periods) - start, periods - start))
+        end = min(board.closed.get(call, periods), periods)
+        expected[call] = max(0, min(lines, end - opening.stamp))
     return expected
 
 
@@ -154,53 +151,18 @@ def said(progress: Progress, expected: int, calls: int, left: Optional[float]) -
     return f"watch periods {progress.periods} of {expected}, {percent} %, calls done {progress.calls} of {calls}{until}"
 
 
-@dataclass
-class Growth:
-    """Since when the lines of runs have had as many octets as they have."""
-
-    octets: int = -1
-    since: float = 0.0
-
-    def look(self, runs: Sequence[Watched], progress: Progress, patience: float) -> None:
-        """Looks once more; raises NoRun where nothing has grown for longer than the patience lasts."""
-        octets, now = sum(run.octets() for run in runs) + progress.periods, time.monotonic()
-        if octets != self.octets:
-            self.octets, self.since = octets, now
-        elif now - self.since >= patience:
-            raise NoRun(f"no growth for {patience:g} s: stalled or ended")
-
-
-class PlainLines:
-    """Shows the progress as lines of text."""
-
-    def show(self, progress: Progress, line: str) -> None:
-        print(line, flush=True)
-
-    def close(self) -> None:
-        pass
-
-
-class Bar:
-    """Shows the progress as a bar of the library tqdm."""
-
-    def __init__(self, tqdm: Any, expected: int) -> None:
-        self.bar = tqdm.tqdm(total=expected, unit=" periods", file=sys.stdout)
-
-    def show(self, progress: Progress, line: str) -> None:
-        self.bar.update(progress.periods - self.bar.n)
-
-    def close(self) -> None:
-        self.bar.close()
-
-
-def display(words: argparse.Namespace, expected: int) -> Union[Bar, PlainLines]:
-    """A bar at a terminal where there is the library for it, else plain lines."""
+@contextlib.contextmanager
+def display(words: argparse.Namespace, expected: int) -> Iterator[Callable[[Progress, str], None]]:
+    """What shows the progress: a bar of the library tqdm at a terminal where that is installed, else lines of text."""
+    tqdm = None
     if not words.plain and sys.stdout.isatty():
-        try:
-            return Bar(importlib.import_module("tqdm"), expected)
-        except ImportError:
-            pass
-    return PlainLines()
+        with contextlib.suppress(ImportError):
+            tqdm = importlib.import_module("tqdm")
+    if tqdm is None:
+        yield lambda _, line: print(line, flush=True)
+        return
+    with tqdm.tqdm(total=expected, unit=" periods", file=sys.stdout) as bar:
+        yield lambda progress, _: bar.update(progress.periods - bar.n)
 
 
 def text_of_ends(runs: Sequence[Watched]) -> List[str]:
@@ -223,34 +185,36 @@ def watch(words: argparse.Namespace) -> int:
     calls = sum(len(run.expected) for run in runs)
     if not any(run.report.is_file() for run in runs):
         raise NoRun(f"{runs[0].folder}: no run in this folder: there is no {runs[0].report.name}")
-    shown = display(words, expected)
     pace: Optional[Pace] = None
-    growth = Growth()
-    try:
+    octets, since = -1, 0.0  # what is on the lines, and since when
+    with display(words, expected) as show:
         while True:
             progress = progress_of(runs)
             pace = pace or Pace.of(runs, progress)
             left = pace.seconds_left(progress, expected)
-            shown.show(progress, said(progress, expected, calls, left))
+            show(progress, said(progress, expected, calls, left))
             if progress.ended or words.once:
                 break
-            growth.look(runs, progress, words.patience)
+            grown, now = sum(run.octets() for run in runs) + progress.periods, time.monotonic()
+            if grown != octets:
+                octets, since = grown, now
+            elif now - since >= words.patience:
+                raise NoRun(f"no growth for {words.patience:g} s: stalled or ended")
             time.sleep(words.interval)
-    finally:
-        shown.close()
     ends = text_of_ends(runs)
     for line in ends:
         complain("watch.py", line)
     return 1 if ends else 0
 
 
-def parser() -> Words:
-    """The words of the command line."""
-    return Words(
+@tool("watch.py")
+def main(words: Sequence[str]) -> int:
+    """Runs the words of the command line. Returns 0 if all runs ended with a report or go on, else 1."""
+    reader = Words(
         __doc__,
         option("folders", type=Path, nargs="+", metavar="FOLDER", help="the folder of a run; several for several runs"),
-        option("--orders", type=Path, metavar="FILE", help="the orders of the run (default FOLDER/orders.txt)"),
-        option("--report", type=Path, metavar="FILE", help="the report of the run (default FOLDER/report.txt)"),
+        run_texts.ORDERS,
+        run_texts.REPORT,
         option("--periods", type=number_within(1, MOST_PERIODS), default=MOST_PERIODS, metavar="N", help="as of trau run"),
         option("--interval", type=float, default=1.0, metavar="SECONDS", help="between two looks (default 1)"),
         option(
@@ -261,12 +225,6 @@ def parser() -> Words:
         switch("--plain", "print lines of text even at a terminal with the library tqdm"),
         epilog="example: watch.py farm; or of a farm that was cut: watch.py cut/[0-9]*",
     )
-
-
-@tool("watch.py")
-def main(words: Sequence[str]) -> int:
-    """Runs the words of the command line. Returns 0 if all runs ended with a report or go on, else 1."""
-    reader = parser()
     asked = reader.parse_args(words)
     if not 0.01 <= asked.interval <= 3600:
         reader.error(f"--interval {asked.interval} isn't 0.01 to 3600")

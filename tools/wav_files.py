@@ -1,12 +1,10 @@
 """WAV files: their kinds, samples to the octets of a law and back, and frames of GSM in them."""
 
-from __future__ import annotations
-
 import struct
 import sys
 from array import array
-from dataclasses import dataclass
 from pathlib import Path
+from typing import NamedTuple
 
 from core.g711 import Law, octets_by_sample
 from core.profile import SAMPLES_A_SECOND
@@ -20,8 +18,7 @@ SAMPLE_KINDS = ((WAV_LINEAR, 16), (WAV_ALAW, 8), (WAV_MULAW, 8))
 WAV_LEAST_UNKNOWN_SIZE = 0x7FFF0000
 
 
-@dataclass(frozen=True)
-class Wav:
+class Wav(NamedTuple):
     """The kind of a WAV file, and its data."""
 
     tag: int

@@ -1,7 +1,5 @@
 """What is wrong with the words of a line of text: its octets and spaces, and its numbers. Orders and marks are read with it."""
 
-from __future__ import annotations
-
 import re
 from typing import List, Optional, Tuple
 

@@ -6,8 +6,6 @@ words of 16 bits: 160 samples a frame in .inp and .out, and in .cod the 76 param
 whether it is equal, or where it differs first. The status is 1 if one differs, 2 if there is none or a file can't be read.
 """
 
-from __future__ import annotations
-
 import argparse
 import sys
 from array import array

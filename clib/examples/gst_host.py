@@ -5,8 +5,6 @@ Plays what comes to a port, or the frames of a file of libgsm, of which those ca
 GStreamer with its good plugins, and its Python bindings (Debian: gstreamer1.0-plugins-good, python3-gst-1.0).
 """
 
-from __future__ import annotations
-
 import argparse
 import struct
 import sys

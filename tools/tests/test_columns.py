@@ -23,8 +23,8 @@ from core.report import Bridge
 from core.search import FRAME, sort_of_period, yields_by_period
 from core.words import Refusal
 from model.downlink import asked_shifts, made_frames
-from run_lines import Sent
-from test_timeline import lay
+from run_lines import Heard, Sent
+from test_timeline import lay, levels_of
 from uplink_periods import SORTS
 
 SPEECH = bits_of((EXAMPLES / "7.up").read_bytes())
@@ -66,6 +66,17 @@ def made_by_the_model(octets, spans):
     return [(made.start, made.item is not None, made.shift) for made in made_frames(len(frames), asked_shifts(frames), spans)]
 
 
+def heard_one_by_one(sorts):
+    """What each period gives, by the class of its frame and what came before."""
+    state = Heard.QUIET
+    for sort in sorts:
+        if sort in (Sort.GOOD, Sort.SID, Sort.IDLE):
+            state = {Sort.GOOD: Heard.SPEECH, Sort.SID: Heard.NOISE, Sort.IDLE: Heard.QUIET}[sort]
+        elif state is Heard.SPEECH:
+            state = Heard.LOST
+        yield state
+
+
 def sent_one_by_one(octet, handed, bits):
     """What a frame of a downlink is, by its bits."""
     frame = bits[320 + 2 * octet : 640 + 2 * octet]
@@ -95,7 +106,7 @@ class Uplinks(unittest.TestCase):
             self.assertEqual([SORTS[code] for code in uplink_periods.searched(octets).sorts], sorts)
             self.assertEqual(uplink_periods.searched(octets).asking, list(asked_shifts(frames_by_period(octets)).items()))
             heard = [run_lines.HEARDS[code] for code in run_lines.heard_codes(bytes(SORTS.index(sort) for sort in sorts))]
-            self.assertEqual(heard, list(run_lines.heard(sorts)))
+            self.assertEqual(heard, list(heard_one_by_one(sorts)))
             seen.update(sorts)
         self.assertEqual(seen, set(Sort))
 
@@ -158,8 +169,8 @@ class Levels(unittest.TestCase):
             for part in (octets, b"", octets[:100], octets[:160]):
                 self.assertEqual(levels.sums_by_numpy(part, law), levels.sums_plain(part, law))
             with mock.patch.object(levels, "numpy", None):
-                plain = levels.levels(octets, law)
-            self.assertEqual(levels.levels(octets, law), plain)
+                plain = levels_of(octets, law)
+            self.assertEqual(levels_of(octets, law), plain)
 
 
 def doubled(number):
@@ -171,20 +182,19 @@ def doubled(number):
 
 class SideBySide(InFolder):
     def test_order_and_refusals(self):
-        workers = side_by_side.Workers(3)
         pieces = [(number,) for number in (*range(5), *range(6, 40))]
-        got = list(workers.each("doubling", doubled, pieces, 10**9))
+        got = list(side_by_side.results_of(3, "doubling", doubled, pieces, 10**9))
         self.assertEqual(got, [2 * number for (number,) in pieces])
         with self.assertRaisesRegex(Refusal, "no 5"):
-            list(workers.each("doubling", doubled, [(number,) for number in range(40)], 10**9))
+            list(side_by_side.results_of(3, "doubling", doubled, [(number,) for number in range(40)], 10**9))
 
     def test_a_process_that_is_killed(self):
         with self.assertRaisesRegex(Refusal, "a process ended early; was there enough memory?"):
-            list(side_by_side.Workers(2).each("ending", os._exit, [(1,), (2,), (3,)], 10**9))
+            list(side_by_side.results_of(2, "ending", os._exit, [(1,), (2,), (3,)], 10**9))
 
     def test_progress(self):
         words = f"import sys; sys.path.append({str(TOP)!r}); import side_by_side as s; s.QUIET_SECONDS = -1; s.SECONDS_BETWEEN_LINES = 0;"
-        words += "print(sum(s.ALONE.each('adding', int, [(n,) for n in range(4)], 10**9)))"
+        words += "print(sum(s.results_of(1, 'adding', int, [(n,) for n in range(4)], 10**9)))"
         ran = subprocess.run([sys.executable, "-c", words], cwd=TOOLS, capture_output=True, text=True)
         told = "".join(f"adding: {number} of 4 calls\n" for number in (1, 2, 3))
         self.assertEqual((ran.stdout, ran.stderr), ("6\n", told))

@@ -23,6 +23,7 @@ import report
 import run_lines
 import run_texts
 from run_lines import Heard, Sent
+from uplink_periods import SORTS
 
 
 def lay_run(name, folder):
@@ -156,7 +157,8 @@ class Calls(Told):
     def test_heard(self):
         sorts = [Sort(word) for word in "bad sid bad good miss none good idle invalid bad good other sid invalid good".split()]
         wanted = "quiet noise noise speech lost lost speech quiet quiet quiet speech lost noise noise speech"
-        self.assertEqual([value.value for value in run_lines.heard(sorts)], wanted.split())
+        codes = run_lines.heard_codes(bytes(map(SORTS.index, sorts)))
+        self.assertEqual([run_lines.HEARDS[code].value for code in codes], wanted.split())
 
     def test_quiet_periods_are_idle_on_the_out_lines(self):
         # A period outside of bridges is 160 idle octets where nothing is to be heard, and speech or noise mostly isn't.

@@ -67,18 +67,23 @@ def lay(name, folder):
         shutil.copyfile(CODEC / "farm-report.txt", folder / "report.txt")
 
 
+def levels_of(octets, law=Law.A):
+    """The level of each whole period of a line."""
+    return [levels.level_of_sum(total, law) for total in levels.sums(octets, law)]
+
+
 class Parts(unittest.TestCase):
     def test_digital_milliwatt(self):
         # G.711: these eight octets again and again are a sine of 1000 Hz at 0 dBm0.
         octets = 20 * bytes([0x34, 0x21, 0x21, 0x34, 0xB4, 0xA1, 0xA1, 0xB4])
-        self.assertAlmostEqual(levels.levels(octets)[0], 0, places=1)
-        self.assertEqual(len(levels.levels(3 * octets + octets[:9])), 3)
-        self.assertLess(levels.levels(160 * bytes([0xD5]))[0], -66)
+        self.assertAlmostEqual(levels_of(octets)[0], 0, places=1)
+        self.assertEqual(len(levels_of(3 * octets + octets[:9])), 3)
+        self.assertLess(levels_of(160 * bytes([0xD5]))[0], -66)
 
     def test_digital_milliwatt_of_mulaw(self):
         octets = 20 * bytes([0x1E, 0x0B, 0x0B, 0x1E, 0x9E, 0x8B, 0x8B, 0x9E])
-        self.assertAlmostEqual(levels.levels(octets, Law.MU)[0], 0, places=1)
-        self.assertEqual(levels.levels(160 * bytes([0xFF]), Law.MU), [-math.inf])
+        self.assertAlmostEqual(levels_of(octets, Law.MU)[0], 0, places=1)
+        self.assertEqual(levels_of(160 * bytes([0xFF]), Law.MU), [-math.inf])
 
     def columns(self, values, losses, size):
         """The stretches of columns of looks, with a height of ten steps."""

@@ -147,7 +147,7 @@ class Documents(unittest.TestCase):
         text = (DOCS / "OPERATORS.md").read_text()
         table = text[text.index("| Order |") : text.index("## When")]
         shown = {" ".join(words.split()[1:2]) for words in re.findall(r"`(S [^`]+)`", table)}
-        self.assertEqual(shown, {order.words.split()[1] for order in trau_words.ORDERS})
+        self.assertEqual(shown, {words.split()[1] for words, _ in trau_words.ORDERS})
         self.assertEqual(shown, set(orders.FORMS))
 
     def test_help(self):
