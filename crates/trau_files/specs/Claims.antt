@@ -30,15 +30,15 @@ Has (Some held) c = (held.file ≡ c.file) × (c.access ≡ Writing → held.acc
 abbrev pub OthersKeep : List (Option Claim) → List (Option Claim) → ℕ → Type 0
 OthersKeep old new p = (k : ℕ) → k ≢ p → claim_at new k ≡ claim_at old k
 
--- the line gets this file of a disk: if it has it, no note changes; else the file is its note, and
--- no other note changes
+-- the line gets this file of a disk for this access: if it has it for that already, no note changes;
+-- else its note is now this one, and no other note changes
 abbrev pub NotesDiskFile : List (Option Claim) → List (Option Claim) → ℕ → Claim → Type 0
 NotesDiskFile old new p c =
     (Has (claim_at old p) c × (new ≡ old))
     ⊎ ((Has (claim_at old p) c → ⊥) × (claim_at new p ≡ Some c) × OthersKeep old new p)
 
--- the line gets a file that has these metadata: if it is one of a disk, it is noted so; if it is a
--- pipe or a device, no note changes
+-- the line gets a file that has these metadata: one of a disk is noted for the line; any other (a
+-- pipe or a device, say) changes no note
 abbrev pub NotesFile : List (Option Claim) → List (Option Claim) → ℕ → Metadata → Claim → Type 0
 NotesFile old new p metadata c =
     (IsFile (file_type metadata) × NotesDiskFile old new p c)

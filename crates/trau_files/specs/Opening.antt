@@ -44,7 +44,7 @@ pub record IsSeen {D F : Type 0} (does : Operations D F) (old new : D) (call : �
   pub opened : OpensOrMakes does old new call side access at made (Ok file)
   pub told : does.told file (Ok metadata)
 
--- a line's file was opened and has these metadata; if it is one of a disk, it is noted for the line, and no other note changes
+-- a line's file was opened and has these metadata; one of a disk was noted for the line, and no other note changed; of another file no note changed
 pub record IsClaimed {D F : Type 0} (does : Operations D F) (old new : D) (old_claims new_claims : List (Option Claim)) (call : ℕ) (side : Side)
     (access : Access) (at : ℕ) (file : F) (metadata : Metadata) : Type 0 where
   pub made : Bool
@@ -107,7 +107,7 @@ abbrev pub LacksDescriptor : Fault → Type 0
 LacksDescriptor (System e) = (raw_os_error e ≡ Some (pos 23)) ⊎ (raw_os_error e ≡ Some (pos 24))
 LacksDescriptor (Shared other) = ⊥
 
--- the first attempt failed since no descriptor was left; the second decides
+-- the first attempt failed since no descriptor was left, and may have noted its file; the second decides
 pub record OpensAgain {D F : Type 0} (does : Operations D F) (old new : D) (old_claims new_claims : List (Option Claim)) (call : ℕ) (side : Side)
     (access : Access) (at : ℕ) (result : Result F Fault) : Type 0 where
   pub folder : D

@@ -1,4 +1,4 @@
--- Each read so far was interrupted.
+-- Each read so far was interrupted, and one more may be made.
 use Rattle.std.proofs.Common.{◌<◌, ℕ}
 use Rattle.trau_files.specs.Folder.{OneRead}
 use Rattle.trau_files.specs.Tries.{Interruptions}

@@ -1,4 +1,4 @@
--- Each write so far was interrupted.
+-- Each write so far was interrupted, and one more may be made.
 use Rattle.std.proofs.Common.{◌<◌, ℕ}
 use Rattle.trau_files.specs.Folder.{OneWrite}
 use Rattle.trau_files.specs.Tries.{Interruptions}
