@@ -1,6 +1,6 @@
 //! Both sides by frames of 33 octets (RFC 3551, section 4.5.8.1).
 
-ghost use Rattle.std.specs.Prelude.{◌≡◌, List, ◌∷◌};
+ghost use Rattle.std.specs.Prelude.{◌≡◌, ◌≤◌, List, ◌∷◌};
 ghost use Rattle.rx_handler.specs.State.{heard_fields};
 ghost use Rattle.fr_sides.specs.Memory.{receiver_memory, sender_memory};
 ghost use Rattle.fr_sides.specs.Sending.{SenderPeriod, sender_period, sent_next, sent_now, SenderStands};
@@ -34,7 +34,8 @@ pub fn receive_octets(
     taf: bool,
     x: &mut [i16; 160],
 ) -> bool
-    ensures { ReceivedOctets kind taf frame.now (receiver_memory receiver.old) x.new (receiver_memory receiver.new) result }
+    ensures period { ReceivedOctets kind taf frame.now (receiver_memory receiver.old) x.new (receiver_memory receiver.new) result }
+    ensures tag { receiver.new.heard.tag ≤ 2 }
 {
     receiver.receive(&brought(kind, taf, frame), x)
 }
@@ -48,7 +49,8 @@ pub fn hand_octets(
     taf: bool,
     handed: &mut [u8; 33],
 ) -> bool
-    ensures { HandedOctets kind taf frame.now (receiver_memory receiver.old) handed.new (receiver_memory receiver.new) result }
+    ensures period { HandedOctets kind taf frame.now (receiver_memory receiver.old) handed.new (receiver_memory receiver.new) result }
+    ensures tag { receiver.new.heard.tag ≤ 2 }
 {
     let e = receiver.hand(&brought(kind, taf, frame));
     *handed = pack(&e.handed());

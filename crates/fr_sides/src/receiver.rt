@@ -1,7 +1,7 @@
 //! The receive side of a call: from what a period brings to its samples, or in a bridge to the frame that is handed
 //! over.
 
-ghost use Rattle.std.specs.Prelude.{◌≡◌, not, ℕ, List, [], ◌∷◌};
+ghost use Rattle.std.specs.Prelude.{◌≡◌, ◌≤◌, not, ℕ, List, [], ◌∷◌};
 ghost use Rattle.rx_handler.specs.Origin.{is_quiet};
 ghost use Rattle.rx_handler.specs.State.{heard_fields, effective_fields};
 ghost use Rattle.rx_handler.specs.Step.{received};
@@ -41,6 +41,7 @@ impl Receiver {
     pub fn home(seed: u16) -> Receiver
         ensures value { receiver_memory result ≡ home_receiver seed }
         ensures history { ReceiverStands seed [] (receiver_memory result) }
+        ensures tag { result.heard.tag ≤ 2 }
     {
         Receiver {
             heard: Rx::from_seed(seed).flat(),
@@ -52,6 +53,7 @@ impl Receiver {
     fn hear(&mut self, y: &Reception) -> Effective
         ensures heard { received (receiver_memory self.old).rx (heard_fields y.now) ≡ (effective_fields result, (receiver_memory self.new).rx) }
         ensures decoder { self.new.decoder ≡ self.old.decoder }
+        ensures tag { self.new.heard.tag ≤ 2 }
     {
         let mut rx = Rx::of_flat(&self.heard);
         let e = rx.receive(y);
@@ -71,6 +73,7 @@ impl Receiver {
             ReceiverStands seed (decoded_period (heard_fields y.now) ∷ past) (receiver_memory self.new)
             × (x.new ≡ samples_now seed (decoded_period (heard_fields y.now) ∷ past))
             × (result ≡ not (is_quiet (effective_now seed (decoded_period (heard_fields y.now) ∷ past)))) }
+        ensures tag { self.new.heard.tag ≤ 2 }
     {
         let e = self.hear(y);
         play(&mut self.decoder, &e, x);
@@ -85,6 +88,7 @@ impl Receiver {
         ensures history { (seed : ℕ) (past : List ReceiverPeriod) → ReceiverStands seed past (receiver_memory self.old) →
             ReceiverStands seed (handed_period (heard_fields y.now) ∷ past) (receiver_memory self.new)
             × (effective_fields result ≡ effective_now seed (handed_period (heard_fields y.now) ∷ past)) }
+        ensures tag { self.new.heard.tag ≤ 2 }
     {
         self.decoder = Decoder::home();
         self.hear(y)

@@ -75,9 +75,10 @@ impl Rx {
         }
     }
 
-    /// The plain numbers of the receive side.
+    /// The plain numbers of the receive side. Noise has tag 2.
     pub fn flat(&self) -> FlatRx
-        ensures { flat_memory result ≡ self.now }
+        ensures value { flat_memory result ≡ self.now }
+        ensures tag { result.tag ≤ 2 }
     {
         let source = self.source.r;
         match &self.state {

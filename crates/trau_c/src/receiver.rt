@@ -1,6 +1,6 @@
 //! The receive side of one phone call.
 
-ghost use Rattle.std.specs.Prelude.{◌≡◌, []};
+ghost use Rattle.std.specs.Prelude.{◌≡◌, ◌≤◌, []};
 ghost use Rattle.fr_sides.specs.Memory.{receiver_memory, home_receiver};
 ghost use Rattle.fr_sides.specs.CodeWord.{KindIn};
 ghost use Rattle.fr_sides.specs.Octets.{ReceivedOctets, HandedOctets};
@@ -14,6 +14,9 @@ use fr_sides::{Receiver, hand_octets, kind_of_octets, receive_octets};
 pub extern "C" fn trau_fr_receiver_home(seed: u16) -> Receiver
     ensures value { receiver_memory result ≡ home_receiver seed }
     ensures history { ReceiverStands seed [] (receiver_memory result) }
+
+    // The tag is one that the header names.
+    ensures tag { result.heard.tag ≤ 2 }
 {
     Receiver::home(seed)
 }
@@ -30,7 +33,8 @@ pub extern "C" fn trau_fr_receive(
     taf: bool,
     x: &mut [i16; 160],
 ) -> bool
-    ensures { ReceivedOctets kind taf frame.now (receiver_memory receiver.old) x.new (receiver_memory receiver.new) result }
+    ensures period { ReceivedOctets kind taf frame.now (receiver_memory receiver.old) x.new (receiver_memory receiver.new) result }
+    ensures tag { receiver.new.heard.tag ≤ 2 }
 {
     receive_octets(receiver, frame, kind, taf, x)
 }
@@ -45,7 +49,8 @@ pub extern "C" fn trau_fr_hand(
     taf: bool,
     handed: &mut [u8; 33],
 ) -> bool
-    ensures { HandedOctets kind taf frame.now (receiver_memory receiver.old) handed.new (receiver_memory receiver.new) result }
+    ensures period { HandedOctets kind taf frame.now (receiver_memory receiver.old) handed.new (receiver_memory receiver.new) result }
+    ensures tag { receiver.new.heard.tag ≤ 2 }
 {
     hand_octets(receiver, frame, kind, taf, handed)
 }

@@ -1,8 +1,8 @@
 use Rattle.std.proofs.Common.{rules}
 use Rattle.fr_sides.proofs.octets.hand_octets.Goals as goal
 
-pub returns : goal.returns
-returns c = record {
+pub returns-clause-period : goal.returns-clause-period
+returns-clause-period c = record {
   heard = _;
   brought = c.brought.ensures;
   effective = _;
