@@ -1,9 +1,16 @@
 #!/bin/sh
 # The C library, built from what is proved: its C and Python tests against recorded answers of libgsm and of Python's audioop; hard signals
 # against libgsm built with integers; random calls by both sides against the model; the hosts of clib/examples; and if sox, toast, ffmpeg and
-# GStreamer are installed, what they write for recorded speech on the system's libgsm and on this library. TRAU_CLIB names a library to
-# use in place of clib/out, which isn't built then.
+# GStreamer are installed, what they write for recorded speech on the system's libgsm and on this library. `checks/clib.sh --long` also plays
+# in real time. TRAU_CLIB names a library to use in place of clib/out, which isn't built then.
 set -eu
+case ${1:-} in
+'' | --long) ;;
+*)
+    echo "usage: checks/clib.sh [--long]" >&2
+    exit 2
+    ;;
+esac
 top=$(cd "$(dirname "$0")/.." && pwd)
 vectors=$top/checks/vectors
 tests=$top/clib/tests
@@ -101,6 +108,7 @@ hosts Header
 hosts Conform
 hosts Ecu
 hosts GStreamer
+[ "${1:-}" != --long ] || said "a port" python3 "$tests/long_port.py"
 
 # The system's libgsm may compute in floats. Then it differs from the standard on hard signals, which is no failure of this library.
 if cc -O2 -o hard_of_system "$tests/libgsm_hard.c" -l:libgsm.so.1 -lm 2>/dev/null && ./hard_of_system >of_system.txt; then
