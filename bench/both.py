@@ -18,7 +18,10 @@ Task = collections.namedtuple("Task", "what unit count commands")
 
 def by_each(bench, command):
     """The same command of each existing program."""
-    found = {kind: command._replace(words=[program, *command.words[1:]]) for kind, program in zip(KINDS, bench.programs)}
+    found = {
+        kind: command._replace(words=[program, *command.words[1:]])
+        for kind, program in zip(KINDS, bench.programs)
+    }
     return found
 
 
@@ -43,7 +46,11 @@ def tasks(bench):
 def same(task):
     """The files that a command made, to compare with those of the other program."""
     command = next(iter(task.commands.values()))
-    made = (path for path in sorted(command.folder.iterdir()) if path.suffix in (".down", ".out") or path.name == command.output)
+    made = (
+        path
+        for path in sorted(command.folder.iterdir())
+        if path.suffix in (".down", ".out") or path.name == command.output
+    )
     return {path.name: path.read_bytes() for path in made}
 
 
@@ -64,7 +71,13 @@ def taken(task, turns):
 
 
 def cell(times, count):
-    return ", ".join(hundredth(seconds / count * 1e6) for seconds in (statistics.median(times), min(times))) if times else ""
+    return (
+        ", ".join(
+            hundredth(seconds / count * 1e6) for seconds in (statistics.median(times), min(times))
+        )
+        if times
+        else ""
+    )
 
 
 def line(task, turns):
@@ -82,5 +95,13 @@ def line(task, turns):
 def shown(bench, turns):
     """The table."""
     say("both programs, in turns")
-    heads = ["user time: median, least", "", *KINDS, "spandsp", "v2 / v3", "spandsp / v2", "spandsp / v3"]
+    heads = [
+        "user time: median, least",
+        "",
+        *KINDS,
+        "spandsp",
+        "v2 / v3",
+        "spandsp / v2",
+        "spandsp / v3",
+    ]
     return table(heads, [line(task, turns) for task in tasks(bench)])

@@ -26,12 +26,29 @@ def rows(bench, folder):
         return Row(command, reads, writes, best_times(command, bench.runs))
 
     def ours(words, reads, writes, made):
-        return row([bench.program, *words], f"{reads} octets a frame", f"{writes} octets a frame", makes=(made,))
+        return row(
+            [bench.program, *words],
+            f"{reads} octets a frame",
+            f"{writes} octets a frame",
+            makes=(made,),
+        )
 
     yield ours(["encode", "7"], "A-law, 160", "40", "7.down")
-    yield row(["toast", "-a"], "A-law, 160 octets a frame", "33 octets a frame", input="7.pcm", output="toast.gsm")
+    yield row(
+        ["toast", "-a"],
+        "A-law, 160 octets a frame",
+        "33 octets a frame",
+        input="7.pcm",
+        output="toast.gsm",
+    )
     yield ours(["decode", "7"], "40", "A-law, 160", "7.out")
-    yield row(["untoast", "-a"], "33 octets a frame", "A-law, 160 octets a frame", input="7.gsm", output="untoast.out")
+    yield row(
+        ["untoast", "-a"],
+        "33 octets a frame",
+        "A-law, 160 octets a frame",
+        input="7.gsm",
+        output="untoast.out",
+    )
     yield ours(["relay", "8"], "40", "40", "8.down")
 
 
@@ -40,5 +57,10 @@ def measured(bench):
     say("whole commands")
     folder = lay(bench)
     found = list(rows(bench, folder))
-    down, toast, out, untoast = ((folder / name).read_bytes() for name in ("7.down", "toast.gsm", "7.out", "untoast.out"))
-    return found, {"toast": frames.equal(frames.frames_for("libgsm", down), toast, 33), "untoast": frames.equal(out, untoast, 160)}
+    down, toast, out, untoast = (
+        (folder / name).read_bytes() for name in ("7.down", "toast.gsm", "7.out", "untoast.out")
+    )
+    return found, {
+        "toast": frames.equal(frames.frames_for("libgsm", down), toast, 33),
+        "untoast": frames.equal(out, untoast, 160),
+    }

@@ -41,17 +41,25 @@ def row(bench, calls, periods, batch, workers):
 
 def sizes(bench):
     say("the farm, one worker")
-    return [row(bench, calls, bench.periods, batch, 1) for calls in bench.calls for batch in bench.batches]
+    return [
+        row(bench, calls, bench.periods, batch, 1)
+        for calls in bench.calls
+        for batch in bench.batches
+    ]
 
 
 def workers(bench):
     say("the farm, several workers")
-    return [row(bench, bench.workers_calls, bench.workers_periods, 50, workers) for workers in (1, 2, 4)]
+    return [
+        row(bench, bench.workers_calls, bench.workers_periods, 50, workers) for workers in (1, 2, 4)
+    ]
 
 
 def period(bench):
     """The instructions of one period of one call, by function."""
     calls = bench.calls[0]
     short, long = bench.farm_lengths
-    by_function = difference(lambda count: run_of(bench, lay(bench, calls, count), 50, 1), short, long)
+    by_function = difference(
+        lambda count: run_of(bench, lay(bench, calls, count), 50, 1), short, long
+    )
     return {function: cost / calls for function, cost in by_function.items()}

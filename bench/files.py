@@ -13,7 +13,9 @@ FOR_FILES = re.compile(
 
 
 def cost(by_function):
-    return sum(instructions for function, instructions in by_function.items() if FOR_FILES.search(function))
+    return sum(
+        instructions for function, instructions in by_function.items() if FOR_FILES.search(function)
+    )
 
 
 def left_out(by_function):

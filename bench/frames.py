@@ -4,12 +4,11 @@ import array
 import sys
 from pathlib import Path
 
-sys.path.insert(0, str(Path(__file__).resolve().parents[1]))
 
-from core.frame import bits_of, data_of  # noqa: E402
-from core.g711 import Law, octets_by_sample, samples_by_octet  # noqa: E402
-from core.parameters import gsm_of_data, parameters_of_bits, values_of  # noqa: E402
-from core.profile import FRAME_OCTETS  # noqa: E402
+from trau.rules.frame import bits_of, data_of
+from trau.rules.g711 import Law, octets_by_sample, samples_by_octet
+from trau.rules.parameters import gsm_of_data, parameters_of_bits, values_of
+from trau.rules.profile import FRAME_OCTETS
 
 
 def blocks(octets, length):

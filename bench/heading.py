@@ -8,7 +8,9 @@ from pathlib import Path
 
 
 def version(package):
-    found = subprocess.run(["dpkg-query", "-W", "-f", "${Version}", package], capture_output=True, text=True)
+    found = subprocess.run(
+        ["dpkg-query", "-W", "-f", "${Version}", package], capture_output=True, text=True
+    )
     return found.stdout or "of unknown version"
 
 
@@ -21,7 +23,9 @@ def processor():
 def machine(held=""):
     """The day and the machine, with how many of its processors are used, if not all."""
     date, load = datetime.date.today().isoformat(), os.getloadavg()[0]
-    return f"On {date}, {held}{processor()}, Linux {platform.release()}, load {load:.1f} at the start"
+    return (
+        f"On {date}, {held}{processor()}, Linux {platform.release()}, load {load:.1f} at the start"
+    )
 
 
 def heading(words):

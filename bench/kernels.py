@@ -4,7 +4,7 @@ import collections
 
 import files
 import frames  # puts the top of the repository on the path
-from core.profile import FRAME_OCTETS, PCM_OCTETS
+from trau.rules.profile import FRAME_OCTETS, PCM_OCTETS
 from measure import Command, difference, least_processor, say
 
 PEERS = {
@@ -35,14 +35,19 @@ def ours(bench, way, count):
 def peer(bench, codec, way, count):
     folder = bench.folder(f"{way.name}-{count}")
     line = bench.speech(way.side, way.octets_in, count)
-    (folder / f"{codec}.in").write_bytes(frames.samples_of(line) if way is ENCODE else frames.frames_for(codec, line))
+    (folder / f"{codec}.in").write_bytes(
+        frames.samples_of(line) if way is ENCODE else frames.frames_for(codec, line)
+    )
     made = f"{codec}.made"
     return Command([bench.peers, codec, way.name, f"{codec}.in", made], folder, makes=(made,))
 
 
 def microseconds(bench, way):
     """A frame's processor time: ours, and that of each peer, taken in turns."""
-    commands = [ours(bench, way, bench.frames), *(peer(bench, codec, way, bench.frames) for codec in PEERS)]
+    commands = [
+        ours(bench, way, bench.frames),
+        *(peer(bench, codec, way, bench.frames) for codec in PEERS),
+    ]
     return [seconds / bench.frames * 1e6 for seconds in least_processor(commands, bench.turns)]
 
 
@@ -80,5 +85,10 @@ def measured(bench, way):
     say(f"the codec: {way.name}")
     by_function = instructions_by_function(bench, way)
     time, *theirs = microseconds(bench, way)
-    rows = [*our_rows(way, by_function, time), *(peer_row(bench, codec, way, their) for codec, their in zip(PEERS, theirs))]
-    return Measured(way, rows, {codec: equal_frames(bench, codec, way) for codec in PEERS}, by_function)
+    rows = [
+        *our_rows(way, by_function, time),
+        *(peer_row(bench, codec, way, their) for codec, their in zip(PEERS, theirs)),
+    ]
+    return Measured(
+        way, rows, {codec: equal_frames(bench, codec, way) for codec in PEERS}, by_function
+    )

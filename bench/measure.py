@@ -17,7 +17,9 @@ INSTANCE = re.compile(r"::<#[0-9a-f]+>")
 Times = collections.namedtuple("Times", "wall processor system")
 
 # A command, its folder, the files there that are its standard streams, and patterns of the other files that it makes.
-Command = collections.namedtuple("Command", "words folder input output makes", defaults=(None, None, ()))
+Command = collections.namedtuple(
+    "Command", "words folder input output makes", defaults=(None, None, ())
+)
 
 
 def say(text):
@@ -35,9 +37,13 @@ def text_of(command):
 
 
 def start(command, before=()):
-    reads, writes = (Path(command.folder, name or os.devnull) for name in (command.input, command.output))
+    reads, writes = (
+        Path(command.folder, name or os.devnull) for name in (command.input, command.output)
+    )
     with open(reads, "rb") as given, open(writes, "wb") as made:
-        return subprocess.Popen([*before, *command.words], cwd=command.folder, stdin=given, stdout=made)
+        return subprocess.Popen(
+            [*before, *command.words], cwd=command.folder, stdin=given, stdout=made
+        )
 
 
 def check(command, status):
@@ -94,7 +100,13 @@ def system_calls(command):
     clear(command)
     report = Path(command.folder, "strace.out")
     check(command, start(command, ["strace", "-f", "-c", "-o", report]).wait())
-    return int([line.split()[3] for line in report.read_text().splitlines() if line.split()[-1:] == ["total"]][-1])
+    return int(
+        [
+            line.split()[3]
+            for line in report.read_text().splitlines()
+            if line.split()[-1:] == ["total"]
+        ][-1]
+    )
 
 
 def instructions(command):

@@ -8,7 +8,13 @@ import sys
 from measure import GNU_TIME, say
 
 # Programs, and their Debian packages.
-PROGRAMS = {"gcc": "gcc", "valgrind": "valgrind", GNU_TIME: "time", "toast": "libgsm-tools", "untoast": "libgsm-tools"}
+PROGRAMS = {
+    "gcc": "gcc",
+    "valgrind": "valgrind",
+    GNU_TIME: "time",
+    "toast": "libgsm-tools",
+    "untoast": "libgsm-tools",
+}
 HEADERS = {"gsm.h": "libgsm1-dev", "spandsp.h": "libspandsp-dev"}
 
 
@@ -19,14 +25,22 @@ def has_header(header):
 
 def missing_programs(programs):
     """Lines that say which of these programs is missing, and of which Debian package."""
-    return [f"{name}: apt-get install {package}" for name, package in programs.items() if not shutil.which(name)]
+    return [
+        f"{name}: apt-get install {package}"
+        for name, package in programs.items()
+        if not shutil.which(name)
+    ]
 
 
 def missing_headers():
     """The same of the compiler and the peers."""
     if not shutil.which("gcc"):
         return ["gcc: apt-get install gcc"]
-    return [f"{name}: apt-get install {package}" for name, package in HEADERS.items() if not has_header(name)]
+    return [
+        f"{name}: apt-get install {package}"
+        for name, package in HEADERS.items()
+        if not has_header(name)
+    ]
 
 
 def missing():
@@ -56,7 +70,9 @@ def program(top):
         return os.path.abspath(named)
     asked = ({**os.environ, "TRAU_IS_BUILT": f"x86-64-v{kind}"} for kind in (2, 3))
     if any(subprocess.run([os.path.join(top, "trau")], env=each).returncode for each in asked):
-        if subprocess.run([sys.executable, os.path.join(top, "tools", "build.py"), "--both"]).returncode:
+        if subprocess.run(
+            [sys.executable, os.path.join(top, "tools", "build.py"), "--both"]
+        ).returncode:
             raise SystemExit("bench: tools/build.py can't build the program")
     return os.path.join(top, "crates", "trau_program", "out", "trau_program")
 
@@ -65,5 +81,9 @@ def programs(top):
     """The built program, and the one for x86-64-v3 beside it if it exists and this machine's processor runs it."""
     first = program(top)
     second = f"{first}.x86-64-v3"
-    runs = os.access(second, os.X_OK) and subprocess.run([second], stdin=subprocess.DEVNULL, stdout=subprocess.DEVNULL).returncode == 1
+    runs = (
+        os.access(second, os.X_OK)
+        and subprocess.run([second], stdin=subprocess.DEVNULL, stdout=subprocess.DEVNULL).returncode
+        == 1
+    )
     return [first, second] if runs else [first]

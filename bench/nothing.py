@@ -33,7 +33,11 @@ def fresh(prefix):
         root = os.path.realpath(made)
         subprocess.run(["git", "clone", "--quiet", TOP, os.path.join(root, "trau")], check=True)
         # The toolchain runs programs below the temporary files as nobody, and keeps in a folder that is its user's alone.
-        for folder, mode in ((root, 0o711), (os.path.join(root, "tmp"), 0o711), (os.path.join(root, "kept"), 0o700)):
+        for folder, mode in (
+            (root, 0o711),
+            (os.path.join(root, "tmp"), 0o711),
+            (os.path.join(root, "kept"), 0o700),
+        ):
             os.makedirs(folder, exist_ok=True)
             os.chmod(folder, mode)
         yield root
@@ -43,11 +47,23 @@ def hiding(root, words):
     """The words of a command that runs these with the folder's `kept` in place of what the toolchain has kept."""
     kept = str(pathlib.Path(shutil.which("rt")).resolve().parents[2] / "rattle-kept")
     os.makedirs(kept, 0o700, exist_ok=True)
-    return ["unshare", "--mount", "sh", "-c", HIDDEN, "sh", os.path.join(root, "kept"), kept, *words]
+    return [
+        "unshare",
+        "--mount",
+        "sh",
+        "-c",
+        HIDDEN,
+        "sh",
+        os.path.join(root, "kept"),
+        kept,
+        *words,
+    ]
 
 
 def heading(words, held):
     """The day, the machine with the number of processors that are used, the toolchain and the commit."""
     kit = subprocess.run(["rt", "version"], capture_output=True, text=True).stdout.strip()
-    commit = subprocess.run(["git", "-C", TOP, "log", "-1", "--format=%h"], capture_output=True, text=True).stdout.strip()
+    commit = subprocess.run(
+        ["git", "-C", TOP, "log", "-1", "--format=%h"], capture_output=True, text=True
+    ).stdout.strip()
     return f"{machine(f'{held} of ')}, {kit}, commit {commit}. By `{words}`.\n"

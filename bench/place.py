@@ -10,7 +10,9 @@ class Place:
     """A folder of its own, with the program in it, and with the one for x86-64-v3 if that is given too."""
 
     def __init__(self, root, *programs):
-        self.root, self.programs = Path(root), [os.path.join(root, name) for name, _ in zip(("trau", "trau-v3"), programs)]
+        self.root, self.programs = Path(root), [
+            os.path.join(root, name) for name, _ in zip(("trau", "trau-v3"), programs)
+        ]
         for link, program in zip(self.programs, programs):
             os.symlink(program, link)
         self.program = self.programs[0]

@@ -92,6 +92,7 @@ for each in python3 /usr/bin/python3; do
 done
 $python -c 'import numpy' 2>/dev/null || echo "skipped numpy: not installed"
 export PYTHONDONTWRITEBYTECODE=1
+export PYTHONPATH="$top/python"
 said "the Python module" $python "$tests/test_trau_fr.py"
 
 # 10,000 periods of each side from a fixed seed, and some from the day's.

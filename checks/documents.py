@@ -28,7 +28,9 @@ import sys
 
 if {"-h", "--help"} & set(sys.argv[1:]):
     sys.exit(print(__doc__.strip()))
-if len(sys.argv) < 3 or any(word.startswith("-") and word not in ("--write", "--no-reasons") for word in sys.argv[3:]):
+if len(sys.argv) < 3 or any(
+    word.startswith("-") and word not in ("--write", "--no-reasons") for word in sys.argv[3:]
+):
     sys.exit("usage: documents.sh [--write] [--no-reasons] [DOCUMENT..]")
 TOP, WORK = pathlib.Path(sys.argv[1]), pathlib.Path(sys.argv[2]).resolve()
 WRITE = "--write" in sys.argv[3:]
@@ -51,7 +53,10 @@ def documents():
         names[:] = [name for name in names if name != "out" and not name.startswith(".")]
         found += [pathlib.Path(folder, name) for name in files if name.endswith(".md")]
     if not NAMED <= set(found):
-        sys.exit("documents.sh: no document " + " ".join(str(path.relative_to(TOP)) for path in NAMED - set(found)))
+        sys.exit(
+            "documents.sh: no document "
+            + " ".join(str(path.relative_to(TOP)) for path in NAMED - set(found))
+        )
     found = [path for path in found if path in NAMED or not NAMED]
     return sorted(found, key=lambda path: (len(path.parts), path))
 
@@ -73,7 +78,11 @@ def sessions(lines):
             start = None
         if mark:
             fence = mark.group(1)
-        elif start is None and line.startswith(INDENT + "$ ") and (number == 0 or not lines[number - 1]):
+        elif (
+            start is None
+            and line.startswith(INDENT + "$ ")
+            and (number == 0 or not lines[number - 1])
+        ):
             start = number
     return found
 
@@ -113,12 +122,21 @@ def run(session, folder):
     for name in ("examples", "tools", "core"):
         if (TOP / name).exists():
             shutil.copytree(TOP / name, place / name, ignore=MADE)
-    shutil.copytree(TOP / "examples/farm/wanted", place / "examples/farm/wanted", dirs_exist_ok=True)
+    shutil.copytree(
+        TOP / "examples/farm/wanted", place / "examples/farm/wanted", dirs_exist_ok=True
+    )
     surroundings = {name: value for name, value in os.environ.items() if name not in LEFT_OUT}
-    surroundings.update(LC_ALL="C", TMPDIR=str(folder / "tmp"), HOME=str(folder / "tmp"), PYTHONDONTWRITEBYTECODE="1")
+    surroundings.update(
+        LC_ALL="C",
+        TMPDIR=str(folder / "tmp"),
+        HOME=str(folder / "tmp"),
+        PYTHONDONTWRITEBYTECODE="1",
+    )
     streams = {"stdin": subprocess.DEVNULL, "stdout": subprocess.PIPE, "stderr": subprocess.STDOUT}
     try:
-        ran = subprocess.run(["sh", "-c", script(session)], cwd=place, env=surroundings, timeout=PATIENCE, **streams)
+        ran = subprocess.run(
+            ["sh", "-c", script(session)], cwd=place, env=surroundings, timeout=PATIENCE, **streams
+        )
         text = ran.stdout.decode(errors="replace")
     except subprocess.TimeoutExpired:
         text = f"no end within {PATIENCE} seconds"
@@ -132,7 +150,10 @@ def run(session, folder):
 def headings(text):
     """The name that a link has for each heading: its words in small letters without signs, and a hyphen for each space."""
     shown = re.sub(r"^(```+|~~~+).*?^\1\s*$", "", text, flags=re.M | re.S)
-    return {re.sub(r"[^\w -]", "", words).lower().replace(" ", "-") for words in re.findall(r"^#+ (.+?) *$", shown, re.M)}
+    return {
+        re.sub(r"[^\w -]", "", words).lower().replace(" ", "-")
+        for words in re.findall(r"^#+ (.+?) *$", shown, re.M)
+    }
 
 
 def links(path, text):
@@ -170,7 +191,9 @@ def functions(text):
 
 def conflicts(lines):
     """The lines that git put where two versions differ, and that were left there."""
-    left = [number for number, line in enumerate(lines) if line.startswith(("<<<<<<< ", ">>>>>>> "))]
+    left = [
+        number for number, line in enumerate(lines) if line.startswith(("<<<<<<< ", ">>>>>>> "))
+    ]
     return [f"line {number + 1} is left of a merge: {lines[number]}" for number in left]
 
 
@@ -184,15 +207,27 @@ def main():
     for path in documents():
         name = path.relative_to(TOP)
         lines = path.read_text().split("\n")
-        shown = [(start, end, [line[len(INDENT) :] for line in lines[start:end]]) for start, end in sessions(lines)]
+        shown = [
+            (start, end, [line[len(INDENT) :] for line in lines[start:end]])
+            for start, end in sessions(lines)
+        ]
         text = "\n".join(lines)
-        differences = [f"{name}: {fault}" for fault in links(path, text) + quotes(text) + functions(text) + conflicts(lines)]
+        differences = [
+            f"{name}: {fault}"
+            for fault in links(path, text) + quotes(text) + functions(text) + conflicts(lines)
+        ]
         new = []
         for number, (start, end, session) in enumerate(shown):
             got = run(session, WORK / f"{number}")
             new.append((start, end, got))
             if compared(got) != compared(session):
-                differences += difflib.unified_diff(session, got, f"{name}, line {start + 1}", "what the commands print", lineterm="")
+                differences += difflib.unified_diff(
+                    session,
+                    got,
+                    f"{name}, line {start + 1}",
+                    "what the commands print",
+                    lineterm="",
+                )
         if WRITE and differences:
             for start, end, got in reversed(new):
                 lines[start:end] = [(INDENT + line).rstrip() for line in got]

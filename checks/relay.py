@@ -15,7 +15,9 @@ def bits_of(octets):
 
 
 def octets_of(bits):
-    return bytes(sum(bit << (7 - k) for k, bit in enumerate(bits[i : i + 8])) for i in range(0, len(bits), 8))
+    return bytes(
+        sum(bit << (7 - k) for k, bit in enumerate(bits[i : i + 8])) for i in range(0, len(bits), 8)
+    )
 
 
 def downlink_frame(uplink_frame):
@@ -34,7 +36,10 @@ def main():
     assert len(DATA) == 260
     wanted = b"".join(downlink_frame(uplink[i : i + 40]) for i in range(0, len(uplink), 40))
     if wanted != downlink:
-        place = next((i for i, (a, b) in enumerate(zip(wanted, downlink)) if a != b), min(len(wanted), len(downlink)))
+        place = next(
+            (i for i, (a, b) in enumerate(zip(wanted, downlink)) if a != b),
+            min(len(wanted), len(downlink)),
+        )
         sys.exit(f"octet {place} of the downlink is wrong")
     print(f"{len(uplink) // 40} frames equal")
 

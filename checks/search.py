@@ -8,10 +8,9 @@ import pathlib
 import sys
 
 sys.dont_write_bytecode = True
-sys.path.insert(0, str(pathlib.Path(__file__).resolve().parents[1]))
 
-from core.frame import bits_of, octets_of  # noqa: E402
-from core.profile import FRAME_BITS  # noqa: E402
+from trau.rules.frame import bits_of, octets_of
+from trau.rules.profile import FRAME_BITS
 
 
 PERIODS = 12
@@ -35,7 +34,11 @@ def line(frame, places):
 
 def text(answers):
     """The text for the answers of a line, of which there is one a period: a frame's place, -2 less that of a miss, or -1 for none."""
-    yields = [f"{answer} good\n" if answer >= 0 else f"{-2 - answer} miss\n" for answer in answers if answer != -1]
+    yields = [
+        f"{answer} good\n" if answer >= 0 else f"{-2 - answer} miss\n"
+        for answer in answers
+        if answer != -1
+    ]
     return "".join(yields) + f"frames {len(yields)} left 0\n"
 
 
@@ -44,7 +47,9 @@ def rows(path):
 
 
 def main():
-    vectors, frame = pathlib.Path(sys.argv[1]), bits_of(pathlib.Path(sys.argv[2]).read_bytes()[: FRAME_BITS // 8])
+    vectors, frame = pathlib.Path(sys.argv[1]), bits_of(
+        pathlib.Path(sys.argv[2]).read_bytes()[: FRAME_BITS // 8]
+    )
     offsets, lines = rows(vectors / "offsets.txt"), rows(vectors / "lines.txt")
     places = [(offset,) for offset in range(FRAME_BITS)] + list(LINES)
     if [len(row) for row in offsets + lines] != [PERIODS] * len(places):

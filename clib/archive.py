@@ -15,10 +15,9 @@ import tempfile
 from pathlib import Path
 from typing import List, NoReturn
 
-TOP = Path(__file__).resolve().parents[1]
-sys.path.insert(0, str(TOP / "tools"))
+from trau.packing import build
 
-import build  # noqa: E402
+TOP = Path(__file__).resolve().parents[1]
 
 CRATE = "trau_c"
 KINDS = ("x86-64-v2", "x86-64-v3")
@@ -47,10 +46,31 @@ def library(name: str) -> Path:
 
 def words(tools: Path, work: str) -> List[str]:
     """The words of `rattle build` but those on the kind of processor and on what is written."""
-    said = ["build", "--crate-name", CRATE, "src/lib.rt", "--crate-type", "staticlib", "--links", f"{CRATE}=", "--jobs", "1"]
+    said = [
+        "build",
+        "--crate-name",
+        CRATE,
+        "src/lib.rt",
+        "--crate-type",
+        "staticlib",
+        "--links",
+        f"{CRATE}=",
+        "--jobs",
+        "1",
+    ]
     said += ["--backend", "llvm", "--toolchain", str(tools / "toolchain"), "--incremental", work]
-    said += ["--antt-project", str(tools / "rattle" / "logic" / "antt-project.json"), "--logic-built", str(tools / "logic_built")]
-    said += ["--extern", f"std={tools / 'rlibs' / 'std.rlib'}", "-L", f"dependency={tools / 'rlibs'}"]
+    said += [
+        "--antt-project",
+        str(tools / "rattle" / "logic" / "antt-project.json"),
+        "--logic-built",
+        str(tools / "logic_built"),
+    ]
+    said += [
+        "--extern",
+        f"std={tools / 'rlibs' / 'std.rlib'}",
+        "-L",
+        f"dependency={tools / 'rlibs'}",
+    ]
     for name in build.crates_of(TOP)[CRATE]:
         said += ["--extern", f"{name}={library(name)}"]
     for name in build.needed(TOP, CRATE)[1:]:
@@ -59,13 +79,23 @@ def words(tools: Path, work: str) -> List[str]:
 
 
 def main() -> int:
-    parser = argparse.ArgumentParser(prog="clib/archive.py", description=__doc__, formatter_class=argparse.RawTextHelpFormatter)
+    parser = argparse.ArgumentParser(
+        prog="clib/archive.py", description=__doc__, formatter_class=argparse.RawTextHelpFormatter
+    )
     parser.add_argument("folder", metavar="FOLDER", type=Path, help="the folder of the two files")
     to, tools = parser.parse_args().folder.resolve(), kit()
     with tempfile.TemporaryDirectory() as work:
         for kind in KINDS:
-            command = [str(tools / "bin" / "rattle"), *words(tools, work), f"--cpu={kind}", "-o", str(to / f"{kind}.a")]
-            status = subprocess.run(command, cwd=TOP / "crates" / CRATE, stdin=subprocess.DEVNULL).returncode
+            command = [
+                str(tools / "bin" / "rattle"),
+                *words(tools, work),
+                f"--cpu={kind}",
+                "-o",
+                str(to / f"{kind}.a"),
+            ]
+            status = subprocess.run(
+                command, cwd=TOP / "crates" / CRATE, stdin=subprocess.DEVNULL
+            ).returncode
             if status:
                 return status
     return 0

@@ -1,16 +1,10 @@
-"""The model as a program: takes the words, the files of the current folder and the standard streams of `trau`.
+"""The model of `trau` (python/trau/model/program.py), with standard input as descriptor 3. The script model/trau beside this starts it."""
 
-`model/trau` starts it, with standard input as descriptor 3.
-"""
-
-import pathlib
 import sys
+from pathlib import Path
 
-# This folder's modules are the package `model`; by themselves they would hide modules of the standard library. The top has the package `core` too.
-sys.path[0] = str(pathlib.Path(__file__).resolve().parents[1])
+sys.path.insert(0, str(Path(__file__).resolve().parents[1] / "python"))
 
-from model.lines import Folder, Streams  # noqa: E402
-from model.top import top  # noqa: E402
+from trau.model.program import main  # noqa: E402
 
-if __name__ == "__main__":
-    sys.exit(top(sys.argv[1:], Folder(), Streams(reads=3, writes=1)))
+sys.exit(main(sys.argv[1:], reads=3))

@@ -1,84 +1,11 @@
 #!/usr/bin/env python3
-"""Proves and builds a program for a kind of processor, over the libraries that `rt ci` has just proved.
+"""Proves and builds the program for a kind of processor (python/trau/packing/build_for.py)."""
 
-    build_for.py TOP CRATE KIND      such as build_for.py . trau_program x86-64-v3
-
-`rt ci` builds only for x86-64-v2. This does the same with --cpu=KIND added: it refuses the same texts, proves the crate from nothing over the
-statements of the libraries in TOP/crates/*/out, holds the verdict to the same words, which then name the kind, and holds what the linked
-program may call to HANDLES. It loads the toolchain's own `rt` for that. It makes crates/CRATE/out/CRATE.KIND. Status 0: the program is proved and built.
-"""
-
-import tool_start  # first, for what comes after it
-
-import importlib.machinery
-import importlib.util
-import os
-import re
-import shutil
 import sys
-from types import ModuleType
-from typing import Any, Sequence
+from pathlib import Path
 
-from core.words import Refusal, Words
-from tool_ends import tool
+sys.path.insert(0, str(Path(__file__).resolve().parents[1] / "python"))
 
+from trau.programs import build_for  # noqa: E402
 
-def toolchain() -> ModuleType:
-    """The toolchain's command rt, as a module."""
-    path = shutil.which("rt")
-    if not path:
-        raise Refusal("the Rattle toolchain's command rt isn't on the path")
-    loader = importlib.machinery.SourceFileLoader("toolchain_rt", os.path.realpath(path))
-    made = importlib.util.module_from_spec(importlib.util.spec_from_loader(loader.name, loader))
-    loader.exec_module(made)
-    return made
-
-
-def check_text(rt: ModuleType, crate: Any) -> None:
-    """Refuses a crate whose text `rt ci` refuses before it proves it."""
-    rt.rtlib.stop_on_links(crate.folder)
-    rt.rtlib.stop_on_unread(crate.folder, [crate])
-    rt.rtlib.stop_on_text(crate, "verdict")
-    rt.stop_on_words(crate)
-    code = rt.rtlib.code_of(crate.folder)
-    beyond = [words for handle, words in rt.REACHES.items() if handle not in crate.allowed]
-    if any(re.search(words, code) for words in (rt.RENAMES, rt.IGNORED, *beyond)):
-        raise Refusal(f"{crate.name}: rt ci refuses its text, and says why")
-    if rt.rtlib.fmt(crate.folder, "--check", sys.stdout):
-        raise Refusal(f"{crate.name}: isn't laid out as rt fmt does it")
-
-
-def build(top: str, crate: str, kind: str) -> int:
-    """Proves, compiles and links the program."""
-    rt = toolchain()
-    # (Its first call sets a signal's handler, which only the main thread may.)
-    rt.rtlib.guarded()
-    rt.rtlib.Crate = rt.Crate
-    rt.Crate.allowed = rt.handles_of(top)
-    program = rt.Crate(f"{top}/crates/{crate}", top, {})
-    check_text(rt, program)
-    jobs = max(1, min(4, rt.processors(), int(0.85 * rt.free() / rt.need(program))))
-    words = program.words(["--jobs", str(jobs), f"--cpu={kind}"], keeps=False)
-    to = f"out/{crate}.{kind}"
-    status = program.prove(["build", *words, "--toolchain", f"{rt.KIT}/toolchain", "--backend", "llvm", "-o", f"{to}.o"])
-    status = status or program.link(f"{to}.o", f"{to}.new")
-    if status == 0:
-        os.replace(f"{program.folder}/{to}.new", f"{program.folder}/{to}")
-        os.remove(f"{program.folder}/{to}.o")
-    return status
-
-
-@tool("build_for.py", prints=False)
-def main(words: Sequence[str]) -> int:
-    """Runs the words of the command line, and returns the exit status."""
-    parser = Words(__doc__)
-    parser.add_argument("top", metavar="TOP", help="the top of the repository")
-    parser.add_argument("crate", metavar="CRATE", help="the program's crate")
-    parser.add_argument("kind", metavar="KIND", help="the kind of processor")
-    asked = parser.parse_args(words)
-    return build(os.path.realpath(asked.top), asked.crate, asked.kind)
-
-
-if __name__ == "__main__":
-    sys.dont_write_bytecode = True
-    sys.exit(main(sys.argv[1:]))
+sys.exit(build_for())

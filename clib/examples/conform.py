@@ -12,7 +12,7 @@ from array import array
 from pathlib import Path
 from typing import Dict, List, NoReturn, Optional, Sequence
 
-sys.path.insert(0, str(Path(__file__).resolve().parents[1]))
+sys.path.insert(0, str(Path(__file__).resolve().parents[2] / "python"))
 
 RATIOS = ("LARc 1", "LARc 2", "LARc 3", "LARc 4", "LARc 5", "LARc 6", "LARc 7", "LARc 8")
 RATIO_WIDTHS = (6, 6, 5, 5, 4, 4, 3, 3)
@@ -30,7 +30,7 @@ def fail(why: str) -> NoReturn:
 
 
 try:
-    import trau_fr
+    from trau import trau_fr
 except OSError as missing:
     fail(f"no library: {missing}")
 
@@ -55,7 +55,9 @@ def packed(parameters: Sequence[int], where: str) -> bytes:
     number = MAGIC
     for name, value, width in zip(NAMES, parameters, WIDTHS):
         if not 0 <= value < 1 << width:
-            fail(f"{where}: {name} is {value}, and has {width} bits (is --byte-order the right one?)")
+            fail(
+                f"{where}: {name} is {value}, and has {width} bits (is --byte-order the right one?)"
+            )
         number = number << width | value
     return number.to_bytes(trau_fr.OCTETS, "big")
 
@@ -96,7 +98,9 @@ class Coder:
         return list(samples)
 
 
-def difference(wanted: Sequence[Sequence[int]], got: Sequence[Sequence[int]], names: Sequence[str]) -> Optional[str]:
+def difference(
+    wanted: Sequence[Sequence[int]], got: Sequence[Sequence[int]], names: Sequence[str]
+) -> Optional[str]:
     """Where two lists of frames differ first."""
     for k, (frame, other) in enumerate(zip(wanted, got)):
         for name, value, given in zip(names, frame, other):
@@ -112,12 +116,20 @@ def tests_of(files: Dict[str, Path], asked: argparse.Namespace) -> Dict[str, Opt
     found, coder = {}, Coder(asked.homing)
     codes = words_of(files[".cod"], len(WIDTHS), asked.byte_order)
     if ".inp" in files:
-        got = [coder.encode(frame) for frame in words_of(files[".inp"], trau_fr.SAMPLES, asked.byte_order)]
+        got = [
+            coder.encode(frame)
+            for frame in words_of(files[".inp"], trau_fr.SAMPLES, asked.byte_order)
+        ]
         found[f"encoder, {len(codes)} frames"] = difference(codes, got, NAMES)
     if ".out" in files:
         samples = words_of(files[".out"], trau_fr.SAMPLES, asked.byte_order)
-        heard = [coder.decode(packed(frame, f"{files['.cod']}, frame {k}")) for k, frame in enumerate(codes)]
-        found[f"decoder, {len(codes)} frames"] = difference(samples, heard, [f"sample {i}" for i in range(trau_fr.SAMPLES)])
+        heard = [
+            coder.decode(packed(frame, f"{files['.cod']}, frame {k}"))
+            for k, frame in enumerate(codes)
+        ]
+        found[f"decoder, {len(codes)} frames"] = difference(
+            samples, heard, [f"sample {i}" for i in range(trau_fr.SAMPLES)]
+        )
     return found
 
 
@@ -125,7 +137,9 @@ def sequences_in(folder: Path) -> Dict[str, Dict[str, Path]]:
     """The files of each sequence by their endings, in small or capital letters."""
     found: Dict[str, Dict[str, Path]] = {}
     try:
-        files = sorted(file for file in folder.iterdir() if file.suffix.lower() in (".inp", ".cod", ".out"))
+        files = sorted(
+            file for file in folder.iterdir() if file.suffix.lower() in (".inp", ".cod", ".out")
+        )
     except OSError as error:
         fail(f"{folder}: {error.strerror}")
     for file in files:
@@ -134,10 +148,21 @@ def sequences_in(folder: Path) -> Dict[str, Dict[str, Path]]:
 
 
 def main() -> int:
-    parser = argparse.ArgumentParser(prog="conform.py", description=__doc__, formatter_class=argparse.RawTextHelpFormatter)
+    parser = argparse.ArgumentParser(
+        prog="conform.py", description=__doc__, formatter_class=argparse.RawTextHelpFormatter
+    )
     parser.add_argument("folder", metavar="FOLDER", type=Path, help="the folder of the sequences")
-    parser.add_argument("--byte-order", choices=("little", "big"), default="little", help="of the words (default little)")
-    parser.add_argument("--homing", action="store_true", help="coder and decoder have homing frames, which the library hasn't")
+    parser.add_argument(
+        "--byte-order",
+        choices=("little", "big"),
+        default="little",
+        help="of the words (default little)",
+    )
+    parser.add_argument(
+        "--homing",
+        action="store_true",
+        help="coder and decoder have homing frames, which the library hasn't",
+    )
     asked = parser.parse_args()
     sequences = sequences_in(asked.folder)
     if not sequences:

@@ -11,7 +11,7 @@ import sys
 from pathlib import Path
 from typing import Any, List, NoReturn, Optional, Tuple
 
-sys.path.insert(0, str(Path(__file__).resolve().parents[1]))
+sys.path.insert(0, str(Path(__file__).resolve().parents[2] / "python"))
 
 
 def fail(why: str) -> NoReturn:
@@ -20,7 +20,7 @@ def fail(why: str) -> NoReturn:
 
 
 try:
-    import trau_fr
+    from trau import trau_fr
 except OSError as missing:
     fail(f"no library: {missing}")
 
@@ -119,7 +119,9 @@ def push_file(network: Any, frames: bytes, lost: str) -> None:
         if lost[k : k + 1] == "1":
             continue
         header = struct.pack(">BBHII", 0x80, 3, k % NUMBERS, 160 * k, 1)
-        buffer = Gst.Buffer.new_wrapped(header + frames[trau_fr.OCTETS * k : trau_fr.OCTETS * (k + 1)])
+        buffer = Gst.Buffer.new_wrapped(
+            header + frames[trau_fr.OCTETS * k : trau_fr.OCTETS * (k + 1)]
+        )
         buffer.pts = buffer.dts = k * PERIOD
         network.emit("push-buffer", buffer)
     network.emit("end-of-stream")
@@ -130,32 +132,56 @@ def wait_for_end(bus: Any) -> Any:
     ended = None
     try:
         while ended is None:
-            ended = bus.timed_pop_filtered(Gst.SECOND // 5, Gst.MessageType.EOS | Gst.MessageType.ERROR)
+            ended = bus.timed_pop_filtered(
+                Gst.SECOND // 5, Gst.MessageType.EOS | Gst.MessageType.ERROR
+            )
     except KeyboardInterrupt:
         pass
     return ended
 
 
 def words() -> argparse.Namespace:
-    parser = argparse.ArgumentParser(prog="gst_host.py", description=__doc__, formatter_class=argparse.RawTextHelpFormatter)
+    parser = argparse.ArgumentParser(
+        prog="gst_host.py", description=__doc__, formatter_class=argparse.RawTextHelpFormatter
+    )
     source = parser.add_mutually_exclusive_group(required=True)
     source.add_argument("--port", type=int, help="UDP port on which the packets come")
     source.add_argument("--file", type=Path, help="a file of libgsm")
-    parser.add_argument("--lost", type=Path, help="a text with a digit for each frame of the file: 1 if its packet is lost")
-    parser.add_argument("--sink", default="autoaudiosink", help="where the sound goes (default autoaudiosink)")
-    parser.add_argument("--seed", type=int, default=1, help="of the random numbers: the call's number (default 1)")
-    parser.add_argument("--latency", type=int, default=200, help="of the jitter buffer, in milliseconds (default 200)")
+    parser.add_argument(
+        "--lost",
+        type=Path,
+        help="a text with a digit for each frame of the file: 1 if its packet is lost",
+    )
+    parser.add_argument(
+        "--sink", default="autoaudiosink", help="where the sound goes (default autoaudiosink)"
+    )
+    parser.add_argument(
+        "--seed", type=int, default=1, help="of the random numbers: the call's number (default 1)"
+    )
+    parser.add_argument(
+        "--latency",
+        type=int,
+        default=200,
+        help="of the jitter buffer, in milliseconds (default 200)",
+    )
     return parser.parse_args()
 
 
 def main() -> int:
     asked = words()
     Gst.init(None)
-    network = f"appsrc name=network format=time caps={CAPS}" if asked.file else f"udpsrc port={asked.port} caps={CAPS}"
+    network = (
+        f"appsrc name=network format=time caps={CAPS}"
+        if asked.file
+        else f"udpsrc port={asked.port} caps={CAPS}"
+    )
     text = f"{network} ! rtpjitterbuffer do-lost=true latency={asked.latency} ! fakesink name=heard sync=false async=false "
     live = "false" if asked.file else "true"
     try:
-        pipeline = Gst.parse_launch(text + f"appsrc name=sound format=time is-live={live} caps={SOUND} ! audioconvert ! {asked.sink}")
+        pipeline = Gst.parse_launch(
+            text
+            + f"appsrc name=sound format=time is-live={live} caps={SOUND} ! audioconvert ! {asked.sink}"
+        )
         frames = asked.file.read_bytes() if asked.file else b""
         lost = asked.lost.read_text() if asked.lost else ""
     except (GLib.Error, OSError) as error:

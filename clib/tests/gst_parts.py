@@ -14,11 +14,10 @@ from types import SimpleNamespace
 from typing import Any, Dict, List, Optional, Sequence
 
 HERE = Path(__file__).resolve().parent
-sys.path[:0] = [str(HERE.parent), str(HERE.parent / "examples")]
 
-import gst_host  # noqa: E402
-import trau_fr  # noqa: E402
-from gst_host import Gst  # noqa: E402
+import gst_host
+from trau import trau_fr
+from gst_host import Gst
 
 FRAMES = [(HERE / "data" / "harsh.gsm").read_bytes()[at : at + 33] for at in range(0, 3300, 33)]
 PERIOD = 20_000_000
@@ -45,12 +44,30 @@ class Kept:
         return [each.extract_dup(0, each.get_size()) for each in self.buffers]
 
 
-def packet(number: int, *frames: bytes, sources: int = 0, extension: Optional[int] = None, padding: int = 0, stamp: Optional[int] = None) -> bytes:
+def packet(
+    number: int,
+    *frames: bytes,
+    sources: int = 0,
+    extension: Optional[int] = None,
+    padding: int = 0,
+    stamp: Optional[int] = None,
+) -> bytes:
     """A packet with so many contributing sources, an extension of so many words, and so many octets of padding."""
     first = 0x80 | (padding > 0) << 5 | (extension is not None) << 4 | sources
-    more = b"" if extension is None else struct.pack(">HH", 0xBEDE, extension) + bytes([0xD1]) * 4 * extension
+    more = (
+        b""
+        if extension is None
+        else struct.pack(">HH", 0xBEDE, extension) + bytes([0xD1]) * 4 * extension
+    )
     after = bytes(padding - 1) + bytes([padding]) if padding else b""
-    header = struct.pack(">BBHII", first, 0x83, number % 65536, (160 * number if stamp is None else stamp) % (1 << 32), 1)
+    header = struct.pack(
+        ">BBHII",
+        first,
+        0x83,
+        number % 65536,
+        (160 * number if stamp is None else stamp) % (1 << 32),
+        1,
+    )
     return header + b"\xd2" * 4 * sources + more + b"".join(frames) + after
 
 
@@ -74,19 +91,37 @@ class Heard(unittest.TestCase):
     def lose(self, number: int, duration: int = PERIOD) -> None:
         """The jitter buffer gives packets up: this one, and those that it takes to be in this time."""
         text = f"GstRTPPacketLost, seqnum=(uint){number}, timestamp=(guint64)0, duration=(guint64){duration}, retry=(uint)0"
-        self.tell(Gst.Event.new_custom(Gst.EventType.CUSTOM_DOWNSTREAM, Gst.Structure.new_from_string(text)))
+        self.tell(
+            Gst.Event.new_custom(
+                Gst.EventType.CUSTOM_DOWNSTREAM, Gst.Structure.new_from_string(text)
+            )
+        )
 
     def assert_played(self, frames: Sequence[Optional[bytes]], start: int = 0) -> None:
         """These periods were played so far, 20 ms each."""
-        self.assertEqual((len(self.sound.buffers), self.heard.periods, self.heard.lost), (len(frames), len(frames), frames.count(None)))
+        self.assertEqual(
+            (len(self.sound.buffers), self.heard.periods, self.heard.lost),
+            (len(frames), len(frames), frames.count(None)),
+        )
         receiver = trau_fr.Receiver(5)
         wanted = [receiver.receive(frame).tobytes() for frame in frames]
-        self.assertEqual([k for k, octets in enumerate(self.sound.octets()) if octets != wanted[k]], [], "periods that differ")
+        self.assertEqual(
+            [k for k, octets in enumerate(self.sound.octets()) if octets != wanted[k]],
+            [],
+            "periods that differ",
+        )
         times = [(each.pts, each.duration) for each in self.sound.buffers]
         self.assertEqual(times, [(start + k * PERIOD, PERIOD) for k in range(len(frames))])
 
     def test_headers(self) -> None:
-        kinds: List[Dict[str, int]] = [{}, {"sources": 3}, {"sources": 15}, {"extension": 0}, {"extension": 3}, {"sources": 2, "extension": 1}]
+        kinds: List[Dict[str, int]] = [
+            {},
+            {"sources": 3},
+            {"sources": 15},
+            {"extension": 0},
+            {"extension": 3},
+            {"sources": 2, "extension": 1},
+        ]
         for number, words in enumerate(kinds):
             self.bring(packet(number, FRAMES[number], **words))
         self.bring(packet(6, FRAMES[6], padding=35))
@@ -175,13 +210,20 @@ class File(unittest.TestCase):
     def test_more_packets_than_numbers(self) -> None:
         Gst.init(None)
         network, count = Kept(), 65536 + 3
-        gst_host.push_file(network, b"".join(FRAMES[k % 100] for k in range(count)), "0" * 65530 + "1" + "0")
+        gst_host.push_file(
+            network, b"".join(FRAMES[k % 100] for k in range(count)), "0" * 65530 + "1" + "0"
+        )
         self.assertTrue(network.is_over)
         sent = [k for k in range(count) if k != 65530]
         self.assertEqual(len(network.buffers), len(sent))
-        wanted = [(k * PERIOD, struct.pack(">BBHII", 0x80, 3, k % 65536, 160 * k, 1) + FRAMES[k % 100]) for k in sent]
+        wanted = [
+            (k * PERIOD, struct.pack(">BBHII", 0x80, 3, k % 65536, 160 * k, 1) + FRAMES[k % 100])
+            for k in sent
+        ]
         got = [(each.pts, octets) for each, octets in zip(network.buffers, network.octets())]
-        self.assertEqual([k for k, one in enumerate(got) if one != wanted[k]], [], "packets that differ")
+        self.assertEqual(
+            [k for k, one in enumerate(got) if one != wanted[k]], [], "packets that differ"
+        )
 
 
 if __name__ == "__main__":

@@ -35,7 +35,9 @@ class Port(hosts.GStreamer):
         sink = f"filesink location={sound} buffer-mode=2 sync=true max-lateness=500000000"
         words = [*self.host, "--port", port, "--seed", "7", "--latency", "1000", "--sink", sink]
         pipe = subprocess.PIPE
-        host = subprocess.Popen([str(word) for word in words], env=self.environment, stdout=pipe, stderr=pipe, text=True)
+        host = subprocess.Popen(
+            [str(word) for word in words], env=self.environment, stdout=pipe, stderr=pipe, text=True
+        )
         self.addCleanup(host.communicate)
         self.addCleanup(host.kill)
         end = time.monotonic() + 60
@@ -48,13 +50,23 @@ class Port(hosts.GStreamer):
             begun = time.monotonic()
             for k in sorted(came, key=lambda k: k + 25 * (k == late)):
                 time.sleep(max(0, begun + 0.02 * (k + 25 * (k == late)) - time.monotonic()))
-                sender.sendto(struct.pack(">BBHII", 0x80, 3, (65500 + k) % 65536, 160 * k, 1) + periods[k].octets, ("127.0.0.1", port))
+                sender.sendto(
+                    struct.pack(">BBHII", 0x80, 3, (65500 + k) % 65536, 160 * k, 1)
+                    + periods[k].octets,
+                    ("127.0.0.1", port),
+                )
         wanted = 320 * len(periods)
-        while (not sound.exists() or sound.stat().st_size < wanted) and host.poll() is None and time.monotonic() < end:
+        while (
+            (not sound.exists() or sound.stat().st_size < wanted)
+            and host.poll() is None
+            and time.monotonic() < end
+        ):
             time.sleep(0.01)
         host.send_signal(signal.SIGINT)
         lost = len(periods) - len(came)
-        self.assertEqual((*host.communicate(timeout=60), host.returncode), (f"periods 150 lost {lost}\n", "", 0))
+        self.assertEqual(
+            (*host.communicate(timeout=60), host.returncode), (f"periods 150 lost {lost}\n", "", 0)
+        )
         self.assertEqual(trau_fr.compress(sound.read_bytes()), self.out_line(periods, 7))
 
 

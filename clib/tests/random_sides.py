@@ -18,26 +18,63 @@ from pathlib import Path
 from typing import Callable, List, NamedTuple, Optional, Sequence, Tuple
 
 TOP = Path(__file__).resolve().parents[2]
-sys.path.insert(0, str(TOP))
-sys.path.insert(0, str(TOP / "clib"))
 
-import trau_fr  # noqa: E402
-from core.frame import DownFrame, Kind, Sort, UpFrame, bits_of, octets_of, read_down, read_up, write_down, write_up  # noqa: E402
-from core.g711 import Law, compress_all, expand_all  # noqa: E402
-from core.parameters import WIDTHS, Parameters, bits_of_parameters, parameters_of_bits, parameters_of_values, values_of  # noqa: E402
-from core.search import FRAME  # noqa: E402
-from model import call as calls  # noqa: E402
-from model.codec import Encoder  # noqa: E402
-from model.libgsm import SIGNALS  # noqa: E402
-from model.receive import effective_frames  # noqa: E402
-from model.transmit import Coded, sent_frames  # noqa: E402
+from trau import trau_fr
+from trau.rules.frame import (
+    DownFrame,
+    Kind,
+    Sort,
+    UpFrame,
+    bits_of,
+    octets_of,
+    read_down,
+    read_up,
+    write_down,
+    write_up,
+)
+from trau.rules.g711 import Law, compress_all, expand_all
+from trau.rules.parameters import (
+    WIDTHS,
+    Parameters,
+    bits_of_parameters,
+    parameters_of_bits,
+    parameters_of_values,
+    values_of,
+)
+from trau.rules.search import FRAME
+from trau.model import call as calls
+from trau.model.codec import Encoder
+from trau.model.libgsm import SIGNALS
+from trau.model.receive import effective_frames
+from trau.model.transmit import Coded, sent_frames
 
 LAWS = {Law.A: "alaw", Law.MU: "mulaw"}
-KINDS = {Sort.GOOD: trau_fr.Kind.SPEECH, Sort.SID: trau_fr.Kind.DESCRIPTOR, Sort.BAD: trau_fr.Kind.LOST, Sort.IDLE: trau_fr.Kind.IDLE}
+KINDS = {
+    Sort.GOOD: trau_fr.Kind.SPEECH,
+    Sort.SID: trau_fr.Kind.DESCRIPTOR,
+    Sort.BAD: trau_fr.Kind.LOST,
+    Sort.IDLE: trau_fr.Kind.IDLE,
+}
 MAGIC = 13
 UNKNOWN = (4, 7, 255, 256, 65536, 1 << 31, (1 << 32) - 1)
 # Kinds with the numbers of periods that follow each other; -1 stands for an unknown one.
-STRETCHES = ((0, 1), (0, 5), (0, 12), (2, 1), (2, 3), (2, 9), (2, 25), (2, 40), (1, 1), (1, 1), (1, 1), (1, 2), (3, 1), (-1, 1), (-1, 3))
+STRETCHES = (
+    (0, 1),
+    (0, 5),
+    (0, 12),
+    (2, 1),
+    (2, 3),
+    (2, 9),
+    (2, 25),
+    (2, 40),
+    (1, 1),
+    (1, 1),
+    (1, 1),
+    (1, 2),
+    (3, 1),
+    (-1, 1),
+    (-1, 3),
+)
 LOUD = 12000
 # Frames of loud noise between two pauses: 24 decide whether the second one has a hangover.
 LOUD_FRAMES = (9, 22, 23, 23, 24, 24, 25)
@@ -81,7 +118,9 @@ def line_of(draw: random.Random, law: Law, periods: int) -> bytes:
     samples: List[int] = []
     while len(samples) < trau_fr.SAMPLES * periods:
         samples += signal(draw)
-        samples += [draw.randrange(-60, 60) for _ in range(trau_fr.SAMPLES * draw.choice((0, 3, 8, 30, 45)))]
+        samples += [
+            draw.randrange(-60, 60) for _ in range(trau_fr.SAMPLES * draw.choice((0, 3, 8, 30, 45)))
+        ]
     return compress_all(law, samples[: trau_fr.SAMPLES * periods])
 
 
@@ -130,7 +169,9 @@ class Heard(NamedTuple):
     quiet: bool
 
 
-def heard_by_model(number: int, law: Law, frames: Sequence[UpFrame], bridges: Sequence[calls.Span]) -> List[Heard]:
+def heard_by_model(
+    number: int, law: Law, frames: Sequence[UpFrame], bridges: Sequence[calls.Span]
+) -> List[Heard]:
     """What the model makes of the frames of an uplink."""
     count, uplink = len(frames), calls.Uplink([], frames, effective_frames(number, frames))
     call = calls.Call(number, law, count, uplink, b"", [], bridges)
@@ -141,21 +182,27 @@ def heard_by_model(number: int, law: Law, frames: Sequence[UpFrame], bridges: Se
     return [Heard(each, frame is None) for each, frame in zip(octets, uplink.effective)]
 
 
-def heard_by_library(number: int, law: Law, periods: Sequence[Period], bridges: Sequence[calls.Span]) -> List[Heard]:
+def heard_by_library(
+    number: int, law: Law, periods: Sequence[Period], bridges: Sequence[calls.Span]
+) -> List[Heard]:
     """The same by a receiver."""
     receiver, found = trau_fr.Receiver(number), []
     for k, period in enumerate(periods):
         if any(span.start <= k < span.end for span in bridges):
             octets = receiver.hand(period.octets, period.kind, period.taf)
         else:
-            octets = trau_fr.compress(receiver.receive(period.octets, period.kind, period.taf), LAWS[law])
+            octets = trau_fr.compress(
+                receiver.receive(period.octets, period.kind, period.taf), LAWS[law]
+            )
         found.append(Heard(octets, receiver.quiet))
     return found
 
 
 def line_by_model(frame: UpFrame) -> Tuple[bytes, trau_fr.Line]:
     """The 40 octets of an uplink frame, and what is read of them."""
-    return octets_of(write_up(frame)), trau_fr.Line(packed(parameters_of_bits(frame.data)), KINDS[frame.sort], frame.taf)
+    return octets_of(write_up(frame)), trau_fr.Line(
+        packed(parameters_of_bits(frame.data)), KINDS[frame.sort], frame.taf
+    )
 
 
 def line_by_library(period: Period) -> Tuple[bytes, trau_fr.Line]:
@@ -178,7 +225,11 @@ def uplink_by_model(octets: bytes) -> Optional[trau_fr.Line]:
     frame = read_up(bits)
     # An invalid descriptor and a frame of another pattern count as a miss does: no descriptor was due.
     is_heard, kind = frame.sort in KINDS, KINDS.get(frame.sort, trau_fr.Kind.LOST)
-    return trau_fr.Line(packed(parameters_of_bits(frame.data)), kind, is_heard and frame.taf) if FRAME.fullmatch(bits) else None
+    return (
+        trau_fr.Line(packed(parameters_of_bits(frame.data)), kind, is_heard and frame.taf)
+        if FRAME.fullmatch(bits)
+        else None
+    )
 
 
 def downlink_by_model(octets: bytes) -> Optional[trau_fr.Line]:
@@ -187,7 +238,11 @@ def downlink_by_model(octets: bytes) -> Optional[trau_fr.Line]:
     frame = read_down(bits)
     speech = trau_fr.Kind.SPEECH if frame.sp else trau_fr.Kind.DESCRIPTOR
     kind = {Kind.SPEECH: speech, Kind.IDLE: trau_fr.Kind.IDLE}.get(frame.kind, trau_fr.Kind.LOST)
-    return trau_fr.Line(packed(parameters_of_bits(frame.data)), kind, False) if FRAME.fullmatch(bits) else None
+    return (
+        trau_fr.Line(packed(parameters_of_bits(frame.data)), kind, False)
+        if FRAME.fullmatch(bits)
+        else None
+    )
 
 
 def by_library(read: Callable[[bytes], trau_fr.Line], octets: bytes) -> Optional[trau_fr.Line]:
@@ -201,10 +256,16 @@ def by_library(read: Callable[[bytes], trau_fr.Line], octets: bytes) -> Optional
 def reading_differs(draw: random.Random, count: int) -> Optional[int]:
     """The first of so many spoiled frames of lines that library and model don't read alike, an uplink frame and a downlink frame in turn."""
     periods = periods_of(draw, Law.A, count)
-    up = [spoiled(draw, trau_fr.write_uplink(period.octets, period.kind, period.taf)) for period in periods]
+    up = [
+        spoiled(draw, trau_fr.write_uplink(period.octets, period.kind, period.taf))
+        for period in periods
+    ]
     down = [spoiled(draw, trau_fr.write_downlink(period.octets, period.kind)) for period in periods]
     wanted = zip(map(uplink_by_model, up), map(downlink_by_model, down))
-    got = zip((by_library(trau_fr.read_uplink, each) for each in up), (by_library(trau_fr.read_downlink, each) for each in down))
+    got = zip(
+        (by_library(trau_fr.read_uplink, each) for each in up),
+        (by_library(trau_fr.read_downlink, each) for each in down),
+    )
     return first_difference(list(wanted), list(got))
 
 
@@ -219,7 +280,10 @@ def receiving_differs(draw: random.Random, count: int) -> Optional[int]:
     periods, bridges = periods_of(draw, law, count), bridges_of(draw, count)
     frames = [uplink_frame(period) for period in periods]
     wanted = zip(heard_by_model(number, law, frames, bridges), map(line_by_model, frames))
-    return first_difference(list(wanted), list(zip(heard_by_library(number, law, periods, bridges), map(line_by_library, periods))))
+    return first_difference(
+        list(wanted),
+        list(zip(heard_by_library(number, law, periods, bridges), map(line_by_library, periods))),
+    )
 
 
 class Settings(NamedTuple):
@@ -240,19 +304,31 @@ def settings_of(draw: random.Random, count: int) -> List[Settings]:
     return found
 
 
-def sent_by_model(line: Sequence[Sequence[int]], settings: Sequence[Settings]) -> List[Tuple[trau_fr.Sent, bytes]]:
+def sent_by_model(
+    line: Sequence[Sequence[int]], settings: Sequence[Settings]
+) -> List[Tuple[trau_fr.Sent, bytes]]:
     """What the model sends for samples, and its frames on a downlink."""
     starts = [k for k, one in enumerate(settings) if one.anew] + [len(settings)]
     sent = []
     for start, end in zip(starts, starts[1:]):
         encoder = Encoder()
         stretch = zip(line[start:end], settings[start:end])
-        sent += sent_frames([Coded(encoder.encode(samples), one.level, one.dtx) for samples, one in stretch])
-    down = [write_down(DownFrame(Kind.SPEECH, bits_of_parameters(one.parameters), one.sp)) for one in sent]
-    return [(trau_fr.Sent(packed(one.parameters), one.sp), octets_of(bits)) for one, bits in zip(sent, down)]
+        sent += sent_frames(
+            [Coded(encoder.encode(samples), one.level, one.dtx) for samples, one in stretch]
+        )
+    down = [
+        write_down(DownFrame(Kind.SPEECH, bits_of_parameters(one.parameters), one.sp))
+        for one in sent
+    ]
+    return [
+        (trau_fr.Sent(packed(one.parameters), one.sp), octets_of(bits))
+        for one, bits in zip(sent, down)
+    ]
 
 
-def sent_by_library(line: Sequence[Sequence[int]], settings: Sequence[Settings]) -> List[Tuple[trau_fr.Sent, bytes]]:
+def sent_by_library(
+    line: Sequence[Sequence[int]], settings: Sequence[Settings]
+) -> List[Tuple[trau_fr.Sent, bytes]]:
     """The same by senders."""
     sender, found = trau_fr.Sender(), []
     for samples, one in zip(line, settings):
@@ -289,8 +365,15 @@ def differences_of(call: Tuple[int, int]) -> List[str]:
 
 
 def main() -> int:
-    parser = argparse.ArgumentParser(prog="random_sides.py", description=__doc__, formatter_class=argparse.RawTextHelpFormatter)
-    parser.add_argument("--seed", type=int, default=1, help="of the first call; the next ones have the next seeds (default 1)")
+    parser = argparse.ArgumentParser(
+        prog="random_sides.py", description=__doc__, formatter_class=argparse.RawTextHelpFormatter
+    )
+    parser.add_argument(
+        "--seed",
+        type=int,
+        default=1,
+        help="of the first call; the next ones have the next seeds (default 1)",
+    )
     parser.add_argument("--calls", type=int, default=40, help="(default 40)")
     parser.add_argument("--periods", type=int, default=250, help="of each call (default 250)")
     parser.add_argument("--jobs", type=int, default=2, help="processes (default 2)")

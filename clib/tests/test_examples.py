@@ -20,14 +20,13 @@ HERE = Path(__file__).resolve().parent
 TOP = HERE.parents[1]
 EXAMPLES = HERE.parent / "examples"
 VECTORS = TOP / "checks" / "vectors"
-sys.path[:0] = [str(TOP), str(HERE.parent), str(EXAMPLES), str(HERE)]
 
-import conform  # noqa: E402
-import trau_fr  # noqa: E402
-from core.parameters import parameters_of_bits  # noqa: E402
-from model import call as calls_of_model  # noqa: E402
-from model.receive import effective_frames  # noqa: E402
-from random_sides import Period, first_difference, packed, uplink_frame  # noqa: E402
+import conform
+from trau import trau_fr
+from trau.rules.parameters import parameters_of_bits
+from trau.model import call as calls_of_model
+from trau.model.receive import effective_frames
+from random_sides import Period, first_difference, packed, uplink_frame
 
 LIBRARY = Path(os.environ.get("TRAU_CLIB") or HERE.parent / "out").resolve()
 LOST = trau_fr.Kind.LOST
@@ -50,7 +49,9 @@ def lossy_recording(frames: int) -> Tuple[List[bytes], str]:
     samples = trau_fr.expand((VECTORS / "speech-en-m3.pcm").read_bytes()[: 160 * frames])
     pause = range(frames // 2, frames // 2 + 40)
     level = [32767 if k in pause else 0 for k in range(frames)]
-    sent = [sender.send(samples[160 * k : 160 * k + 160], level[k], True).octets for k in range(frames)]
+    sent = [
+        sender.send(samples[160 * k : 160 * k + 160], level[k], True).octets for k in range(frames)
+    ]
     lost = ""
     while len(lost) < frames:
         lost += "0" * draw.choice((1, 3, 8)) + "1" * draw.choice((1, 1, 2, 5, 20))
@@ -59,7 +60,11 @@ def lossy_recording(frames: int) -> Tuple[List[bytes], str]:
 
 def brought(frame: bytes, lost: str) -> Period:
     """What a period brings: a lost frame, or a frame with the kind of its code word."""
-    return Period(LOST, False, bytes(33)) if lost == "1" else Period(trau_fr.kind_of(frame), False, frame)
+    return (
+        Period(LOST, False, bytes(33))
+        if lost == "1"
+        else Period(trau_fr.kind_of(frame), False, frame)
+    )
 
 
 def damaged(descriptor: bytes) -> bytes:
@@ -90,10 +95,18 @@ class InFolder(unittest.TestCase):
 
     def out_line(self, periods: Sequence[Period], call: int = 1) -> bytes:
         """What the model's `run` writes to Out of a call whose uplink has these periods."""
-        (self.folder / f"{call}.up").write_bytes(b"".join(trau_fr.write_uplink(each.octets, each.kind, each.taf) for each in periods))
+        (self.folder / f"{call}.up").write_bytes(
+            b"".join(trau_fr.write_uplink(each.octets, each.kind, each.taf) for each in periods)
+        )
         (self.folder / f"{call}.pcm").write_bytes(b"\xd5" * 160 * len(periods))
         words = [TOP / "model" / "trau", "run"]
-        subprocess.run(words, input=f"0 open {call}\n".encode(), stdout=subprocess.DEVNULL, cwd=self.folder, check=True)
+        subprocess.run(
+            words,
+            input=f"0 open {call}\n".encode(),
+            stdout=subprocess.DEVNULL,
+            cwd=self.folder,
+            check=True,
+        )
         return (self.folder / f"{call}.out").read_bytes()
 
 
@@ -136,17 +149,32 @@ int main(void)
         """What the example whose first line this is makes of standard input."""
         lines = (HERE.parent / "trau_fr.h").read_text().split("\n")
         start = lines.index(f" *     {first}")
-        end = next(k for k in range(start, len(lines)) if not lines[k].startswith(" *     ") and lines[k].strip() != "*")
+        end = next(
+            k
+            for k in range(start, len(lines))
+            if not lines[k].startswith(" *     ") and lines[k].strip() != "*"
+        )
         source, program = self.folder / "example.c", self.folder / "example"
         source.write_text(before + "\n".join(line[7:] for line in lines[start:end]) + after)
-        words = ["-O2", "-Wall", "-Wextra", f"-I{LIBRARY / 'include'}", "-o", program, source, LIBRARY / "lib" / "libtrau_fr.a"]
+        words = [
+            "-O2",
+            "-Wall",
+            "-Wextra",
+            f"-I{LIBRARY / 'include'}",
+            "-o",
+            program,
+            source,
+            LIBRARY / "lib" / "libtrau_fr.a",
+        ]
         done = run([os.environ.get("CC", "cc"), *words])
         self.assertEqual((done.returncode, done.stderr), (0, ""))
         return subprocess.run([program], input=given, stdout=subprocess.PIPE, check=True).stdout
 
     def test_encoder(self) -> None:
         samples = trau_fr.expand((VECTORS / "harsh.pcm").read_bytes()).tobytes()
-        self.assertEqual(self.output("#include <stdio.h>", samples), (HERE / "data" / "harsh.gsm").read_bytes())
+        self.assertEqual(
+            self.output("#include <stdio.h>", samples), (HERE / "data" / "harsh.gsm").read_bytes()
+        )
 
     def test_receiving_host(self) -> None:
         # Speech, a pause in which the descriptors stop coming, and speech; TAF in each 24th period after the last descriptor.
@@ -157,7 +185,9 @@ int main(void)
         for due in range(last + 24, 150, 24):
             periods[due] = periods[due]._replace(taf=True)
         given = b"".join(bytes([frame is not None]) + (frame or bytes(33)) for frame in came)
-        self.assertEqual(self.output("struct call {", given, self.BEFORE, self.RECEIVES), self.out_line(periods))
+        self.assertEqual(
+            self.output("struct call {", given, self.BEFORE, self.RECEIVES), self.out_line(periods)
+        )
 
     def test_sending_host(self) -> None:
         # Speech, a pause, and speech: of the descriptors of the pause the first and each 24th after it are sent.
@@ -178,7 +208,11 @@ class Conform(InFolder):
     def sequences(self, order: str = "<") -> None:
         """SEQ01.INP, .COD and .OUT in the folder, with words in this order of octets."""
         frames = (HERE / "data" / "harsh.gsm").read_bytes()
-        codes = [value for at in range(0, len(frames), 33) for value in conform.unpacked(frames[at : at + 33])]
+        codes = [
+            value
+            for at in range(0, len(frames), 33)
+            for value in conform.unpacked(frames[at : at + 33])
+        ]
         samples = (HERE / "data" / "harsh.samples").read_bytes()
         self.put(".INP", list(trau_fr.expand((VECTORS / "harsh.pcm").read_bytes())), order)
         self.put(".COD", codes, order)
@@ -206,7 +240,10 @@ class Conform(InFolder):
 
     def test_a_word_that_differs(self) -> None:
         self.sequences()
-        for ending, size, where in ((".COD", 76, "frame 3: Nc of block 1"), (".OUT", 160, "frame 3: sample 8")):
+        for ending, size, where in (
+            (".COD", 76, "frame 3: Nc of block 1"),
+            (".OUT", 160, "frame 3: sample 8"),
+        ):
             with self.subTest(ending):
                 self.sequences()
                 file = self.folder / f"SEQ01{ending}"
@@ -219,9 +256,13 @@ class Conform(InFolder):
 
     def test_homing_frames(self) -> None:
         # The encoder starts again after its homing frame: frames of libgsm from the reset state, twice.
-        speech, homing = trau_fr.expand((VECTORS / "harsh.pcm").read_bytes())[:1600], array("h", [8] * 160)
+        speech, homing = trau_fr.expand((VECTORS / "harsh.pcm").read_bytes())[:1600], array(
+            "h", [8] * 160
+        )
         encoder, frames = trau_fr.Encoder(), (HERE / "data" / "harsh.gsm").read_bytes()[:330]
-        codes = [value for at in range(0, 330, 33) for value in conform.unpacked(frames[at : at + 33])]
+        codes = [
+            value for at in range(0, 330, 33) for value in conform.unpacked(frames[at : at + 33])
+        ]
         self.assertEqual(encoder.encode(speech), frames)
         between = conform.unpacked(encoder.encode(homing))
         self.put(".INP", [*speech, *homing, *speech], "<")
@@ -236,7 +277,15 @@ class Conform(InFolder):
         samples = struct.unpack("<1600h", (HERE / "data" / "harsh.samples").read_bytes()[:3200])
         self.assertEqual(list(decoder.decode(frames)), list(samples))
         sequence = frames + 2 * frame + frames
-        self.put(".COD", [value for at in range(0, len(sequence), 33) for value in conform.unpacked(sequence[at : at + 33])], "<")
+        self.put(
+            ".COD",
+            [
+                value
+                for at in range(0, len(sequence), 33)
+                for value in conform.unpacked(sequence[at : at + 33])
+            ],
+            "<",
+        )
         self.put(".OUT", [*samples, *decoder.decode(frame), *homing, *samples], "<")
         self.assertEqual(self.said("--homing"), (0, "seq01 decoder, 22 frames: equal\n"))
 
@@ -253,7 +302,9 @@ class Conform(InFolder):
         self.assertEqual((status, text.count("\n")), (2, 1))
 
 
-@unittest.skipUnless(answers(["pkg-config", "--exists", "libosmocodec", "talloc"]), "libosmocodec isn't installed")
+@unittest.skipUnless(
+    answers(["pkg-config", "--exists", "libosmocodec", "talloc"]), "libosmocodec isn't installed"
+)
 class Ecu(InFolder):
     """The error concealment unit, registered with libosmocodec, beside the model."""
 
@@ -265,57 +316,116 @@ class Ecu(InFolder):
         flags = run(["pkg-config", "--cflags", "--libs", "libosmocodec", "talloc"]).stdout.split()
         library = [f"-I{LIBRARY / 'include'}", f"-I{EXAMPLES}", LIBRARY / "lib" / "libtrau_fr.a"]
         program = self.folder / sources[0].stem
-        words = ["-O2", "-Wall", "-Wextra", "-o", program, EXAMPLES / "ecu.c", *sources, *library, *flags]
+        words = [
+            "-O2",
+            "-Wall",
+            "-Wextra",
+            "-o",
+            program,
+            EXAMPLES / "ecu.c",
+            *sources,
+            *library,
+            *flags,
+        ]
         built = run([os.environ.get("CC", "cc"), *words])
         self.assertEqual((built.returncode, built.stderr), (0, ""))
         return program
 
     def said(self, operations: Sequence[Tuple[int, int, int, bytes]]) -> List[str]:
         """What ecu_host.c prints for these operations: the state, what is done, the number of octets, and a frame."""
-        given = b"".join(bytes((state, does, octets)) + frame.ljust(33, b"\0") for state, does, octets, frame in operations)
-        done = subprocess.run([self.built(HERE / "ecu_host.c")], input=given, stdout=subprocess.PIPE, check=True)
+        given = b"".join(
+            bytes((state, does, octets)) + frame.ljust(33, b"\0")
+            for state, does, octets, frame in operations
+        )
+        done = subprocess.run(
+            [self.built(HERE / "ecu_host.c")], input=given, stdout=subprocess.PIPE, check=True
+        )
         first, second, third, *lines, last = done.stdout.decode().splitlines()
         busy = -errno.EBUSY
-        self.assertEqual((first, second, third, last), (f"register 0 again {busy} FR {busy}", "other none", "blocks 3", "blocks 1"))
+        self.assertEqual(
+            (first, second, third, last),
+            (f"register 0 again {busy} FR {busy}", "other none", "blocks 3", "blocks 1"),
+        )
         return lines
 
     def test_maxima_are_those_of_the_model(self) -> None:
         periods = self.lossy(300)
         effective = effective_frames(1, [uplink_frame(period) for period in periods])
-        done = run([self.built(EXAMPLES / "ecu_compare.c"), self.folder / "frames.gsm", self.folder / "lost.txt"])
+        done = run(
+            [
+                self.built(EXAMPLES / "ecu_compare.c"),
+                self.folder / "frames.gsm",
+                self.folder / "lost.txt",
+            ]
+        )
         self.assertEqual(done.returncode, 0)
         lines = [line for line in done.stdout.splitlines() if line.startswith("frame ")]
-        wanted = [sum(block.xmaxc for block in frame.blocks) for frame, period in zip(effective, periods) if period.kind == LOST]
+        wanted = [
+            sum(block.xmaxc for block in frame.blocks)
+            for frame, period in zip(effective, periods)
+            if period.kind == LOST
+        ]
         self.assertEqual([int(line.split(" trau ")[1].split()[0]) for line in lines], wanted)
 
     def test_frames_are_those_of_the_model(self) -> None:
         # Two calls at once: lost frames before the first good one, speech, pauses, damaged descriptors, and many lost in a row.
         recorded, lost = lossy_recording(300)
-        frames = [damaged(frame) if k % 3 == 0 and trau_fr.kind_of(frame) == trau_fr.Kind.DESCRIPTOR else frame for k, frame in enumerate(recorded)]
-        calls = [[brought(frame, digit) for frame, digit in zip(part, "111" + lost[3:])] for part in (frames, frames[100:] + frames[:100])]
+        frames = [
+            damaged(frame)
+            if k % 3 == 0 and trau_fr.kind_of(frame) == trau_fr.Kind.DESCRIPTOR
+            else frame
+            for k, frame in enumerate(recorded)
+        ]
+        calls = [
+            [brought(frame, digit) for frame, digit in zip(part, "111" + lost[3:])]
+            for part in (frames, frames[100:] + frames[:100])
+        ]
         self.assertGreater(sum(is_damaged(period) for period in calls[0]), 3)
         turns = [(state, period) for both in zip(*calls) for state, period in enumerate(both)]
-        lines = self.said([(state, self.IN if period.octets[0] else self.OUT, 33, period.octets) for state, period in turns])
+        lines = self.said(
+            [
+                (state, self.IN if period.octets[0] else self.OUT, 33, period.octets)
+                for state, period in turns
+            ]
+        )
         for state, call in enumerate(calls):
             uplink = [uplink_frame(period) for period in call]
-            handed = calls_of_model.handed(calls_of_model.Uplink([], uplink, effective_frames(1, uplink)), 0, len(call))
+            handed = calls_of_model.handed(
+                calls_of_model.Uplink([], uplink, effective_frames(1, uplink)), 0, len(call)
+            )
             wanted = [
-                "0" if period.octets[0] else f"33 {packed(parameters_of_bits(bits)).hex()}" for period, bits in zip(call, handed)
+                "0" if period.octets[0] else f"33 {packed(parameters_of_bits(bits)).hex()}"
+                for period, bits in zip(call, handed)
             ]
-            self.assertEqual((len(lines[state::2]), first_difference(wanted, lines[state::2])), (len(wanted), None))
+            self.assertEqual(
+                (len(lines[state::2]), first_difference(wanted, lines[state::2])),
+                (len(wanted), None),
+            )
 
     def test_frames_that_do_nothing(self) -> None:
         # Frames with bfi, and those of another length, which are refused, between lost ones: these go on as without them.
         recorded, _ = lossy_recording(60)
         speech, descriptor = recorded[:10], recorded[40]
         self.assertEqual(trau_fr.kind_of(descriptor), trau_fr.Kind.DESCRIPTOR)
-        nothing = [(0, self.BAD, 33, speech[0]), (0, self.BAD, 0, b""), *((0, self.IN, octets, speech[0]) for octets in (0, 32, 34))]
+        nothing = [
+            (0, self.BAD, 33, speech[0]),
+            (0, self.BAD, 0, b""),
+            *((0, self.IN, octets, speech[0]) for octets in (0, 32, 34)),
+        ]
         comes, is_lost = [(0, self.IN, 33, frame) for frame in speech], (0, self.OUT, 0, b"")
         for last in (speech[9], descriptor):
             plain = self.said([*comes, (0, self.IN, 33, last), *[is_lost] * 20])
-            mixed = self.said([*comes, (0, self.IN, 33, last), *[each for _ in range(20) for each in (*nothing, is_lost)]])
+            mixed = self.said(
+                [
+                    *comes,
+                    (0, self.IN, 33, last),
+                    *[each for _ in range(20) for each in (*nothing, is_lost)],
+                ]
+            )
             refused = str(-errno.EINVAL)
-            wanted = plain[:11] + [line for out in plain[11:] for line in ("0", "0", refused, refused, refused, out)]
+            wanted = plain[:11] + [
+                line for out in plain[11:] for line in ("0", "0", refused, refused, refused, out)
+            ]
             self.assertEqual((len(mixed), first_difference(wanted, mixed)), (len(wanted), None))
 
 
@@ -323,10 +433,15 @@ def gstreamer() -> str:
     """A Python with GStreamer's bindings, or an empty word."""
     ask = "import gi; gi.require_version('Gst', '1.0'); from gi.repository import Gst; Gst.init(None); "
     ask += "assert all(map(Gst.ElementFactory.find, ('rtpjitterbuffer', 'appsrc', 'audioconvert', 'audiorate', 'wavenc')))"
-    return next((each for each in (sys.executable, "/usr/bin/python3") if answers([each, "-c", ask])), "")
+    return next(
+        (each for each in (sys.executable, "/usr/bin/python3") if answers([each, "-c", ask])), ""
+    )
 
 
-@unittest.skipUnless(gstreamer(), "GStreamer's rtpjitterbuffer, appsrc, audioconvert, audiorate, wavenc or Python bindings aren't installed")
+@unittest.skipUnless(
+    gstreamer(),
+    "GStreamer's rtpjitterbuffer, appsrc, audioconvert, audiorate, wavenc or Python bindings aren't installed",
+)
 class GStreamer(InFolder):
     """What the host plays of a lossy recording, beside what a run writes to Out for the same losses."""
 
@@ -350,7 +465,11 @@ class GStreamer(InFolder):
         lost = sum(period.kind == LOST for period in periods)
         for call in (1, 7):
             sound = self.folder / "sound.wav"
-            done = self.heard("--sink", f"audiorate ! wavenc ! filesink location={sound}", *(["--seed", "7"] if call == 7 else []))
+            done = self.heard(
+                "--sink",
+                f"audiorate ! wavenc ! filesink location={sound}",
+                *(["--seed", "7"] if call == 7 else []),
+            )
             self.assertEqual((done.returncode, done.stdout), (0, f"periods 150 lost {lost}\n"))
             with wave.open(str(sound)) as file:
                 self.assertEqual(file.getparams()[:3], (1, 2, 8000))

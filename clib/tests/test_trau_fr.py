@@ -11,14 +11,12 @@ from pathlib import Path
 
 HERE = Path(__file__).resolve().parent
 VECTORS = HERE.parents[1] / "checks" / "vectors"
-sys.path.insert(0, str(HERE.parent))
-sys.path[:0] = [str(HERE.parents[1] / "tools"), str(HERE.parents[1])]
 
-from core.frame import bits_of, data_of  # noqa: E402
-from core.parameters import data_of_gsm, gsm_of_data  # noqa: E402
-from core.profile import FIRST_LEVEL  # noqa: E402
-import code_word  # noqa: E402
-import trau_fr  # noqa: E402
+from trau.rules.frame import bits_of, data_of
+from trau.rules.parameters import data_of_gsm, gsm_of_data
+from trau.rules.profile import FIRST_LEVEL
+from trau.recordings import code_word
+from trau import trau_fr
 
 try:
     import numpy
@@ -69,7 +67,11 @@ class Codec(unittest.TestCase):
             trau_fr.Decoder().decode(bytes(34))
         with self.assertRaises(ValueError):
             trau_fr.Encoder().encode(array("h", [0] * 159))
-        for other in (array("d", [0.0] * 160), array("H", [0] * 160), (ctypes.c_int16.__ctype_be__ * 160)()):
+        for other in (
+            array("d", [0.0] * 160),
+            array("H", [0] * 160),
+            (ctypes.c_int16.__ctype_be__ * 160)(),
+        ):
             with self.assertRaises(ValueError):
                 trau_fr.Encoder().encode(other)
         with self.assertRaises(ValueError):
@@ -93,12 +95,20 @@ def near_a_descriptor(draw: random.Random) -> bytes:
 class Version(unittest.TestCase):
     def test_version_is_that_of_the_changelog(self) -> None:
         changes = (HERE.parents[1] / "docs" / "CHANGELOG.md").read_text()
-        newest = next(line for line in changes.splitlines() if line.startswith("## ")).split()[1].rstrip(",")
-        self.assertIn(f'#define TRAU_FR_VERSION "{newest}"\n', (HERE.parent / "trau_fr.h").read_text())
+        newest = (
+            next(line for line in changes.splitlines() if line.startswith("## "))
+            .split()[1]
+            .rstrip(",")
+        )
+        self.assertIn(
+            f'#define TRAU_FR_VERSION "{newest}"\n', (HERE.parent / "trau_fr.h").read_text()
+        )
 
     def test_level_is_that_of_a_call(self) -> None:
         self.assertEqual(trau_fr.LEVEL, FIRST_LEVEL)
-        self.assertIn(f"#define TRAU_FR_LEVEL {FIRST_LEVEL}\n", (HERE.parent / "trau_fr.h").read_text())
+        self.assertIn(
+            f"#define TRAU_FR_LEVEL {FIRST_LEVEL}\n", (HERE.parent / "trau_fr.h").read_text()
+        )
 
 
 class Sides(unittest.TestCase):
@@ -115,7 +125,9 @@ class Sides(unittest.TestCase):
     def test_kinds_are_those_of_the_tools(self) -> None:
         draw, seen = random.Random(1), set()
         frames = [self.octets[at : at + 33] for at in range(0, len(self.octets), 33)]
-        for frame in frames + [near_a_descriptor(draw) for _ in range(3000)] + [bytes([0xD0]) + bytes(32)]:
+        for frame in (
+            frames + [near_a_descriptor(draw) for _ in range(3000)] + [bytes([0xD0]) + bytes(32)]
+        ):
             kind = trau_fr.kind_of(frame)
             self.assertEqual(kind, self.KINDS[code_word.kind_of(data_of_gsm(frame))])
             seen.add(kind)
@@ -136,7 +148,10 @@ class Sides(unittest.TestCase):
     def test_a_bridge(self) -> None:
         receiver = trau_fr.Receiver(7)
         silence = receiver.hand(None)
-        self.assertEqual(trau_fr.write_downlink(silence, 0), trau_fr.write_downlink(receiver.hand(None, trau_fr.Kind.IDLE), 0))
+        self.assertEqual(
+            trau_fr.write_downlink(silence, 0),
+            trau_fr.write_downlink(receiver.hand(None, trau_fr.Kind.IDLE), 0),
+        )
         self.assertEqual(receiver.hand(self.frame), self.frame)
         self.assertEqual(receiver.hand(None), self.frame)
         self.assertNotEqual(receiver.hand(None), self.frame)
@@ -161,14 +176,25 @@ class Sides(unittest.TestCase):
     def test_octets_of_a_line(self) -> None:
         line = (VECTORS / "harsh.pcm").read_bytes()
         for law in ("alaw", "mulaw"):
-            sender, receiver, whole, heard = trau_fr.Sender(), trau_fr.Receiver(7), trau_fr.Sender(), trau_fr.Receiver(7)
+            sender, receiver, whole, heard = (
+                trau_fr.Sender(),
+                trau_fr.Receiver(7),
+                trau_fr.Sender(),
+                trau_fr.Receiver(7),
+            )
             for at in range(0, len(line), 160):
                 sent = sender.send_line(line[at : at + 160], 9000, True, law)
-                self.assertEqual(sent, whole.send(trau_fr.expand(line[at : at + 160], law), 9000, True))
+                self.assertEqual(
+                    sent, whole.send(trau_fr.expand(line[at : at + 160], law), 9000, True)
+                )
                 taf = at % 480 == 0
-                came = receiver.receive_line(sent.octets, trau_fr.Kind.LOST if taf else None, taf, law)
+                came = receiver.receive_line(
+                    sent.octets, trau_fr.Kind.LOST if taf else None, taf, law
+                )
                 wanted = heard.receive(sent.octets, trau_fr.Kind.LOST if taf else None, taf)
-                self.assertEqual((came, receiver.quiet), (trau_fr.compress(wanted, law), heard.quiet))
+                self.assertEqual(
+                    (came, receiver.quiet), (trau_fr.compress(wanted, law), heard.quiet)
+                )
 
     def test_buffers(self) -> None:
         samples = trau_fr.expand((VECTORS / "harsh.pcm").read_bytes()[:160])
@@ -178,7 +204,9 @@ class Sides(unittest.TestCase):
             self.assertEqual(trau_fr.Receiver().receive(form(self.frame)), heard)
         if numpy:
             self.assertEqual(trau_fr.Sender().send(numpy.array(samples, numpy.int16)), wanted)
-            self.assertEqual(trau_fr.Receiver().receive(numpy.frombuffer(self.frame, numpy.uint8)), heard)
+            self.assertEqual(
+                trau_fr.Receiver().receive(numpy.frombuffer(self.frame, numpy.uint8)), heard
+            )
 
     def test_lines(self) -> None:
         read = trau_fr.read_uplink(trau_fr.write_uplink(self.frame, trau_fr.Kind.DESCRIPTOR, True))
@@ -216,11 +244,15 @@ class Numpy(unittest.TestCase):
     def setUp(self) -> None:
         self.line = (VECTORS / "harsh.pcm").read_bytes()
         self.octets = (HERE / "data" / "harsh.gsm").read_bytes()
-        self.samples = numpy.frombuffer(trau_fr.expand(numpy.frombuffer(self.line, numpy.uint8)), numpy.int16)
+        self.samples = numpy.frombuffer(
+            trau_fr.expand(numpy.frombuffer(self.line, numpy.uint8)), numpy.int16
+        )
 
     def test_there_and_back(self) -> None:
         self.assertEqual(trau_fr.Encoder().encode(self.samples), self.octets)
-        heard = numpy.frombuffer(trau_fr.Decoder().decode(numpy.frombuffer(self.octets, numpy.uint8)), numpy.int16)
+        heard = numpy.frombuffer(
+            trau_fr.Decoder().decode(numpy.frombuffer(self.octets, numpy.uint8)), numpy.int16
+        )
         recorded = numpy.fromfile(HERE / "data" / "harsh.samples", "<i2")
         self.assertTrue(numpy.array_equal(heard, recorded))
         self.assertEqual(trau_fr.compress(self.samples), self.line)
@@ -246,11 +278,16 @@ class Laws(unittest.TestCase):
 
     def test_compressed(self) -> None:
         samples = array("h", range(-32768, 32768))
-        self.assertEqual(trau_fr.compress(samples, "alaw"), (VECTORS / "alaw_compress.bin").read_bytes())
+        self.assertEqual(
+            trau_fr.compress(samples, "alaw"), (VECTORS / "alaw_compress.bin").read_bytes()
+        )
         recorded = (VECTORS / "mulaw_compress.bin").read_bytes()
         self.assertEqual(trau_fr.compress(samples[32768:], "mulaw"), recorded)
         # The sample -1 - i has the code of i with the other sign.
-        self.assertEqual(trau_fr.compress(samples[:32768][::-1], "mulaw"), bytes(code ^ 0x80 for code in recorded))
+        self.assertEqual(
+            trau_fr.compress(samples[:32768][::-1], "mulaw"),
+            bytes(code ^ 0x80 for code in recorded),
+        )
 
 
 if __name__ == "__main__":

@@ -19,7 +19,7 @@ from typing import Any, Callable, Dict, Iterable, Iterator, List, Optional, Tupl
 
 from support import GATEWAY, LINE, SPEECH, InFolder, repeated
 
-from rtp import ALAW, GSM, MULAW
+from trau.gateway.rtp import ALAW, GSM, MULAW
 from spoiler import CLEAN, Faults, Sent, schedule
 
 LOOPBACK = "127.0.0.1"
@@ -58,7 +58,10 @@ def limited(file_octets: Optional[int], descriptors: Optional[int]) -> Callable[
 
     def limit() -> None:
         signal.signal(signal.SIGHUP, signal.SIG_DFL)
-        for kind, most in ((resource.RLIMIT_FSIZE, file_octets), (resource.RLIMIT_NOFILE, descriptors)):
+        for kind, most in (
+            (resource.RLIMIT_FSIZE, file_octets),
+            (resource.RLIMIT_NOFILE, descriptors),
+        ):
             if most is not None:
                 resource.setrlimit(kind, (most, most))
 
@@ -107,9 +110,20 @@ class Live:
         address: str = LOOPBACK,
     ) -> None:
         self.folder = folder
-        command = [sys.executable, "-B", str(GATEWAY / "gateway.py"), "run", str(folder), "--address", address, *words]
+        command = [
+            sys.executable,
+            "-B",
+            str(GATEWAY / "gateway.py"),
+            "run",
+            str(folder),
+            "--address",
+            address,
+            *words,
+        ]
         pipe, limit = subprocess.PIPE, limited(file_limit, descriptor_limit)
-        self.process = subprocess.Popen(command, stdin=pipe, stdout=pipe, text=True, bufsize=1, preexec_fn=limit)
+        self.process = subprocess.Popen(
+            command, stdin=pipe, stdout=pipe, text=True, bufsize=1, preexec_fn=limit
+        )
         self.said: List[str] = []
         self.peers: Dict[int, Peers] = {}
         self.wait_for("ready")
@@ -151,7 +165,9 @@ class Live:
     def wait_for_periods(self, call: int, periods: int) -> None:
         """Waits until the recording has so many periods of a call."""
         line = self.folder / f"{call}.out"
-        while (not line.exists() or line.stat().st_size < 160 * periods) and self.process.poll() is None:
+        while (
+            not line.exists() or line.stat().st_size < 160 * periods
+        ) and self.process.poll() is None:
             time.sleep(0.005)
 
     def end(self, number: int = signal.SIGTERM) -> int:
@@ -189,7 +205,8 @@ class WithLive(InFolder):
 def playing(rows: Iterable[Row]) -> Iterator[None]:
     """Plays packets at their times, while the block goes on; at its end the rest isn't sent."""
     packets = sorted(
-        ((at, row, packet) for row, (_, _, sent) in enumerate(rows) for at, packet in sent), key=lambda each: each[:2]
+        ((at, row, packet) for row, (_, _, sent) in enumerate(rows) for at, packet in sent),
+        key=lambda each: each[:2],
     )
     is_over = threading.Event()
 
@@ -212,10 +229,14 @@ def playing(rows: Iterable[Row]) -> Iterator[None]:
         player.join()
 
 
-def talk(peers: Peers, call: int, periods: int, faults: Faults = CLEAN, is_mulaw: bool = False) -> List[Row]:
+def talk(
+    peers: Peers, call: int, periods: int, faults: Faults = CLEAN, is_mulaw: bool = False
+) -> List[Row]:
     """Both peers of a call speak."""
     from_station = schedule(repeated(SPEECH, periods, 20 * call), GSM, call, faults)
-    from_exchange = schedule(repeated(LINE, periods, 30 * call), MULAW if is_mulaw else ALAW, call + 5000, faults)
+    from_exchange = schedule(
+        repeated(LINE, periods, 30 * call), MULAW if is_mulaw else ALAW, call + 5000, faults
+    )
     return peers.rows(from_station, from_exchange)
 
 
@@ -242,6 +263,10 @@ def hostile_report(draw: random.Random) -> bytes:
     """A datagram that is nearly RTCP: packets with lengths, types and counts at random, mostly a report at first."""
     report = b""
     for _ in range(draw.randrange(1, 5)):
-        length, kind = draw.choice((0, 0, 1, 2, 6, 7, 12, 13)), draw.choice((200, 201, 201, 202, 203, 204, 7))
-        report += struct.pack(">BBH", 0x80 | draw.randrange(64), kind, length) + draw.randbytes(max(0, 4 * length + draw.choice((0,) * 9 + (-4, 4))))
+        length, kind = draw.choice((0, 0, 1, 2, 6, 7, 12, 13)), draw.choice(
+            (200, 201, 201, 202, 203, 204, 7)
+        )
+        report += struct.pack(">BBH", 0x80 | draw.randrange(64), kind, length) + draw.randbytes(
+            max(0, 4 * length + draw.choice((0,) * 9 + (-4, 4)))
+        )
     return report

@@ -12,7 +12,7 @@ import wave
 from live_support import LOOPBACK, WithLive, even_port
 from support import LINE, SPEECH, cut, repeated, with_program
 
-import trau_fr
+from trau import trau_fr
 from spoiler import SAMPLES
 
 PERIODS = 400
@@ -22,7 +22,9 @@ def has_elements(*names):
     """Whether GStreamer has all of these."""
     inspect = shutil.which("gst-inspect-1.0")
     quiet = {"stdout": subprocess.DEVNULL, "stderr": subprocess.DEVNULL}
-    return bool(inspect) and all(subprocess.run([inspect, name], **quiet).returncode == 0 for name in names)
+    return bool(inspect) and all(
+        subprocess.run([inspect, name], **quiet).returncode == 0 for name in names
+    )
 
 
 def in_order(got, wanted):
@@ -47,7 +49,12 @@ def programs():
     started = []
 
     def start(*words, **how):
-        quiet = {"stdin": subprocess.DEVNULL, "stdout": subprocess.DEVNULL, "stderr": subprocess.DEVNULL, **how}
+        quiet = {
+            "stdin": subprocess.DEVNULL,
+            "stdout": subprocess.DEVNULL,
+            "stderr": subprocess.DEVNULL,
+            **how,
+        }
         started.append(subprocess.Popen([str(word) for word in words], **quiet))
         return started[-1]
 
@@ -93,13 +100,25 @@ class Clients(WithLive):
     def assert_got(self, name, got, wanted, least):
         """All that was got is in the recording, in its order, and it isn't little."""
         print(f"{name}: {len(got)} of {len(wanted)}", flush=True)
-        self.assertGreaterEqual(in_order(got, wanted), len(got) - 1)  # the last frame is sent, and not recorded
+        self.assertGreaterEqual(
+            in_order(got, wanted), len(got) - 1
+        )  # the last frame is sent, and not recorded
         self.assertGreater(len(got), least)
 
 
 @with_program
 class GStreamer(Clients):
-    NEEDED = ("gsmenc", "rtpgsmpay", "rtpgsmdepay", "alawenc", "rtppcmapay", "rtppcmadepay", "rtpjitterbuffer", "udpsrc", "wavparse")
+    NEEDED = (
+        "gsmenc",
+        "rtpgsmpay",
+        "rtpgsmdepay",
+        "alawenc",
+        "rtppcmapay",
+        "rtppcmadepay",
+        "rtpjitterbuffer",
+        "udpsrc",
+        "wavparse",
+    )
 
     def receiver(self, start, port, name, kind, element, file):
         """A pipeline that writes what comes to a port."""
@@ -110,7 +129,9 @@ class GStreamer(Clients):
     def sender(self, start, file, chain, port):
         """A pipeline that sends a file."""
         words = f"wavparse ! {chain} ! udpsink host={LOOPBACK} port={port}"
-        return start("gst-launch-1.0", "-q", "filesrc", f"location={self.folder / file}", "!", *words.split())
+        return start(
+            "gst-launch-1.0", "-q", "filesrc", f"location={self.folder / file}", "!", *words.split()
+        )
 
     def test_both_ends(self):
         if not has_elements(*self.NEEDED):
@@ -126,15 +147,30 @@ class GStreamer(Clients):
             start(*encode).wait()
             senders = [
                 self.sender(start, "gsm.wav", "gsmenc ! rtpgsmpay", here),
-                self.sender(start, "line.wav", "alawenc ! rtppcmapay min-ptime=20000000 max-ptime=20000000", there),
+                self.sender(
+                    start,
+                    "line.wav",
+                    "alawenc ! rtppcmapay min-ptime=20000000 max-ptime=20000000",
+                    there,
+                ),
             ]
             for one in senders:
                 one.wait()
             self.assertEqual(live.end(), 0)
         print(*live.said[-2:], sep="\n")
         self.assert_replays(live.folder)
-        self.assert_got("GStreamer got frames of Down", cut((self.folder / "got.gsm").read_bytes(), 33), self.down(), 300)
-        self.assert_got("GStreamer got periods of Out", cut((self.folder / "got.alaw").read_bytes(), 160), self.recorded("out", 160), 300)
+        self.assert_got(
+            "GStreamer got frames of Down",
+            cut((self.folder / "got.gsm").read_bytes(), 33),
+            self.down(),
+            300,
+        )
+        self.assert_got(
+            "GStreamer got periods of Out",
+            cut((self.folder / "got.alaw").read_bytes(), 160),
+            self.recorded("out", 160),
+            300,
+        )
         sent = cut((self.folder / "sent.gsm").read_bytes(), 33)
         up = self.up()[1:]  # without the frame of silence
         self.assert_got("Up has frames of GStreamer", up, sent, 300)
@@ -151,20 +187,38 @@ class Reports(Clients):
         caps = "application/x-rtp,media=audio,clock-rate=8000,encoding-name=GSM,payload=3"
         words = "rtpbin name=b audiotestsrc samplesperbuffer=160 is-live=true ! audio/x-raw,rate=8000,channels=1 ! gsmenc ! rtpgsmpay"
         words += f" ! b.send_rtp_sink_0 b.send_rtp_src_0 ! udpsink host={LOOPBACK} port={here}"
-        words += f" b.send_rtcp_src_0 ! udpsink host={LOOPBACK} port={here + 1} sync=false async=false"
+        words += (
+            f" b.send_rtcp_src_0 ! udpsink host={LOOPBACK} port={here + 1} sync=false async=false"
+        )
         words += f" udpsrc address={LOOPBACK} port={gsm} caps={caps} ! b.recv_rtp_sink_0"
         words += f" udpsrc address={LOOPBACK} port={gsm + 1} ! b.recv_rtcp_sink_0 b. ! rtpgsmdepay ! fakesink"
-        return start("timeout", "120", "gst-launch-1.0", "-v", *words.split(), stdout=subprocess.PIPE, text=True)
+        return start(
+            "timeout",
+            "120",
+            "gst-launch-1.0",
+            "-v",
+            *words.split(),
+            stdout=subprocess.PIPE,
+            text=True,
+        )
 
     def test_rtpbin_reads_the_reports(self):
         if not has_elements(*GStreamer.NEEDED, "rtpbin"):
             self.skipTest("GStreamer isn't installed with gsmenc")
-        live, block = self.start("strict off"), r"have-rb=.* rb-packetslost=\(int\)(-?\d+).* rb-round-trip=\(uint\)([1-9]\d*)"
+        live, block = (
+            self.start("strict off"),
+            r"have-rb=.* rb-packetslost=\(int\)(-?\d+).* rb-round-trip=\(uint\)([1-9]\d*)",
+        )
         with programs() as start, self.bin(start).stdout as said:
-            read = next(filter(None, (re.search(block, line.replace("\\", "")) for line in said)), None)
+            read = next(
+                filter(None, (re.search(block, line.replace("\\", "")) for line in said)), None
+            )
         self.assertTrue(read, "no report with a round trip")
         lost, trip = map(int, read.groups())
-        print(f"GStreamer's packets by the report: {lost} lost, round trip {1000 * trip / 65536:.1f} ms", flush=True)
+        print(
+            f"GStreamer's packets by the report: {lost} lost, round trip {1000 * trip / 65536:.1f} ms",
+            flush=True,
+        )
         self.assertLess(trip, 65536)
         self.assertEqual(live.end(), 0)
         self.assertRegex(live.said[-2], r" gsm-rtcp [1-9]\d* gsm-rtcp-sent [1-9]")
@@ -175,7 +229,14 @@ class Ffmpeg(Clients):
     def description(self, name, port, kind):
         """A file that says what comes to a port."""
         path = self.folder / f"{name}.sdp"
-        lines = ("v=0", f"o=- 0 0 IN IP4 {LOOPBACK}", "s=-", f"c=IN IP4 {LOOPBACK}", "t=0 0", f"m=audio {port} RTP/AVP {kind}")
+        lines = (
+            "v=0",
+            f"o=- 0 0 IN IP4 {LOOPBACK}",
+            "s=-",
+            f"c=IN IP4 {LOOPBACK}",
+            "t=0 0",
+            f"m=audio {port} RTP/AVP {kind}",
+        )
         path.write_text("\n".join((*lines, f"a=rtpmap:{kind} {name}/8000", "")))
         return path
 
@@ -191,16 +252,31 @@ class Ffmpeg(Clients):
         live = self.start("strict off")
         here, gsm, there, pcm = self.ports
         with programs() as start:
-            receivers = [self.receiver(start, "GSM", gsm, 3, "gsm", "got.gsm"), self.receiver(start, "PCMA", pcm, 8, "alaw", "got.alaw")]
+            receivers = [
+                self.receiver(start, "GSM", gsm, 3, "gsm", "got.gsm"),
+                self.receiver(start, "PCMA", pcm, 8, "alaw", "got.alaw"),
+            ]
             send = f"-c:a pcm_alaw -f rtp rtp://{LOOPBACK}:{there}".split()
-            start("ffmpeg", "-nostdin", "-v", "error", "-re", "-i", self.folder / "line.wav", *send).wait()
+            start(
+                "ffmpeg", "-nostdin", "-v", "error", "-re", "-i", self.folder / "line.wav", *send
+            ).wait()
             for one in receivers:
                 one.wait(60)
             self.assertEqual(live.end(), 0)
         print(*live.said[-2:], sep="\n")
         self.assert_replays(live.folder)
-        self.assert_got("ffmpeg got frames of Down", cut((self.folder / "got.gsm").read_bytes(), 33), self.down(), 200)
-        self.assert_got("ffmpeg got periods of Out", cut((self.folder / "got.alaw").read_bytes(), 160), self.recorded("out", 160), 200)
+        self.assert_got(
+            "ffmpeg got frames of Down",
+            cut((self.folder / "got.gsm").read_bytes(), 33),
+            self.down(),
+            200,
+        )
+        self.assert_got(
+            "ffmpeg got periods of Out",
+            cut((self.folder / "got.alaw").read_bytes(), 160),
+            self.recorded("out", 160),
+            200,
+        )
         sent, line = b"".join(repeated(LINE, PERIODS)), b"".join(self.recorded("pcm", 160))
         loud = sent[30 * SAMPLES : 40 * SAMPLES]
         begins = max(0, line.find(loud) - 30 * SAMPLES)

@@ -12,7 +12,7 @@ import unittest
 from live_support import LOOPBACK, WithLive, bound, hostile_packet, hostile_report, playing, talk
 from support import LINE, SPEECH, repeated, with_program
 
-from rtp import ALAW, GSM
+from trau.gateway.rtp import ALAW, GSM
 from spoiler import SECOND, Faults, header, schedule
 
 
@@ -22,7 +22,11 @@ class Long(WithLive):
         draw = random.Random(3)
         for turn in range(10):
             live = self.live(self.folder / f"rec{turn}", "--every", str(draw.choice((1, 20))))
-            rows = [row for call in range(1, 31) for row in talk(live.open(call, "dtx on"), call, 400, Faults(loss=0.1))]
+            rows = [
+                row
+                for call in range(1, 31)
+                for row in talk(live.open(call, "dtx on"), call, 400, Faults(loss=0.1))
+            ]
             with playing(rows):
                 live.wait_for_periods(1, 20)
                 for line in ("bridge 1 2", "close 9", "level 3 900"):
@@ -33,7 +37,11 @@ class Long(WithLive):
 
     def test_hostile_packets(self):
         live = self.live(self.folder / "rec")
-        rows = [row for call, words in ((1, ""), (2, "strict off"), (3, "")) for row in talk(live.open(call, words), call, 3000)]
+        rows = [
+            row
+            for call, words in ((1, ""), (2, "strict off"), (3, ""))
+            for row in talk(live.open(call, words), call, 3000)
+        ]
         draw, stranger = random.Random(5), bound("127.0.0.2")
         self.addCleanup(stranger.close)
         with playing(rows):
@@ -50,8 +58,13 @@ class Long(WithLive):
         ends = [line for line in live.said if re.match(r"call \d+ from", line)]
         print(*ends, sep="\n")
         alone = next(line for line in ends if line.startswith("call 3 "))
-        self.assertNotRegex(alone, "stranger|not-rtp|rtcp|other|odd|empty|too-long|probation|new-source|far|jumps|doubled|unreachable")
-        played, came = (int(re.search(rf" {name} (\d+)", alone)[1]) for name in ("speech", "gsm-packets"))
+        self.assertNotRegex(
+            alone,
+            "stranger|not-rtp|rtcp|other|odd|empty|too-long|probation|new-source|far|jumps|doubled|unreachable",
+        )
+        played, came = (
+            int(re.search(rf" {name} (\d+)", alone)[1]) for name in ("speech", "gsm-packets")
+        )
         self.assertGreater(played, came * 0.9)  # a busy machine makes some late
         self.assert_replays(live.folder)
 
@@ -60,12 +73,23 @@ class Long(WithLive):
         speech, line = repeated(SPEECH, 200), b"".join(repeated(LINE, 200))
         rows = []
         one, other = schedule(speech, GSM, 1), schedule(speech, GSM, 2, start=4.1)
-        paired = [(40 * k * SECOND // 1000, header(GSM, k, 320 * k, 7) + speech[2 * k] + speech[2 * k + 1]) for k in range(100)]
+        paired = [
+            (
+                40 * k * SECOND // 1000,
+                header(GSM, k, 320 * k, 7) + speech[2 * k] + speech[2 * k + 1],
+            )
+            for k in range(100)
+        ]
         sizes = [
-            [(at * SECOND // 8000, header(ALAW, at // size, at, 78) + line[at : at + size]) for at in range(0, len(line), size)]
+            [
+                (at * SECOND // 8000, header(ALAW, at // size, at, 78) + line[at : at + size])
+                for at in range(0, len(line), size)
+            ]
             for size in (80, 240, 1066)
         ]
-        for call, (gsm, pcm) in enumerate(((one + other, sizes[0]), (paired, sizes[1]), (one, sizes[2])), 1):
+        for call, (gsm, pcm) in enumerate(
+            ((one + other, sizes[0]), (paired, sizes[1]), (one, sizes[2])), 1
+        ):
             rows += live.open(call, f"depth {8 if call == 3 else 3}").rows(gsm, pcm)
         with playing(rows):
             live.wait_for_periods(1, 100)

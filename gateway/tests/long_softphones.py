@@ -13,7 +13,7 @@ from live_support import WithLive, playing, talk
 from long_clients import Clients, programs
 from support import LINE, cut, repeated, with_program
 
-import trau_fr
+from trau import trau_fr
 from spoiler import SAMPLES
 
 ADDRESS = "10.9.9.1"
@@ -150,7 +150,9 @@ class Softphones(Clients):
         kind, name = CODECS[codec]
         headers = HEADERS.format(address=ADDRESS, port=port)
         path = self.folder / f"answers_{codec}.xml"
-        path.write_text(ANSWERS.format(headers=headers, address=ADDRESS, media=media, kind=kind, name=name))
+        path.write_text(
+            ANSWERS.format(headers=headers, address=ADDRESS, media=media, kind=kind, name=name)
+        )
         words = f"-i {ADDRESS} -p {port} -mp {port + 1000} -m 1 -nostdin -timeout 40".split()
         return start("sipp", "-sf", path, *words, cwd=self.folder)
 
@@ -163,12 +165,16 @@ class Sipp(Softphones):
         line = b"".join(repeated(LINE, 400))
         (self.folder / "line.al").write_bytes(line)
         tag = "[peer_tag_param]"
-        scenario = CALLS.format(invite=request("INVITE", 1), ack=request("ACK", 1, tag), bye=request("BYE", 2, tag))
+        scenario = CALLS.format(
+            invite=request("INVITE", 1), ack=request("ACK", 1, tag), bye=request("BYE", 2, tag)
+        )
         (self.folder / "calls.xml").write_text(scenario)
         live = self.open(7102, 7106)
         with programs() as start:
             answers = self.answer(start, "pcma", 7004, 5072)
-            words = f"-i {ADDRESS} -p 5082 -mp 7106 -m 1 -nostdin -timeout 40 {ADDRESS}:5072".split()
+            words = (
+                f"-i {ADDRESS} -p 5082 -mp 7106 -m 1 -nostdin -timeout 40 {ADDRESS}:5072".split()
+            )
             start("sipp", "-sf", self.folder / "calls.xml", *words, cwd=self.folder).wait(60)
             answers.wait(60)
         self.assertEqual(live.end(), 0)
@@ -188,8 +194,17 @@ class Baresip(Softphones):
         folder = self.folder / name
         (folder / "dump").mkdir(parents=True)
         sip, media, to = ports
-        fields = {"address": ADDRESS, "sip": sip, "media": media, "last": media + 1, "folder": self.folder, "file": file}
-        (folder / "config").write_text(CONFIG.format(**fields, module=module, name=name, modules=MODULES))
+        fields = {
+            "address": ADDRESS,
+            "sip": sip,
+            "media": media,
+            "last": media + 1,
+            "folder": self.folder,
+            "file": file,
+        }
+        (folder / "config").write_text(
+            CONFIG.format(**fields, module=module, name=name, modules=MODULES)
+        )
         (folder / "accounts").write_text(ACCOUNT.format(address=ADDRESS, codec=codec))
         (folder / "contacts").write_text("")
         return start("baresip", "-f", folder, "-t", "12", "-e", f"/dial sip:gw@{ADDRESS}:{to}")
@@ -206,7 +221,10 @@ class Baresip(Softphones):
         seconds = cut(wanted.tobytes(), 2 * SAMPLES * 10)
         loud = [part for part in seconds if max(map(abs, array.array("h", part))) > 500]
         found = sum(part in heard for part in loud)
-        print(f"{name} heard {found} of {len(loud)} loud parts of 0.2 s as they are recorded", flush=True)
+        print(
+            f"{name} heard {found} of {len(loud)} loud parts of 0.2 s as they are recorded",
+            flush=True,
+        )
         self.assertGreater(found, len(loud) // 2)
 
     def test_two_softphones(self):
@@ -218,7 +236,9 @@ class Baresip(Softphones):
             self.answer(start, "pcma", 7004, 5072)
             phones = [
                 self.softphone(start, "gsm", "gsm", "GSM/8000/1", (5061, 7102, 5071), "gsm.wav"),
-                self.softphone(start, "pcma", "g711", "PCMA/8000/1", (5065, 7106, 5072), "line.wav"),
+                self.softphone(
+                    start, "pcma", "g711", "PCMA/8000/1", (5065, 7106, 5072), "line.wav"
+                ),
             ]
             for phone in phones:
                 phone.wait(60)
@@ -254,7 +274,10 @@ def enter():
 if __name__ == "__main__":
     if os.environ.get(INSIDE):
         unittest.main()
-    if os.geteuid() != 0 or subprocess.run(["unshare", "-n", "true"], stderr=subprocess.DEVNULL).returncode:
+    if (
+        os.geteuid() != 0
+        or subprocess.run(["unshare", "-n", "true"], stderr=subprocess.DEVNULL).returncode
+    ):
         print("skipped softphones: a network namespace needs root")
         sys.exit(0)
     sys.exit(enter())

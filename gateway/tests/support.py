@@ -15,20 +15,18 @@ from typing import Callable, Dict, Iterable, List, Tuple
 
 GATEWAY = Path(__file__).resolve().parents[1]
 TOP = GATEWAY.parent
-sys.path.insert(0, str(GATEWAY))
 
-import beside
-import replay
-import trau_fr
-from clock import Clock
-from incoming import Incoming
-from live import Commands, Gateway, Speaker
-from network import Endpoint
-from recorder import Recorder
-from rtcp import Reports
-from settings import Address, Side
+from trau.gateway import replay
+from trau import trau_fr
+from trau.gateway.clock import Clock
+from trau.gateway.incoming import Incoming
+from trau.gateway.live import Commands, Gateway, Speaker
+from trau.gateway.network import Endpoint
+from trau.gateway.recorder import Recorder
+from trau.gateway.rtcp import Reports
+from trau.gateway.settings import Address, Side
 from spoiler import Sent
-from switchboard import Switchboard
+from trau.gateway.switchboard import Switchboard
 
 # The program that replays; ./trau alone would prove and build one.
 PROGRAM = os.environ.get("TRAU_PROGRAM")
@@ -102,7 +100,10 @@ class TurnedNetwork:
 
     def open(self, side: Side, is_strict: bool, incoming: Incoming, phase: int) -> TurnedEndpoint:
         """As Network.open."""
-        self.endpoints[side.port], self.phases[side.port] = TurnedEndpoint(side, is_strict, incoming), phase
+        self.endpoints[side.port], self.phases[side.port] = (
+            TurnedEndpoint(side, is_strict, incoming),
+            phase,
+        )
         return self.endpoints[side.port]
 
     def move(self, endpoint: TurnedEndpoint, old: int, new: int) -> None:
@@ -151,7 +152,9 @@ def ports_of(call: int) -> Tuple[int, int]:
 def open_line(call: int, words: str = "") -> str:
     """The line that opens a call."""
     gsm, pcm = ports_of(call)
-    return f"open {call} gsm {gsm} 127.0.0.1:{gsm + 1} pcm {pcm} 127.0.0.1:{pcm + 1} {words}".strip()
+    return (
+        f"open {call} gsm {gsm} 127.0.0.1:{gsm + 1} pcm {pcm} 127.0.0.1:{pcm + 1} {words}".strip()
+    )
 
 
 class Kept(Speaker):
@@ -175,7 +178,9 @@ class Turned:
         self.recorder.make()
         self.board = Switchboard(self.network, self.recorder, 100, self.say)
 
-    def bring(self, call: int, from_station: Iterable[Sent] = (), from_exchange: Iterable[Sent] = ()) -> None:
+    def bring(
+        self, call: int, from_station: Iterable[Sent] = (), from_exchange: Iterable[Sent] = ()
+    ) -> None:
         """Packets that come to a call from its peers."""
         for port, packets in zip(ports_of(call), (from_station, from_exchange)):
             self.network.bring(port, ("127.0.0.1", port + 1), packets)

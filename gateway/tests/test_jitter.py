@@ -6,11 +6,10 @@ import sys
 import unittest
 from pathlib import Path
 
-sys.path.insert(0, str(Path(__file__).resolve().parents[1]))
 
-from incoming import Incoming
-from jitter_buffer import LIMIT, PATIENCE, WINDOW, JitterBuffer
-from rtp import ALAW, GSM, SAMPLES
+from trau.gateway.incoming import Incoming
+from trau.gateway.jitter_buffer import LIMIT, PATIENCE, WINDOW, JitterBuffer
+from trau.gateway.rtp import ALAW, GSM, SAMPLES
 from spoiler import header
 
 IDLE = b"\xd5"
@@ -74,11 +73,17 @@ class Stragglers(unittest.TestCase):
 
             def packets(tick):
                 held = [LATER, LATER + 1]
-                return [gsm_packet(n) for n in ([] if tick in held else [tick]) + (held if tick == LATER + late else [])]
+                return [
+                    gsm_packet(n)
+                    for n in ([] if tick in held else [tick])
+                    + (held if tick == LATER + late else [])
+                ]
 
             stream = gsm_stream()
             wanted = [n for n in range(600 - DEPTH) if n not in (LATER, LATER + 1)]
-            self.assertEqual([n for n in numbers(stream, packets, 600) if n is not None], wanted, late)
+            self.assertEqual(
+                [n for n in numbers(stream, packets, 600) if n is not None], wanted, late
+            )
             self.assertEqual((stream.counts["late"], stream.buffer.counts["slips-back"]), (2, 0))
 
     def test_swapped_packets_on_a_longer_path(self):
@@ -117,26 +122,44 @@ class Reordering(unittest.TestCase):
     def lost(self, stream, packets, ticks=2000):
         """The periods that aren't played once the path reorders; half a period counts as a half."""
         got = list(played(stream, packets, ticks))[LATER:]
-        return sum(1 if period is None else period.count(IDLE) // (SAMPLES // 2) / 2 for period in got)
+        return sum(
+            1 if period is None else period.count(IDLE) // (SAMPLES // 2) / 2 for period in got
+        )
 
     def test_some_packets_are_late(self):
-        for share, late, periods, most in ((0.1, 6, 1, 20), (0.03, 6, 1, 30), (0.1, 20, 1, 40), (0.1, 9, 3, 40)):
+        for share, late, periods, most in (
+            (0.1, 6, 1, 20),
+            (0.03, 6, 1, 30),
+            (0.1, 20, 1, 40),
+            (0.1, 9, 3, 40),
+        ):
             for seed in range(10):
                 stream = gsm_stream()
-                lost = self.lost(stream, reordered(lambda n: gsm_packet(n, periods), periods, some(share, late, seed), 2000))
+                lost = self.lost(
+                    stream,
+                    reordered(
+                        lambda n: gsm_packet(n, periods), periods, some(share, late, seed), 2000
+                    ),
+                )
                 self.assertLess(lost, most, (share, late, periods, seed))
-                self.assertLessEqual(-stream.buffer.shift, late + periods, (share, late, periods, seed))
+                self.assertLessEqual(
+                    -stream.buffer.shift, late + periods, (share, late, periods, seed)
+                )
 
     def test_packets_in_no_order(self):
         for most_late, most in ((8, 30), (10, 50), (15, 60)):
             for seed in range(10):
                 late = random.Random(seed).randrange
-                lost = self.lost(gsm_stream(), reordered(gsm_packet, 1, lambda n: late(most_late), 2000))
+                lost = self.lost(
+                    gsm_stream(), reordered(gsm_packet, 1, lambda n: late(most_late), 2000)
+                )
                 self.assertLess(lost, most, (most_late, seed))
 
     def test_two_paths_in_turn(self):
         for every, late in ((2, 8), (3, 6), (7, 12)):
-            lost = self.lost(gsm_stream(), reordered(gsm_packet, 1, lambda n: 0 if n % every else late, 2000))
+            lost = self.lost(
+                gsm_stream(), reordered(gsm_packet, 1, lambda n: 0 if n % every else late, 2000)
+            )
             self.assertLess(lost, 30, (every, late))
 
     def test_octets_off_the_grid(self):
@@ -155,7 +178,9 @@ class Reordering(unittest.TestCase):
 
     def delay(self, late, ticks, behind=0, is_soft=True):
         """The delay after so many ticks of speech that is soft or not; packets are read while the process is late by `behind`."""
-        stream, packets = gsm_stream(is_soft=lambda frame: is_soft), reordered(gsm_packet, 1, late, ticks)
+        stream, packets = gsm_stream(is_soft=lambda frame: is_soft), reordered(
+            gsm_packet, 1, late, ticks
+        )
         for tick in range(ticks):
             for packet in packets(tick):
                 stream.packet(packet, tick, behind)
@@ -166,7 +191,11 @@ class Reordering(unittest.TestCase):
         for count in (3, 5, 10):
             for late in (12, 20, 30):
                 held = range(LATER, LATER + count)
-                self.assertEqual(self.delay(lambda n: late if n in held else 0, LATER + 190), DEPTH, (count, late))
+                self.assertEqual(
+                    self.delay(lambda n: late if n in held else 0, LATER + 190),
+                    DEPTH,
+                    (count, late),
+                )
 
     def test_nor_do_three_late_ones_on_a_path_that_is_well_again(self):
         late = {LATER: 20, LATER + 40: 20, LATER + 80: 20}
@@ -210,21 +239,37 @@ class Parts(unittest.TestCase):
                 stream = gsm_stream()
                 got = numbers(stream, on_path(lambda n: gsm_packet(n, frames), frames, late), 1200)
                 begin = LATER + late + 3 * frames + DEPTH
-                self.assertEqual(got[begin:], list(range(got[begin], got[begin] + 1200 - begin)), (frames, late))
+                self.assertEqual(
+                    got[begin:], list(range(got[begin], got[begin] + 1200 - begin)), (frames, late)
+                )
 
     def test_octets_on_a_longer_path(self):
         for size, first in ((160, 80), (160, 20), (320, 0), (480, 0), (480, 80)):
             for late in range(DEPTH + 1, DEPTH + 6):
                 stream = line_stream()
-                got = list(played(stream, on_path(lambda n: line_packet(n, size, first), size // SAMPLES, late), 1200))
+                got = list(
+                    played(
+                        stream,
+                        on_path(lambda n: line_packet(n, size, first), size // SAMPLES, late),
+                        1200,
+                    )
+                )
                 begin = LATER + late + 3 * size // SAMPLES + DEPTH + 1
-                self.assertEqual([period for period in got[begin:] if not period or IDLE in period], [], (size, first, late))
+                self.assertEqual(
+                    [period for period in got[begin:] if not period or IDLE in period],
+                    [],
+                    (size, first, late),
+                )
 
     def test_one_that_is_late_moves_nothing(self):
         def packets(tick):
             if tick == LATER + 2:
                 return []
-            return [gsm_packet((tick - 4) // 3 if tick == LATER + 6 else tick // 3, 3)] if tick % 3 == 2 or tick == LATER + 6 else []
+            return (
+                [gsm_packet((tick - 4) // 3 if tick == LATER + 6 else tick // 3, 3)]
+                if tick % 3 == 2 or tick == LATER + 6
+                else []
+            )
 
         stream = gsm_stream()
         list(played(stream, packets, 450))
@@ -235,15 +280,22 @@ class Doubled(unittest.TestCase):
     def test_doubled_packets_of_any_size(self):
         for size, first in ((80, 0), (160, 0), (160, 80), (240, 0), (100, 0), (999, 37)):
             for later in (0, 2, 5, 30):  # ticks after which the second one comes
-
                 came = [[] for _ in range(600)]
                 for number in range(500 * SAMPLES // size):
                     for tick in (0, later):
-                        came[number * size // SAMPLES + tick].append(line_packet(number, size, first))
+                        came[number * size // SAMPLES + tick].append(
+                            line_packet(number, size, first)
+                        )
                 stream = line_stream()
                 got = list(played(stream, came.__getitem__, 500))[DEPTH + 10 :]
-                self.assertEqual(sum((period or IDLE).count(IDLE) for period in got), 0, (size, first, later))
-                self.assertEqual((stream.counts["late"], dict(stream.buffer.counts)), (0, {}), (size, first, later))
+                self.assertEqual(
+                    sum((period or IDLE).count(IDLE) for period in got), 0, (size, first, later)
+                )
+                self.assertEqual(
+                    (stream.counts["late"], dict(stream.buffer.counts)),
+                    (0, {}),
+                    (size, first, later),
+                )
 
     def test_with_loss_and_jitter(self):
         for size in (80, 100, 160, 240, 320, 480):
@@ -251,11 +303,17 @@ class Doubled(unittest.TestCase):
             for number in range(900 * SAMPLES // size):
                 for _ in range(draw.choice((1, 2))):
                     if draw.random() > 0.05:
-                        came[int(number * size / SAMPLES + DEPTH - 1 + draw.random() * (DEPTH - 1))].append(line_packet(number, size))
+                        came[
+                            int(number * size / SAMPLES + DEPTH - 1 + draw.random() * (DEPTH - 1))
+                        ].append(line_packet(number, size))
                         arrived.add(number)
             stream = line_stream()
             got = b"".join(filter(None, played(stream, came.__getitem__, 1000)))
-            self.assertEqual((len(got.replace(IDLE, b"")), dict(stream.buffer.counts)), (size * len(arrived), {}), size)
+            self.assertEqual(
+                (len(got.replace(IDLE, b"")), dict(stream.buffer.counts)),
+                (size * len(arrived), {}),
+                size,
+            )
 
     def test_a_late_double_of_a_part_is_doubled(self):
         stream = line_stream(0)
@@ -273,12 +331,18 @@ class Doubled(unittest.TestCase):
                     period, part = tick + draw.randrange(-4, 5), draw.randrange(40)
                     piece = bytes([period & 63 | 1]) * draw.randrange(1, 41 - part)
                     wanted = set(range(part, part + len(piece)))
-                    places = came.setdefault(period, set()) if period >= tick else came.get(period, set())
+                    places = (
+                        came.setdefault(period, set())
+                        if period >= tick
+                        else came.get(period, set())
+                    )
                     reason = "doubled" if wanted <= places else "late" if period < tick else ""
                     self.assertEqual(buffer.put(period, part, piece, tick), reason)
                     places |= wanted if not reason else set()
                 got = buffer.take(tick) or 40 * IDLE
-                self.assertEqual({at for at in range(40) if got[at : at + 1] != IDLE}, came.get(tick, set()))
+                self.assertEqual(
+                    {at for at in range(40) if got[at : at + 1] != IDLE}, came.get(tick, set())
+                )
 
 
 class Slips(unittest.TestCase):
@@ -286,7 +350,10 @@ class Slips(unittest.TestCase):
 
     def packets(self, tick):
         stop = range(LATER, LATER + self.STOP)
-        return [gsm_packet(n) for n in ([] if tick in stop else [*stop, tick] if tick == stop.stop else [tick])]
+        return [
+            gsm_packet(n)
+            for n in ([] if tick in stop else [*stop, tick] if tick == stop.stop else [tick])
+        ]
 
     def slips(self, stream, ticks, packets=None):
         """The ticks of the slips on, and the delay at the end."""
@@ -301,7 +368,9 @@ class Slips(unittest.TestCase):
         for is_soft in (False, True):
             slips, delay = self.slips(gsm_stream(is_soft=lambda frame: is_soft), 3000)
             self.assertGreater(len(slips), 10)
-            self.assertGreaterEqual(min(late - early for early, late in zip(slips, slips[1:])), REST)
+            self.assertGreaterEqual(
+                min(late - early for early, late in zip(slips, slips[1:])), REST
+            )
             self.assertEqual(delay, DEPTH)
 
     def test_they_look_for_soft_frames(self):
@@ -311,7 +380,9 @@ class Slips(unittest.TestCase):
             heard.append(int.from_bytes(frame[1:5], "big"))
             return heard[-1] % 50 == 0
 
-        got = numbers(gsm_stream(is_soft=is_soft), self.packets, LATER + self.STOP + WINDOW + PATIENCE - 1)
+        got = numbers(
+            gsm_stream(is_soft=is_soft), self.packets, LATER + self.STOP + WINDOW + PATIENCE - 1
+        )
         left_out = set(range(LATER + self.STOP, max(filter(None, got)))) - set(got)
         self.assertEqual({n % 50 for n in left_out}, {0})
         self.assertGreaterEqual(len(left_out), 4)
@@ -324,7 +395,9 @@ class Slips(unittest.TestCase):
 
     def test_where_nothing_comes_they_are_made_at_once(self):
         pause = range(LATER + self.STOP + WINDOW + 20, LATER + self.STOP + WINDOW + 60)
-        slips, _ = self.slips(gsm_stream(), 1000, lambda tick: [] if tick in pause else self.packets(tick))
+        slips, _ = self.slips(
+            gsm_stream(), 1000, lambda tick: [] if tick in pause else self.packets(tick)
+        )
         self.assertGreater(len(slips), 4)
         self.assertEqual(slips, list(range(slips[0], slips[0] + len(slips))))
 
@@ -335,7 +408,9 @@ class Sources(unittest.TestCase):
             stream = gsm_stream()
             one = on_path(lambda n: gsm_packet(n, frames), frames, 0)
             other = on_path(lambda n: gsm_packet(n + 1000, frames, 6), frames, 0)
-            got = numbers(stream, lambda tick: [*one(tick), *(other(tick) if tick >= LATER else [])], 900)
+            got = numbers(
+                stream, lambda tick: [*one(tick), *(other(tick) if tick >= LATER else [])], 900
+            )
             begin = DEPTH + frames - 1
             self.assertEqual((got[begin:], stream.source), (list(range(900 - begin)), 5), frames)
 
@@ -348,7 +423,11 @@ class Sources(unittest.TestCase):
 
     def test_another_is_heard_when_the_first_has_ended(self):
         stream = gsm_stream()
-        got = numbers(stream, lambda tick: [gsm_packet(tick) if tick < LATER else gsm_packet(tick, source=6)], 600)
+        got = numbers(
+            stream,
+            lambda tick: [gsm_packet(tick) if tick < LATER else gsm_packet(tick, source=6)],
+            600,
+        )
         self.assertEqual((stream.source, stream.counts["new-source"]), (6, 1))
         self.assertEqual(got[DEPTH : LATER + DEPTH], list(range(LATER)))
         begin = LATER + 3 * DEPTH
@@ -357,10 +436,18 @@ class Sources(unittest.TestCase):
     def test_what_the_first_brought_is_played(self):
         def packets(tick):
             last = [gsm_packet(n) for n in range(LATER, LATER + 20)]
-            return [gsm_packet(tick)] if tick < LATER else last if tick == LATER else [gsm_packet(tick, source=6)]
+            return (
+                [gsm_packet(tick)]
+                if tick < LATER
+                else last
+                if tick == LATER
+                else [gsm_packet(tick, source=6)]
+            )
 
         stream = gsm_stream()
-        self.assertEqual(numbers(stream, packets, 400)[DEPTH : LATER + 20 + DEPTH], list(range(LATER + 20)))
+        self.assertEqual(
+            numbers(stream, packets, 400)[DEPTH : LATER + 20 + DEPTH], list(range(LATER + 20))
+        )
         self.assertEqual(stream.source, 6)
 
     def test_what_waits_while_the_process_is_late_is_no_stillness(self):
@@ -383,7 +470,9 @@ class Reserve(unittest.TestCase):
         stream = gsm_stream()
         got = numbers(stream, lambda tick: came.get(tick, []), 3000)
         self.assertEqual((stream.counts["late"], stream.buffer.counts), (1, {"slips-back": 10}))
-        self.assertEqual(got[LATER + 2 * DEPTH + 10 :], list(range(LATER + DEPTH, 3000 - 10 - DEPTH)))
+        self.assertEqual(
+            got[LATER + 2 * DEPTH + 10 :], list(range(LATER + DEPTH, 3000 - 10 - DEPTH))
+        )
 
     def test_what_a_stop_adds_doesnt_stay(self):
         stream = gsm_stream()

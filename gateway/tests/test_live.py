@@ -12,10 +12,21 @@ import sys
 import time
 import unittest
 
-from live_support import LOOPBACK, Ended, Peers, WithLive, bound, hostile_packet, hostile_report, playing, talk, with_loopback
+from live_support import (
+    LOOPBACK,
+    Ended,
+    Peers,
+    WithLive,
+    bound,
+    hostile_packet,
+    hostile_report,
+    playing,
+    talk,
+    with_loopback,
+)
 from support import GATEWAY, with_program
 
-from rtp import ALAW, GSM
+from trau.gateway.rtp import ALAW, GSM
 from spoiler import Faults
 
 SPOILED = Faults(loss=0.05, jitter=0.04, swapped=0.05, doubled=0.1)
@@ -39,36 +50,65 @@ class Starts(WithLive):
             live = self.with_file(f"rec{number}")
             live.wait_for_periods(7, 3)
             self.assertEqual(live.end(number), 0)
-            self.assertRegex(live.said[-1], r"^end period \d+ late \d+ latest \d+ ms given-up \d+ dropped 0 processor \d+\.\d\d s$")
+            self.assertRegex(
+                live.said[-1],
+                r"^end period \d+ late \d+ latest \d+ ms given-up \d+ dropped 0 processor \d+\.\d\d s$",
+            )
             self.assertIn("0 dtx 7 on\n", (live.folder / "orders.txt").read_text())
 
     def refused(self, lines):
         """What is said of a file with these lines, of which one is refused."""
         (self.folder / "calls.txt").write_text(lines)
         ran = subprocess.run(
-            [sys.executable, "-B", str(GATEWAY / "gateway.py"), "run", str(self.folder / "rec"), "--calls", str(self.folder / "calls.txt")],
+            [
+                sys.executable,
+                "-B",
+                str(GATEWAY / "gateway.py"),
+                "run",
+                str(self.folder / "rec"),
+                "--calls",
+                str(self.folder / "calls.txt"),
+            ],
             stdin=subprocess.DEVNULL,
             stdout=subprocess.PIPE,
             stderr=subprocess.PIPE,
             text=True,
         )
-        self.assertEqual((ran.returncode, ran.stdout, ran.stderr.count("\n")), (2, "", 1), ran.stderr)
+        self.assertEqual(
+            (ran.returncode, ran.stdout, ran.stderr.count("\n")), (2, "", 1), ran.stderr
+        )
         self.assertFalse((self.folder / "rec").exists())
         return ran.stderr
 
     def test_a_file_with_a_mistake(self):
         self.assertIn("calls.txt line 2: both sides are needed", self.refused("\nopen 7\n"))
         new, old = self.folder / "new", self.folder / "old"
-        self.assertIn("calls.txt line 2: both sides are needed", self.refused(f"record {new}\nopen 7\n"))
+        self.assertIn(
+            "calls.txt line 2: both sides are needed", self.refused(f"record {new}\nopen 7\n")
+        )
         old.mkdir()
-        self.assertIn("calls.txt line 2: File exists", self.refused(f"record {new}\nrecord {old}\n"))
+        self.assertIn(
+            "calls.txt line 2: File exists", self.refused(f"record {new}\nrecord {old}\n")
+        )
         self.assertEqual((new.exists(), old.exists()), (False, True))
 
     def test_standard_input_that_cant_be_read(self):  # as nohup leaves it
-        words = [sys.executable, "-B", str(GATEWAY / "gateway.py"), "run", str(self.folder / "rec"), "--seconds", "1"]
+        words = [
+            sys.executable,
+            "-B",
+            str(GATEWAY / "gateway.py"),
+            "run",
+            str(self.folder / "rec"),
+            "--seconds",
+            "1",
+        ]
         with open("/dev/null", "wb") as sink:
-            ran = subprocess.run(words, stdin=sink, stdout=subprocess.DEVNULL, stderr=subprocess.PIPE, text=True)
-        self.assertEqual((ran.returncode, ran.stderr), (0, "gateway.py: standard input: Bad file descriptor\n"))
+            ran = subprocess.run(
+                words, stdin=sink, stdout=subprocess.DEVNULL, stderr=subprocess.PIPE, text=True
+            )
+        self.assertEqual(
+            (ran.returncode, ran.stderr), (0, "gateway.py: standard input: Bad file descriptor\n")
+        )
 
     def test_a_hangup(self):  # as the end of an ssh session
         live = self.live(self.folder / "rec", "--every", "250")
@@ -83,7 +123,15 @@ class Starts(WithLive):
     def test_a_terminal_that_nobody_reads(self):
         here, there = pty.openpty()
         self.addCleanup(os.close, here)
-        words = [sys.executable, "-B", str(GATEWAY / "gateway.py"), "run", str(self.folder / "rec"), "--address", LOOPBACK]
+        words = [
+            sys.executable,
+            "-B",
+            str(GATEWAY / "gateway.py"),
+            "run",
+            str(self.folder / "rec"),
+            "--address",
+            LOOPBACK,
+        ]
         peers = Peers()
         self.addCleanup(peers.close)
         one = subprocess.Popen(words, stdin=subprocess.PIPE, stdout=there, text=True)
@@ -110,7 +158,10 @@ class Starts(WithLive):
         live = self.live(self.folder / "rec", descriptor_limit=64 + 10 * 2)
         for call in (1, 2):
             live.open(call)
-        self.assertRegex(live.ask("open 3 gsm 2 127.0.0.1:2 pcm 4 127.0.0.1:2"), r"^refused \d+ open 3 .*: 2 calls are open$")
+        self.assertRegex(
+            live.ask("open 3 gsm 2 127.0.0.1:2 pcm 4 127.0.0.1:2"),
+            r"^refused \d+ open 3 .*: 2 calls are open$",
+        )
         self.assertEqual(live.end(), 0)
 
     def test_a_line_that_is_refused(self):
@@ -132,7 +183,13 @@ class Calls(WithLive):
         live = self.live(self.folder / "rec", "--every", "5")
         rows = []
         for call in (1, 2, 3):
-            rows += talk(live.open(call, "mulaw dtx on level 2000" if call == 2 else ""), call, 400, SPOILED, call == 2)
+            rows += talk(
+                live.open(call, "mulaw dtx on level 2000" if call == 2 else ""),
+                call,
+                400,
+                SPOILED,
+                call == 2,
+            )
         with playing(rows):
             live.wait_for_periods(1, 20)
             self.assertRegex(live.ask("bridge 1 2"), "^ok ")
@@ -146,7 +203,9 @@ class Calls(WithLive):
         draw = random.Random(11)
         for turn in range(3):
             live = self.live(self.folder / f"rec{turn}")
-            rows = [row for call in (1, 2, 3, 4) for row in talk(live.open(call, "dtx on"), call, 400)]
+            rows = [
+                row for call in (1, 2, 3, 4) for row in talk(live.open(call, "dtx on"), call, 400)
+            ]
             with playing(rows):
                 live.wait_for_periods(1, 10)
                 live.ask("bridge 1 2")
@@ -154,7 +213,9 @@ class Calls(WithLive):
                 live.wait_for_periods(1, 20 + draw.randrange(30))
                 self.assertEqual(live.end(signal.SIGKILL), -signal.SIGKILL)
             lines = self.assert_replays(live.folder)
-            self.assertRegex(lines[0], r"^cut at period \d+, \d+ recorded periods of calls not compared$")
+            self.assertRegex(
+                lines[0], r"^cut at period \d+, \d+ recorded periods of calls not compared$"
+            )
 
     def test_a_full_disk(self):
         live = self.live(self.folder / "rec", file_limit=160 * 40 + 7)
@@ -165,11 +226,17 @@ class Calls(WithLive):
             self.assertRegex(live.ask("close 2"), "^ok ")
             self.assertEqual(live.end(), 1)
         lines = self.assert_replays(live.folder)
-        self.assertRegex(lines[0], r"^cut at period \d+, \d+ recorded periods of calls not compared$")
+        self.assertRegex(
+            lines[0], r"^cut at period \d+, \d+ recorded periods of calls not compared$"
+        )
 
     def test_hostile_packets(self):
         live = self.live(self.folder / "rec")
-        rows = [row for call, words in ((1, ""), (2, "strict off"), (3, "")) for row in talk(live.open(call, words), call, 400)]
+        rows = [
+            row
+            for call, words in ((1, ""), (2, "strict off"), (3, ""))
+            for row in talk(live.open(call, words), call, 400)
+        ]
         draw = random.Random(5)
         stranger = bound("127.0.0.2")
         self.addCleanup(stranger.close)
@@ -190,7 +257,9 @@ class Calls(WithLive):
         peers, report = live.open(1, "strict off"), bytes.fromhex("80c9000100000001")
         live.ask("counts 1")
         while not re.search(r" gsm-rtcp [1-9]", live.said[-2]):
-            peers.gsm.sendto(report + bytes.fromhex("80cb0000") + report, (LOOPBACK, peers.ports[0] + 1))
+            peers.gsm.sendto(
+                report + bytes.fromhex("80cb0000") + report, (LOOPBACK, peers.ports[0] + 1)
+            )
             live.ask("counts 1")
         self.assertEqual(live.end(), 0)
 

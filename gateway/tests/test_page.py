@@ -11,11 +11,21 @@ import sys
 import unittest
 
 from live_support import WithLive, even_port, with_loopback
-from support import GATEWAY, PROGRAM, SPEECH, TOP, InFolder, Turned, open_line, repeated, with_program
+from support import (
+    GATEWAY,
+    PROGRAM,
+    SPEECH,
+    TOP,
+    InFolder,
+    Turned,
+    open_line,
+    repeated,
+    with_program,
+)
 
-import gateway
-import report
-from rtp import GSM
+from trau.gateway import gateway
+from trau.runs import report
+from trau.gateway.rtp import GSM
 from spoiler import schedule
 
 PAGE = (TOP / "docs" / "GATEWAY.md").read_text()
@@ -35,25 +45,53 @@ class Page(WithLive):
             port, other = even_port(), even_port()
             said = live.ask(line.replace("6000", str(port)).replace(" 6004", f" {other}"))
         self.assertEqual(re.sub(r"\d+", "N", said), re.sub(r"\d+", "N", reply))
-        words = shlex.split(station.replace("\\\n", "").replace("num-buffers=400", "num-buffers=40").replace("port=6000", f"port={port}"))
+        words = shlex.split(
+            station.replace("\\\n", "")
+            .replace("num-buffers=400", "num-buffers=40")
+            .replace("port=6000", f"port={port}")
+        )
         inspect = shutil.which("gst-inspect-1.0")
-        if inspect and not subprocess.run([inspect, "gsmenc"], stdout=subprocess.DEVNULL, stderr=subprocess.DEVNULL).returncode:
+        if (
+            inspect
+            and not subprocess.run(
+                [inspect, "gsmenc"], stdout=subprocess.DEVNULL, stderr=subprocess.DEVNULL
+            ).returncode
+        ):
             subprocess.run(words, stdout=subprocess.DEVNULL, check=True)
         make, send = (shlex.split(words) for words in exchange.splitlines())
         sound = [sys.executable, "-B", str(TOP / make[0]), make[1], str(TOP / make[2]), make[3]]
         subprocess.run(sound, cwd=self.folder, stdout=subprocess.DEVNULL, check=True)
-        self.assertEqual((send[:4], send[-1]), (["ffmpeg", "-re", "-i", make[3]], "rtp://127.0.0.1:6004"))
+        self.assertEqual(
+            (send[:4], send[-1]), (["ffmpeg", "-re", "-i", make[3]], "rtp://127.0.0.1:6004")
+        )
         if shutil.which("ffmpeg"):
-            quiet = {"stdin": subprocess.DEVNULL, "stdout": subprocess.DEVNULL, "stderr": subprocess.DEVNULL}
-            subprocess.run([*send[:-1], send[-1].replace("6004", str(other))], cwd=self.folder, check=True, **quiet)
+            quiet = {
+                "stdin": subprocess.DEVNULL,
+                "stdout": subprocess.DEVNULL,
+                "stderr": subprocess.DEVNULL,
+            }
+            subprocess.run(
+                [*send[:-1], send[-1].replace("6004", str(other))],
+                cwd=self.folder,
+                check=True,
+                **quiet,
+            )
         live.wait_for_periods(1, 5)
         self.assertEqual(live.end(signal.SIGINT), 0)
         command, *wanted = check.splitlines()
         words = [sys.executable, "-B", *command.split()[1:]]
         self.assertEqual(words[2], f"{GATEWAY.name}/gateway.py")
-        given = {"cwd": self.folder, "env": {"TRAU_PROGRAM": PROGRAM, "PATH": "/usr/bin:/bin"}, "stdout": subprocess.PIPE, "text": True}
+        given = {
+            "cwd": self.folder,
+            "env": {"TRAU_PROGRAM": PROGRAM, "PATH": "/usr/bin:/bin"},
+            "stdout": subprocess.PIPE,
+            "text": True,
+        }
         ran = subprocess.run([*words[:2], str(TOP / words[2]), *words[3:]], **given)
-        periods = [re.sub(r"periods \d+", "periods N", line) for line in (*ran.stdout.splitlines(), *wanted)]
+        periods = [
+            re.sub(r"periods \d+", "periods N", line)
+            for line in (*ran.stdout.splitlines(), *wanted)
+        ]
         self.assertEqual(periods[: -len(wanted)], periods[-len(wanted) :])
 
 
@@ -67,7 +105,10 @@ class Recording(InFolder):
     def test_the_line_of_events(self):
         *_, line = BLOCKS
         (self.folder / "events.txt").write_text(line)
-        rows = [" ".join(str(row[word]) for word in ("period", "call", "what", "count")) for row in self.reported("events", self.folder)]
+        rows = [
+            " ".join(str(row[word]) for word in ("period", "call", "what", "count"))
+            for row in self.reported("events", self.folder)
+        ]
         self.assertEqual(rows, ["150 1 gsm-late 2", "150 1 gsm-missing 1"])
         for words in ("150 call 1", "gsm-late 2"):
             self.assertIn(f"| `{words}` |", PAGE)
@@ -81,7 +122,9 @@ class Recording(InFolder):
         turned = Turned(recording)
         turned.bring(1, packets[:20] + packets[23:])
         turned.run({0: [open_line(1)]}, periods)
-        self.assertEqual(self.run_tool(gateway.main, ["check", str(recording), "--again", str(again)])[0], 0)
+        self.assertEqual(
+            self.run_tool(gateway.main, ["check", str(recording), "--again", str(again)])[0], 0
+        )
         (call,), losses = self.reported("calls", again), self.reported("losses", again)
         begun = call["quiet"]
         self.assertGreaterEqual(begun, 25)

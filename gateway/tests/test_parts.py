@@ -16,23 +16,30 @@ from collections import Counter
 from live_support import bound, even_port, hostile_packet, hostile_report, with_loopback
 from support import SPEECH, InFolder, TurnedClock
 
-import recorder
-import rtp
-import switchboard
-from calls import SILENCE, SOFT_BLOCK, idle_line, is_soft_frame, soft_octets
-from clock import PERIOD, Clock
-from core.profile import MOST_ORDERS
-from core.words import Refusal
-from incoming import Incoming
-from jitter_buffer import LIMIT, MOST_MARGIN, PATIENCE, WINDOW, JitterBuffer
-from live import Commands, Gateway
-from network import FEWEST_SOCKETS, KEEPS_PORT, MOST_OCTETS, MOST_PACKETS, Endpoint, Network
-from recorder import CLOSE_OCTETS, Recorder
-from rtcp import Reception, Reports
-from settings import Side, read_open
+from trau.gateway import recorder
+from trau.gateway import rtp
+from trau.gateway import switchboard
+from trau.gateway.calls import SILENCE, SOFT_BLOCK, idle_line, is_soft_frame, soft_octets
+from trau.gateway.clock import PERIOD, Clock
+from trau.rules.profile import MOST_ORDERS
+from trau.command_line.words import Refusal
+from trau.gateway.incoming import Incoming
+from trau.gateway.jitter_buffer import LIMIT, MOST_MARGIN, PATIENCE, WINDOW, JitterBuffer
+from trau.gateway.live import Commands, Gateway
+from trau.gateway.network import (
+    FEWEST_SOCKETS,
+    KEEPS_PORT,
+    MOST_OCTETS,
+    MOST_PACKETS,
+    Endpoint,
+    Network,
+)
+from trau.gateway.recorder import CLOSE_OCTETS, Recorder
+from trau.gateway.rtcp import Reception, Reports
+from trau.gateway.settings import Side, read_open
 from spoiler import header
-from switchboard import Switchboard
-from trau_fr import Kind, kind_of
+from trau.gateway.switchboard import Switchboard
+from trau.trau_fr import Kind, kind_of
 
 ONE = bytes(33)
 
@@ -49,12 +56,16 @@ def blocks_of(blocks):
 
 def sender_report(source, time, blocks=()):
     """A sender report at a time of NTP."""
-    return struct.pack(">BBHIQ12x", 0x80 | len(blocks), 200, 6 + 6 * len(blocks), source, time) + blocks_of(blocks)
+    return struct.pack(
+        ">BBHIQ12x", 0x80 | len(blocks), 200, 6 + 6 * len(blocks), source, time
+    ) + blocks_of(blocks)
 
 
 def receiver_report(source, blocks):
     """A receiver report."""
-    return struct.pack(">BBHI", 0x80 | len(blocks), 201, 1 + 6 * len(blocks), source) + blocks_of(blocks)
+    return struct.pack(">BBHI", 0x80 | len(blocks), 201, 1 + 6 * len(blocks), source) + blocks_of(
+        blocks
+    )
 
 
 def buffer_of(depth=3):
@@ -84,7 +95,14 @@ class Packets(unittest.TestCase):
 
     def test_no_packets(self):
         fields = header(3, 7, 160, 9)[1:]
-        for data in (b"", b"\x80" * 11, b"\x40" + fields, b"\x8f" + fields, b"\x90" + fields, b"\x90" + fields + b"\0\0\xff\xff"):
+        for data in (
+            b"",
+            b"\x80" * 11,
+            b"\x40" + fields,
+            b"\x8f" + fields,
+            b"\x90" + fields,
+            b"\x90" + fields + b"\0\0\xff\xff",
+        ):
             self.assertEqual(self.refused(data), "not-rtp")
         self.assertEqual(self.refused(b"\xa0" + fields + b"\0"), "not-rtp")
         self.assertEqual(self.refused(b"\xa0" + fields + b"\5"), "not-rtp")
@@ -92,14 +110,19 @@ class Packets(unittest.TestCase):
 
     def test_what_is_sent(self):
         out = rtp.Outgoing(rtp.GSM, lambda size: struct.pack(">HII", 0xFFFF, 0xFFFFFF60, 5))
-        self.assertEqual(out.packet(0, b"a"), struct.pack(">BBHII", 0x80, 0x83, 0xFFFF, 0xFFFFFF60, 5) + b"a")
+        self.assertEqual(
+            out.packet(0, b"a"), struct.pack(">BBHII", 0x80, 0x83, 0xFFFF, 0xFFFFFF60, 5) + b"a"
+        )
         out.give_up(2)
         self.assertEqual(out.packet(3, b"b"), struct.pack(">BBHII", 0x80, 0x83, 0, 640, 5) + b"b")
         self.assertEqual(out.packet(4, b"c"), struct.pack(">BBHII", 0x80, 3, 1, 800, 5) + b"c")
 
     def test_the_marker_is_of_the_first_speech_after_a_gap(self):
         out = rtp.Outgoing(rtp.GSM)
-        markers = [out.packet(period, b"a", is_speech)[1] >> 7 for period, is_speech in enumerate((1, 1, 0, 0, 1, 1))]
+        markers = [
+            out.packet(period, b"a", is_speech)[1] >> 7
+            for period, is_speech in enumerate((1, 1, 0, 0, 1, 1))
+        ]
         self.assertEqual(markers, [1, 0, 0, 0, 1, 0])
 
 
@@ -109,7 +132,10 @@ class Buffers(unittest.TestCase):
         buffer.start(10)
         for period in (0, 2, 1):
             self.assertEqual(buffer.put(period, 0, bytes([period]) * 33, 10), "")
-        self.assertEqual([buffer.take(tick) for tick in range(10, 17)], [None] * 3 + [bytes([p]) * 33 for p in range(3)] + [None])
+        self.assertEqual(
+            [buffer.take(tick) for tick in range(10, 17)],
+            [None] * 3 + [bytes([p]) * 33 for p in range(3)] + [None],
+        )
 
     def test_late_and_doubled(self):
         buffer = buffer_of(0)
@@ -131,7 +157,9 @@ class Buffers(unittest.TestCase):
             self.assertEqual(buffer.owed, 0)
             for margin in (-2, 0, -2):
                 buffer.follow(margin, 9)
-                self.assertEqual((buffer.counts["slips-back"], -buffer.shift), (2 + depth, 2 + 2 * depth))
+                self.assertEqual(
+                    (buffer.counts["slips-back"], -buffer.shift), (2 + depth, 2 + 2 * depth)
+                )
 
     def moved(self, margin, is_sent):
         """The slips of a stream whose packets stand so far ahead, and the ticks until the first one."""
@@ -189,7 +217,11 @@ class Streams(unittest.TestCase):
     def test_counts(self):
         stream = gsm_stream()
         stream.packet(header(3, 1, 0, 5) + ONE, 0, 0)
-        for packet in (header(8, 2, 160, 5) + ONE, b"", *(header(3, 2, 160, 5) + part for part in (b"", ONE[1:], 51 * ONE))):
+        for packet in (
+            header(8, 2, 160, 5) + ONE,
+            b"",
+            *(header(3, 2, 160, 5) + part for part in (b"", ONE[1:], 51 * ONE)),
+        ):
             stream.packet(packet, 0, 0)
         wanted = {"other-type": 1, "empty": 1, "odd-size": 1, "not-rtp": 1, "too-long": 1}
         self.assertEqual(stream.counts, wanted)
@@ -198,9 +230,18 @@ class Streams(unittest.TestCase):
         stream = gsm_stream()
         stream.packet(header(3, 1, 160, 5) + ONE, 0, 0)
         self.assertEqual(self.taken(stream, range(5))[3], ONE)
-        for tick, source, number in ((5, 6, 99), (5, 6, 100), (6, 7, 3), (6, 6, 101), (6, 6, 102), (6, 6, 103)):
+        for tick, source, number in (
+            (5, 6, 99),
+            (5, 6, 100),
+            (6, 7, 3),
+            (6, 6, 101),
+            (6, 6, 102),
+            (6, 6, 103),
+        ):
             stream.packet(header(3, number, 160 * number, source) + ONE, tick, 0)
-        self.assertEqual((stream.source, stream.counts["probation"], stream.counts["new-source"]), (6, 4, 1))
+        self.assertEqual(
+            (stream.source, stream.counts["probation"], stream.counts["new-source"]), (6, 4, 1)
+        )
 
     def test_two_senders_that_take_turns_as_one_source(self):
         stream, played = gsm_stream(1), []
@@ -214,9 +255,18 @@ class Streams(unittest.TestCase):
 
     def test_a_jump_is_believed_if_the_next_packet_follows_it(self):
         stream = gsm_stream()
-        for number, stamp in ((1, 0), (2, 160 * 500), (2, 160), (3, 160 * 900), (4, 160 * 901), (5, 160 * 902)):
+        for number, stamp in (
+            (1, 0),
+            (2, 160 * 500),
+            (2, 160),
+            (3, 160 * 900),
+            (4, 160 * 901),
+            (5, 160 * 902),
+        ):
             stream.packet(header(3, number, stamp, 5) + ONE, 0, 0)
-        self.assertEqual((stream.counts["far"], stream.counts["jumps"], len(stream.buffer.periods)), (2, 1, 2))
+        self.assertEqual(
+            (stream.counts["far"], stream.counts["jumps"], len(stream.buffer.periods)), (2, 1, 2)
+        )
 
     def nearly(self, draw, kind):
         """A packet of one of two sources, with a number and a stamp that may follow one another."""
@@ -241,7 +291,9 @@ class Streams(unittest.TestCase):
     def test_what_is_held_is_bounded(self):
         stream = gsm_stream()
         for number in range(3000):
-            stream.packet(header(3, number, 160 * number % 30000, 5) + ONE * (number % 7), 0, number % 50)
+            stream.packet(
+                header(3, number, 160 * number % 30000, 5) + ONE * (number % 7), 0, number % 50
+            )
         self.assertLessEqual(len(stream.buffer.periods), 3 * LIMIT)
 
 
@@ -274,7 +326,9 @@ class Receptions(unittest.TestCase):
         self.assertEqual(self.reception([0, 2, 1, 3]).missing(), 0)
 
     def test_a_sender_that_begins_anew(self):
-        came = self.reception([*range(5), *range(40_000, 40_010), 7, 8])  # two numbers in a row are believed
+        came = self.reception(
+            [*range(5), *range(40_000, 40_010), 7, 8]
+        )  # two numbers in a row are believed
         self.assertEqual((came.received, came.missing()), (15, 0))
 
     def test_a_single_wild_number_is_dropped(self):
@@ -296,7 +350,11 @@ class Answers(unittest.TestCase):
     NOW = 1_000_000_000_500_000_000  # nanoseconds; in NTP's time 3,208,988,800.5 seconds
 
     def answer(self, count, came=None, reports=None):
-        out = reports.outgoing if reports else rtp.Outgoing(rtp.GSM, lambda size: struct.pack(">HII", 0, 100, 9))
+        out = (
+            reports.outgoing
+            if reports
+            else rtp.Outgoing(rtp.GSM, lambda size: struct.pack(">HII", 0, 100, 9))
+        )
         reports = reports or Reports(out, Counter())
         for period in range(count):
             out.packet(period, ONE)
@@ -304,20 +362,30 @@ class Answers(unittest.TestCase):
 
     def test_a_sender(self):
         reports, answer = self.answer(3)
-        report = struct.pack(">BBHIQIII", 0x80, 200, 6, 9, 3_208_988_800 << 32 | 1 << 31, 100 + 7 * 160, 3, 99)
-        self.assertEqual(answer, report + struct.pack(">BBHIBB16s2x", 0x81, 202, 6, 9, 1, 16, reports.name))
-        self.assertEqual(self.answer(0, None, reports)[1][:8], struct.pack(">BBHI", 0x80, 201, 1, 9))
+        report = struct.pack(
+            ">BBHIQIII", 0x80, 200, 6, 9, 3_208_988_800 << 32 | 1 << 31, 100 + 7 * 160, 3, 99
+        )
+        self.assertEqual(
+            answer, report + struct.pack(">BBHIBB16s2x", 0x81, 202, 6, 9, 1, 16, reports.name)
+        )
+        self.assertEqual(
+            self.answer(0, None, reports)[1][:8], struct.pack(">BBHI", 0x80, 201, 1, 9)
+        )
 
     def test_the_block(self):
         came = Receptions().reception(range(5))
         reports = Reports(rtp.Outgoing(rtp.GSM), Counter())
-        self.assertTrue(reports.take(sender_report(5, 0x1122334455667788), self.NOW - 1_500_000_000))
+        self.assertTrue(
+            reports.take(sender_report(5, 0x1122334455667788), self.NOW - 1_500_000_000)
+        )
         wanted = struct.pack(">IIIIII", 5, 0, 4, 0, 0x33445566, 3 << 15)
         self.assertEqual(self.answer(1, came, reports)[1][28:52], wanted)
         reports.take(sender_report(6, 0x1122334455667788), self.NOW)  # of a source that isn't heard
         came.count(5, 800, 5)
         self.assertEqual(self.answer(1, came, reports)[1][44:52], bytes(8))
-        self.assertEqual(self.answer(1, came, reports)[1][:4], bytes((0x80, 200, 0, 6)))  # nothing came since
+        self.assertEqual(
+            self.answer(1, came, reports)[1][:4], bytes((0x80, 200, 0, 6))
+        )  # nothing came since
 
     def test_what_the_peer_lost(self):
         reports = Reports(rtp.Outgoing(rtp.GSM), Counter())
@@ -330,20 +398,35 @@ class Answers(unittest.TestCase):
     def test_packets_without_a_source(self):
         reports, nobody = Reports(rtp.Outgoing(rtp.GSM), Counter()), bytes((0x80, 203, 0, 0))
         lost = receiver_report(5, [(reports.outgoing.source, 7)])
-        for data, is_taken in ((lost + nobody, True), (lost + nobody + lost, True), (nobody, False), (nobody + lost, False)):
+        for data, is_taken in (
+            (lost + nobody, True),
+            (lost + nobody + lost, True),
+            (nobody, False),
+            (nobody + lost, False),
+        ):
             reports.counts.clear()
-            self.assertEqual((reports.take(data, 0), reports.counts["far-lost"]), (is_taken, 7 if is_taken else 0))
+            self.assertEqual(
+                (reports.take(data, 0), reports.counts["far-lost"]),
+                (is_taken, 7 if is_taken else 0),
+            )
 
     def test_nonsense(self):
         reports, draw = Reports(rtp.Outgoing(rtp.GSM), Counter()), random.Random(2)
         whole = sender_report(5, 0, [(reports.outgoing.source, 1)]) + receiver_report(5, [])
         for cut in range(len(whole)):
             reports.take(whole[:cut], 0)
-        self.assertFalse(any(reports.take(data, 0) for data in (b"", whole[1:], whole + b"\0", b"\x40" + whole[1:], bytes(28))))
+        self.assertFalse(
+            any(
+                reports.take(data, 0)
+                for data in (b"", whole[1:], whole + b"\0", b"\x40" + whole[1:], bytes(28))
+            )
+        )
         for _ in range(20_000):
             data = bytearray(whole)
             for _ in range(draw.randrange(4)):
-                data[draw.randrange(len(data))] = draw.choice((0, 0x80, 0x9F, 0xFF, 200, 201, draw.randrange(256)))
+                data[draw.randrange(len(data))] = draw.choice(
+                    (0, 0x80, 0x9F, 0xFF, 200, 201, draw.randrange(256))
+                )
             reports.take(bytes(data), 0)
             self.assertEqual(len(reports.answer(None, 0, 0)), 8 + 28)
 
@@ -356,7 +439,9 @@ class Fuzz(unittest.TestCase):
         data = bytearray(whole)
         for _ in range(draw.randrange(4)):
             at = draw.randrange(len(data) or 1)
-            data[at : at + draw.choice((0, 1, 1, 4))] = draw.choice((b"", b"\0", b"\xff", data[: draw.randrange(9)], draw.randbytes(1)))
+            data[at : at + draw.choice((0, 1, 1, 4))] = draw.choice(
+                (b"", b"\0", b"\xff", data[: draw.randrange(9)], draw.randbytes(1))
+            )
         return bytes(data)
 
     def datagrams(self, count, made, whole):
@@ -375,7 +460,17 @@ class Fuzz(unittest.TestCase):
         self.assertGreater(taken, 5_000)
 
     def test_rtp(self):
-        whole, came, taken = b"\xb2" + header(3, 7, 160, 9)[1:] + bytes(8) + b"\xbe\xde\0\1" + bytes(4) + ONE + b"\0\0\3", None, 0
+        whole, came, taken = (
+            b"\xb2"
+            + header(3, 7, 160, 9)[1:]
+            + bytes(8)
+            + b"\xbe\xde\0\1"
+            + bytes(4)
+            + ONE
+            + b"\0\0\3",
+            None,
+            0,
+        )
         for data in self.datagrams(50_000, lambda draw: hostile_packet(draw, 3), whole):
             with contextlib.suppress(rtp.Refused):
                 _, number, stamp, source, _ = rtp.parse(data)
@@ -402,7 +497,11 @@ class Playing(unittest.TestCase):
             yield stream.buffer.take(tick)
 
     def numbers(self, stream, packets, ticks):
-        return [int.from_bytes(frame[1:5], "big") for frame in self.played(stream, packets, ticks) if frame]
+        return [
+            int.from_bytes(frame[1:5], "big")
+            for frame in self.played(stream, packets, ticks)
+            if frame
+        ]
 
     def test_depth_0_has_no_slips_on_a_perfect_network(self):
         stream = gsm_stream(0)
@@ -426,34 +525,53 @@ class Playing(unittest.TestCase):
         self.assertEqual(set(stream.buffer.margins), {3})
 
     def test_stamps_of_frames_that_are_one_unit_off(self):
-        numbers = self.numbers(gsm_stream(), lambda tick: [self.packet(tick, 1000 + 160 * tick - tick % 2)], 103)
+        numbers = self.numbers(
+            gsm_stream(), lambda tick: [self.packet(tick, 1000 + 160 * tick - tick % 2)], 103
+        )
         self.assertEqual(numbers, list(range(100)))
 
     def test_stamps_of_octets_that_are_one_unit_off(self):
         stream = Incoming(rtp.ALAW, 0, JitterBuffer(3, idle_line("alaw"), is_loud))
-        played = list(self.played(stream, lambda tick: [header(8, tick, 160 * tick + tick % 2, 5) + b"\x11" * 160], 103))
+        played = list(
+            self.played(
+                stream,
+                lambda tick: [header(8, tick, 160 * tick + tick % 2, 5) + b"\x11" * 160],
+                103,
+            )
+        )
         self.assertEqual([period.count(0xD5) for period in played[3:]], [0, 1] * 50)
 
     def test_one_late_packet_of_three_frames_is_no_slip(self):
         def packets(tick):
             number = (tick - 5 if tick == 127 else tick) // 3
             frames = b"".join(self.frame(3 * number + k) for k in range(3))
-            return [header(3, number, 480 * number, 5) + frames] if tick % 3 == 2 and tick != 122 or tick == 127 else []
+            return (
+                [header(3, number, 480 * number, 5) + frames]
+                if tick % 3 == 2 and tick != 122 or tick == 127
+                else []
+            )
 
         stream = gsm_stream()
         self.numbers(stream, packets, 300)
         self.assertEqual(stream.buffer.counts["slips-back"], 0)
 
     def test_a_longer_path_moves_the_playing_by_its_periods(self):
-        for place, late in ((0, 1), (80, 2)):  # in a period, and the periods that are touched by a late packet
+        for place, late in (
+            (0, 1),
+            (80, 2),
+        ):  # in a period, and the periods that are touched by a late packet
 
             def packets(tick):
                 numbers = [] if 100 <= tick < 110 else [tick - 10 if tick >= 110 else tick]
-                return [header(8, n, 160 * n + (place if n else 0), 5) + b"\x11" * 160 for n in numbers]
+                return [
+                    header(8, n, 160 * n + (place if n else 0), 5) + b"\x11" * 160 for n in numbers
+                ]
 
             stream = Incoming(rtp.ALAW, 0, JitterBuffer(3, idle_line("alaw"), is_loud))
             list(self.played(stream, packets, 200))
-            self.assertEqual((stream.counts["late"], stream.buffer.counts), (late, {"slips-back": 10}), place)
+            self.assertEqual(
+                (stream.counts["late"], stream.buffer.counts), (late, {"slips-back": 10}), place
+            )
 
     def test_lone_stragglers_dont_raise_the_delay(self):
         def packets(tick):
@@ -476,7 +594,13 @@ class Playing(unittest.TestCase):
 
     def test_margins_are_watched_by_ticks_too(self):
         def packets(tick):  # each sixth period, in time but for the last tick
-            return [self.packet(tick)] if tick % 6 == 0 and tick < 3 else [self.packet(tick - 3)] if tick % 6 == 3 else []
+            return (
+                [self.packet(tick)]
+                if tick % 6 == 0 and tick < 3
+                else [self.packet(tick - 3)]
+                if tick % 6 == 3
+                else []
+            )
 
         stream = gsm_stream()
         self.numbers(stream, packets, WINDOW + PATIENCE + 1)
@@ -487,15 +611,21 @@ class Clocks(unittest.TestCase):
     def test_four_phases(self):
         turned = TurnedClock()
         turns = list(itertools.islice(turned.clock.turns(), 9))
-        self.assertEqual([(turn.period, turn.phase) for turn in turns], [divmod(n, 4) for n in range(9)])
-        self.assertEqual((turned.time, turned.clock.late, turned.clock.given_up), (2 * PERIOD, 0, 0))
+        self.assertEqual(
+            [(turn.period, turn.phase) for turn in turns], [divmod(n, 4) for n in range(9)]
+        )
+        self.assertEqual(
+            (turned.time, turned.clock.late, turned.clock.given_up), (2 * PERIOD, 0, 0)
+        )
 
     def test_late_turns_are_made_up_for(self):
         turned = TurnedClock()
         turns = turned.clock.turns()
         next(turns)
         turned.time += 10 * PERIOD
-        self.assertEqual([next(turns).behind for _ in range(45)], [max(0, 9 - k // 4) for k in range(45)])
+        self.assertEqual(
+            [next(turns).behind for _ in range(45)], [max(0, 9 - k // 4) for k in range(45)]
+        )
         self.assertEqual(turned.clock.given_up, 0)
 
     def test_more_than_a_second_is_given_up(self):
@@ -521,16 +651,25 @@ class OpenLines(unittest.TestCase):
 
     def test_what_is_left_out(self):
         settings = read_open(self.LINE.split())
-        self.assertEqual((settings.law, settings.level, settings.dtx, settings.prime, settings.strict), ("alaw", 256, False, True, True))
+        self.assertEqual(
+            (settings.law, settings.level, settings.dtx, settings.prime, settings.strict),
+            ("alaw", 256, False, True, True),
+        )
         self.assertEqual(settings.sides["pcm"], Side(6004, ("10.0.0.1", 6006)))
 
     def test_all_words(self):
-        settings = read_open(f"{self.LINE} mulaw level 0 dtx on depth 5 prime off strict off".split())
-        self.assertEqual((settings.law, settings.level, settings.dtx, settings.depth), ("mulaw", 0, True, 5))
+        settings = read_open(
+            f"{self.LINE} mulaw level 0 dtx on depth 5 prime off strict off".split()
+        )
+        self.assertEqual(
+            (settings.law, settings.level, settings.dtx, settings.depth), ("mulaw", 0, True, 5)
+        )
         self.assertEqual((settings.prime, settings.strict), (False, False))
 
     def test_the_addresses_of_both_networks(self):
-        settings = read_open("7 gsm 10.0.1.1:6000 10.0.1.2:6002 pcm 10.0.2.1:6004 10.0.2.2:6006".split())
+        settings = read_open(
+            "7 gsm 10.0.1.1:6000 10.0.1.2:6002 pcm 10.0.2.1:6004 10.0.2.2:6006".split()
+        )
         self.assertEqual(settings.sides["gsm"], Side(6000, ("10.0.1.2", 6002), "10.0.1.1"))
         self.assertEqual(settings.sides["pcm"], Side(6004, ("10.0.2.2", 6006), "10.0.2.1"))
 
@@ -568,11 +707,15 @@ class Endpoints(unittest.TestCase):
         endpoint = Endpoint(Side(6000, self.PEER), True, gsm_stream())
         for number, sender in enumerate((self.PEER, ("127.0.0.1", 6004), ("127.0.0.2", 6002))):
             endpoint.arrived(self.packet(number), sender, 0, 0)
-        self.assertEqual((endpoint.incoming.counts["stranger"], len(endpoint.incoming.buffer.periods)), (2, 1))
+        self.assertEqual(
+            (endpoint.incoming.counts["stranger"], len(endpoint.incoming.buffer.periods)), (2, 1)
+        )
 
     def test_a_fault_is_counted_and_ends_nothing(self):
         endpoint = Endpoint(Side(6000, self.PEER), True, gsm_stream())
-        with unittest.mock.patch.object(endpoint.incoming, "packet", side_effect=struct.error("no\nroom")):
+        with unittest.mock.patch.object(
+            endpoint.incoming, "packet", side_effect=struct.error("no\nroom")
+        ):
             endpoint.arrived(self.packet(1), self.PEER, 0, 0)
         endpoint.arrived(self.packet(1), self.PEER, 0, 0)
         self.assertEqual((endpoint.incoming.counts["fault"], endpoint.incoming.heard), (1, 0))
@@ -583,9 +726,18 @@ class Endpoints(unittest.TestCase):
         for is_strict in (True, False):
             _, endpoint, _, _ = self.opened(is_strict)
             failure = OSError(errno.ENETUNREACH, "Network is unreachable")
-            endpoint.socket = unittest.mock.Mock(**{"send.side_effect": failure, "sendto.side_effect": failure, "fileno": endpoint.socket.fileno})
+            endpoint.socket = unittest.mock.Mock(
+                **{
+                    "send.side_effect": failure,
+                    "sendto.side_effect": failure,
+                    "fileno": endpoint.socket.fileno,
+                }
+            )
             endpoint.send(ONE)
-            self.assertEqual((endpoint.incoming.counts, endpoint.incoming.faults), ({"unsent": 1}, {"unsent": "Network is unreachable"}))
+            self.assertEqual(
+                (endpoint.incoming.counts, endpoint.incoming.faults),
+                ({"unsent": 1}, {"unsent": "Network is unreachable"}),
+            )
 
     @with_loopback
     def test_a_fault_of_a_report_is_counted(self):
@@ -593,7 +745,9 @@ class Endpoints(unittest.TestCase):
             _, endpoint, port, _ = self.opened(False, ("127.0.0.1", control.getsockname()[1] - 1))
             control.sendto(receiver_report(5, []), ("127.0.0.1", port + 1))
             while not endpoint.incoming.counts["fault"]:
-                endpoint.report(unittest.mock.Mock(take=unittest.mock.Mock(side_effect=struct.error)), 0)
+                endpoint.report(
+                    unittest.mock.Mock(take=unittest.mock.Mock(side_effect=struct.error)), 0
+                )
 
     def opened(self, is_strict, address=None):
         """A network with one endpoint in phase 0, its port, and the peer's socket, if the peer has no other address."""
@@ -682,12 +836,17 @@ class Endpoints(unittest.TestCase):
         while endpoint.incoming.counts["given-up"] < 300:
             network.drop()
         network.read(0, 0, 0)
-        self.assertEqual((+endpoint.incoming.counts, endpoint.incoming.reception), ({"given-up": 300}, None))
+        self.assertEqual(
+            (+endpoint.incoming.counts, endpoint.incoming.reception), ({"given-up": 300}, None)
+        )
 
     @with_loopback
     def test_what_is_read_at_a_tick_is_bounded(self):
         network, endpoint, port, peer = self.opened(False)
-        for size, count, most in ((50, 150, MOST_PACKETS * FEWEST_SOCKETS), (8000, 10, MOST_OCTETS * FEWEST_SOCKETS // 8000 + 1)):
+        for size, count, most in (
+            (50, 150, MOST_PACKETS * FEWEST_SOCKETS),
+            (8000, 10, MOST_OCTETS * FEWEST_SOCKETS // 8000 + 1),
+        ):
             with unittest.mock.patch.object(endpoint, "arrived") as arrived:
                 for _ in range(count):
                     peer.sendto(bytes(size), ("127.0.0.1", port))
@@ -699,9 +858,18 @@ class Endpoints(unittest.TestCase):
     def answers(self, is_strict, senders, counted):
         """The types of what the peer gets if these sockets send reports (None: its own), and itself nonsense."""
         with bound() as control:
-            network, endpoint, port, _ = self.opened(is_strict, ("127.0.0.1", control.getsockname()[1] - 1))
-            reports, counts = Reports(rtp.Outgoing(rtp.GSM), endpoint.incoming.counts), endpoint.incoming.counts
-            datagrams = [*((one or control, sender_report(5, 1)) for one in senders), (control, bytes(28)), (control, b"\x80\xc8")]
+            network, endpoint, port, _ = self.opened(
+                is_strict, ("127.0.0.1", control.getsockname()[1] - 1)
+            )
+            reports, counts = (
+                Reports(rtp.Outgoing(rtp.GSM), endpoint.incoming.counts),
+                endpoint.incoming.counts,
+            )
+            datagrams = [
+                *((one or control, sender_report(5, 1)) for one in senders),
+                (control, bytes(28)),
+                (control, b"\x80\xc8"),
+            ]
             for one, datagram in datagrams:
                 one.sendto(datagram, ("127.0.0.1", port + 1))
             while counts["not-rtcp"] < 2:
@@ -728,7 +896,9 @@ class Endpoints(unittest.TestCase):
         endpoint = Endpoint(Side(6000, self.PEER), False, gsm_stream())
         for tick, port in ((0, 7000), (1, 7002), (KEEPS_PORT, 7004)):
             endpoint.arrived(self.packet(tick), ("127.0.0.1", port), tick, 0)
-        self.assertEqual((endpoint.incoming.counts["other-port"], endpoint.sender), (1, ("127.0.0.1", 7004)))
+        self.assertEqual(
+            (endpoint.incoming.counts["other-port"], endpoint.sender), (1, ("127.0.0.1", 7004))
+        )
 
 
 class Recordings(InFolder):
@@ -758,8 +928,16 @@ class Recordings(InFolder):
                 recorder.write()
             recorder.end()
             recorder.writer.join()
-            read = {side: (self.folder / str(every) / f"1.{side}").read_bytes() for side in ("up", "pcm", "down", "out")}
-            wanted = {"up": b"u" * 280, "pcm": b"p" * 1120, "down": b"\xff" * 40 + b"d" * 240, "out": b"o" * 1120}
+            read = {
+                side: (self.folder / str(every) / f"1.{side}").read_bytes()
+                for side in ("up", "pcm", "down", "out")
+            }
+            wanted = {
+                "up": b"u" * 280,
+                "pcm": b"p" * 1120,
+                "down": b"\xff" * 40 + b"d" * 240,
+                "out": b"o" * 1120,
+            }
             self.assertEqual(read, wanted)
 
     def stalled(self, periods):
@@ -847,7 +1025,9 @@ class Recordings(InFolder):
             one.close(1)
             one.end(7)
             one.writer.join()
-        self.assertEqual((said, one.has_ended), ([f"recording {one.folder} ended: Disk quota exceeded"], True))
+        self.assertEqual(
+            (said, one.has_ended), ([f"recording {one.folder} ended: Disk quota exceeded"], True)
+        )
         self.assertEqual((one.folder / "clock.txt").read_text(), "0 every 1\n")
 
     def test_recordings_are_private(self):
@@ -875,7 +1055,9 @@ class Inputs(unittest.TestCase):
         return lines, err.getvalue()
 
     def test_a_last_line_without_end_isnt_executed(self):
-        self.assertEqual(self.lines(b"close 1\n# a comment\nclose 2\n"), (["close 1", "close 2"], ""))
+        self.assertEqual(
+            self.lines(b"close 1\n# a comment\nclose 2\n"), (["close 1", "close 2"], "")
+        )
         lines, said = self.lines(b"close 1\nclose 12")
         self.assertEqual((lines, said.count("\n")), (["close 1"], 1))
         self.assertIn("the last line has no end", said)
@@ -908,9 +1090,16 @@ class Silence(unittest.TestCase):
         soft = [SOFT_BLOCK] * 4
         self.assertTrue(is_soft_frame(self.frame(soft, (1 << 39) - 1)))
         for k in range(4):
-            self.assertFalse(is_soft_frame(self.frame(soft[:k] + [SOFT_BLOCK + 1] + soft[k + 1 :], (1 << 39) - 1)))
+            self.assertFalse(
+                is_soft_frame(
+                    self.frame(soft[:k] + [SOFT_BLOCK + 1] + soft[k + 1 :], (1 << 39) - 1)
+                )
+            )
         descriptor = self.frame(soft, 0)
-        self.assertEqual((kind_of(descriptor), is_soft_frame(descriptor), is_soft_frame(ONE)), (Kind.DESCRIPTOR, False, False))
+        self.assertEqual(
+            (kind_of(descriptor), is_soft_frame(descriptor), is_soft_frame(ONE)),
+            (Kind.DESCRIPTOR, False, False),
+        )
 
 
 if __name__ == "__main__":

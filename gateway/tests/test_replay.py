@@ -9,8 +9,8 @@ import unittest.mock
 
 from support import GATEWAY, LINE, SPEECH, InFolder, Turned, open_line, repeated, with_program
 
-import gateway
-from rtp import ALAW, GSM
+from trau.gateway import gateway
+from trau.gateway.rtp import ALAW, GSM
 from spoiler import Faults, schedule
 
 
@@ -23,8 +23,18 @@ class Checks(InFolder):
         for call in (1, 2, 3):
             faults = Faults(loss=0.1)
             gsm, pcm = repeated(SPEECH, periods), repeated(LINE, periods, 9 * call)
-            turned.bring(call, schedule(gsm, GSM, call, faults), schedule(pcm, ALAW, call + 9, faults))
-        turned.run({0: [open_line(1), open_line(2)], 10: [open_line(3), "bridge 1 2"], 40: ["unbridge 1"], 50: ["close 3"]}, periods)
+            turned.bring(
+                call, schedule(gsm, GSM, call, faults), schedule(pcm, ALAW, call + 9, faults)
+            )
+        turned.run(
+            {
+                0: [open_line(1), open_line(2)],
+                10: [open_line(3), "bridge 1 2"],
+                40: ["unbridge 1"],
+                50: ["close 3"],
+            },
+            periods,
+        )
         return folder
 
     def cut(self, name, octets):
@@ -33,11 +43,19 @@ class Checks(InFolder):
         os.truncate(path, path.stat().st_size - octets)
 
     def test_equal(self):
-        lines = ["call 1 periods 60 equal", "call 2 periods 60 equal", "call 3 periods 40 equal", "calls 3 differ 0"]
+        lines = [
+            "call 1 periods 60 equal",
+            "call 2 periods 60 equal",
+            "call 3 periods 40 equal",
+            "calls 3 differ 0",
+        ]
         self.assertEqual(self.checked(self.record()), (0, lines))
 
     def test_one_changed_octet(self):
-        for name, octet, place in (("2.out", 8123, "period 50, octet 8123"), ("1.down", 999, "period 24, octet 999")):
+        for name, octet, place in (
+            ("2.out", 8123, "period 50, octet 8123"),
+            ("1.down", 999, "period 24, octet 999"),
+        ):
             folder, said = self.record(), f"{name[2:]} differs in {place}"
             path = folder / name
             data = bytearray(path.read_bytes())
@@ -54,7 +72,9 @@ class Checks(InFolder):
         whole = (folder / "orders.txt").read_text().splitlines(True)
         for left in ([], whole[:1], whole[:-1], [order for order in whole if " 3" not in order]):
             (folder / "orders.txt").write_text("".join(left))
-            self.assertEqual(self.checked(folder), (1, [f"orders.txt has {len(left)} orders of 14"]))
+            self.assertEqual(
+                self.checked(folder), (1, [f"orders.txt has {len(left)} orders of 14"])
+            )
 
     def test_a_line_that_is_too_long(self):
         for name, size in (("1.out", 160), ("2.up", 1), ("3.pcm", 160)):
@@ -63,7 +83,10 @@ class Checks(InFolder):
                 line.write(bytes(size))
             status, lines = self.checked(folder)
             self.assertEqual((status, lines[-2]), (1, "calls 3 differ 1"))
-            self.assertIn(f" {name[2:]} differs: it has {(folder / name).stat().st_size} octets", lines[int(name[0]) - 1])
+            self.assertIn(
+                f" {name[2:]} differs: it has {(folder / name).stat().st_size} octets",
+                lines[int(name[0]) - 1],
+            )
             folder.rename(self.folder / name)
 
     def test_a_run_that_fails(self):
@@ -71,12 +94,19 @@ class Checks(InFolder):
         program.write_text("#!/bin/sh\necho out of order; exit 1\n")
         program.chmod(0o755)
         status, _, err = self.run_tool(gateway.main, ["check", str(folder), "--trau", str(program)])
-        self.assertEqual((status, err), (2, f"gateway.py: {program} run ended with status 1: out of order\n"))
+        self.assertEqual(
+            (status, err), (2, f"gateway.py: {program} run ended with status 1: out of order\n")
+        )
 
     def killed(self, every):
         """A recording of a gateway that was killed: clock.txt doesn't say that it ended."""
         folder = self.record()
-        clock = (folder / "clock.txt").read_text().replace("60 end 14\n", "").replace("0 every 1\n", f"0 every {every}\n")
+        clock = (
+            (folder / "clock.txt")
+            .read_text()
+            .replace("60 end 14\n", "")
+            .replace("0 every 1\n", f"0 every {every}\n")
+        )
         (folder / "clock.txt").write_text(clock)
         return folder
 
@@ -86,14 +116,23 @@ class Checks(InFolder):
         self.cut("1.down", 15 * 40)
         self.cut("2.up", 41)
         cut = "cut at period 45, 35 recorded periods of calls not compared"
-        lines = [cut, "call 1 periods 45 equal", "call 2 periods 45 equal", "call 3 periods 35 equal", "calls 3 differ 0"]
+        lines = [
+            cut,
+            "call 1 periods 45 equal",
+            "call 2 periods 45 equal",
+            "call 3 periods 35 equal",
+            "calls 3 differ 0",
+        ]
         self.assertEqual(self.checked(folder), (0, lines))
 
     def test_a_line_that_lacks_more_than_a_kill_takes(self):
         folder = self.killed(13)
         self.cut("1.down", 15 * 40)
         said = "call 1 periods 45 a line is short or missing"
-        self.assertEqual(self.checked(folder)[1][:4], [said, "call 2 periods 60 equal", "call 3 periods 40 equal", "calls 3 differ 1"])
+        self.assertEqual(
+            self.checked(folder)[1][:4],
+            [said, "call 2 periods 60 equal", "call 3 periods 40 equal", "calls 3 differ 1"],
+        )
 
     def test_a_short_line_of_a_recording_that_ended(self):
         for name, octets in (("1.up", 1), ("3.out", 160), ("2.down", 40)):
@@ -133,7 +172,9 @@ class Checks(InFolder):
 
     def test_the_folder_of_the_replay(self):
         folder, again = self.record(20), self.folder / "again"
-        self.assertEqual(self.run_tool(gateway.main, ["check", str(folder), "--again", str(again)])[0], 0)
+        self.assertEqual(
+            self.run_tool(gateway.main, ["check", str(folder), "--again", str(again)])[0], 0
+        )
         self.assertEqual((again / "1.out").read_bytes(), (folder / "1.out").read_bytes())
         self.assertEqual(again.stat().st_mode & 0o777, 0o700)
 
@@ -162,8 +203,17 @@ class Ends(InFolder):
     def test_without_the_library(self):
         words = [sys.executable, "-B", str(GATEWAY / "gateway.py"), "run", str(self.folder / "rec")]
         given = {**os.environ, "TRAU_CLIB": str(self.folder)}
-        ran = subprocess.run(words, env=given, stdin=subprocess.DEVNULL, stdout=subprocess.PIPE, stderr=subprocess.PIPE, text=True)
-        self.assertEqual((ran.returncode, ran.stdout, ran.stderr.count("\n")), (2, "", 1), ran.stderr)
+        ran = subprocess.run(
+            words,
+            env=given,
+            stdin=subprocess.DEVNULL,
+            stdout=subprocess.PIPE,
+            stderr=subprocess.PIPE,
+            text=True,
+        )
+        self.assertEqual(
+            (ran.returncode, ran.stdout, ran.stderr.count("\n")), (2, "", 1), ran.stderr
+        )
         self.assertIn("clib/build makes it", ran.stderr)
 
     def test_an_old_folder(self):

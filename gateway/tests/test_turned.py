@@ -10,10 +10,10 @@ from pathlib import Path
 
 from support import LINE, SPEECH, InFolder, Turned, cut, open_line, ports_of, repeated, with_program
 
-import trau_fr
-from calls import SILENCE
-from rtp import ALAW, GSM, MULAW
-from core.profile import MOST_ORDERS
+from trau import trau_fr
+from trau.gateway.calls import SILENCE
+from trau.gateway.rtp import ALAW, GSM, MULAW
+from trau.rules.profile import MOST_ORDERS
 from spoiler import Faults, schedule
 
 SPOILED = {
@@ -79,7 +79,12 @@ class Station:
 def packets_of(station, periods, seed):
     """The packets of a base station."""
     frames = [station.frame() for _ in range(periods)]
-    return schedule([frame or b"" for frame in frames], GSM, seed, is_sent=lambda period: frames[period] is not None)
+    return schedule(
+        [frame or b"" for frame in frames],
+        GSM,
+        seed,
+        is_sent=lambda period: frames[period] is not None,
+    )
 
 
 def random_lines(draw, calls, periods):
@@ -97,7 +102,11 @@ def random_lines(draw, calls, periods):
                     [f"unbridge {one}", f"bridge {one} {other}"],
                     [f"unbridge {one}"],
                     [f"bridge {one} {other}", f"unbridge {one}"],
-                    [open_line(calls[-1] + period), f"bridge {one} {calls[-1] + period}", f"close {calls[-1] + period}"],
+                    [
+                        open_line(calls[-1] + period),
+                        f"bridge {one} {calls[-1] + period}",
+                        f"close {calls[-1] + period}",
+                    ],
                 )
             )
     return lines
@@ -126,11 +135,17 @@ class Spoiled(InFolder):
     def test_a_clean_network_loses_nothing(self):
         periods = 120
         turned = Turned(self.folder / "rec")
-        turned.bring(1, schedule(SPEECH[:100], GSM, 1, start=0.011), schedule(LINE[:100], ALAW, 2, start=0.011))
+        turned.bring(
+            1,
+            schedule(SPEECH[:100], GSM, 1, start=0.011),
+            schedule(LINE[:100], ALAW, 2, start=0.011),
+        )
         turned.run({0: [open_line(1, "prime off")]}, periods)
         up = cut((self.folder / "rec/1.up").read_bytes(), 40)
         heard = [trau_fr.read_uplink(frame) for frame in up]
-        self.assertEqual([line.octets for line in heard if line.kind == trau_fr.Kind.SPEECH], SPEECH[:100])
+        self.assertEqual(
+            [line.octets for line in heard if line.kind == trau_fr.Kind.SPEECH], SPEECH[:100]
+        )
         self.assertIn(b"".join(LINE[:100]), (self.folder / "rec/1.pcm").read_bytes())
 
     def test_what_is_sent_is_what_is_recorded(self):
@@ -139,9 +154,14 @@ class Spoiled(InFolder):
         turned.bring(1, schedule(SPEECH[:50], GSM, 1), schedule(LINE[:50], ALAW, 2))
         turned.run({0: [open_line(1)]}, periods)
         to_gsm, to_pcm = turned.sent(1)
-        self.assertEqual(b"".join(packet[12:] for packet in to_pcm), (self.folder / "rec/1.out").read_bytes())
+        self.assertEqual(
+            b"".join(packet[12:] for packet in to_pcm), (self.folder / "rec/1.out").read_bytes()
+        )
         down = cut((self.folder / "rec/1.down").read_bytes(), 40)[1:]
-        self.assertEqual([packet[12:] for packet in to_gsm[:-1]], [trau_fr.read_downlink(frame).octets for frame in down])
+        self.assertEqual(
+            [packet[12:] for packet in to_gsm[:-1]],
+            [trau_fr.read_downlink(frame).octets for frame in down],
+        )
 
 
 class Kinds(InFolder):
@@ -152,7 +172,12 @@ class Kinds(InFolder):
         opens = []
         for call in calls:
             law = draw.choice(("", "mulaw"))
-            opens.append(open_line(call, f"{law} depth {draw.randrange(5)} prime {draw.choice(('on', 'off'))}".strip()))
+            opens.append(
+                open_line(
+                    call,
+                    f"{law} depth {draw.randrange(5)} prime {draw.choice(('on', 'off'))}".strip(),
+                )
+            )
             line = repeated(LINE, periods, 17 * call)
             exchange = schedule(line, MULAW if law else ALAW, call, Faults(loss=0.03))
             turned.bring(call, packets_of(Station(draw), periods, seed + call), exchange)
@@ -172,7 +197,11 @@ class Bridges(InFolder):
     def assert_replays_if_it_ends_at_once(self, line):
         turned = Turned(self.folder / "rec")
         for call in (1, 2):
-            turned.bring(call, schedule(SPEECH[:60], GSM, call), schedule(repeated(LINE, 60, 9 * call), ALAW, call + 9))
+            turned.bring(
+                call,
+                schedule(SPEECH[:60], GSM, call),
+                schedule(repeated(LINE, 60, 9 * call), ALAW, call + 9),
+            )
         turned.run({0: [open_line(1), open_line(2)], 20: ["bridge 1 2", line]}, 60)
         self.assert_replays(self.folder / "rec")
 
@@ -193,7 +222,9 @@ class Quiet(InFolder):
         turned.bring(2, (), schedule(LINE[:40], ALAW, 3))
         turned.run({0: [open_line(1, "prime off"), open_line(2)]}, 50)
         self.assertEqual([len(sent) for sent in turned.sent(1) + turned.sent(2)], [0, 50, 50, 50])
-        self.assertEqual(trau_fr.read_uplink((self.folder / "rec/2.up").read_bytes()[:40]).octets, SILENCE)
+        self.assertEqual(
+            trau_fr.read_uplink((self.folder / "rec/2.up").read_bytes()[:40]).octets, SILENCE
+        )
         self.assert_replays(self.folder / "rec")
 
     def test_descriptors_leave_at_the_beginning_and_each_24th_period(self):
@@ -201,7 +232,9 @@ class Quiet(InFolder):
         turned.run({0: [open_line(1, "dtx on")]}, 60)
         to_gsm, _ = turned.sent(1)
         stamps = [struct.unpack_from(">I", packet, 4)[0] for packet in to_gsm]
-        self.assertEqual([(stamp - stamps[0] & 0xFFFFFFFF) // 160 for stamp in stamps], [0, 1, 2, 3, 4, 28, 52])
+        self.assertEqual(
+            [(stamp - stamps[0] & 0xFFFFFFFF) // 160 for stamp in stamps], [0, 1, 2, 3, 4, 28, 52]
+        )
         self.assertEqual([packet[1] >> 7 for packet in to_gsm], [1, 0, 0, 0, 0, 0, 0])
 
     def test_speech_after_a_pause_has_the_marker(self):
@@ -209,18 +242,29 @@ class Quiet(InFolder):
         turned.bring(1, (), schedule(LINE[60:100], ALAW, 2, start=1.0))
         turned.run({0: [open_line(1, "dtx on")]}, 90)
         to_gsm, _ = turned.sent(1)
-        is_speech = [False, *(trau_fr.kind_of(packet[12:]) == trau_fr.Kind.SPEECH for packet in to_gsm)]
+        is_speech = [
+            False,
+            *(trau_fr.kind_of(packet[12:]) == trau_fr.Kind.SPEECH for packet in to_gsm),
+        ]
         wanted = [int(now and not before) for before, now in zip(is_speech, is_speech[1:])]
         self.assertEqual([packet[1] >> 7 for packet in to_gsm], wanted)
         self.assertGreater(sum(wanted), 1)
 
     def test_a_first_frame_that_isnt_good_is_replaced(self):
         turned = Turned(self.folder / "rec")
-        for call, first in enumerate((bytes(33), damaged(DESCRIPTORS[0], random.Random(1), 9), SPEECH[5]), 1):
+        for call, first in enumerate(
+            (bytes(33), damaged(DESCRIPTORS[0], random.Random(1), 9), SPEECH[5]), 1
+        ):
             turned.bring(call, schedule([first], GSM, call), schedule(LINE[:40], ALAW, call + 3))
         turned.run({0: [open_line(call, "depth 0") for call in (1, 2, 3)]}, 50)
-        first = [trau_fr.read_uplink((self.folder / f"rec/{call}.up").read_bytes()[:40]).octets for call in (1, 2, 3)]
-        self.assertEqual((first, [len(turned.sent(call)[0]) for call in (1, 2, 3)]), ([SILENCE, SILENCE, SPEECH[5]], [50] * 3))
+        first = [
+            trau_fr.read_uplink((self.folder / f"rec/{call}.up").read_bytes()[:40]).octets
+            for call in (1, 2, 3)
+        ]
+        self.assertEqual(
+            (first, [len(turned.sent(call)[0]) for call in (1, 2, 3)]),
+            ([SILENCE, SILENCE, SPEECH[5]], [50] * 3),
+        )
 
     def test_a_call_that_hears_nothing_is_told(self):
         turned = Turned(self.folder / "rec")
@@ -236,7 +280,10 @@ class Quiet(InFolder):
             turned.bring(call, (), [*good, *schedule(LINE[:70], MULAW, call, start=wrong)])
         said = turned.run({0: [open_line(1), open_line(2)]}, 450)
         pattern = r"call (\d) pcm hears nothing at \d+(.*)"
-        self.assertEqual([re.match(pattern, line).groups() for line in said if "pcm hears nothing" in line], [("1", ""), ("2", ": other-type 70")])
+        self.assertEqual(
+            [re.match(pattern, line).groups() for line in said if "pcm hears nothing" in line],
+            [("1", ""), ("2", ": other-type 70")],
+        )
 
 
 class Late(InFolder):
@@ -245,7 +292,11 @@ class Late(InFolder):
         turned = Turned(self.folder / "rec")
         periods = 200
         for call in (1, 2):
-            turned.bring(call, schedule(repeated(SPEECH, 400), GSM, call), schedule(repeated(LINE, 400), ALAW, call + 9))
+            turned.bring(
+                call,
+                schedule(repeated(SPEECH, 400), GSM, call),
+                schedule(repeated(LINE, 400), ALAW, call + 9),
+            )
         board, process = turned.board, turned.board.process
         stops = {50: 0.7, 120: 3.3}
 
@@ -268,24 +319,36 @@ class Late(InFolder):
             self.assertNotIn(word, closing)
         self.assert_replays(self.folder / "rec")
 
-
     def test_no_call_is_opened_while_the_clock_is_late(self):
         turned = Turned(self.folder / "rec")
         process = turned.board.process
 
         def slow(phase, period, behind):
             process(phase, period, behind)
-            turned.time.time += {(10, 3): 240, (90, 3): 200, (119, 3): 1_100}.get((period, phase), 0) * 1_000_000
+            turned.time.time += {(10, 3): 240, (90, 3): 200, (119, 3): 1_100}.get(
+                (period, phase), 0
+            ) * 1_000_000
 
         turned.board.process = slow
-        lines = {0: [open_line(1)], 11: [open_line(2), "level 1 300", "close 1"], 91: [open_line(3)]}
+        lines = {
+            0: [open_line(1)],
+            11: [open_line(2), "level 1 300", "close 1"],
+            91: [open_line(3)],
+        }
         lines.update({period: [open_line(period)] for period in (30, 63, 120, 169, 170)})
         said = [line for line in turned.run(lines, 230) if line.startswith(("ok", "refused"))]
         refused = {
             f"refused {period} {open_line(call)[:80]}: the gateway was behind its clock in the last second"
             for period, call in ((11, 2), (30, 30), (120, 120), (169, 169))
         }
-        wanted = {"ok 0 open 1", "ok 11 level 1", "ok 11 close 1", "ok 63 open 63", "ok 91 open 3", "ok 170 open 170"}
+        wanted = {
+            "ok 0 open 1",
+            "ok 11 level 1",
+            "ok 11 close 1",
+            "ok 63 open 63",
+            "ok 91 open 3",
+            "ok 170 open 170",
+        }
         self.assertEqual(set(said), refused | wanted)
 
     def test_an_overloaded_gateway_takes_no_calls(self):
@@ -298,7 +361,9 @@ class Late(InFolder):
             turned.board.process = slow
             lines = {period: [f"{open_line(1)} record off", "close 1"] for period in range(2500)}
             said = turned.run({0: lines[0], **lines}, 2500)
-            taken = [int(line.split()[1]) for line in said if line.startswith("ok") and " open " in line]
+            taken = [
+                int(line.split()[1]) for line in said if line.startswith("ok") and " open " in line
+            ]
             self.assertGreater(turned.time.clock.given_up, 0)
             self.assertLess(taken[-1], 101, cost)
 
@@ -311,7 +376,10 @@ class Late(InFolder):
 
         turned.board.process = slow
         said = turned.run({180: ["counts"]}, 200)
-        self.assertEqual([line.split(" latest ")[1] for line in said if line.startswith("late ")], ["695 ms at 100", "295 ms at 150"])
+        self.assertEqual(
+            [line.split(" latest ")[1] for line in said if line.startswith("late ")],
+            ["695 ms at 100", "295 ms at 150"],
+        )
         self.assertIn(" latest 695 ms ", said[-2])
 
 
@@ -329,7 +397,10 @@ class Ends(InFolder):
         turned.board.process = faulty
         with self.assertRaises(MemoryError):
             turned.run({0: [open_line(1), open_line(2)]}, 60)
-        self.assertEqual(self.assert_replays(self.folder / "rec")[1:3], ["call 1 periods 20 equal", "call 2 periods 20 equal"])
+        self.assertEqual(
+            self.assert_replays(self.folder / "rec")[1:3],
+            ["call 1 periods 20 equal", "call 2 periods 20 equal"],
+        )
 
 
 class Recorded(InFolder):
@@ -339,7 +410,11 @@ class Recorded(InFolder):
         """Two calls that speak, and these lines."""
         turned = Turned(self.folder / "rec")
         for call in (1, 2):
-            turned.bring(call, schedule(SPEECH[:periods], GSM, call), schedule(LINE[:periods], ALAW, call + 5))
+            turned.bring(
+                call,
+                schedule(SPEECH[:periods], GSM, call),
+                schedule(LINE[:periods], ALAW, call + 5),
+            )
         return turned, turned.run({0: [open_line(1, words)], **lines}, periods)
 
     def orders(self, name):
@@ -348,12 +423,21 @@ class Recorded(InFolder):
     @with_program
     def test_a_new_recording_is_begun(self):
         new = self.folder / "new"
-        lines = {20: [f"record {new}", open_line(2), "bridge 1 2"], 40: ["level 1 300", "close 1"], 41: [open_line(1)]}
+        lines = {
+            20: [f"record {new}", open_line(2), "bridge 1 2"],
+            40: ["level 1 300", "close 1"],
+            41: [open_line(1)],
+        }
         _, said = self.run_two(lines)
         self.assertIn("refused 20 bridge 1 2: the calls aren't in one recording", said)
         self.assertEqual(self.orders("rec")[3:], ["40 level 1 300", "40 close 1"])
-        self.assertEqual([line for line in self.orders("new") if "open" in line], ["0 open 2", "21 open 1"])
-        ends = [(self.folder / name / "clock.txt").read_text().splitlines()[-1] for name in ("rec", "new")]
+        self.assertEqual(
+            [line for line in self.orders("new") if "open" in line], ["0 open 2", "21 open 1"]
+        )
+        ends = [
+            (self.folder / name / "clock.txt").read_text().splitlines()[-1]
+            for name in ("rec", "new")
+        ]
         self.assertEqual(ends, ["40 end 5", "60 end 8"])
         for name, count in (("rec", 1), ("new", 2)):
             self.assertEqual(self.assert_replays(self.folder / name)[-1], f"calls {count} differ 0")
@@ -374,7 +458,7 @@ class Recorded(InFolder):
 
     @with_program
     def test_a_folder_that_cant_be_made(self):
-        with unittest.mock.patch("recorder.TO_BEGIN", 60):
+        with unittest.mock.patch("trau.gateway.recorder.TO_BEGIN", 60):
             _, said = self.run_two({20: [f"record {self.folder / 'rec'}", open_line(2)]})
         self.assertIn(f"refused 20 record {self.folder / 'rec'}: File exists", said)
         self.assertEqual([line for line in said if "ended" in line], [])
@@ -397,12 +481,21 @@ class Recorded(InFolder):
                 is_over.set()
 
         turned.board.process = until_40
-        lines = {0: [open_line(1)], 20: [f"record {self.folder / 'rec'}", open_line(2)], 50: [f"record {self.folder / 'new'}", "close 2"]}
-        with unittest.mock.patch.object(Path, "mkdir", mkdir), unittest.mock.patch("recorder.TO_BEGIN", 0):
+        lines = {
+            0: [open_line(1)],
+            20: [f"record {self.folder / 'rec'}", open_line(2)],
+            50: [f"record {self.folder / 'new'}", "close 2"],
+        }
+        with unittest.mock.patch.object(Path, "mkdir", mkdir), unittest.mock.patch(
+            "trau.gateway.recorder.TO_BEGIN", 0
+        ):
             said = turned.run(lines, 80)
         self.assertIn(f"ok 20 record {self.folder / 'rec'}", said)
         self.assertIn(f"recording {self.folder / 'rec'} ended: File exists", said)
-        self.assertEqual(self.assert_replays(self.folder / "rec"), ["call 1 periods 80 equal", "calls 1 differ 0"])
+        self.assertEqual(
+            self.assert_replays(self.folder / "rec"),
+            ["call 1 periods 80 equal", "calls 1 differ 0"],
+        )
 
     @with_program
     def test_a_name_that_no_folder_can_have(self):
@@ -412,58 +505,111 @@ class Recorded(InFolder):
 
     @with_program
     def test_after_a_full_disk(self):
-        lines = {20: ["close 1", open_line(1)], 30: ["close 1", f"record {self.folder / 'new'}", open_line(2)]}
+        lines = {
+            20: ["close 1", open_line(1)],
+            30: ["close 1", f"record {self.folder / 'new'}", open_line(2)],
+        }
         turned = Turned(self.folder / "rec")
         turned.recorder.fail("No space left on device")
         turned.recorder.orders = MOST_ORDERS
         said = turned.run({0: [open_line(1)], **lines}, 50)
         self.assertEqual([line for line in said if line.startswith("refused")], [])
-        self.assertEqual(self.assert_replays(self.folder / "new"), ["call 2 periods 20 equal", "calls 1 differ 0"])
+        self.assertEqual(
+            self.assert_replays(self.folder / "new"),
+            ["call 2 periods 20 equal", "calls 1 differ 0"],
+        )
 
     @with_program
     def test_calls_that_arent_recorded(self):
-        lines = {1: [open_line(2, "record off"), open_line(3)], 20: ["bridge 1 3", "bridge 1 2"], 60: ["close 2", open_line(2)]}
+        lines = {
+            1: [open_line(2, "record off"), open_line(3)],
+            20: ["bridge 1 3", "bridge 1 2"],
+            60: ["close 2", open_line(2)],
+        }
         turned, said = self.run_two(lines, words="record off")
-        self.assertEqual([line for line in said if "bridge" in line], ["refused 20 bridge 1 3: the calls aren't in one recording", "ok 20 bridge 1"])
-        self.assertEqual([line for line in self.orders("rec") if "open" in line], ["1 open 3", "60 open 2"])
+        self.assertEqual(
+            [line for line in said if "bridge" in line],
+            ["refused 20 bridge 1 3: the calls aren't in one recording", "ok 20 bridge 1"],
+        )
+        self.assertEqual(
+            [line for line in self.orders("rec") if "open" in line], ["1 open 3", "60 open 2"]
+        )
         self.assertEqual(len(turned.sent(1)[1]), 80)
         self.assertFalse((self.folder / "rec/1.up").exists())
         self.assert_replays(self.folder / "rec")
 
     def test_what_the_network_did(self):
         turned = Turned(self.folder / "rec")
-        turned.bring(1, schedule(SPEECH[:150], GSM, 1, Faults(loss=0.1, doubled=0.1)), schedule(LINE[:20], ALAW, 2))
-        with unittest.mock.patch("switchboard.HOUR", 70):
+        turned.bring(
+            1,
+            schedule(SPEECH[:150], GSM, 1, Faults(loss=0.1, doubled=0.1)),
+            schedule(LINE[:20], ALAW, 2),
+        )
+        with unittest.mock.patch("trau.gateway.switchboard.HOUR", 70):
             turned.run({0: [open_line(1)]}, 150)
         events = (self.folder / "rec/events.txt").read_text().splitlines()
-        self.assertEqual([line.split()[0] for line in events], ["1", "51", "101", "150"][-len(events) :])
+        self.assertEqual(
+            [line.split()[0] for line in events], ["1", "51", "101", "150"][-len(events) :]
+        )
         for line in events:
             self.assertRegex(line, r"^\d+ call 1( gsm-(missing|doubled) \d+)+$")
         clock = (self.folder / "rec/clock.txt").read_text().splitlines()
-        self.assertEqual([line.split()[:2] for line in clock[1:]], [["0", "at"], ["70", "at"], ["140", "at"], ["150", "end"]])
+        self.assertEqual(
+            [line.split()[:2] for line in clock[1:]],
+            [["0", "at"], ["70", "at"], ["140", "at"], ["150", "end"]],
+        )
 
 
 class Lines(InFolder):
     def test_refusals(self):
         turned = Turned(self.folder / "rec")
-        first = [open_line(n) for n in (1, 2, 3)] + [open_line(1), "close 9", "bridge 1 1", "bridge 1 2", "bridge 3 2", "unbridge 3"]
+        first = [open_line(n) for n in (1, 2, 3)] + [
+            open_line(1),
+            "close 9",
+            "bridge 1 1",
+            "bridge 1 2",
+            "bridge 3 2",
+            "unbridge 3",
+        ]
         first += ["level 1 32768", "level 1", "dtx 1 x", "what", "open"]
-        said = turned.run({0: first, 1: ["unbridge 1", "bridge 1 3"], 2: ["bridge 1 3", "close 1", "bridge 3 2"], 3: [open_line(1)]}, 4)
+        said = turned.run(
+            {
+                0: first,
+                1: ["unbridge 1", "bridge 1 3"],
+                2: ["bridge 1 3", "close 1", "bridge 3 2"],
+                3: [open_line(1)],
+            },
+            4,
+        )
         refusals = [line.split(": ", 1)[1] for line in said if line.startswith("refused")]
         self.assertEqual(
             refusals[:5],
-            ["the call is open", "the call isn't open", "a bridge of a call with itself", "the call is bridged", "the call isn't bridged"],
+            [
+                "the call is open",
+                "the call isn't open",
+                "a bridge of a call with itself",
+                "the call is bridged",
+                "the call isn't bridged",
+            ],
         )
-        self.assertEqual(refusals[-3:], ["its bridge ended in this very period"] * 2 + ["the number was used before"])
+        self.assertEqual(
+            refusals[-3:],
+            ["its bridge ended in this very period"] * 2 + ["the number was used before"],
+        )
         self.assertEqual(len(refusals), 13)
 
     def test_nonsense(self):
         draw = random.Random(9)
-        words = "open close level dtx bridge unbridge gsm pcm mulaw depth prime strict on off".split()
+        words = (
+            "open close level dtx bridge unbridge gsm pcm mulaw depth prime strict on off".split()
+        )
         words += "1 2 3 0 -1 99999 10.0.0.1:5 :: \x00 é ٣".split()
         words += [f"{port}" for port in ports_of(1)] + ["127.0.0.1:7"]
         sizes = (1, 2, 3, 3, 3, 12)
-        lines = {k: [" ".join(draw.choices(words, k=draw.choice(sizes))) for _ in range(40)] for k in range(200)}
+        lines = {
+            k: [" ".join(draw.choices(words, k=draw.choice(sizes))) for _ in range(40)]
+            for k in range(200)
+        }
         turned = Turned(self.folder / "rec")
         said = turned.run({**lines, 0: [open_line(1), open_line(2)]}, 200)
         self.assertGreater(sum(line.startswith("ok") for line in said), 5)
@@ -471,12 +617,22 @@ class Lines(InFolder):
 
     def test_counts_of_calls_that_are_open(self):
         turned = Turned(self.folder / "rec")
-        turned.bring(1, schedule(SPEECH[:30], GSM, 1, Faults(loss=0.2)), schedule(LINE[:30], ALAW, 2))
-        said = turned.run({0: [open_line(1)], 40: ["counts 1", "counts 2", "counts", "counts 1 2"]}, 50)
+        turned.bring(
+            1, schedule(SPEECH[:30], GSM, 1, Faults(loss=0.2)), schedule(LINE[:30], ALAW, 2)
+        )
+        said = turned.run(
+            {0: [open_line(1)], 40: ["counts 1", "counts 2", "counts", "counts 1 2"]}, 50
+        )
         first = said.index("ok 40 counts 1")
-        self.assertRegex(said[first - 1], r"^call 1 from 0 at 40 .* gsm-missing 4 gsm-packets 26 gsm-sent 40 pcm-packets 30 pcm-sent 40$")
+        self.assertRegex(
+            said[first - 1],
+            r"^call 1 from 0 at 40 .* gsm-missing 4 gsm-packets 26 gsm-sent 40 pcm-packets 30 pcm-sent 40$",
+        )
         self.assertEqual(said[first + 1], "refused 40 counts 2: the call isn't open")
-        self.assertRegex(said[first + 2], r"^at 40 calls 1 late 0 latest 0 ms given-up 0 dropped 0 processor \d+\.\d\d s$")
+        self.assertRegex(
+            said[first + 2],
+            r"^at 40 calls 1 late 0 latest 0 ms given-up 0 dropped 0 processor \d+\.\d\d s$",
+        )
         self.assertRegex(said[first + 4], "^refused 40 counts 1 2: it isn't open, close")
         self.assertEqual(sum(line.startswith("call 1 from 0 to 50 ") for line in said), 1)
         self.assertNotIn("counts", (self.folder / "rec/orders.txt").read_text())
@@ -498,8 +654,19 @@ class Lines(InFolder):
         turned.board.process = faulty
         said = turned.run({0: [open_line(1)], 40: ["counts 1"]}, 110)
         named = ", gsm-fault: No space left"
-        self.assertEqual([line.endswith(f" pcm-sent {sent}{named}") for sent, line in zip((40, 110), said[-3::2])], [True, True], said)
-        events = [line for line in (self.folder / "rec/events.txt").read_text().splitlines() if "fault" in line]
+        self.assertEqual(
+            [
+                line.endswith(f" pcm-sent {sent}{named}")
+                for sent, line in zip((40, 110), said[-3::2])
+            ],
+            [True, True],
+            said,
+        )
+        events = [
+            line
+            for line in (self.folder / "rec/events.txt").read_text().splitlines()
+            if "fault" in line
+        ]
         self.assertEqual(len(events), 1)
         self.assertRegex(events[0], rf"^51 call 1 .*gsm-fault 20{named}$")
 
@@ -519,7 +686,9 @@ class Lines(InFolder):
             process(phase, period, behind)
 
         process, board.process = board.process, fill
-        said = turned.run({0: [open_line(1)], 2: [open_line(2), "level 1 5", "dtx 1 on", "close 1"]}, 4)
+        said = turned.run(
+            {0: [open_line(1)], 2: [open_line(2), "level 1 5", "dtx 1 on", "close 1"]}, 4
+        )
         full = [line.split()[2] for line in said if line.endswith("as many orders as a run takes")]
         self.assertEqual((full, recorder.orders), (["open", "dtx"], MOST_ORDERS))
         self.assertIn("ok 2 close 1", said)
@@ -531,7 +700,9 @@ class Lines(InFolder):
 
         def seen(phase, period, behind):
             process(phase, period, behind)
-            phases.append((period, sorted(each.phase for each in turned.board.connections.values())))
+            phases.append(
+                (period, sorted(each.phase for each in turned.board.connections.values()))
+            )
 
         turned.board.process = seen
         turned.run({0: [open_line(n) for n in (1, 2, 3, 4)], 3: ["bridge 2 4"]}, 5)

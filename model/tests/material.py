@@ -1,14 +1,12 @@
 """What the tests of the model share: recorded data, and frames that are made by hand."""
 
-import sys
 from pathlib import Path
 from typing import Iterable, List, Optional
 
 TOP = Path(__file__).resolve().parents[2]
-sys.path.insert(0, str(TOP))
 
-from core.frame import Sort, UpFrame, octets_of, write_up  # noqa: E402
-from core.parameters import Block, Parameters, bits_of_parameters  # noqa: E402
+from trau.rules.frame import Sort, UpFrame, octets_of, write_up
+from trau.rules.parameters import Block, Parameters, bits_of_parameters
 
 CODEC = TOP / "checks" / "vectors"
 CHECKS = TOP / "checks"
@@ -34,7 +32,13 @@ def maxima(parameters: Optional[Parameters]) -> Optional[List[int]]:
     return None if parameters is None else [block.xmaxc for block in parameters.blocks]
 
 
-def speech(parameters: Parameters = QUIET, sort: Sort = Sort.GOOD, field: int = 0, taf: bool = False, dtxd: bool = False) -> UpFrame:
+def speech(
+    parameters: Parameters = QUIET,
+    sort: Sort = Sort.GOOD,
+    field: int = 0,
+    taf: bool = False,
+    dtxd: bool = False,
+) -> UpFrame:
     """An uplink speech frame of this class."""
     return UpFrame(sort, taf, dtxd, field, bits_of_parameters(parameters))
 

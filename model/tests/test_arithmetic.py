@@ -3,7 +3,7 @@
 import unittest
 
 import material  # noqa: F401
-from core import arithmetic
+from trau.rules import arithmetic
 
 
 class Operations(unittest.TestCase):
@@ -21,15 +21,20 @@ class Operations(unittest.TestCase):
         self.assertEqual(arithmetic.add(32767, 1), 32767)
         self.assertEqual(arithmetic.sub(-32768, 1), -32768)
         self.assertEqual(arithmetic.magnitude(-32768), 32767)
-        self.assertEqual(arithmetic.saturate_long(2 ** 31), 2 ** 31 - 1)
+        self.assertEqual(arithmetic.saturate_long(2**31), 2**31 - 1)
         self.assertEqual(arithmetic.saturate_all([5, 40000, -40000]), [5, 32767, -32768])
 
     def test_quotients(self) -> None:
-        self.assertEqual([arithmetic.div(5, 5), arithmetic.div(0, 9), arithmetic.div(0, 0)], [32767, 0, 0])
+        self.assertEqual(
+            [arithmetic.div(5, 5), arithmetic.div(0, 9), arithmetic.div(0, 0)], [32767, 0, 0]
+        )
         self.assertEqual(arithmetic.div(1, 3), 10922)
 
     def test_shifts_of_a_norm(self) -> None:
-        self.assertEqual([arithmetic.norm(value) for value in (1, 2 ** 30 - 1, 2 ** 30, 2 ** 31 - 1)], [30, 1, 0, 0])
+        self.assertEqual(
+            [arithmetic.norm(value) for value in (1, 2**30 - 1, 2**30, 2**31 - 1)],
+            [30, 1, 0, 0],
+        )
 
 
 if __name__ == "__main__":

@@ -4,8 +4,8 @@ import unittest
 from typing import List, Optional
 
 from material import CODEC, DOWN
-from core.frame import Kind, bits_of, octets_of
-from model.basestation import asked_fields, field_for, heard_by_period, heard_frames
+from trau.rules.frame import Kind, bits_of, octets_of
+from trau.model.basestation import asked_fields, field_for, heard_by_period, heard_frames
 
 
 def found(periods: List[Optional[int]], wanted: int) -> List[int]:
@@ -13,7 +13,7 @@ def found(periods: List[Optional[int]], wanted: int) -> List[int]:
     line = "".join("1" * 320 for _ in periods)
     for period, place in enumerate(periods):
         if place is not None:
-            line = line[:320 * period + place] + bits_of(DOWN) + line[320 * period + place + 320:]
+            line = line[: 320 * period + place] + bits_of(DOWN) + line[320 * period + place + 320 :]
     return asked_fields(heard_by_period(octets_of(line)), wanted)
 
 
@@ -42,18 +42,28 @@ class Frames(unittest.TestCase):
 
     def test_shifts(self) -> None:
         """A delay, and a frame without time bits."""
-        line = "1" * 320 + bits_of(DOWN) + "1" * 312 + bits_of(DOWN)[:316] + bits_of(DOWN) + "1" * 12
+        line = (
+            "1" * 320 + bits_of(DOWN) + "1" * 312 + bits_of(DOWN)[:316] + bits_of(DOWN) + "1" * 12
+        )
         heard = heard_frames(octets_of(line))
-        self.assertEqual([(one.place, one.frame.kind) for one in heard], [(place, Kind.SPEECH) for place in (320, 952, 1268)])
+        self.assertEqual(
+            [(one.place, one.frame.kind) for one in heard],
+            [(place, Kind.SPEECH) for place in (320, 952, 1268)],
+        )
         by_period = heard_by_period(octets_of(line))
         self.assertEqual([len(one) for one in by_period], [0, 1, 0, 1, 1])
         self.assertEqual(asked_fields(by_period, 0), [0, 0, 0, 1, 1])
 
     def test_recorded(self) -> None:
         for name in ("follow-4", "follow-100"):
-            rows = [tuple(map(int, row.split())) for row in (CODEC / (name + ".txt")).read_text().splitlines()]
+            rows = [
+                tuple(map(int, row.split()))
+                for row in (CODEC / (name + ".txt")).read_text().splitlines()
+            ]
             heard = heard_frames((CODEC / (name + ".down")).read_bytes())
-            self.assertEqual([(one.place, int(one.frame.kind is Kind.SPEECH)) for one in heard], rows)
+            self.assertEqual(
+                [(one.place, int(one.frame.kind is Kind.SPEECH)) for one in heard], rows
+            )
 
 
 if __name__ == "__main__":

@@ -4,18 +4,25 @@ import unittest
 from typing import Sequence, Tuple
 
 from material import DOWN, IDLE_DOWN, IDLE_UP, QUIET, UP, line, sid, speech, with_maxima
-from core.frame import bits_of
-from core.g711 import Law, compress_all, expand_all
-from core.parameters import SILENCE, bits_of_parameters
-from model.call import Call, Outgoing, Setting, Span, Uplink, handed, outgoing, uplink
-from model.codec import Decoder, Encoder
-from model.transmit import Dtx
+from trau.rules.frame import bits_of
+from trau.rules.g711 import Law, compress_all, expand_all
+from trau.rules.parameters import SILENCE, bits_of_parameters
+from trau.model.call import Call, Outgoing, Setting, Span, Uplink, handed, outgoing, uplink
+from trau.model.codec import Decoder, Encoder
+from trau.model.transmit import Dtx
 
 IDLE_PCM = b"\xd5" * 160  # of A-law; its samples aren't 0
 ZEROS = b"\xff" * 160  # of mu-law; its samples are 0
 
 
-def call(up: bytes, pcm: bytes, number: int = 7, law: Law = Law.A, settings: Sequence[Setting] = (), spans: Sequence[Span] = ()) -> Outgoing:
+def call(
+    up: bytes,
+    pcm: bytes,
+    number: int = 7,
+    law: Law = Law.A,
+    settings: Sequence[Setting] = (),
+    spans: Sequence[Span] = (),
+) -> Outgoing:
     """What a call of these lines gives, of as many periods as both have."""
     periods = min(len(up) // 40, len(pcm) // 160)
     return outgoing(Call(number, law, periods, uplink(number, up), pcm, settings, spans))
@@ -42,7 +49,7 @@ class Calls(unittest.TestCase):
 
     def test_frames_five_bits_late(self) -> None:
         late = "00000" + bits_of(UP * 3)
-        up = bytes(int(late[start:start + 8], 2) for start in range(0, 960, 8))
+        up = bytes(int(late[start : start + 8], 2) for start in range(0, 960, 8))
         made = call(up, IDLE_PCM * 3)
         self.assertEqual(made.out, IDLE_PCM + decoded(2))
         self.assertEqual(made.counts, [2, 0, 0, 0, 0, 0, 0, 1, 3])
@@ -59,10 +66,15 @@ class Calls(unittest.TestCase):
         pcm = bytes((37 * k * k + k) % 251 for k in range(160 * 4))
         made = call(line([speech(field=39)] + [speech()] * 3), pcm)
         encoder = Encoder()
-        wanted = [encoder.encode(expand_all(Law.A, pcm[start:start + 160])).parameters for start in (0, 316)]
+        wanted = [
+            encoder.encode(expand_all(Law.A, pcm[start : start + 160])).parameters
+            for start in (0, 316)
+        ]
         down = bits_of(made.down)
         data = ["".join(map(str, bits_of_parameters(one))) for one in wanted]
-        self.assertEqual([down[320 + 33:320 + 48], down[952 + 33:952 + 48]], [one[:15] for one in data])
+        self.assertEqual(
+            [down[320 + 33 : 320 + 48], down[952 + 33 : 952 + 48]], [one[:15] for one in data]
+        )
 
     def test_quiet_calls_send_idle_frames_and_code_from_home(self) -> None:
         up = line([speech(), IDLE_UP, IDLE_UP, speech(), speech()])
@@ -72,8 +84,17 @@ class Calls(unittest.TestCase):
 
     def test_dtx_as_the_uplink_asks(self) -> None:
         """DTXd is that of the last speech frame; other frames don't change it."""
-        for mode, dtxd, last in ((Dtx.UPLINK, True, 0), (Dtx.UPLINK, False, 1), (Dtx.ON, False, 0), (Dtx.OFF, True, 1)):
-            up = line([speech(dtxd=dtxd)] + [speech(dtxd=dtxd)] * 4) + b"\0" * 40 + line([speech(dtxd=dtxd)])
+        for mode, dtxd, last in (
+            (Dtx.UPLINK, True, 0),
+            (Dtx.UPLINK, False, 1),
+            (Dtx.ON, False, 0),
+            (Dtx.OFF, True, 1),
+        ):
+            up = (
+                line([speech(dtxd=dtxd)] + [speech(dtxd=dtxd)] * 4)
+                + b"\0" * 40
+                + line([speech(dtxd=dtxd)])
+            )
             made = call(up, IDLE_PCM * 7, settings=[Setting(0, dtx=mode)])
             flags = [made.down[40 * k + 38] >> 1 & 1 for k in range(1, 7)]
             self.assertEqual(flags, [1, 1, 1, 1, last, last])
@@ -81,7 +102,9 @@ class Calls(unittest.TestCase):
     def test_a_level_holds_from_the_next_frame_on(self) -> None:
         settings = [Setting(0, dtx=Dtx.ON), Setting(6, level=5), Setting(6, level=0)]
         made = call(UP * 9, IDLE_PCM * 9, settings=settings)
-        self.assertEqual([made.down[40 * k + 38] >> 1 & 1 for k in range(1, 9)], [1, 1, 1, 1, 0, 0, 1, 1])
+        self.assertEqual(
+            [made.down[40 * k + 38] >> 1 & 1 for k in range(1, 9)], [1, 1, 1, 1, 0, 0, 1, 1]
+        )
 
 
 class Bridges(unittest.TestCase):
@@ -89,19 +112,38 @@ class Bridges(unittest.TestCase):
 
     def pair(self, start: int, end: int) -> Tuple[Outgoing, Outgoing, Uplink]:
         """Calls 7 and 9 of twelve periods, bridged; the frame of period 3 of call 9 asks for a shift of 156."""
-        ups = [line([speech(with_maxima(k)) for k in range(12)]), UP * 3 + line([speech(field=39)]) + UP * 8]
+        ups = [
+            line([speech(with_maxima(k)) for k in range(12)]),
+            UP * 3 + line([speech(field=39)]) + UP * 8,
+        ]
         seven, nine = uplink(7, ups[0]), uplink(9, ups[1])
-        of_seven = outgoing(Call(7, Law.A, 12, seven, IDLE_PCM * 12, (), [Span(start, end, handed(nine, start, end))]))
-        of_nine = outgoing(Call(9, Law.MU, 12, nine, IDLE_PCM * 12, (), [Span(start, end, handed(seven, start, end))]))
+        of_seven = outgoing(
+            Call(
+                7, Law.A, 12, seven, IDLE_PCM * 12, (), [Span(start, end, handed(nine, start, end))]
+            )
+        )
+        of_nine = outgoing(
+            Call(
+                9,
+                Law.MU,
+                12,
+                nine,
+                IDLE_PCM * 12,
+                (),
+                [Span(start, end, handed(seven, start, end))],
+            )
+        )
         return of_seven, of_nine, seven
 
     def test_a_frame_waits(self) -> None:
         of_seven, of_nine, _ = self.pair(4, 10)
         self.assertEqual((of_seven.sent, of_nine.sent), ([6], [6]))
         self.assertEqual((of_seven.counts[-1], of_nine.counts[-1]), (12, 11))
-        down = bits_of(of_nine.down)[320 + 4 * 320 + 312:]
+        down = bits_of(of_nine.down)[320 + 4 * 320 + 312 :]
         for number in range(6):
-            self.assertEqual(down[320 * number + 33:][:15], bits_of_parameters(with_maxima(4 + number))[:15])
+            self.assertEqual(
+                down[320 * number + 33 :][:15], bits_of_parameters(with_maxima(4 + number))[:15]
+            )
             self.assertEqual(down[320 * number + 310], "1")
 
     def test_out_is_idle_within(self) -> None:
@@ -128,7 +170,14 @@ class Bridges(unittest.TestCase):
 
     def test_what_is_handed_over(self) -> None:
         up = uplink(7, line([IDLE_UP, speech(with_maxima(9)), IDLE_UP]))
-        self.assertEqual(handed(up, 0, 3), [bits_of_parameters(SILENCE), bits_of_parameters(with_maxima(9)), bits_of_parameters(SILENCE)])
+        self.assertEqual(
+            handed(up, 0, 3),
+            [
+                bits_of_parameters(SILENCE),
+                bits_of_parameters(with_maxima(9)),
+                bits_of_parameters(SILENCE),
+            ],
+        )
 
     def test_noise_is_handed_over(self) -> None:
         up = uplink(7, line([sid(20)]))
@@ -144,7 +193,9 @@ class Causality(unittest.TestCase):
         whole = call(up, pcm)
         for periods in range(11):
             part = outgoing(Call(7, Law.A, periods, uplink(7, up), pcm, (), ()))
-            self.assertEqual((part.out, part.down), (whole.out[:160 * periods], whole.down[:40 * periods]))
+            self.assertEqual(
+                (part.out, part.down), (whole.out[: 160 * periods], whole.down[: 40 * periods])
+            )
 
 
 if __name__ == "__main__":

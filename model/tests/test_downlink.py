@@ -3,8 +3,8 @@
 import unittest
 
 from material import IDLE_UP, speech
-from core.frame import Sort
-from model.downlink import Item, Made, asked_shifts, down_bits, made_frames, shift_of
+from trau.rules.frame import Sort
+from trau.model.downlink import Item, Made, asked_shifts, down_bits, made_frames, shift_of
 
 
 class Shifts(unittest.TestCase):
@@ -16,7 +16,14 @@ class Shifts(unittest.TestCase):
         self.assertEqual((shifts[61:], shifts.count(0)), ([0, 2, -2], 23))
 
     def test_frames_that_ask(self) -> None:
-        found = [speech(field=39), None, IDLE_UP._replace(field=63), None, IDLE_UP._replace(sort=Sort.OTHER, field=5), speech(field=40)]
+        found = [
+            speech(field=39),
+            None,
+            IDLE_UP._replace(field=63),
+            None,
+            IDLE_UP._replace(sort=Sort.OTHER, field=5),
+            speech(field=40),
+        ]
         self.assertEqual(asked_shifts(found), {0: 156, 2: -2})
 
 
@@ -24,11 +31,16 @@ class Frames(unittest.TestCase):
     """Frames that are made, without bridges and with them."""
 
     def test_without_shifts(self) -> None:
-        self.assertEqual(made_frames(3, {}, []), [Made(0, 0, None), Made(160, 0, None), Made(320, 0, None)])
+        self.assertEqual(
+            made_frames(3, {}, []), [Made(0, 0, None), Made(160, 0, None), Made(320, 0, None)]
+        )
 
     def test_shifts(self) -> None:
         made = made_frames(4, {0: 156, 2: -2}, [])
-        self.assertEqual([(one.start, one.shift, one.period) for one in made], [(0, 156, 0), (316, -2, 2), (474, 0, 3)])
+        self.assertEqual(
+            [(one.start, one.shift, one.period) for one in made],
+            [(0, 156, 0), (316, -2, 2), (474, 0, 3)],
+        )
 
     def test_two_frames_in_a_period(self) -> None:
         """An advance after a delay of as many octets: the second frame of the period finds nothing that was asked."""
@@ -42,7 +54,10 @@ class Frames(unittest.TestCase):
 
     def test_a_bridge_freezes_shifts(self) -> None:
         made = made_frames(9, {3: 156}, [(2, 6)])
-        self.assertEqual([one.item for one in made[:7]], [None, None, Item(0, 0), Item(0, 1), Item(0, 2), Item(0, 3), None])
+        self.assertEqual(
+            [one.item for one in made[:7]],
+            [None, None, Item(0, 0), Item(0, 1), Item(0, 2), Item(0, 3), None],
+        )
         self.assertEqual([one.shift for one in made], [0, 0, 0, 0, 0, 0, 156, 0])
 
     def test_a_frame_that_waits(self) -> None:

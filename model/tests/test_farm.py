@@ -4,8 +4,8 @@ import unittest
 from typing import Dict, Iterable, List, Optional, Sequence, Tuple
 
 from material import IDLE_DOWN, UP, line, speech, with_maxima
-from model.outside import MemoryDesk, MemoryLines
-from model.top import top
+from trau.model.outside import MemoryDesk, MemoryLines
+from trau.model.top import top
 
 Place = Tuple[int, str]
 PCM = b"\xd5" * 160
@@ -18,10 +18,16 @@ def lines_of(periods: Dict[int, int]) -> Dict[Place, bytes]:
 
 
 def run(
-    orders: str, contents: Dict[Place, bytes], words: str = "run", failing: Iterable[Place] = (), room: Optional[Dict[Place, int]] = None
+    orders: str,
+    contents: Dict[Place, bytes],
+    words: str = "run",
+    failing: Iterable[Place] = (),
+    room: Optional[Dict[Place, int]] = None,
 ) -> Tuple[int, List[str], Dict[Place, bytes]]:
     """The status of a run, the lines of its report, and what it wrote."""
-    lines, desk = MemoryLines(contents, failing, room), MemoryDesk(orders.replace("; ", "\n").encode())
+    lines, desk = MemoryLines(contents, failing, room), MemoryDesk(
+        orders.replace("; ", "\n").encode()
+    )
     return top(words.split(), lines, desk), desk.text.splitlines(), lines.written
 
 
@@ -50,7 +56,10 @@ class Replies(unittest.TestCase):
 
     def test_a_bridge_of_the_same_stamp_is_over_at_once(self) -> None:
         orders = "0 open 1; 0 open 2; 0 bridge 1 2; 0 unbridge 1; 0 bridge 2 1; 1 bridge 2 1"
-        self.assertEqual(self.replies(orders, lines_of({1: 2, 2: 2}))[2:], ["ok", "ok", "refused 6 call 2 partner 1", "ok"])
+        self.assertEqual(
+            self.replies(orders, lines_of({1: 2, 2: 2}))[2:],
+            ["ok", "ok", "refused 6 call 2 partner 1", "ok"],
+        )
 
     def test_at_its_natural_end_a_call_is_open(self) -> None:
         contents = lines_of({4: 75, 5: 90, 6: 90})
@@ -63,14 +72,24 @@ class Replies(unittest.TestCase):
         contents = lines_of({1: 9, 2: 3, 3: 9})
         orders = "0 open 1; 0 open 2; 0 open 3; 0 bridge 1 2; 4 bridge 1 3; 6 unbridge 1; 6 bridge 3 1; 7 unbridge 3"
         replies = self.replies(orders, contents)
-        self.assertEqual(replies[4:], ["ok", "ok", "refused 6 call 3 partner 1", "refused 4 call 3"])
+        self.assertEqual(
+            replies[4:], ["ok", "ok", "refused 6 call 3 partner 1", "refused 4 call 3"]
+        )
         report = run(orders, contents)[1]
-        self.assertEqual(only(report, "bridge"), ["bridge 1 2 from 0 to 3 sent 3 3 lost 0 0", "bridge 1 3 from 4 to 6 sent 2 2 lost 0 0"])
+        self.assertEqual(
+            only(report, "bridge"),
+            [
+                "bridge 1 2 from 0 to 3 sent 3 3 lost 0 0",
+                "bridge 1 3 from 4 to 6 sent 2 2 lost 0 0",
+            ],
+        )
 
     def test_orders_past_the_end_of_the_run(self) -> None:
         status, report, _ = run("0 open 1; 9 close 1", lines_of({1: 20}), "run --periods 3")
         self.assertEqual((status, report[0]), (0, "order 1 ok"))
-        self.assertEqual(only(report, "call", "end"), ["call 1 from 0 to 3 limit", "end period 3 calls 1 left 1"])
+        self.assertEqual(
+            only(report, "call", "end"), ["call 1 from 0 to 3 limit", "end period 3 calls 1 left 1"]
+        )
 
 
 class Runs(unittest.TestCase):
@@ -103,15 +122,24 @@ class Runs(unittest.TestCase):
         """Call 9 asks for a shift of 156 octets in period 3, so the first frame in the bridge is made in its period 5."""
         frames = [speech(with_maxima(k)) for k in range(12)]
         asked = [speech(field=39 if k == 3 else 0) for k in range(12)]
-        contents = {(7, "up"): line(frames), (9, "up"): line(asked), (7, "pcm"): PCM * 12, (9, "pcm"): PCM * 12}
+        contents = {
+            (7, "up"): line(frames),
+            (9, "up"): line(asked),
+            (7, "pcm"): PCM * 12,
+            (9, "pcm"): PCM * 12,
+        }
         orders = "0 open 7; 0 open 9; 4 bridge 7 9; 10 unbridge 7"
         status, report, written = run(orders, contents)
         self.assertIn("bridge 7 9 from 4 to 10 sent 6 6 lost 0 0", report)
         down = written[9, "down"]
         for place in range(4, 10):
-            start = 40 + 40 * place + 39  # behind the ones at the line's start and those of the shift
+            start = (
+                40 + 40 * place + 39
+            )  # behind the ones at the line's start and those of the shift
             self.assertEqual(down[start + 4 : start + 38], line([frames[place]])[4:38], place)
-        self.assertIn("bridge 7 9 from 4 to 10 sent 5 6 lost 1 0", run(orders + "; 10 close 9", contents)[1])
+        self.assertIn(
+            "bridge 7 9 from 4 to 10 sent 5 6 lost 1 0", run(orders + "; 10 close 9", contents)[1]
+        )
 
     def test_the_longer_call_goes_on(self) -> None:
         contents = lines_of({7: 40, 9: 40})
@@ -159,15 +187,21 @@ class Faults(unittest.TestCase):
         contents = lines_of({1: 3})
         contents[1, "pcm"] = PCM * 30
         for batch, wanted in (("50", ["line 1 pcm failed"]), ("4", []), ("3", [])):
-            status, report, _ = run("0 open 1", contents, f"run --batch {batch}", failing=[(1, "pcm")])
+            status, report, _ = run(
+                "0 open 1", contents, f"run --batch {batch}", failing=[(1, "pcm")]
+            )
             self.assertEqual((status, only(report, "line")), (6 if wanted else 0, wanted), batch)
             self.assertIn("call 1 from 0 to 3 end up 0", report)
 
     def test_a_line_that_fails_at_its_end_is_read_on_by_the_next_round(self) -> None:
         contents = lines_of({1: 3})
         for batch in ("3", "50"):
-            self.assertEqual(run("0 open 1", contents, f"run --batch {batch}", failing=[(1, "up")])[0], 6)
-        self.assertEqual(run("0 open 1; 3 close 1", contents, "run --batch 3", failing=[(1, "up")])[0], 0)
+            self.assertEqual(
+                run("0 open 1", contents, f"run --batch {batch}", failing=[(1, "up")])[0], 6
+            )
+        self.assertEqual(
+            run("0 open 1; 3 close 1", contents, "run --batch 3", failing=[(1, "up")])[0], 0
+        )
 
 
 if __name__ == "__main__":

@@ -4,10 +4,27 @@ import itertools
 import unittest
 
 from material import DOWN, IDLE_DOWN, QUIET, UP, speech
-from core.frame import SPEECH, DownFrame, Kind, Sort, UpFrame, bits_of, control_of, data_of, frame_of, octets_of
-from core.frame import read_down, read_up, write_down, write_up
-from core.parameters import SILENCE, WIDTHS, bits_of_parameters, parameters_of_bits, parameters_of_values
-from core.search import FRAME
+from trau.rules.frame import (
+    SPEECH,
+    DownFrame,
+    Kind,
+    Sort,
+    UpFrame,
+    bits_of,
+    control_of,
+    data_of,
+    frame_of,
+    octets_of,
+)
+from trau.rules.frame import read_down, read_up, write_down, write_up
+from trau.rules.parameters import (
+    SILENCE,
+    WIDTHS,
+    bits_of_parameters,
+    parameters_of_bits,
+    parameters_of_values,
+)
+from trau.rules.search import FRAME
 
 
 class Places(unittest.TestCase):
@@ -17,11 +34,17 @@ class Places(unittest.TestCase):
         ones = [*range(16, 320, 16), *range(316, 320)]
         for n in range(1, 22):
             frame = frame_of("0" * (n - 1) + "1" + "0" * (21 - n), "0" * 260)
-            self.assertEqual([k for k in range(320) if frame[k] == "1"], sorted([*ones, n + 16 if n <= 15 else n + 294]))
+            self.assertEqual(
+                [k for k in range(320) if frame[k] == "1"],
+                sorted([*ones, n + 16 if n <= 15 else n + 294]),
+            )
             self.assertEqual(control_of(frame).find("1"), n - 1)
         for n in range(1, 261):
             frame = frame_of("0" * 21, "0" * (n - 1) + "1" + "0" * (260 - n))
-            self.assertEqual([k for k in range(320) if frame[k] == "1"], sorted([*ones, n + 32 + (n - 1) // 15 if n <= 255 else n + 49]))
+            self.assertEqual(
+                [k for k in range(320) if frame[k] == "1"],
+                sorted([*ones, n + 32 + (n - 1) // 15 if n <= 255 else n + 49]),
+            )
             self.assertEqual(data_of(frame).find("1"), n - 1)
 
     def test_sync_bits(self) -> None:
@@ -40,9 +63,13 @@ class Frames(unittest.TestCase):
         self.assertEqual(octets_of(write_up(speech(QUIET))), UP)
 
     def test_frames_down(self) -> None:
-        self.assertEqual(octets_of(write_down(DownFrame(Kind.SPEECH, bits_of_parameters(QUIET)))), DOWN)
+        self.assertEqual(
+            octets_of(write_down(DownFrame(Kind.SPEECH, bits_of_parameters(QUIET)))), DOWN
+        )
         self.assertEqual(octets_of(write_down(DownFrame(Kind.IDLE))), IDLE_DOWN)
-        self.assertEqual(read_down(bits_of(DOWN)[:316]), DownFrame(Kind.SPEECH, bits_of_parameters(QUIET)))
+        self.assertEqual(
+            read_down(bits_of(DOWN)[:316]), DownFrame(Kind.SPEECH, bits_of_parameters(QUIET))
+        )
         self.assertEqual(read_down(bits_of(IDLE_DOWN)).kind, Kind.IDLE)
         self.assertEqual(read_down(bits_of(UP)).kind, Kind.OTHER)
 
@@ -55,14 +82,24 @@ class Frames(unittest.TestCase):
         words = {}
         for bfi, first, second in itertools.product((0, 1), repeat=3):
             bits = bits_of(UP)
-            words[bfi, first, second] = read_up(f"{bits[:28]}{bfi}{first}{second}{bits[31:]}").sort.value
-        by_descriptor = [[words[bfi, first, second] for bfi in (0, 1)] for first, second in itertools.product((0, 1), repeat=2)]
-        self.assertEqual(by_descriptor, [["good", "bad"], ["invalid", "invalid"], ["sid", "invalid"], ["invalid", "invalid"]])
+            words[bfi, first, second] = read_up(
+                f"{bits[:28]}{bfi}{first}{second}{bits[31:]}"
+            ).sort.value
+        by_descriptor = [
+            [words[bfi, first, second] for bfi in (0, 1)]
+            for first, second in itertools.product((0, 1), repeat=2)
+        ]
+        self.assertEqual(
+            by_descriptor,
+            [["good", "bad"], ["invalid", "invalid"], ["sid", "invalid"], ["invalid", "invalid"]],
+        )
 
     def test_other_frames_are_unusable(self) -> None:
         for sort in (Sort.IDLE, Sort.OTHER):
             frame = UpFrame(sort, True, True, 26, "01" * 130)
-            self.assertEqual((read_up(write_up(frame)), control_of(write_up(frame))[11:14]), (frame, "100"))
+            self.assertEqual(
+                (read_up(write_up(frame)), control_of(write_up(frame))[11:14]), (frame, "100")
+            )
 
     def test_control_bits_come_back(self) -> None:
         for sort, field, taf in itertools.product(SPEECH, (0, 1, 32, 63), (False, True)):
@@ -75,7 +112,7 @@ class Parameters(unittest.TestCase):
 
     def test_least_and_greatest(self) -> None:
         for bit in (0, 1):
-            parameters = parameters_of_values([bit * (2 ** width - 1) for width in WIDTHS])
+            parameters = parameters_of_values([bit * (2**width - 1) for width in WIDTHS])
             self.assertEqual(bits_of_parameters(parameters), str(bit) * 260)
             self.assertEqual(parameters_of_bits(str(bit) * 260), parameters)
 

@@ -3,7 +3,7 @@
 import unittest
 
 import material  # noqa: F401
-from model.libgsm import Compared, find, table
+from trau.model.libgsm import Compared, find, table
 
 LIBRARY = find()
 
@@ -15,7 +15,9 @@ class Beside(unittest.TestCase):
     def test_streams(self) -> None:
         assert LIBRARY is not None
         found = table(LIBRARY, 54, 12)
-        found.pop("encoding steady squares")  # a library that sums in floating point departs on some
+        found.pop(
+            "encoding steady squares"
+        )  # a library that sums in floating point departs on some
         self.assertEqual(found.pop("decoding any"), Compared(150, 0))
         self.assertEqual(found.pop("decoding extreme"), Compared(150, 0))
         self.assertEqual(found, {kind: Compared(50, 0) for kind in found})

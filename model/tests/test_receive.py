@@ -4,10 +4,10 @@ import unittest
 from typing import List, Optional, Sequence
 
 from material import IDLE_UP, QUIET, maxima, sid, speech, unusable, with_maxima
-from core.frame import Sort, UpFrame
-from core.noise import RandomSource
-from core.parameters import SILENCE, Parameters
-from model.receive import effective_frames
+from trau.rules.frame import Sort, UpFrame
+from trau.rules.noise import RandomSource
+from trau.rules.parameters import SILENCE, Parameters
+from trau.model.receive import effective_frames
 
 GOOD = speech(with_maxima(20))
 INVALID = speech(sort=Sort.INVALID, taf=True)
@@ -39,7 +39,9 @@ class LostSpeech(unittest.TestCase):
     def test_all_but_grids_and_maxima_stay(self) -> None:
         found = effective_frames(7, [speech(QUIET), None, None, None])
         self.assertEqual(with_maxima(0, found[3]), QUIET._replace(blocks=found[3].blocks))
-        self.assertEqual([block.xmc for block in found[3].blocks], [block.xmc for block in QUIET.blocks])
+        self.assertEqual(
+            [block.xmc for block in found[3].blocks], [block.xmc for block in QUIET.blocks]
+        )
 
     def test_what_counts_as_lost(self) -> None:
         other = UpFrame(Sort.OTHER, True)
@@ -71,18 +73,25 @@ class ComfortNoise(unittest.TestCase):
 
     def test_noise_falls_to_silence(self) -> None:
         found = effective_frames(7, [sid(63)] + [unusable(True)] * 20)
-        self.assertEqual([maxima(one)[0] for one in found[:18]], [63, 63] + [max(0, 63 - 4 * fall) for fall in range(1, 17)])
+        self.assertEqual(
+            [maxima(one)[0] for one in found[:18]],
+            [63, 63] + [max(0, 63 - 4 * fall) for fall in range(1, 17)],
+        )
         self.assertEqual(found[18:], [SILENCE] * 3)
 
     def test_a_descriptor_is_approached(self) -> None:
-        self.assertEqual(maxima_of([sid(20), sid(4)] + [None] * 8), [20, 18, 16, 14, 12, 10, 8, 6, 4, 4])
+        self.assertEqual(
+            maxima_of([sid(20), sid(4)] + [None] * 8), [20, 18, 16, 14, 12, 10, 8, 6, 4, 4]
+        )
 
     def test_a_descriptor_on_the_way(self) -> None:
         frames = [sid(20), sid(4), None, sid(20)] + [None] * 7
         self.assertEqual(maxima_of(frames), [20, 18, 16, 16, 17, 17, 18, 18, 19, 19, 20])
 
     def test_a_descriptor_after_falling_noise_is_there_at_once(self) -> None:
-        self.assertEqual(maxima_of([sid(20), unusable(True), unusable(True), sid(40)]), [20, 20, 16, 40])
+        self.assertEqual(
+            maxima_of([sid(20), unusable(True), unusable(True), sid(40)]), [20, 20, 16, 40]
+        )
 
     def test_a_descriptor_after_speech_is_there_at_once(self) -> None:
         self.assertEqual(maxima_of([sid(20), GOOD, sid(40)]), [20, 20, 40])

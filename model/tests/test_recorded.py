@@ -3,7 +3,7 @@
 import unittest
 
 from material import TOP
-from model import recorded
+from trau.model import recorded
 
 
 class Pictures(unittest.TestCase):
@@ -16,7 +16,9 @@ class Pictures(unittest.TestCase):
     def test_of_another_run(self) -> None:
         incoming, orders = recorded.mixed_incoming()
         ran = recorded.run_command(["run", "--periods", "60"], incoming, orders)
-        self.assertNotEqual(recorded.picture_of(incoming, orders, ran), (TOP / "tools/farm.svg").read_bytes())
+        self.assertNotEqual(
+            recorded.picture_of(incoming, orders, ran), (TOP / "tools/farm.svg").read_bytes()
+        )
 
 
 if __name__ == "__main__":

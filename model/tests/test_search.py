@@ -4,8 +4,8 @@ import unittest
 from typing import List, Optional, Sequence
 
 from material import CHECKS, CODEC, UP
-from core.frame import Sort, bits_of, octets_of
-from core.search import Yield, search, sort_of_period, yields_by_period
+from trau.rules.frame import Sort, bits_of, octets_of
+from trau.rules.search import Yield, search, sort_of_period, yields_by_period
 
 BROKEN = b"\x80" + UP[1:]  # its first sync bit is wrong
 
@@ -61,17 +61,23 @@ class Search(unittest.TestCase):
         self.assertIs(one.sort(), Sort.OTHER)
 
     def test_recorded_offsets(self) -> None:
-        rows = [list(map(int, row.split())) for row in (CODEC / "offsets.txt").read_text().splitlines()]
+        rows = [
+            list(map(int, row.split())) for row in (CODEC / "offsets.txt").read_text().splitlines()
+        ]
         for offset, row in enumerate(rows):
             line = octets("1" * offset + bits_of(UP) + "1" * (320 * 12 - 320 - offset))
-            self.assertEqual([-1 if one is None else places([one])[0] for one in by_period(line)], row)
+            self.assertEqual(
+                [-1 if one is None else places([one])[0] for one in by_period(line)], row
+            )
 
     def test_recorded_words(self) -> None:
         """The frames of a call of the example that begins five bits late."""
         line = (CHECKS.parent / "examples" / "farm" / "3.up").read_bytes()
         words = [sort_of_period(one).value for one in by_period(line)]
         found = [one for one in by_period(line) if one is not None]
-        self.assertEqual([words.count(word) for word in ("bad", "good", "invalid", "sid")], [40, 107, 1, 1])
+        self.assertEqual(
+            [words.count(word) for word in ("bad", "good", "invalid", "sid")], [40, 107, 1, 1]
+        )
         self.assertEqual(places(found)[:3], [5, 325, 645])
 
 

@@ -3,7 +3,7 @@
 import unittest
 
 from material import CHECKS
-from core.slots import merge, split
+from trau.rules.slots import merge, split
 
 
 class Slots(unittest.TestCase):
@@ -27,7 +27,10 @@ class Slots(unittest.TestCase):
 
     def test_recorded(self) -> None:
         slots = CHECKS / "slots"
-        self.assertEqual(split((slots / "5.pcm").read_bytes()), [(slots / ("%d.down" % call)).read_bytes() for call in (5, 6, 7, 8)])
+        self.assertEqual(
+            split((slots / "5.pcm").read_bytes()),
+            [(slots / ("%d.down" % call)).read_bytes() for call in (5, 6, 7, 8)],
+        )
 
 
 if __name__ == "__main__":

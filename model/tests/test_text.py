@@ -16,23 +16,32 @@ def functions(tree: ast.Module) -> Iterator[Function]:
     """The functions of a module and the methods of its classes; those within functions aren't among them."""
     for node in tree.body:
         members = node.body if isinstance(node, ast.ClassDef) else [node]
-        yield from (one for one in members if isinstance(one, (ast.FunctionDef, ast.AsyncFunctionDef)))
+        yield from (
+            one for one in members if isinstance(one, (ast.FunctionDef, ast.AsyncFunctionDef))
+        )
 
 
 def untyped(function: Function) -> List[str]:
     """The arguments without a type, but `self`."""
     arguments = function.args.posonlyargs + function.args.args + function.args.kwonlyargs
-    return [one.arg for one in arguments if one.annotation is None and one.arg not in ("self", "cls")]
+    return [
+        one.arg for one in arguments if one.annotation is None and one.arg not in ("self", "cls")
+    ]
 
 
 def headings(name: str) -> List[str]:
     """The headings of a document."""
-    return [row.lstrip("# ") for row in (TOP / name).read_text().splitlines() if row.startswith("#")]
+    return [
+        row.lstrip("# ") for row in (TOP / name).read_text().splitlines() if row.startswith("#")
+    ]
 
 
 def cited(text: str) -> List[Tuple[str, List[str]]]:
     """The documents that a text cites, each with the headings that it names."""
-    return [(name, re.findall('"([^"]+)"', names)) for name, names in CITED.findall(re.sub(r"\s+", " ", text))]
+    return [
+        (name, re.findall('"([^"]+)"', names))
+        for name, names in CITED.findall(re.sub(r"\s+", " ", text))
+    ]
 
 
 class Text(unittest.TestCase):
@@ -63,12 +72,43 @@ class Text(unittest.TestCase):
                     self.assertIn(heading, headings(name), "%s in %s" % (name, path.name))
 
     def test_the_standard_library_alone(self) -> None:
-        names = {"argparse", "bisect", "contextlib", "ctypes", "enum", "itertools", "operator", "os", "pathlib", "random", "re", "resource", "stat",
-                 "shutil", "signal", "subprocess", "sys", "tempfile", "time", "typing", "__future__", "concurrent", "threading", "model", "core", "dataclasses", "functools"}
+        names = {
+            "argparse",
+            "bisect",
+            "contextlib",
+            "ctypes",
+            "enum",
+            "itertools",
+            "operator",
+            "os",
+            "pathlib",
+            "random",
+            "re",
+            "resource",
+            "stat",
+            "shutil",
+            "signal",
+            "subprocess",
+            "sys",
+            "tempfile",
+            "time",
+            "typing",
+            "__future__",
+            "concurrent",
+            "threading",
+            "model",
+            "core",
+            "dataclasses",
+            "functools",
+        }
         for path in MODULES:
             for node in ast.walk(ast.parse(path.read_text())):
                 found = [one.name for one in node.names] if isinstance(node, ast.Import) else []
-                found += [node.module or ""] if isinstance(node, ast.ImportFrom) and node.level == 0 else []
+                found += (
+                    [node.module or ""]
+                    if isinstance(node, ast.ImportFrom) and node.level == 0
+                    else []
+                )
                 self.assertLessEqual({one.split(".")[0] for one in found}, names, path.name)
 
 

@@ -8,21 +8,23 @@ from pathlib import Path
 from typing import Dict, Optional, Tuple
 
 from material import CHECKS, TOP, UP
-from model.checkpoint import Mark, MarkCall, differs, read_mark, text_of_mark
-from model.compare import MODEL, differences
-from model.drill import drawn_orders, drawn_period, draws
-from model.lines import Folder, Streams
-from core.orders import BadLine
-from model.outside import MemoryDesk, MemoryLines
-from model.recorded import checksum
-from model.top import top
-from model.trials import Step, Trial, draw_trial
+from trau.model.checkpoint import Mark, MarkCall, differs, read_mark, text_of_mark
+from trau.model.compare import MODEL, differences
+from trau.model.drill import drawn_orders, drawn_period, draws
+from trau.model.lines import Folder, Streams
+from trau.rules.orders import BadLine
+from trau.model.outside import MemoryDesk, MemoryLines
+from trau.model.recorded import checksum
+from trau.model.top import top
+from trau.model.trials import Step, Trial, draw_trial
 
 PCM = b"\xd5" * 160
 ZEROS = {(1, "up"): bytes(160), (1, "pcm"): PCM * 4}
 
 
-def run(words: str, stdin: bytes = b"", fails: bool = False, room: Optional[int] = None) -> Tuple[int, str, Dict[Tuple[int, str], bytes]]:
+def run(
+    words: str, stdin: bytes = b"", fails: bool = False, room: Optional[int] = None
+) -> Tuple[int, str, Dict[Tuple[int, str], bytes]]:
     """The status, the text and the lines written of a command over four periods of zeros on call 1."""
     lines, desk = MemoryLines(ZEROS), MemoryDesk(stdin, fails, room)
     return top(words.split(), lines, desk), desk.text, lines.written
@@ -63,7 +65,9 @@ class Parts(unittest.TestCase):
         self.assertEqual(text, run("run", b"0 open 1\n")[1])
 
     def test_the_run_ends_at_the_greater_period(self) -> None:
-        self.assertIn("call 1 from 0 to 3 limit", run("resume --periods 1", self.MARK + b"0 open 1\n")[1])
+        self.assertIn(
+            "call 1 from 0 to 3 limit", run("resume --periods 1", self.MARK + b"0 open 1\n")[1]
+        )
 
     def test_refused(self) -> None:
         for text, answer in (
@@ -81,9 +85,16 @@ class Parts(unittest.TestCase):
         self.assertEqual(read_mark(self.MARK + b"0 open 1\n"), (mark, b"0 open 1\n"))
         self.assertEqual(text_of_mark(mark).encode(), self.MARK)
         for text, number in (
-            (b"", 1), (b"save 3", 1), (b"save 0\norders\n", 1), (b"save 3\n", 2), (b"save 3\norders", 2), (b"save 3\n\norders\n", 2),
-            (b"save 3\ncall 1 from 3 out 0 down 0\norders\n", 2), (b"save 3\ncall 1 from 0 out 4294967296 down 0\n", 2),
-            (b"save 3\ncall 2 from 0 out 0 down 0\ncall 2 from 0 out 0 down 0\norders\n", 3), (b"save 3\ncall 4097 from 0 out 0 down 0\n", 2),
+            (b"", 1),
+            (b"save 3", 1),
+            (b"save 0\norders\n", 1),
+            (b"save 3\n", 2),
+            (b"save 3\norders", 2),
+            (b"save 3\n\norders\n", 2),
+            (b"save 3\ncall 1 from 3 out 0 down 0\norders\n", 2),
+            (b"save 3\ncall 1 from 0 out 4294967296 down 0\n", 2),
+            (b"save 3\ncall 2 from 0 out 0 down 0\ncall 2 from 0 out 0 down 0\norders\n", 3),
+            (b"save 3\ncall 4097 from 0 out 0 down 0\n", 2),
         ):
             with self.assertRaises(BadLine) as caught:
                 read_mark(text)
@@ -109,7 +120,9 @@ class Drills(unittest.TestCase):
 
     def test_orders(self) -> None:
         words = [(order.stamp, order.verb) for order in drawn_orders(6, 9)]
-        self.assertEqual(words[6:], [(2, "bridge"), (2, "bridge"), (4, "unbridge"), (4, "unbridge")])
+        self.assertEqual(
+            words[6:], [(2, "bridge"), (2, "bridge"), (4, "unbridge"), (4, "unbridge")]
+        )
 
     def test_pcm(self) -> None:
         source = draws(1, 1)
@@ -119,7 +132,9 @@ class Drills(unittest.TestCase):
 
     def test_live(self) -> None:
         text = run("live --calls 2 --periods 1")[1]
-        self.assertEqual(text, "sum 1 out 17406 down 10200\nsum 2 out 13986 down 10200\nlive periods 1 calls 2\n")
+        self.assertEqual(
+            text, "sum 1 out 17406 down 10200\nsum 2 out 13986 down 10200\nlive periods 1 calls 2\n"
+        )
 
 
 class Files(unittest.TestCase):
@@ -160,7 +175,9 @@ class Files(unittest.TestCase):
         ran = subprocess.run(words, stdin=subprocess.DEVNULL, stdout=subprocess.PIPE)
         self.assertEqual((ran.returncode, ran.stdout), (0, b"relay frames 2\n"))
         with open("/dev/full", "wb") as full:
-            self.assertEqual(subprocess.run(words, stdin=subprocess.DEVNULL, stdout=full).returncode, 4)
+            self.assertEqual(
+                subprocess.run(words, stdin=subprocess.DEVNULL, stdout=full).returncode, 4
+            )
 
 
 class Tools(unittest.TestCase):
@@ -178,10 +195,17 @@ class Tools(unittest.TestCase):
             other.chmod(0o755)
             trial = Trial(0, {"7.up": UP * 2}, [Step(["relay", "7"], b"")])
             self.assertEqual(differences(trial, MODEL, MODEL), [])
-            self.assertEqual(differences(trial, other, MODEL), ["relay 7: 7.down is only made by the model"])
+            self.assertEqual(
+                differences(trial, other, MODEL), ["relay 7: 7.down is only made by the model"]
+            )
             wrong = trial._replace(steps=[Step(["relay", "8"], b"")])
-            wanted = ["status 0, of the model 6", "line 1 of the text is 'relay frames 2', of the model 'line 8 up failed'"]
-            self.assertEqual(differences(wrong, other, MODEL), [f"relay 8: {line}" for line in wanted])
+            wanted = [
+                "status 0, of the model 6",
+                "line 1 of the text is 'relay frames 2', of the model 'line 8 up failed'",
+            ]
+            self.assertEqual(
+                differences(wrong, other, MODEL), [f"relay 8: {line}" for line in wanted]
+            )
 
     def test_sums(self) -> None:
         self.assertEqual(checksum(b""), b"4294967295 0\n")

@@ -4,9 +4,9 @@ import unittest
 from typing import List
 
 from material import QUIET, with_maxima
-from core.parameters import Block
-from model.codec import Encoded, Encoder, Trace, code_ratios
-from model.transmit import Coded, sent_frames, silence_descriptor
+from trau.rules.parameters import Block
+from trau.model.codec import Encoded, Encoder, Trace, code_ratios
+from trau.model.transmit import Coded, sent_frames, silence_descriptor
 
 SILENT = Encoder().encode([0] * 160)
 DESCRIPTOR = silence_descriptor([Coded(SILENT, 256, True)] * 4)
@@ -14,7 +14,9 @@ DESCRIPTOR = silence_descriptor([Coded(SILENT, 256, True)] * 4)
 
 def frames(speech: str, on: bool = True) -> List[Coded]:
     """A frame for each letter: `s` is speech, `.` isn't."""
-    return [Coded(SILENT._replace(peak=256 if letter == "s" else 255), 256, on) for letter in speech]
+    return [
+        Coded(SILENT._replace(peak=256 if letter == "s" else 255), 256, on) for letter in speech
+    ]
 
 
 def flags(speech: str) -> str:
@@ -30,11 +32,15 @@ class Pauses(unittest.TestCase):
 
     def test_ten_or_twenty_two_frames_of_speech_dont_bring_a_hangover(self) -> None:
         for speech in (10, 22):
-            self.assertEqual(flags("." * 5 + "s" * speech + "....."), "11110" + "1" * speech + "00000")
+            self.assertEqual(
+                flags("." * 5 + "s" * speech + "....."), "11110" + "1" * speech + "00000"
+            )
 
     def test_twenty_three_frames_of_speech_bring_a_hangover(self) -> None:
         for speech in (23, 30):
-            self.assertEqual(flags("." * 5 + "s" * speech + "....."), "11110" + "1" * speech + "11110")
+            self.assertEqual(
+                flags("." * 5 + "s" * speech + "....."), "11110" + "1" * speech + "11110"
+            )
 
     def test_the_last_descriptor_is_sent_again(self) -> None:
         first = frames(".....")

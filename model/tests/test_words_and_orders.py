@@ -3,10 +3,10 @@
 import unittest
 
 from material import TOP  # noqa: F401  (puts the top of the repository on the path)
-from core import profile
-from core.orders import BadLine, TooLong, lines_of, orders_of, read_order
-from core.words import number
-from model.words import Asked, asked
+from trau.rules import profile
+from trau.rules.orders import BadLine, TooLong, lines_of, orders_of, read_order
+from trau.command_line.words import number
+from trau.model.words import Asked, asked
 
 
 class Numbers(unittest.TestCase):
@@ -17,7 +17,21 @@ class Numbers(unittest.TestCase):
             self.assertEqual(number(text, 0, profile.MOST_PERIODS), value)
 
     def test_what_is_none(self) -> None:
-        for text in ("", "00", "07", "+7", "-7", " 7", "7 ", "7\n", "1_0", "4294967296", "٣", "1e3", "0x1"):
+        for text in (
+            "",
+            "00",
+            "07",
+            "+7",
+            "-7",
+            " 7",
+            "7 ",
+            "7\n",
+            "1_0",
+            "4294967296",
+            "٣",
+            "1e3",
+            "0x1",
+        ):
             self.assertIsNone(number(text, 0, profile.MOST_PERIODS), repr(text))
 
 
@@ -37,8 +51,13 @@ class Words(unittest.TestCase):
     def test_options(self) -> None:
         words = "run --batch=7 --workers 1 --slice=250 --periods 4294967295"
         self.assertEqual(asked(words.split()), Asked("run", 7, profile.MOST_PERIODS, 0, 0))
-        self.assertEqual(asked("drill --seed 0 --calls=256 --periods 1000 --".split()), Asked("drill", 50, 1000, 0, 256))
-        self.assertEqual(asked("live --inbox 1024 --callers 64 --calls 1".split()), Asked("live", 0, 200, 1, 1))
+        self.assertEqual(
+            asked("drill --seed 0 --calls=256 --periods 1000 --".split()),
+            Asked("drill", 50, 1000, 0, 256),
+        )
+        self.assertEqual(
+            asked("live --inbox 1024 --callers 64 --calls 1".split()), Asked("live", 0, 200, 1, 1)
+        )
         self.assertEqual(asked(["run", "--"]), Asked("run", 50, profile.MOST_PERIODS, 0, 0))
 
     def test_words_that_are_wrong(self) -> None:
@@ -66,7 +85,17 @@ class Orders(unittest.TestCase):
     def test_each_order(self) -> None:
         text = b"0 open 1\n0 open 4096 mulaw\n5 bridge 1 4096\n5 level 1 32767\n6 dtx 1 on\n6 dtx 1 off\n6 dtx 1 uplink\n7 unbridge 1\n4294967294 close 1"
         self.assertEqual(
-            [(order.number, order.stamp, order.verb, order.calls, str(order.law()), order.value()) for order in orders_of(text)],
+            [
+                (
+                    order.number,
+                    order.stamp,
+                    order.verb,
+                    order.calls,
+                    str(order.law()),
+                    order.value(),
+                )
+                for order in orders_of(text)
+            ],
             [
                 (1, 0, "open", (1,), "alaw", "1"),
                 (2, 0, "open", (4096,), "mulaw", "mulaw"),
@@ -79,7 +108,9 @@ class Orders(unittest.TestCase):
                 (9, profile.MOST_STAMP, "close", (1,), "alaw", "1"),
             ],
         )
-        self.assertEqual("".join(f"{order.line()}\n" for order in orders_of(text)).encode(), text + b"\n")
+        self.assertEqual(
+            "".join(f"{order.line()}\n" for order in orders_of(text)).encode(), text + b"\n"
+        )
         self.assertEqual(orders_of(b""), [])
         self.assertEqual(read_order(1, "0 bridge 3 2").calls, (3, 2))
 

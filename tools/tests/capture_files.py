@@ -4,10 +4,10 @@ import importlib.util
 
 from support import DATA, InFolder
 
-import captures
-import lines
-from core.frame import bits_of
-from core.search import search
+from trau.recordings import captures
+from trau.recordings import lines
+from trau.rules.frame import bits_of
+from trau.rules.search import search
 
 HAS_DPKT = importlib.util.find_spec("dpkt") is not None
 

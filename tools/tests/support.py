@@ -17,9 +17,8 @@ EXAMPLES = TOP / "examples"
 CODEC = TOP / "checks" / "vectors"
 DATA = TOOLS / "tests" / "data"
 
-sys.path[:0] = [str(TOOLS), str(TOP)]
 
-from core.search import FRAME_OF_DOWNLINK  # noqa: E402
+from trau.rules.search import FRAME_OF_DOWNLINK
 
 # Under a limit on the size of files, as some tests set it, Python would keep a part of what it compiles, and every later start would read it.
 os.environ["PYTHONDONTWRITEBYTECODE"] = "1"
@@ -33,7 +32,10 @@ def has_locks():
     with tempfile.TemporaryDirectory() as folder:
         words = ["flock", "-n", "-E", "75", folder]
         found = shutil.which("flock", path=PLAIN_PATH)
-        return found is not None and subprocess.run([*words, *words, "true"], stderr=subprocess.DEVNULL).returncode == 75
+        return (
+            found is not None
+            and subprocess.run([*words, *words, "true"], stderr=subprocess.DEVNULL).returncode == 75
+        )
 
 
 HAS_LOCKS = has_locks()

@@ -10,32 +10,41 @@ from unittest import mock
 
 from support import DATA, EXAMPLES, InFolder
 
-import captures
-import code_word
-import lines
-import uplink_frames
+from trau.recordings import captures
+from trau.recordings import code_word
+from trau.recordings import lines
+from trau.recordings import uplink_frames
 from capture_files import HAS_DPKT, InCaptures, fields, rewritten, sorts_of
-from core.frame import Sort, bits_of
-from core.g711 import Law, samples_by_octet
-from core.parameters import SILENCE, bits_of_parameters, gsm_of_data
-from core.search import search
-from damages import silence_descriptor
+from trau.rules.frame import Sort, bits_of
+from trau.rules.g711 import Law, samples_by_octet
+from trau.rules.parameters import SILENCE, bits_of_parameters, gsm_of_data
+from trau.rules.search import search
+from trau.recordings.damages import silence_descriptor
 
 CAPTURES = {"gsm": "gsm.pcap", "pcma": "pcma.pcapng", "pcmu": "pcmu.pcap"}
 
 
 class WithoutTheLibrary(InFolder):
     def test_idle_and_lost_frames(self):
-        for octets, sort in ((uplink_frames.IDLE, Sort.IDLE), (uplink_frames.LOST, Sort.BAD), (uplink_frames.LOST_WITH_TAF, Sort.BAD)):
+        for octets, sort in (
+            (uplink_frames.IDLE, Sort.IDLE),
+            (uplink_frames.LOST, Sort.BAD),
+            (uplink_frames.LOST_WITH_TAF, Sort.BAD),
+        ):
             self.assertEqual([each.sort() for each in search(bits_of(octets))], [sort])
 
     def test_asked_for_with_a_word(self):
         said = f"captures need the library dpkt, which {sys.executable} doesn't have; apt-get install python3-dpkt "
-        with mock.patch.dict(sys.modules, {name: None for name in [*sys.modules, "dpkt"] if name.partition(".")[0] == "dpkt"}):
+        with mock.patch.dict(
+            sys.modules,
+            {name: None for name in [*sys.modules, "dpkt"] if name.partition(".")[0] == "dpkt"},
+        ):
             self.assert_refused(lines.main, ["pcap", DATA / "gsm.pcap", self.folder / "7.up"], said)
             status, out, err = self.run_tool(lines.main, "look", DATA / "gsm.pcap")
         self.assertEqual((status, err, out.count("\n")), (0, "", 2))
-        self.assertIn(f": a pcap capture; lines.py pcap {DATA / 'gsm.pcap'} NEW\n  not read: {said}", out)
+        self.assertIn(
+            f": a pcap capture; lines.py pcap {DATA / 'gsm.pcap'} NEW\n  not read: {said}", out
+        )
 
 
 @unittest.skipUnless(HAS_DPKT, "no library dpkt")
@@ -48,18 +57,27 @@ class Captures(InCaptures):
     def test_gsm(self):
         frames = b"".join(row[4] for row in fields("gsm.txt"))
         said, line = self.pcap(DATA / "gsm.pcap")
-        self.assertEqual(said, "pcap gsm packets 30 late 0 doubled 0 others 0 frames 30 sid 0 invalid 0 lost 0 gap 0 empty 0 paused 0 lead 0\n")
+        self.assertEqual(
+            said,
+            "pcap gsm packets 30 late 0 doubled 0 others 0 frames 30 sid 0 invalid 0 lost 0 gap 0 empty 0 paused 0 lead 0\n",
+        )
         self.run_tool(lines.main, "uplink", self.path("7.gsm", frames), self.folder / "7.up")
         self.assertEqual(line, self.path("7.up").read_bytes())
 
     def test_pcma_and_pcmu(self):
         octets = b"".join(row[4] for row in fields("pcma.txt"))
         said, line = self.pcap(DATA / "pcma.pcapng")
-        self.assertEqual(said, "pcap pcma packets 17 late 0 doubled 0 others 0 octets 4800 lost 0 gap 0 lead 0 padded 0\n")
+        self.assertEqual(
+            said,
+            "pcap pcma packets 17 late 0 doubled 0 others 0 octets 4800 lost 0 gap 0 lead 0 padded 0\n",
+        )
         self.assertEqual(line, octets)
         # Both are of one sound, so their samples are near to one another: a step of the loudest segment is 2048.
         _, other = self.pcap(DATA / "pcmu.pcap")
-        far = max(abs(samples_by_octet(Law.A)[a] - samples_by_octet(Law.A)[b]) for a, b in zip(line, other))
+        far = max(
+            abs(samples_by_octet(Law.A)[a] - samples_by_octet(Law.A)[b])
+            for a, b in zip(line, other)
+        )
         self.assertLessEqual(far, 2048)
 
     def test_pcmu_of_a_mulaw_line(self):
@@ -67,9 +85,14 @@ class Captures(InCaptures):
         _, line = self.pcap(DATA / "pcmu.pcap", "--law", "mulaw")
         self.assertEqual(line[: len(octets)], octets)
         self.assertEqual(set(line[len(octets) :]), {0xFF} if len(octets) % 160 else set())
-        self.assertEqual(self.pcap(DATA / "pcmu.pcap")[1][: len(octets)], octets.translate(Law.MU.table_to(Law.A)))
+        self.assertEqual(
+            self.pcap(DATA / "pcmu.pcap")[1][: len(octets)],
+            octets.translate(Law.MU.table_to(Law.A)),
+        )
         pcm, new = self.path("7.pcm", line), self.path("7.pcap")
-        self.assertEqual(self.run_tool(lines.main, "capture", pcm, new, "--law", "mulaw")[::2], (0, ""))
+        self.assertEqual(
+            self.run_tool(lines.main, "capture", pcm, new, "--law", "mulaw")[::2], (0, "")
+        )
         said, back = self.pcap(new, "--law", "mulaw")
         self.assertTrue(said.startswith("pcap pcmu "))
         self.assertEqual(back, line)
@@ -78,7 +101,9 @@ class Captures(InCaptures):
 
     def packets(self, kind="gsm"):
         """The packets of a capture, with their times."""
-        reader = captures.library("pcap").UniversalReader(io.BytesIO((DATA / CAPTURES[kind]).read_bytes()))
+        reader = captures.library("pcap").UniversalReader(
+            io.BytesIO((DATA / CAPTURES[kind]).read_bytes())
+        )
         return reader.datalink(), [octets for _, octets in reader]
 
     def changed(self, change, kind="gsm", words=()):
@@ -92,13 +117,20 @@ class Captures(InCaptures):
 
     def test_lost(self):
         said, line = self.changed(lambda packets: packets[:7] + packets[9:20] + packets[21:])
-        self.assertEqual(said, "pcap gsm packets 27 late 0 doubled 0 others 0 frames 27 sid 0 invalid 0 lost 3 gap 0 empty 0 paused 0 lead 0\n")
-        self.assertEqual([place for place, sort in enumerate(sorts_of(line)) if sort == "bad"], [7, 8, 20])
+        self.assertEqual(
+            said,
+            "pcap gsm packets 27 late 0 doubled 0 others 0 frames 27 sid 0 invalid 0 lost 3 gap 0 empty 0 paused 0 lead 0\n",
+        )
+        self.assertEqual(
+            [place for place, sort in enumerate(sorts_of(line)) if sort == "bad"], [7, 8, 20]
+        )
         said, line = self.changed(lambda packets: packets[:4] + packets[6:], "pcma")
         whole = b"".join(row[4] for row in fields("pcma.txt"))
         place, length = self.places("pcma", 3), self.places("pcma", 5) - self.places("pcma", 3)
         self.assertIn(f"lost {length} gap 0", said)
-        self.assertEqual(line, whole[:place] + bytes([Law.A.idle()]) * length + whole[place + length :])
+        self.assertEqual(
+            line, whole[:place] + bytes([Law.A.idle()]) * length + whole[place + length :]
+        )
 
     def places(self, kind, number):
         """The octet at which a packet begins."""
@@ -106,11 +138,19 @@ class Captures(InCaptures):
 
     def test_late_and_doubled(self):
         whole = self.pcap(DATA / "gsm.pcap")[1]
-        said, line = self.changed(lambda packets: packets[:5] + [packets[7], packets[5], packets[6]] + packets[8:])
-        self.assertEqual(said, "pcap gsm packets 30 late 2 doubled 0 others 0 frames 30 sid 0 invalid 0 lost 0 gap 0 empty 0 paused 0 lead 0\n")
+        said, line = self.changed(
+            lambda packets: packets[:5] + [packets[7], packets[5], packets[6]] + packets[8:]
+        )
+        self.assertEqual(
+            said,
+            "pcap gsm packets 30 late 2 doubled 0 others 0 frames 30 sid 0 invalid 0 lost 0 gap 0 empty 0 paused 0 lead 0\n",
+        )
         self.assertEqual(line, whole)
         said, line = self.changed(lambda packets: packets[:5] + packets[3:5] + packets[5:])
-        self.assertEqual(said, "pcap gsm packets 32 late 0 doubled 2 others 0 frames 30 sid 0 invalid 0 lost 0 gap 0 empty 0 paused 0 lead 0\n")
+        self.assertEqual(
+            said,
+            "pcap gsm packets 32 late 0 doubled 2 others 0 frames 30 sid 0 invalid 0 lost 0 gap 0 empty 0 paused 0 lead 0\n",
+        )
         self.assertEqual(line, whole)
         # The first packet of all comes late.
         said, line = self.changed(lambda packets: [packets[1], packets[0]] + packets[2:])
@@ -126,22 +166,37 @@ class Captures(InCaptures):
             rtp.ts = (rtp.ts - first[3] + 4294966000) % 4294967296
 
         said, line = self.changed(lambda packets: [rewritten(octets, moved) for octets in packets])
-        self.assertEqual(said, "pcap gsm packets 30 late 0 doubled 0 others 0 frames 30 sid 0 invalid 0 lost 0 gap 0 empty 0 paused 0 lead 0\n")
+        self.assertEqual(
+            said,
+            "pcap gsm packets 30 late 0 doubled 0 others 0 frames 30 sid 0 invalid 0 lost 0 gap 0 empty 0 paused 0 lead 0\n",
+        )
         self.assertEqual(line, whole)
 
     def test_pauses_and_other_kinds(self):
         def later(rtp):
             rtp.ts = (rtp.ts + 5 * 160) % 4294967296
 
-        said, line = self.changed(lambda packets: packets[:10] + [rewritten(octets, later) for octets in packets[10:]])
-        self.assertEqual(said, "pcap gsm packets 30 late 0 doubled 0 others 0 frames 30 sid 0 invalid 0 lost 0 gap 5 empty 0 paused 0 lead 0\n")
+        said, line = self.changed(
+            lambda packets: packets[:10] + [rewritten(octets, later) for octets in packets[10:]]
+        )
+        self.assertEqual(
+            said,
+            "pcap gsm packets 30 late 0 doubled 0 others 0 frames 30 sid 0 invalid 0 lost 0 gap 5 empty 0 paused 0 lead 0\n",
+        )
         self.assertEqual(sorts_of(line)[9:16], ["good", *5 * ["bad"], "good"])
 
         def digit(rtp):
             rtp.pt, rtp.data = 101, bytes(4)
 
-        said, line = self.changed(lambda packets: packets[:10] + [rewritten(octets, digit) for octets in packets[10:12]] + packets[12:])
-        self.assertEqual(said, "pcap gsm packets 30 late 0 doubled 0 others 2 frames 28 sid 0 invalid 0 lost 0 gap 2 empty 0 paused 0 lead 0\n")
+        said, line = self.changed(
+            lambda packets: packets[:10]
+            + [rewritten(octets, digit) for octets in packets[10:12]]
+            + packets[12:]
+        )
+        self.assertEqual(
+            said,
+            "pcap gsm packets 30 late 0 doubled 0 others 2 frames 28 sid 0 invalid 0 lost 0 gap 2 empty 0 paused 0 lead 0\n",
+        )
         self.assertEqual(sorts_of(line)[9:13], ["good", "bad", "bad", "good"])
 
     def test_time_stamps_that_go_back(self):
@@ -149,9 +204,12 @@ class Captures(InCaptures):
             rtp.ts = (rtp.ts - 15 * 160) % 4294967296
 
         # Packet 10 and those after it begin 15 frames earlier: the first 15 of these 20 frames overlap with what came before.
-        said, line = self.changed(lambda packets: packets[:10] + [rewritten(octets, earlier) for octets in packets[10:]])
+        said, line = self.changed(
+            lambda packets: packets[:10] + [rewritten(octets, earlier) for octets in packets[10:]]
+        )
         self.assertEqual(
-            said, "pcap gsm packets 30 late 0 doubled 0 others 0 frames 15 sid 0 invalid 0 lost 0 gap 0 empty 0 paused 0 lead 0 over 15\n"
+            said,
+            "pcap gsm packets 30 late 0 doubled 0 others 0 frames 15 sid 0 invalid 0 lost 0 gap 0 empty 0 paused 0 lead 0 over 15\n",
         )
         self.assertEqual(len(line), 15 * 40)
 
@@ -161,16 +219,24 @@ class Captures(InCaptures):
         link, packets = self.packets()
         file = io.BytesIO()
         writer = captures.library("pcap").Writer(file, linktype=link)
-        for time, octets in zip((0, 0.02, 0.04, 0.06, 0.08, 3601.1), [*packets[:5], rewritten(packets[5], later)]):
+        for time, octets in zip(
+            (0, 0.02, 0.04, 0.06, 0.08, 3601.1), [*packets[:5], rewritten(packets[5], later)]
+        ):
             writer.writepkt(octets, ts=time)
         words = ["pcap", self.path("jump.pcap", file.getvalue()), self.folder / "7.up"]
-        self.assert_refused(lines.main, words, "of packet 6 is 3601 s after the packet before; at most 3600 s are taken")
+        self.assert_refused(
+            lines.main,
+            words,
+            "of packet 6 is 3601 s after the packet before; at most 3600 s are taken",
+        )
 
     def test_silence_descriptors(self):
         # The 11th frame is a descriptor, the 12th a damaged one, and then nothing is sent for five periods.
         descriptor = silence_descriptor(SILENCE)
         whole = bits_of_parameters(descriptor)
-        damaged = whole[: code_word.CODE_WORD_BITS[0]] + "1111" + whole[code_word.CODE_WORD_BITS[0] + 4 :]
+        damaged = (
+            whole[: code_word.CODE_WORD_BITS[0]] + "1111" + whole[code_word.CODE_WORD_BITS[0] + 4 :]
+        )
 
         def put(data, steps):
             def change(rtp):
@@ -189,8 +255,13 @@ class Captures(InCaptures):
             ]
 
         said, line = self.changed(change)
-        self.assertEqual(said, "pcap gsm packets 30 late 0 doubled 0 others 0 frames 30 sid 1 invalid 1 lost 0 gap 0 empty 0 paused 5 lead 0\n")
-        self.assertEqual(sorts_of(line)[9:19], ["good", "sid", "invalid", *5 * ["bad"], "good", "good"])
+        self.assertEqual(
+            said,
+            "pcap gsm packets 30 late 0 doubled 0 others 0 frames 30 sid 1 invalid 1 lost 0 gap 0 empty 0 paused 5 lead 0\n",
+        )
+        self.assertEqual(
+            sorts_of(line)[9:19], ["good", "sid", "invalid", *5 * ["bad"], "good", "good"]
+        )
         said, line = self.changed(change, words=("--sid", "keep"))
         self.assertIn("frames 30 sid 0 invalid 0 lost 0 gap 5 empty 0 paused 0 ", said)
         self.assertEqual(sorts_of(line)[9:19], [*3 * ["good"], *5 * ["bad"], "good", "good"])
@@ -199,24 +270,40 @@ class Captures(InCaptures):
         whole = self.pcap(DATA / "gsm.pcap")[1]
         octets = (DATA / "gsm.pcap").read_bytes()
         cut = self.path("cut.pcap", octets[:-15])
-        self.assert_refused(lines.main, ["pcap", cut, self.path("new")], "ends within a packet; --partial takes those before it")
+        self.assert_refused(
+            lines.main,
+            ["pcap", cut, self.path("new")],
+            "ends within a packet; --partial takes those before it",
+        )
         said, line = self.pcap(cut, "--partial")
         self.assertEqual(
-            said, "pcap gsm packets 29 late 0 doubled 0 others 0 frames 29 sid 0 invalid 0 lost 0 gap 0 empty 0 paused 0 lead 0 cut 1 wrong 0\n"
+            said,
+            "pcap gsm packets 29 late 0 doubled 0 others 0 frames 29 sid 0 invalid 0 lost 0 gap 0 empty 0 paused 0 lead 0 cut 1 wrong 0\n",
         )
         self.assertEqual(line, whole[:-40])
         for name, octets in ((name, (DATA / name).read_bytes()) for name in CAPTURES.values()):
             for missing in (1, 20, 60, 80, 95, 103):
                 cut = self.path("cut", octets[:-missing])
                 refused = self.run_tool(lines.main, "pcap", cut, self.path("new"))
-                self.assertIn("ends within a packet" if missing < 103 or name != "gsm.pcap" else "", refused[2])
+                self.assertIn(
+                    "ends within a packet" if missing < 103 or name != "gsm.pcap" else "",
+                    refused[2],
+                )
                 line = self.pcap(cut, "--partial")[1].rstrip(b"\xd5")
                 whole = self.pcap(DATA / name)[1]
                 self.assertEqual(line, whole[:-40] if name == "gsm.pcap" else whole[: len(line)])
                 self.assertGreater(len(line), len(whole) - 500)
         # Each third packet is cut in its payload, as by a capture with a limit on their octets: these are lost.
-        said, line = self.changed(lambda packets: [each[: -9 if at % 3 == 1 else None] for at, each in enumerate(packets)], words=("--partial",))
-        self.assertIn("packets 20 late 0 doubled 0 others 0 frames 20 sid 0 invalid 0 lost 10 gap 0 empty 0 paused 0 lead 0 cut 10 wrong 0", said)
+        said, line = self.changed(
+            lambda packets: [
+                each[: -9 if at % 3 == 1 else None] for at, each in enumerate(packets)
+            ],
+            words=("--partial",),
+        )
+        self.assertIn(
+            "packets 20 late 0 doubled 0 others 0 frames 20 sid 0 invalid 0 lost 10 gap 0 empty 0 paused 0 lead 0 cut 10 wrong 0",
+            said,
+        )
         self.assertEqual(sorts_of(line)[:5], ["good", "bad", "good", "good", "bad"])
 
     def test_lines_that_keep_step(self):
@@ -242,7 +329,9 @@ class Captures(InCaptures):
             rtp.x = rtp.p = 1
             rtp.data = bytes([0xBE, 0xDE, 0, 1, 1, 2, 3, 4]) + bytes(rtp.data) + bytes([0, 0, 3])
 
-        self.assertEqual(self.changed(lambda packets: [rewritten(octets, wider) for octets in packets])[1], whole)
+        self.assertEqual(
+            self.changed(lambda packets: [rewritten(octets, wider) for octets in packets])[1], whole
+        )
 
     # Lines out
 
@@ -252,13 +341,25 @@ class Captures(InCaptures):
         return out
 
     def test_lines_there_and_back(self):
-        said = self.capture(EXAMPLES / "7.up", self.folder / "7.pcap", "--also", EXAMPLES / "farm" / "1.pcm")
+        said = self.capture(
+            EXAMPLES / "7.up", self.folder / "7.pcap", "--also", EXAMPLES / "farm" / "1.pcm"
+        )
         self.assertEqual(said, "capture streams 2 packets 469\n")
-        status, _, err = self.run_tool(lines.main, "pcap", self.path("7.pcap"), self.folder / "line")
+        status, _, err = self.run_tool(
+            lines.main, "pcap", self.path("7.pcap"), self.folder / "line"
+        )
         self.assertEqual(status, 2)
-        self.assertIn("has 2 streams, one of which --stream names: 1 is 10.0.0.1:5006 to 10.0.1.1:5004 ssrc 0x00000001", err)
-        self.assertEqual(self.pcap(self.path("7.pcap"), "--stream", "1")[1], (EXAMPLES / "7.up").read_bytes())
-        self.assertEqual(self.pcap(self.path("7.pcap"), "--stream", "2")[1], (EXAMPLES / "farm" / "1.pcm").read_bytes())
+        self.assertIn(
+            "has 2 streams, one of which --stream names: 1 is 10.0.0.1:5006 to 10.0.1.1:5004 ssrc 0x00000001",
+            err,
+        )
+        self.assertEqual(
+            self.pcap(self.path("7.pcap"), "--stream", "1")[1], (EXAMPLES / "7.up").read_bytes()
+        )
+        self.assertEqual(
+            self.pcap(self.path("7.pcap"), "--stream", "2")[1],
+            (EXAMPLES / "farm" / "1.pcm").read_bytes(),
+        )
 
     def test_what_each_frame_gives(self):
         folder = EXAMPLES / "farm"
@@ -267,10 +368,14 @@ class Captures(InCaptures):
             counts = Counter(each.payload is None for each in captures.sounds_of_uplink(octets))
             self.capture(folder / f"{call}.up", self.folder / "c.pcap")
             said, line = self.pcap(self.path("c.pcap"))
-            self.assertIn(f"packets {counts[False]} late 0 doubled 0 others 0 frames {counts[False]} ", said)
+            self.assertIn(
+                f"packets {counts[False]} late 0 doubled 0 others 0 frames {counts[False]} ", said
+            )
             self.assertLessEqual(sorts_of(line).count("bad"), counts[True])
             self.capture(folder / "wanted" / f"{call}.down", self.folder / "d.pcap")
-            self.run_tool(lines.main, "gsm", folder / "wanted" / f"{call}.down", self.folder / "d.gsm")
+            self.run_tool(
+                lines.main, "gsm", folder / "wanted" / f"{call}.down", self.folder / "d.gsm"
+            )
             frames = self.path("d.gsm").read_bytes()
             (packets,) = captures.streams_of("d", self.path("d.pcap").read_bytes()).by_flow.values()
             self.assertEqual(b"".join(packet.payload for packet in packets), frames)
@@ -301,15 +406,27 @@ class Captures(InCaptures):
             (228, b""),
         ):
             with self.subTest(link=link, begin=begin):
-                self.assertEqual(self.pcap(self.of_link(link, lambda octets: begin + octets))[1], whole)
+                self.assertEqual(
+                    self.pcap(self.of_link(link, lambda octets: begin + octets))[1], whole
+                )
         for link in (101, 229):
-            given = self.of_link(link, lambda octets: version_6.replace(b"{}", (len(octets) - 20).to_bytes(2, "big")) + octets[20:])
+            given = self.of_link(
+                link,
+                lambda octets: version_6.replace(b"{}", (len(octets) - 20).to_bytes(2, "big"))
+                + octets[20:],
+            )
             self.assertEqual(self.pcap(given)[1], whole)
-        self.assert_refused(lines.main, ["pcap", self.of_link(147, bytes), self.folder / "line"], "a kind of link, 147, that isn't known here")
+        self.assert_refused(
+            lines.main,
+            ["pcap", self.of_link(147, bytes), self.folder / "line"],
+            "a kind of link, 147, that isn't known here",
+        )
 
     def test_fragments(self):
         # The first 24 octets of a datagram, as a packet of which more follows.
-        given = self.of_link(101, lambda octets: octets[:2] + b"\0\x2c" + octets[4:6] + b"\x20\0" + octets[8:44])
+        given = self.of_link(
+            101, lambda octets: octets[:2] + b"\0\x2c" + octets[4:6] + b"\x20\0" + octets[8:44]
+        )
         said = "packet 1 is a fragment, and its parts aren't joined here; --partial leaves such packets out"
         self.assert_refused(lines.main, ["pcap", given, self.folder / "line"], said)
 
@@ -321,7 +438,9 @@ class Captures(InCaptures):
             "has no RTP stream with GSM, PCMA or PCMU (payload types 3, 8 and 0); its streams have the payload types 97 (33 octets that begin"
             " with 1101: GSM, which --type 97=gsm takes)\n"
         )
-        given = self.of_link(101, lambda octets: rewritten(bytes(12) + b"\x08\0" + octets, other)[14:])
+        given = self.of_link(
+            101, lambda octets: rewritten(bytes(12) + b"\x08\0" + octets, other)[14:]
+        )
         self.assert_refused(lines.main, ["pcap", given, self.folder / "line"], said)
 
     def test_many_lines(self):
@@ -339,7 +458,9 @@ class Captures(InCaptures):
         if name.endswith(".pcap"):
             made, place = content[:24], 24
             while place < len(content):
-                head, (captured, _) = content[place : place + 8], struct.unpack_from("<II", content, place + 8)
+                head, (captured, _) = content[place : place + 8], struct.unpack_from(
+                    "<II", content, place + 8
+                )
                 packet = content[place + 16 : place + 16 + captured]
                 made += head + struct.pack("<II", len(packet[:octets]), captured) + packet[:octets]
                 place += 16 + captured
@@ -349,15 +470,28 @@ class Captures(InCaptures):
             if kind == 6:
                 captured = struct.unpack_from("<I", content, place + 20)[0]
                 packet = block[28 : 28 + captured][:octets]
-                head = block[8:20] + struct.pack("<II", len(packet), captured) + packet + bytes(-len(packet) % 4)
-                block = struct.pack("<II", kind, len(head) + 12) + head + struct.pack("<I", len(head) + 12)
+                head = (
+                    block[8:20]
+                    + struct.pack("<II", len(packet), captured)
+                    + packet
+                    + bytes(-len(packet) % 4)
+                )
+                block = (
+                    struct.pack("<II", kind, len(head) + 12)
+                    + head
+                    + struct.pack("<I", len(head) + 12)
+                )
             made += block
             place += size
         return self.path(f"cut-{name}", made)
 
     def test_packets_that_were_cut_off(self):
         for name in ("gsm.pcap", "pcma.pcapng"):
-            packets = len(list(captures.library("pcap").UniversalReader(io.BytesIO((DATA / name).read_bytes()))))
+            packets = len(
+                list(
+                    captures.library("pcap").UniversalReader(io.BytesIO((DATA / name).read_bytes()))
+                )
+            )
             cut = f"{packets} of {packets} packets are cut off (the captured length is below the length on the wire)"
             none = f"has no RTP stream with GSM, PCMA or PCMU (payload types 3, 8 and 0); {cut}\n"
             for octets, part, more in (
@@ -368,7 +502,10 @@ class Captures(InCaptures):
             ):
                 given = self.cut_off(name, octets)
                 self.assert_refused(lines.main, ["pcap", given, self.folder / "line", *more], part)
-                self.assertEqual(self.run_tool(lines.main, "look", given)[1].splitlines()[1:], [f"  no stream of RTP; {cut}"])
+                self.assertEqual(
+                    self.run_tool(lines.main, "look", given)[1].splitlines()[1:],
+                    [f"  no stream of RTP; {cut}"],
+                )
             whole = self.cut_off(name, 1000)
             self.assertEqual(whole.read_bytes(), (DATA / name).read_bytes())
 
@@ -377,27 +514,70 @@ class Captures(InCaptures):
             self.assert_refused(lines.main, words, part)
 
         line = self.folder / "line"
-        refused("is an uplink, its first frame at bit 0, and no capture in pcap or pcapng", "pcap", EXAMPLES / "7.up", line)
+        refused(
+            "is an uplink, its first frame at bit 0, and no capture in pcap or pcapng",
+            "pcap",
+            EXAMPLES / "7.up",
+            line,
+        )
         other = self.path("other", b"snoop" + bytes(60))
-        refused("is a snoop capture, and no capture in pcap or pcapng; editcap -F pcap ", "pcap", other, line)
-        refused("isn't a capture: unknown pcap format\n", "pcap", self.path("bytes", bytes(range(256))), line)
+        refused(
+            "is a snoop capture, and no capture in pcap or pcapng; editcap -F pcap ",
+            "pcap",
+            other,
+            line,
+        )
+        refused(
+            "isn't a capture: unknown pcap format\n",
+            "pcap",
+            self.path("bytes", bytes(range(256))),
+            line,
+        )
         refused("isn't a capture", "pcap", self.path("empty", b""), line)
-        refused("has no stream 2: 1 is 127.0.0.1:", "pcap", DATA / "gsm.pcap", line, "--stream", "2")
+        refused(
+            "has no stream 2: 1 is 127.0.0.1:", "pcap", DATA / "gsm.pcap", line, "--stream", "2"
+        )
         octets = (DATA / "gsm.pcap").read_bytes()
-        refused("ends within a packet; --partial takes those before it", "pcap", self.path("cut.pcap", octets[:30]), line)
+        refused(
+            "ends within a packet; --partial takes those before it",
+            "pcap",
+            self.path("cut.pcap", octets[:30]),
+            line,
+        )
         refused("has no RTP stream", "pcap", self.path("none.pcap", octets[:24]), line)
         refused("the name of a line ends with", "capture", DATA / "speech.gsm", line)
         refused("gives no speech", "capture", self.path("9.up", bytes(400)), line)
         self.path("link.pcap").symlink_to(self.path("8.up", bytes(40)))
-        refused("is an input", "capture", EXAMPLES / "7.up", self.path("link.pcap"), "--also", self.path("8.up"))
+        refused(
+            "is an input",
+            "capture",
+            EXAMPLES / "7.up",
+            self.path("link.pcap"),
+            "--also",
+            self.path("8.up"),
+        )
 
     def test_names_of_other_lines(self):
         for capture, name, said in (
-            ("gsm.pcap", "1.pcm", "is A-law or mu-law by its name, and what would be written is an uplink"),
-            ("gsm.pcap", "1.down", "is a downlink by its name, and what would be written is an uplink"),
-            ("pcma.pcapng", "1.up", "is an uplink by its name, and what would be written is A-law or mu-law"),
+            (
+                "gsm.pcap",
+                "1.pcm",
+                "is A-law or mu-law by its name, and what would be written is an uplink",
+            ),
+            (
+                "gsm.pcap",
+                "1.down",
+                "is a downlink by its name, and what would be written is an uplink",
+            ),
+            (
+                "pcma.pcapng",
+                "1.up",
+                "is an uplink by its name, and what would be written is A-law or mu-law",
+            ),
         ):
-            self.assert_refused(lines.main, ["pcap", DATA / capture, self.path(name)], f"{name}: {said}")
+            self.assert_refused(
+                lines.main, ["pcap", DATA / capture, self.path(name)], f"{name}: {said}"
+            )
 
 
 if __name__ == "__main__":

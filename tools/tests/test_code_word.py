@@ -9,14 +9,21 @@ from collections import Counter
 
 from support import CODEC, DATA, EXAMPLES, InFolder, frames_of_downlink
 
-import code_word
-import lines
-from code_word import CODE_WORD_BITS, FrameKind
-from core.frame import Sort, bits_of, control_of, data_of, read_up
-from core.noise import RandomSource, comfort_noise
-from core.parameters import LARC_WIDTHS, Block, Parameters, bits_of_parameters, gsm_of_data, parameters_of_bits
-from core.search import search
-from damages import silence_descriptor
+from trau.recordings import code_word
+from trau.recordings import lines
+from trau.recordings.code_word import CODE_WORD_BITS, FrameKind
+from trau.rules.frame import Sort, bits_of, control_of, data_of, read_up
+from trau.rules.noise import RandomSource, comfort_noise
+from trau.rules.parameters import (
+    LARC_WIDTHS,
+    Block,
+    Parameters,
+    bits_of_parameters,
+    gsm_of_data,
+    parameters_of_bits,
+)
+from trau.rules.search import search
+from trau.recordings.damages import silence_descriptor
 
 LIBRARY = ctypes.util.find_library("osmocodec")
 
@@ -56,7 +63,13 @@ class CodeWord(InFolder):
         for errors in range(96):
             data = with_errors(descriptor(source), errors, source)
             self.assertEqual(code_word.errors_of(data), errors)
-            kind = FrameKind.VALID if errors < 2 else FrameKind.INVALID if errors < 16 else FrameKind.SPEECH
+            kind = (
+                FrameKind.VALID
+                if errors < 2
+                else FrameKind.INVALID
+                if errors < 16
+                else FrameKind.SPEECH
+            )
             self.assertEqual(code_word.kind_of(data), kind)
 
     def test_speech_is_speech(self):
@@ -93,14 +106,22 @@ class BesideTheLibrary(unittest.TestCase):
 
     def test_speech_and_noise(self):
         source = RandomSource(1)
-        names = [*CODEC.glob("*.down"), *(EXAMPLES / "farm").glob("*.up"), *(EXAMPLES / "farm" / "wanted").glob("*.down")]
+        names = [
+            *CODEC.glob("*.down"),
+            *(EXAMPLES / "farm").glob("*.up"),
+            *(EXAMPLES / "farm" / "wanted").glob("*.down"),
+        ]
         found = Counter()
         for name in names:
             for data in data_of_line(name.read_bytes()):
                 found[self.assert_alike(data)] += 1
                 noise = bits_of_parameters(comfort_noise(parameters_of_bits(data), source))
                 self.assertFalse(self.assert_alike(noise))
-                self.assertTrue(self.assert_alike(bits_of_parameters(silence_descriptor(parameters_of_bits(data)))))
+                self.assertTrue(
+                    self.assert_alike(
+                        bits_of_parameters(silence_descriptor(parameters_of_bits(data)))
+                    )
+                )
         self.assertGreater(min(found[True], found[False]), 20)
 
     def test_random_frames(self):
@@ -132,16 +153,22 @@ class Uplinks(InFolder):
     def test_marked(self):
         source = random.Random(3)
         speech = data_of_line((EXAMPLES / "7.up").read_bytes())[:2]
-        frames = speech + [with_errors(descriptor(source), errors, source) for errors in (0, 1, 2, 15, 16)]
+        frames = speech + [
+            with_errors(descriptor(source), errors, source) for errors in (0, 1, 2, 15, 16)
+        ]
         said, found = self.uplink(frames)
         self.assertEqual(said, "uplink frames 7 sid 2 invalid 2\n")
         sorts = [each.sort() for each in found]
         self.assertEqual(sorts, [*2 * [Sort.GOOD], *2 * [Sort.SID], *2 * [Sort.INVALID], Sort.GOOD])
-        self.assertEqual([control_of(each.frame)[11:14] for each in found[2:6]], ["010", "010", "101", "101"])
+        self.assertEqual(
+            [control_of(each.frame)[11:14] for each in found[2:6]], ["010", "010", "101", "101"]
+        )
         self.assertEqual({read_up(each.frame)[1:4] for each in found}, {(False, False, 0)})
 
     def test_kept(self):
-        said, found = self.uplink(10 * [descriptor(random.Random(4))], "--sid", "keep", "--dtxd", "1")
+        said, found = self.uplink(
+            10 * [descriptor(random.Random(4))], "--sid", "keep", "--dtxd", "1"
+        )
         self.assertEqual(said, "uplink frames 10 sid 0 invalid 0\n")
         self.assertEqual({each.sort() for each in found}, {Sort.GOOD})
 

@@ -55,11 +55,15 @@ class Doors(unittest.TestCase):
     def test_public(self):
         """A module is public exactly if it, or a module in it, is cited from where it would be hidden."""
         public = {module for module, is_public in self.declared.items() if is_public}
-        self.assertEqual(public, {module for at, cited in self.citations for module in opened(at, cited)})
+        self.assertEqual(
+            public, {module for at, cited in self.citations for module in opened(at, cited)}
+        )
 
     def test_none_is_left_over(self):
         """Each module, or one in it, is cited, or its name says that it has worked rows, which the check computes."""
-        cited = {cited[:length] for _, cited in self.citations for length in range(2, len(cited) + 1)}
+        cited = {
+            cited[:length] for _, cited in self.citations for length in range(2, len(cited) + 1)
+        }
         rows = {module for module in self.declared if module[-1] in ("Rows", "Worked")}
         self.assertEqual(self.declared.keys() - cited - rows, set())
 
@@ -68,7 +72,12 @@ class Doors(unittest.TestCase):
         doors = {cited for at, cited in self.citations if at[0] != cited[0]}
         for crate, *path in self.declared:
             with self.subTest(crate=crate, module=path):
-                text = (CRATES / crate / "proofs").joinpath(*path).with_suffix(".antt").read_text(encoding="utf-8")
+                text = (
+                    (CRATES / crate / "proofs")
+                    .joinpath(*path)
+                    .with_suffix(".antt")
+                    .read_text(encoding="utf-8")
+                )
                 self.assertEqual(text.startswith(OPENING), (crate, *path) in doors)
                 opening, _, rest = text.partition("\n")
                 for name in re.findall("`(.+?)`", opening) if text.startswith(OPENING) else ():

@@ -93,11 +93,19 @@ class Ends(InFolder):
             ("<&-", "lines.py uplink - {}/9.up", "lines.py: standard input is closed\n"),
             ("<&-", "orders.py check -", "orders.py: standard input is closed\n"),
         ):
-            ended = subprocess.run(["sh", "-c", f'exec "$@" {closed}', "sh", *self.words(line)], capture_output=True, text=True)
+            ended = subprocess.run(
+                ["sh", "-c", f'exec "$@" {closed}', "sh", *self.words(line)],
+                capture_output=True,
+                text=True,
+            )
             self.assertEqual((ended.returncode, ended.stdout, ended.stderr), (2, "", wanted))
         # What would go to a closed standard error doesn't go to standard output.
         for line in ("report.py text {}/gone", "report.py text"):
-            ended = subprocess.run(["sh", "-c", 'exec "$@" 2>&-', "sh", *self.words(line)], capture_output=True, text=True)
+            ended = subprocess.run(
+                ["sh", "-c", 'exec "$@" 2>&-', "sh", *self.words(line)],
+                capture_output=True,
+                text=True,
+            )
             self.assertEqual((ended.returncode, ended.stdout, ended.stderr), (2, "", ""))
 
     def test_status_1_of_compare_says_that_runs_differ(self):
@@ -120,7 +128,9 @@ class Ends(InFolder):
             ("shard.py cut {} {}/cut --parts 2", 400, "cut/0/run.sh"),
             ("shard.py cut {} {}/cut --parts 1 --copy", 2000, r"cut/0/\d\.(?:up|pcm)"),
         ):
-            ended = subprocess.run(self.words(line), capture_output=True, text=True, preexec_fn=limited(octets))
+            ended = subprocess.run(
+                self.words(line), capture_output=True, text=True, preexec_fn=limited(octets)
+            )
             self.assert_one_line(line, ended)
             self.assertRegex(ended.stderr, f"^{line.split()[0]}: {self.folder}/{name}{wanted}$")
             self.assertFalse((self.folder / name.split("/")[0]).exists())
@@ -129,14 +139,20 @@ class Ends(InFolder):
         name = os.fsencode(self.folder) + b"/\xff.gsm"
         Path(os.fsdecode(name)).write_bytes(bytes(7))
         for streams in ({}, {"PYTHONIOENCODING": "ascii"}):
-            ended = subprocess.run([sys.executable, TOOLS / "lines.py", "look", name], capture_output=True, env={**os.environ, **streams})
+            ended = subprocess.run(
+                [sys.executable, TOOLS / "lines.py", "look", name],
+                capture_output=True,
+                env={**os.environ, **streams},
+            )
             self.assertEqual((ended.returncode, ended.stderr), (0, b""))
 
     def installed(self, tool, *words):
         """The status, standard output and standard error of a tool that is started by the name that it is installed with."""
         name = self.folder / f"trau-{Path(tool).stem}"
         name.symlink_to(TOOLS / tool)
-        ended = subprocess.run([name, *words], input="# a call\n", capture_output=True, text=True, cwd=self.folder)
+        ended = subprocess.run(
+            [name, *words], input="# a call\n", capture_output=True, text=True, cwd=self.folder
+        )
         name.unlink()
         return ended.returncode, ended.stdout, ended.stderr
 
@@ -145,13 +161,26 @@ class Ends(InFolder):
         said = "lines.py: 40 frames of libgsm; trau-lines uplink lines.py NEW.up\n"
         self.assertEqual(self.installed("lines.py", "look", "lines.py"), (0, said, ""))
         said = "1.up: is an uplink; trau-lines listen 1.up NEW.wav makes sound of it, and trau relay a downlink, if no frame is lost\n"
-        self.assertEqual(self.installed("lines.py", "gsm", "1.up", "1.gsm"), (2, "", f"trau-lines: {said}"))
+        self.assertEqual(
+            self.installed("lines.py", "gsm", "1.up", "1.gsm"), (2, "", f"trau-lines: {said}")
+        )
         said = "trau-lines: lines.py: is 40 frames of libgsm, and no A-law; trau-lines uplink lines.py NEW.up\n"
-        self.assertEqual(self.installed("lines.py", "pcm", "lines.py", "7.pcm", "--raw"), (2, "", said))
+        self.assertEqual(
+            self.installed("lines.py", "pcm", "lines.py", "7.pcm", "--raw"), (2, "", said)
+        )
         status, said, _ = self.installed("orders.py", "check", "-")
-        self.assertEqual((status, said.split("\n")[0]), (1, "line 1: a comment; trau-orders strip leaves out comments and empty lines"))
-        self.assertIn("\nexample: trau-report text report.txt --json\n", self.installed("report.py", "--help")[1])
-        self.assertEqual(self.installed("../gateway/gateway.py", "--help")[1][:38], "usage: trau-gateway [-h] run|check ...")
+        self.assertEqual(
+            (status, said.split("\n")[0]),
+            (1, "line 1: a comment; trau-orders strip leaves out comments and empty lines"),
+        )
+        self.assertIn(
+            "\nexample: trau-report text report.txt --json\n",
+            self.installed("report.py", "--help")[1],
+        )
+        self.assertEqual(
+            self.installed("../gateway/gateway.py", "--help")[1][:38],
+            "usage: trau-gateway [-h] run|check ...",
+        )
         status, said, err = self.installed("../gateway/gateway.py", "what")
         self.assertEqual((status, said, err[:36]), (2, "", "trau-gateway: argument run|check: in"))
         said = "trau-watch: none: no run in this folder: there is no orders.txt\n"
@@ -161,9 +190,16 @@ class Ends(InFolder):
         words = [sys.executable, TOOLS / "build_for.py"]
         ended = subprocess.run([*words, "--help"], capture_output=True, text=True)
         self.assertEqual((ended.returncode, ended.stderr), (0, ""))
-        self.assertTrue(ended.stdout.startswith("usage: build_for.py [-h] TOP CRATE KIND\n"), ended.stdout)
+        self.assertTrue(
+            ended.stdout.startswith("usage: build_for.py [-h] TOP CRATE KIND\n"), ended.stdout
+        )
         surroundings = {**os.environ, "PATH": PLAIN_PATH}
-        ended = subprocess.run([*words, ".", "trau_program", "x86-64-v3"], capture_output=True, text=True, env=surroundings)
+        ended = subprocess.run(
+            [*words, ".", "trau_program", "x86-64-v3"],
+            capture_output=True,
+            text=True,
+            env=surroundings,
+        )
         said = "build_for.py: the Rattle toolchain's command rt isn't on the path\n"
         self.assertEqual((ended.returncode, ended.stdout, ended.stderr), (2, "", said))
 
@@ -171,7 +207,9 @@ class Ends(InFolder):
         # A module of the tool that takes long to load, in place of the standard library's.
         late = self.path("late")
         late.mkdir()
-        (late / "argparse.py").write_text("import time\nprint('loads', flush=True)\ntime.sleep(60)\n")
+        (late / "argparse.py").write_text(
+            "import time\nprint('loads', flush=True)\ntime.sleep(60)\n"
+        )
         for tool in ("lines.py", "orders.py", "report.py", "shard.py", "timeline.py", "watch.py"):
             loading = subprocess.Popen(
                 [sys.executable, TOOLS / tool, "--help"],
@@ -182,7 +220,9 @@ class Ends(InFolder):
             )
             self.assertEqual(loading.stdout.readline(), b"loads\n")
             loading.send_signal(signal.SIGINT)
-            self.assertEqual((loading.communicate()[1], loading.returncode), (b"", -signal.SIGINT), tool)
+            self.assertEqual(
+                (loading.communicate()[1], loading.returncode), (b"", -signal.SIGINT), tool
+            )
 
     def test_an_interrupt(self):
         self.path("report.txt", b"")

@@ -10,14 +10,20 @@ from collections import Counter
 import support
 from support import CODEC, DATA, EXAMPLES, InFolder, frames_of_downlink
 
-import lines
-from core.frame import Sort, UpFrame, bits_of, data_of, frame_of, octets_of, read_up
-from core.g711 import Law, samples_by_octet
-from core.noise import RandomSource, comfort_noise
-from core.parameters import SILENCE, bits_of_parameters, data_of_gsm, data_of_wav_block, parameters_of_bits
-from core.search import search
-from core.slots import octets_turned
-from damages import silence_descriptor
+from trau.recordings import lines
+from trau.rules.frame import Sort, UpFrame, bits_of, data_of, frame_of, octets_of, read_up
+from trau.rules.g711 import Law, samples_by_octet
+from trau.rules.noise import RandomSource, comfort_noise
+from trau.rules.parameters import (
+    SILENCE,
+    bits_of_parameters,
+    data_of_gsm,
+    data_of_wav_block,
+    parameters_of_bits,
+)
+from trau.rules.search import search
+from trau.rules.slots import octets_turned
+from trau.recordings.damages import silence_descriptor
 
 
 def yields(octets):
@@ -44,7 +50,9 @@ class Laws(unittest.TestCase):
     def test_other_law(self):
         there, back = Law.A.table_to(Law.MU), Law.MU.table_to(Law.A)
         self.assertEqual(bytes(range(256)), Law.MU.table_to(Law.MU))
-        self.assertEqual((there[0xD5], back[0xFF], back[0x7F], back[0x80]), (0xFE, 0xD5, 0xD5, 0xAA))
+        self.assertEqual(
+            (there[0xD5], back[0xFF], back[0x7F], back[0x80]), (0xFE, 0xD5, 0xD5, 0xAA)
+        )
 
 
 class Frames(InFolder):
@@ -62,13 +70,18 @@ class Frames(InFolder):
     def test_uplink_of_a_wav_file_of_gsm_frames(self):
         # sox wrote the same samples (those of speech.gsm) to both files: sox.gsm has a frame in 33 octets, sox.wav two in 65.
         for name in ("sox.wav", "sox.gsm"):
-            self.assertEqual(self.lines("uplink", DATA / name, self.path(f"{name}.up")), "uplink frames 40 sid 0 invalid 0\n")
+            self.assertEqual(
+                self.lines("uplink", DATA / name, self.path(f"{name}.up")),
+                "uplink frames 40 sid 0 invalid 0\n",
+            )
         self.assertEqual(self.path("sox.wav.up").read_bytes(), self.path("sox.gsm.up").read_bytes())
 
     def test_a_wav_file_of_an_odd_number_of_blocks(self):
         block = (DATA / "sox.wav").read_bytes()[60:125]
         for data in (block, block + b"\0", 3 * block + b"\0"):
-            said = self.lines("uplink", self.path("x.wav", wav(tag=49, bits=0, data=data)), self.path("x.up"))
+            said = self.lines(
+                "uplink", self.path("x.wav", wav(tag=49, bits=0, data=data)), self.path("x.up")
+            )
             self.assertEqual(said, f"uplink frames {2 * (len(data) // 65)} sid 0 invalid 0\n")
         other = self.path("x.wav", wav(tag=49, bits=0, data=block + b"x"))
         self.assert_refused(lines.main, ["uplink", other, self.path("y.up")], "66 octets of GSM")
@@ -83,11 +96,18 @@ class Frames(InFolder):
     def test_an_uplink_with_other_frames_is_an_uplink(self):
         line = bits_of((EXAMPLES / "7.up").read_bytes()[:800])
         self.path("7.up", octets_of("11111" + line + "111"))
-        self.assert_refused(lines.main, ["gsm", self.path("7.up"), self.path("new")], "is an uplink; lines.py listen ")
+        self.assert_refused(
+            lines.main,
+            ["gsm", self.path("7.up"), self.path("new")],
+            "is an uplink; lines.py listen ",
+        )
 
     def test_dtxd(self):
         self.lines("uplink", DATA / "speech.gsm", self.path("7.up"), "--dtxd", "1")
-        self.assertEqual({frame._replace(data="") for frame in frames_of(self.path("7.up").read_bytes())}, {UpFrame(Sort.GOOD, dtxd=True, data="")})
+        self.assertEqual(
+            {frame._replace(data="") for frame in frames_of(self.path("7.up").read_bytes())},
+            {UpFrame(Sort.GOOD, dtxd=True, data="")},
+        )
 
     def test_frames_of_a_downlink_at_any_bit(self):
         frames = data_of_uplink((EXAMPLES / "7.up").read_bytes()[:1600])
@@ -97,7 +117,9 @@ class Frames(InFolder):
             self.path("7.down", octets_of(bits))
             said = self.lines("gsm", self.path("7.down"), self.path("7.gsm"))
             outside = shift + -(shift + 40 * 320) % 8
-            self.assertEqual(said, f"gsm frames 40 found speech 40 silence 0 idle 0 other 0 outside {outside}\n")
+            self.assertEqual(
+                said, f"gsm frames 40 found speech 40 silence 0 idle 0 other 0 outside {outside}\n"
+            )
             self.assertEqual(self.path("7.gsm").read_bytes(), (DATA / "speech.gsm").read_bytes())
 
     def test_frames_around_shifts_of_the_timing(self):
@@ -116,16 +138,26 @@ class Frames(InFolder):
         # the tail of one that the line's end cut.
         found = {}
         for call in (1, 2, 3, 4):
-            said = self.lines("gsm", EXAMPLES / "farm" / "wanted" / f"{call}.down", self.path("x.gsm"), "--idle", "quiet")
+            said = self.lines(
+                "gsm",
+                EXAMPLES / "farm" / "wanted" / f"{call}.down",
+                self.path("x.gsm"),
+                "--idle",
+                "quiet",
+            )
             words = said.split()
             found[call] = dict(zip(words[4::2], map(int, words[5::2])))
             self.assertEqual(len(self.path("x.gsm").read_bytes()), 33 * int(words[2]))
-            self.assertEqual(int(words[2]), sum(found[call][kind] for kind in ("speech", "silence", "idle")))
+            self.assertEqual(
+                int(words[2]), sum(found[call][kind] for kind in ("speech", "silence", "idle"))
+            )
         report = (EXAMPLES / "farm" / "wanted" / "report.txt").read_text().splitlines()
         for line in report:
             words = line.split()
             if words[0] == "counts":
-                frames = sum(found[int(words[1])][kind] for kind in ("speech", "silence", "idle", "other"))
+                frames = sum(
+                    found[int(words[1])][kind] for kind in ("speech", "silence", "idle", "other")
+                )
                 self.assertIn(int(words[-1]) - frames, (0, 1, 2))
 
     def test_silence_descriptors(self):
@@ -137,8 +169,12 @@ class Frames(InFolder):
         for treatment in ("noise", "quiet", "keep", "skip"):
             said = self.lines("gsm", given, new, "--silence", treatment)
             frames = 1 if treatment == "skip" else 3
-            self.assertEqual(said, f"gsm frames {frames} found speech 1 silence 2 idle 0 other 0 outside 0\n")
-            made[treatment] = [data_of_gsm(new.read_bytes()[at : at + 33]) for at in range(0, 33 * frames, 33)]
+            self.assertEqual(
+                said, f"gsm frames {frames} found speech 1 silence 2 idle 0 other 0 outside 0\n"
+            )
+            made[treatment] = [
+                data_of_gsm(new.read_bytes()[at : at + 33]) for at in range(0, 33 * frames, 33)
+            ]
             self.assertEqual(made[treatment][0], speech)
         self.assertEqual(made["keep"][1:], [descriptor, descriptor])
         self.assertEqual(made["quiet"][1:], 2 * [bits_of_parameters(SILENCE)])
@@ -147,7 +183,9 @@ class Frames(InFolder):
         self.assertEqual(first.larc, SILENCE.larc)
         self.assertEqual([block.nc for block in first.blocks], [40, 120, 40, 120])
         self.assertEqual({block.xmaxc for block in first.blocks}, {0})
-        self.assertLessEqual({pulse for block in first.blocks for pulse in block.xmc}, set(range(1, 7)))
+        self.assertLessEqual(
+            {pulse for block in first.blocks for pulse in block.xmc}, set(range(1, 7))
+        )
         self.lines("gsm", given, new)
         self.assertEqual(data_of_gsm(new.read_bytes()[33:66]), made["noise"][1])
 
@@ -179,7 +217,10 @@ class Frames(InFolder):
         for content, part in (
             (b"", "0 octets are no frames of libgsm"),
             (b"RIFF" + bytes(29), "begins at octet 0"),
-            (wav(data=bytes(66)), "is a WAV file of samples and not of GSM frames; sox makes frames"),
+            (
+                wav(data=bytes(66)),
+                "is a WAV file of samples and not of GSM frames; sox makes frames",
+            ),
             (wav(tag=49, bits=0, data=bytes(67)), "67 octets of GSM frames"),
             (wav(tag=49, bits=0, data=b""), "0 octets of GSM frames"),
             (wav(tag=49, bits=0, rate=11025, data=bytes(65)), "has 11025 Hz"),
@@ -187,19 +228,38 @@ class Frames(InFolder):
             (speech[:33] + b"\x00" + speech[34:], "begins at octet 33"),
         ):
             self.assert_refused(lines.main, ["uplink", self.path("bad.gsm", content), new], part)
-        self.assert_refused(lines.main, ["uplink", self.path("gone.gsm"), new], "gone.gsm: No such file")
+        self.assert_refused(
+            lines.main, ["uplink", self.path("gone.gsm"), new], "gone.gsm: No such file"
+        )
         self.assert_refused(lines.main, ["uplink", self.folder, new], "Is a directory")
-        self.assert_refused(lines.main, ["uplink", DATA / "speech.gsm", new, "--dtxd", "2"], "--dtxd")
-        self.assert_refused(lines.main, ["uplink", DATA / "speech.gsm", self.path("no") / "new"], "No such file")
-        self.assert_refused(lines.main, ["gsm", self.path("7.up", (EXAMPLES / "7.up").read_bytes()), new], "and trau relay a downlink, if no frame is lost")
+        self.assert_refused(
+            lines.main, ["uplink", DATA / "speech.gsm", new, "--dtxd", "2"], "--dtxd"
+        )
+        self.assert_refused(
+            lines.main, ["uplink", DATA / "speech.gsm", self.path("no") / "new"], "No such file"
+        )
+        self.assert_refused(
+            lines.main,
+            ["gsm", self.path("7.up", (EXAMPLES / "7.up").read_bytes()), new],
+            "and trau relay a downlink, if no frame is lost",
+        )
         for content in (b"", b"\xff" * 4000, bytes(4000)):
-            self.assert_refused(lines.main, ["gsm", self.path("bad.down", content), new], "no frame of a downlink")
-        self.assert_refused(lines.main, ["gsm", DATA / "speech.gsm", new, "--silence", "loud"], "--silence")
+            self.assert_refused(
+                lines.main, ["gsm", self.path("bad.down", content), new], "no frame of a downlink"
+            )
+        self.assert_refused(
+            lines.main, ["gsm", DATA / "speech.gsm", new, "--silence", "loud"], "--silence"
+        )
 
 
 def wav(tag=1, channels=1, rate=8000, bits=16, data=b"\0\0", size=None, before=b"", form=b""):
     """A WAV file."""
-    fmt = struct.pack("<HHIIHH", tag, channels, rate, rate * channels * bits // 8, channels * bits // 8, bits) + form
+    fmt = (
+        struct.pack(
+            "<HHIIHH", tag, channels, rate, rate * channels * bits // 8, channels * bits // 8, bits
+        )
+        + form
+    )
     body = b"WAVE" + before + struct.pack("<4sI", b"fmt ", len(fmt)) + fmt
     body += struct.pack("<4sI", b"data", len(data) if size is None else size) + data
     return struct.pack("<4sI", b"RIFF", len(body)) + body
@@ -249,7 +309,9 @@ class Sound(InFolder):
         self.lines("sound", out, sound, "--law", "mulaw", "--alaw")
         self.assertEqual((sound.read_bytes()[20], sound.read_bytes()[58:]), (6, pcm.read_bytes()))
         self.lines("pcm", sound, pcm, "--law", "mulaw")
-        self.assertEqual(pcm.read_bytes(), sound.read_bytes()[58:].translate(Law.A.table_to(Law.MU)))
+        self.assertEqual(
+            pcm.read_bytes(), sound.read_bytes()[58:].translate(Law.A.table_to(Law.MU))
+        )
 
     def test_wav_of_mulaw_by_sox(self):
         # Each octet stays as it is on a line of mu-law; the tone has half of the full scale.
@@ -261,14 +323,18 @@ class Sound(InFolder):
         self.assertAlmostEqual(loudest / 32768, 0.5, delta=0.02)
 
     def test_the_last_period_of_mulaw(self):
-        said = self.lines("pcm", self.path("7.raw", b"\x00"), self.path("7.pcm"), "--raw", "--law", "mulaw")
+        said = self.lines(
+            "pcm", self.path("7.raw", b"\x00"), self.path("7.pcm"), "--raw", "--law", "mulaw"
+        )
         self.assertEqual(said, "pcm periods 1 padded 159\n")
         self.assertEqual(self.path("7.pcm").read_bytes(), b"\x00" + 159 * b"\xff")
 
     def test_every_sample(self):
         data = struct.pack("<65536h", *range(-32768, 32768))
         self.path("7.wav", wav(data=data))
-        self.assertEqual(self.lines("pcm", self.path("7.wav"), self.path("7.pcm")), "pcm periods 410 padded 64\n")
+        self.assertEqual(
+            self.lines("pcm", self.path("7.wav"), self.path("7.pcm")), "pcm periods 410 padded 64\n"
+        )
         wanted = (CODEC / "alaw_compress.bin").read_bytes()
         self.assertEqual(self.path("7.pcm").read_bytes(), wanted + 64 * b"\xd5")
 
@@ -312,10 +378,18 @@ class Sound(InFolder):
             (8000 * b"\xd5", "raw octets of a law are taken with --raw"),
         ):
             self.assert_refused(lines.main, ["pcm", self.path("bad.wav", content), new], part)
-        self.assert_refused(lines.main, ["pcm", self.path("empty", b""), new, "--raw"], "holds no samples")
+        self.assert_refused(
+            lines.main, ["pcm", self.path("empty", b""), new, "--raw"], "holds no samples"
+        )
         self.assert_refused(lines.main, ["sound", self.path("empty"), new], "holds no octets")
-        self.assert_refused(lines.main, ["sound", self.path("7.out", b"\xd5"), new, "--raw", "--alaw"], "not allowed")
-        self.assert_refused(lines.main, ["pcm", DATA / "sox.wav", new], "has GSM frames and no samples")
+        self.assert_refused(
+            lines.main,
+            ["sound", self.path("7.out", b"\xd5"), new, "--raw", "--alaw"],
+            "not allowed",
+        )
+        self.assert_refused(
+            lines.main, ["pcm", DATA / "sox.wav", new], "has GSM frames and no samples"
+        )
 
     def test_what_is_no_alaw(self):
         new = self.path("new")
@@ -324,20 +398,43 @@ class Sound(InFolder):
         for words in (["sound"], ["sound", "--raw"], ["pcm", "--raw"]):
             command, *options = words
             for name, content, part in (
-                ("x.wav", wav(), "is a WAV file, 8000 Hz, channels 1, bits 16 linear, and no A-law; lines.py pcm "),
+                (
+                    "x.wav",
+                    wav(),
+                    "is a WAV file, 8000 Hz, channels 1, bits 16 linear, and no A-law; lines.py pcm ",
+                ),
                 ("1.up", frames, "is a line of frames by its name, and no A-law"),
-                ("1.up", bytes(160), "by its name, and no A-law" + (f"; lines.py listen {self.folder}/1.up NEW.wav" if command == "sound" else "\n")),
+                (
+                    "1.up",
+                    bytes(160),
+                    "by its name, and no A-law"
+                    + (
+                        f"; lines.py listen {self.folder}/1.up NEW.wav"
+                        if command == "sound"
+                        else "\n"
+                    ),
+                ),
                 ("other", frames, "is an uplink, its first frame at bit 0, and no A-law; trau run"),
-                ("other", b"\xff\xff" + down, "is a downlink, its first frame at bit 336, and no A-law; lines.py listen"),
+                (
+                    "other",
+                    b"\xff\xff" + down,
+                    "is a downlink, its first frame at bit 336, and no A-law; lines.py listen",
+                ),
             ):
-                self.assert_refused(lines.main, [command, self.path(name, content), new, *options], part)
+                self.assert_refused(
+                    lines.main, [command, self.path(name, content), new, *options], part
+                )
         # A-law of speech, and zeros, which are A-law too, are taken.
         for content in ((EXAMPLES / "farm" / "wanted" / "1.out").read_bytes(), bytes(320)):
             self.lines("sound", self.path("1.out", content), new)
 
     def test_sound_of_the_other_law(self):
         line = (CODEC.parent / "farms" / "mulaw" / "1.out").read_bytes()
-        out, alaw, new = self.path("5.out", line), self.path("6.out", line.translate(Law.MU.table_to(Law.A))), self.path("new")
+        out, alaw, new = (
+            self.path("5.out", line),
+            self.path("6.out", line.translate(Law.MU.table_to(Law.A))),
+            self.path("new"),
+        )
         for words, command in (
             (["sound", out, new], f"sound {out} NEW.wav"),
             (["sound", out, new, "--raw"], f"sound {out} NEW.wav"),
@@ -349,7 +446,11 @@ class Sound(InFolder):
             self.assert_refused(lines.main, words, said)
         said = f"6.out: is A-law, as it seems, and no mu-law; lines.py sound {alaw} NEW.wav; --trust takes it as it is\n"
         self.assert_refused(lines.main, ["sound", alaw, new, "--law", "mulaw"], said)
-        self.assert_refused(lines.main, ["sound", self.path("7.out", octets_turned(line)), new], "in the other order, and no A-law; ")
+        self.assert_refused(
+            lines.main,
+            ["sound", self.path("7.out", octets_turned(line)), new],
+            "in the other order, and no A-law; ",
+        )
         for more in (["--trust"], ["--law", "mulaw"]):
             self.assertEqual(self.lines("sound", out, new, *more), "sound samples 24000\n")
 
@@ -363,7 +464,11 @@ class Sound(InFolder):
         self.assertEqual(self.path("7.pcm").read_bytes(), 480 * b"\xd5")
         self.lines("idle", "3", self.path("7.pcm"), "--law", "mulaw")
         self.assertEqual(self.path("7.pcm").read_bytes(), 480 * b"\xff")
-        self.assert_refused(lines.main, ["idle", "3", self.path("8.pcm"), "--law", "ulaw"], "'ulaw' isn't alaw or mulaw")
+        self.assert_refused(
+            lines.main,
+            ["idle", "3", self.path("8.pcm"), "--law", "ulaw"],
+            "'ulaw' isn't alaw or mulaw",
+        )
         for word in ("0", "-1", "x", "1000001", "٣"):
             self.assert_refused(lines.main, ["idle", word, self.path("8.pcm")], "idle: ")
 
@@ -412,19 +517,26 @@ class Damage(InFolder):
             speech = parameters_of_bits(data_of_uplink(self.line)[number])
             noise = parameters_of_bits(data_of_uplink(line)[number])
             self.assertEqual(noise.larc, speech.larc)
-            self.assertEqual({block.xmaxc for block in noise.blocks}, {min(block.xmaxc for block in speech.blocks)})
+            self.assertEqual(
+                {block.xmaxc for block in noise.blocks},
+                {min(block.xmaxc for block in speech.blocks)},
+            )
             self.assertEqual({block.xmc for block in noise.blocks}, {13 * (0,)})
 
     def test_one_upon_another(self):
         # A descriptor that is lost, and a lost frame in whose place there are zeros.
         _, line = self.damaged("--sid", "10-30", "--drop", "23,50", "--zero", "50")
         found = dict(yields(line))
-        self.assertEqual([found[320 * number] for number in (10, 22, 23, 50)], ["sid", "bad", "bad", "miss"])
+        self.assertEqual(
+            [found[320 * number] for number in (10, 22, 23, 50)], ["sid", "bad", "bad", "miss"]
+        )
 
     def test_align(self):
         said, line = self.damaged("--align", "7:39", "--align", "9:63", "--drop", "9")
         self.assertEqual(said, "damage frames 100 sid 0 drop 1 zero 0 align 2 slip 0\n")
-        fields = {number: frame.field for number, frame in enumerate(frames_of(line)) if frame.field}
+        fields = {
+            number: frame.field for number, frame in enumerate(frames_of(line)) if frame.field
+        }
         self.assertEqual(fields, {7: 39, 9: 63})
 
     def test_slips(self):
@@ -435,14 +547,18 @@ class Damage(InFolder):
             found = yields(line)
             place = 50 * 320 + bits
             if abs(bits) == 320:
-                self.assertEqual([word for _, word in found].count("good"), 100 + min(bits, 0) // 320)
+                self.assertEqual(
+                    [word for _, word in found].count("good"), 100 + min(bits, 0) // 320
+                )
                 continue
             # Three misses after the frames before the slip, and then the fourth frame behind it, or the fifth.
             good = [at for at, word in found if word == "good"]
             missed = [at // 320 for at, word in found if word == "miss"]
             self.assertEqual(missed, [50, 51, 52] if bits > -16 else [49, 50, 51])
             later = [at for at in good if at >= 16000]
-            self.assertEqual(later, list(range(place + (3 if bits > 0 else 4) * 320, place + 50 * 320, 320)))
+            self.assertEqual(
+                later, list(range(place + (3 if bits > 0 else 4) * 320, place + 50 * 320, 320))
+            )
 
     def test_two_slips_of_a_line_that_begins_at_any_bit(self):
         bits = "1" * 13 + bits_of(self.line)
@@ -456,7 +572,9 @@ class Damage(InFolder):
         self.up.write_bytes(octets_of(idle) + self.line[:80] + bytes(40) + self.line[80:160])
         said, line = self.damaged("--drop", "0-5", "--align", "0:62")
         self.assertEqual(said, "damage frames 6 sid 0 drop 4 zero 0 align 1 slip 0\n")
-        self.assertEqual([word for _, word in yields(line)], ["idle", "bad", "bad", "miss", "bad", "bad"])
+        self.assertEqual(
+            [word for _, word in yields(line)], ["idle", "bad", "bad", "miss", "bad", "bad"]
+        )
         self.assertEqual(frames_of(line)[0].field, 62)
 
     def test_refused(self):
@@ -480,10 +598,26 @@ class Damage(InFolder):
             (["--slips", "5:1"], "unrecognized"),
         ):
             self.assert_refused(lines.main, ["damage", self.up, new, *words], part)
-        self.assert_refused(lines.main, ["damage", self.path("ones.up", b"\xff" * 400), new, "--drop", "0"], "no frame found")
+        self.assert_refused(
+            lines.main,
+            ["damage", self.path("ones.up", b"\xff" * 400), new, "--drop", "0"],
+            "no frame found",
+        )
 
 
-COMMANDS = ("look", "uplink", "gsm", "listen", "pcm", "sound", "idle", "slot", "pcap", "capture", "damage")
+COMMANDS = (
+    "look",
+    "uplink",
+    "gsm",
+    "listen",
+    "pcm",
+    "sound",
+    "idle",
+    "slot",
+    "pcap",
+    "capture",
+    "damage",
+)
 
 
 class TheFileThatIsWritten(InFolder):
@@ -492,7 +626,9 @@ class TheFileThatIsWritten(InFolder):
         os.symlink(up, self.path("link.up"))
         os.link(up, self.path("hard.up"))
         for name in ("7.up", "link.up", "hard.up", "../" + self.folder.name + "/7.up"):
-            self.assert_refused(lines.main, ["damage", up, self.folder / name, "--drop", "5"], "is an input")
+            self.assert_refused(
+                lines.main, ["damage", up, self.folder / name, "--drop", "5"], "is an input"
+            )
 
     def test_by_its_name_a_line_of_another_kind(self):
         up, out = EXAMPLES / "7.up", EXAMPLES / "farm" / "wanted" / "1.out"
@@ -506,9 +642,19 @@ class TheFileThatIsWritten(InFolder):
             (["idle", "3"], "1.down", down, law),
             (["sound", out], "1.pcm", law, "a WAV file"),
             (["gsm", EXAMPLES / "farm" / "wanted" / "2.down"], "1.up", uplink, "frames of libgsm"),
-            (["uplink", DATA / "speech.gsm"], "1.wav", "a WAV file", f"{uplink}; lines.py listen NEW.up {self.path('1.wav')} makes sound of it\n"),
+            (
+                ["uplink", DATA / "speech.gsm"],
+                "1.wav",
+                "a WAV file",
+                f"{uplink}; lines.py listen NEW.up {self.path('1.wav')} makes sound of it\n",
+            ),
             (["damage", up], "1.gsm", "frames of libgsm", uplink),
-            (["sound", out, "--raw"], "1.WAV", "a WAV file", f"{law}; lines.py sound NEW.pcm {self.path('1.WAV')} makes sound of it\n"),
+            (
+                ["sound", out, "--raw"],
+                "1.WAV",
+                "a WAV file",
+                f"{law}; lines.py sound NEW.pcm {self.path('1.WAV')} makes sound of it\n",
+            ),
             (["sound", out], "1.pcap", "a capture", "a WAV file\n"),
             (["slot", up], "1.wav", "a WAV file", "a time slot\n"),
             (["slot", up, "--channel", "0"], "1.wav", "a WAV file", "a channel of 16 kbit/s\n"),
@@ -518,17 +664,30 @@ class TheFileThatIsWritten(InFolder):
             said = f"{name}: is {by_name} by its name, and what would be written is {kind}"
             self.assert_refused(lines.main, words, said)
         for words, name in (
-            *((["idle", "3"], "1.out"), (["uplink", DATA / "speech.gsm"], "speech"), (["slot", up], "1.pcm"), (["slot", up], "1.up")),
-            *((["sound", out], "1.wav"), (["sound", out], "1.snd"), (["gsm", EXAMPLES / "farm" / "wanted" / "2.down"], "1.gsm")),
+            *(
+                (["idle", "3"], "1.out"),
+                (["uplink", DATA / "speech.gsm"], "speech"),
+                (["slot", up], "1.pcm"),
+                (["slot", up], "1.up"),
+            ),
+            *(
+                (["sound", out], "1.wav"),
+                (["sound", out], "1.snd"),
+                (["gsm", EXAMPLES / "farm" / "wanted" / "2.down"], "1.gsm"),
+            ),
         ):
             words[2:2] = [self.path(name)]
             self.assertEqual(self.run_tool(lines.main, *words)[0], 0)
 
     def test_only_a_file(self):
-        self.assert_refused(lines.main, ["uplink", DATA / "speech.gsm", self.folder], "isn't a file")
+        self.assert_refused(
+            lines.main, ["uplink", DATA / "speech.gsm", self.folder], "isn't a file"
+        )
         # A pipe of its own, and not /dev/null, which root's test would replace if it were a file.
         os.mkfifo(self.folder / "pipe")
-        self.assert_refused(lines.main, ["uplink", DATA / "speech.gsm", self.folder / "pipe"], "isn't a file")
+        self.assert_refused(
+            lines.main, ["uplink", DATA / "speech.gsm", self.folder / "pipe"], "isn't a file"
+        )
 
     def test_replaces_an_older_one(self):
         new = self.path("7.up", b"old")
@@ -548,22 +707,33 @@ class TheFileThatIsWritten(InFolder):
             ("-", self.path("7.up").read_bytes(), b"uplink frames 40 sid 0 invalid 0\n"),
             (self.path("8.up"), b"uplink frames 40 sid 0 invalid 0\n", b""),
         ):
-            ended = subprocess.run([sys.executable, tool, "uplink", "-", new], input=speech, capture_output=True)
+            ended = subprocess.run(
+                [sys.executable, tool, "uplink", "-", new], input=speech, capture_output=True
+            )
             self.assertEqual((ended.returncode, ended.stdout, ended.stderr), (0, out, err))
         self.assertEqual(self.path("8.up").read_bytes(), self.path("7.up").read_bytes())
-        ended = subprocess.run([sys.executable, tool, "uplink", "-", "-"], input=b"x", capture_output=True)
+        ended = subprocess.run(
+            [sys.executable, tool, "uplink", "-", "-"], input=b"x", capture_output=True
+        )
         self.assertEqual((ended.returncode, ended.stdout), (2, b""))
-        self.assertEqual(ended.stderr, b"lines.py: -: 1 octets are no frames of libgsm, which have 33 octets each\n")
+        self.assertEqual(
+            ended.stderr,
+            b"lines.py: -: 1 octets are no frames of libgsm, which have 33 octets each\n",
+        )
         ended = subprocess.run([sys.executable, tool, "idle", "1", "-"], capture_output=True)
         self.assertEqual((ended.stdout, ended.stderr), (160 * b"\xd5", b"idle periods 1\n"))
 
     def test_as_a_program(self):
         tool = support.TOOLS / "lines.py"
         for words in ([], *([command] for command in COMMANDS)):
-            ended = subprocess.run([sys.executable, tool, *words, "--help"], capture_output=True, text=True)
+            ended = subprocess.run(
+                [sys.executable, tool, *words, "--help"], capture_output=True, text=True
+            )
             self.assertEqual((ended.returncode, ended.stderr), (0, ""))
             self.assertIn("example: lines.py" if words else "COMMAND", ended.stdout)
-        ended = subprocess.run([sys.executable, tool, "uplink", "gone", "new"], capture_output=True, text=True)
+        ended = subprocess.run(
+            [sys.executable, tool, "uplink", "gone", "new"], capture_output=True, text=True
+        )
         self.assertEqual((ended.returncode, ended.stdout), (2, ""))
         self.assertEqual(ended.stderr, "lines.py: gone: No such file or directory\n")
 

@@ -12,10 +12,10 @@ from unittest import mock
 import support
 from support import EXAMPLES, InFolder
 
-import orders
-import tone_peaks
-from core.frame import bits_of, control_of
-from core.g711 import Law
+from trau.runs import orders
+from trau.runs import tone_peaks
+from trau.rules.frame import bits_of, control_of
+from trau.rules.g711 import Law
 
 PROGRAM = os.environ.get("TRAU_PROGRAM", "")
 
@@ -71,27 +71,59 @@ MARK_FAULTS = (
     (2, b"save 60\norders \n", "a space at its end"),
     (2, b"save 60\n" + CALL[:-1], "no line feed at its end"),
     (2, b"save 20\n" + CALL + b"orders\n", "S 20: 0 to 19"),
-    (2, b"save 60\ncall 3 from 20\norders\n", "a mark's line of a call is call C from S out X down Y"),
-    (2, b"save 60\ncall 3 form 20 out 5 down 7\norders\n", "a mark's line of a call is call C from S out X down Y"),
-    (2, b"save 60\ncall 3 from 20 out 4294967296 down 7\norders\n", "X 4294967296: 0 to 4,294,967,295"),
-    (2, b"save 60\ncall 3 from 20 out 5 down -7\norders\n", "Y '-7': decimal digits alone make a number"),
-    (3, b"save 60\n" + CALL + b"call 2 from 0 out 1 down 1\norders\n", "call 2: not above that of a line before, 3"),
+    (
+        2,
+        b"save 60\ncall 3 from 20\norders\n",
+        "a mark's line of a call is call C from S out X down Y",
+    ),
+    (
+        2,
+        b"save 60\ncall 3 form 20 out 5 down 7\norders\n",
+        "a mark's line of a call is call C from S out X down Y",
+    ),
+    (
+        2,
+        b"save 60\ncall 3 from 20 out 4294967296 down 7\norders\n",
+        "X 4294967296: 0 to 4,294,967,295",
+    ),
+    (
+        2,
+        b"save 60\ncall 3 from 20 out 5 down -7\norders\n",
+        "Y '-7': decimal digits alone make a number",
+    ),
+    (
+        3,
+        b"save 60\n" + CALL + b"call 2 from 0 out 1 down 1\norders\n",
+        "call 2: not above that of a line before, 3",
+    ),
     (3, b"save 60\n" + CALL + CALL + b"orders\n", "call 3: not above that of a line before, 3"),
 )
 
 # Of orders that are made at random.
-FORMS = ("open {}", "open {} mulaw", "close {}", *3 * ("bridge {} {}",), *3 * ("unbridge {}",), "level {} 5")
+FORMS = (
+    "open {}",
+    "open {} mulaw",
+    "close {}",
+    *3 * ("bridge {} {}",),
+    *3 * ("unbridge {}",),
+    "level {} 5",
+)
 
 
 def refusals(report):
     """The refused orders of a report, as the tool says them."""
-    return [(int(order), int(number)) for order, number in re.findall(r"^order (\d+) refused (\d)", report, re.M)]
+    return [
+        (int(order), int(number))
+        for order, number in re.findall(r"^order (\d+) refused (\d)", report, re.M)
+    ]
 
 
 class Orders(InFolder):
     def check(self, content, *words):
         """The status, and the lines that are said of these orders."""
-        status, out, err = self.run_tool(orders.main, "check", self.path("orders.txt", content), *words)
+        status, out, err = self.run_tool(
+            orders.main, "check", self.path("orders.txt", content), *words
+        )
         self.assertEqual(err, "")
         return status, out.splitlines()
 
@@ -143,7 +175,10 @@ class Orders(InFolder):
     def test_too_long(self):
         status, said = self.check(b"0 open 1\n" * 65537)
         self.assertEqual(status, 1)
-        self.assertIn("too long: 589,833 octets and 65,537 lines; the program takes 1,048,576 octets and 65,536 lines", said)
+        self.assertIn(
+            "too long: 589,833 octets and 65,537 lines; the program takes 1,048,576 octets and 65,536 lines",
+            said,
+        )
         status, said = self.check(b"0 level 1 32767 " + b" " * 1048576)
         self.assertTrue(said[-2].startswith("too long: 1,048,592 octets"), said[-2])
         self.assertEqual(status, 1)
@@ -151,12 +186,21 @@ class Orders(InFolder):
     def test_refusals_of_the_documents(self):
         # The orders of OPERATORS.md that meet all seven refusals.
         text = (support.TOP / "docs" / "OPERATORS.md").read_text()
-        found = re.search(r"refused\.txt <<END\n(.*?)    > END\n.*?\n(    order 1 .*?)\n    bridge", text, re.S)
+        found = re.search(
+            r"refused\.txt <<END\n(.*?)    > END\n.*?\n(    order 1 .*?)\n    bridge", text, re.S
+        )
         content = found[1].replace("    > ", "").encode()
         status, said = self.check(content)
-        told = [re.match(r"line (\d+): warning: the run will refuse it \((\d)\): ", line) for line in said[:-1]]
-        self.assertEqual([(int(each[1]), int(each[2])) for each in told], refusals(found[2].replace("    ", "")))
-        self.assertEqual({number for _, number in refusals(found[2].replace("    ", ""))}, {1, 2, 3, 4, 5, 6, 7})
+        told = [
+            re.match(r"line (\d+): warning: the run will refuse it \((\d)\): ", line)
+            for line in said[:-1]
+        ]
+        self.assertEqual(
+            [(int(each[1]), int(each[2])) for each in told], refusals(found[2].replace("    ", ""))
+        )
+        self.assertEqual(
+            {number for _, number in refusals(found[2].replace("    ", ""))}, {1, 2, 3, 4, 5, 6, 7}
+        )
         self.assertEqual((status, said[-1]), (0, "orders 13 bad 0 warnings 7"))
 
     def test_calls_that_end_with_their_lines(self):
@@ -178,13 +222,25 @@ class Orders(InFolder):
             ],
         )
         self.assertEqual(self.check(b"0 open 4\n76 close 4\n")[1], ["orders 2 bad 0 warnings 0"])
-        self.assertIn("(2): call 4 has ended", self.check(b"0 open 4\n76 close 4\n", "--lines", self.folder)[1][1])
+        self.assertIn(
+            "(2): call 4 has ended",
+            self.check(b"0 open 4\n76 close 4\n", "--lines", self.folder)[1][1],
+        )
 
     def test_a_folder_for_a_line(self):
         self.path("3.up").mkdir()
         self.path("3.pcm", bytes(1600))
         status, said = self.check(b"0 open 3\n", "--lines", self.folder)
-        self.assertEqual((status, said), (0, ["line 1: warning: 3.up is a folder: the line will fail", "orders 1 bad 0 warnings 1"]))
+        self.assertEqual(
+            (status, said),
+            (
+                0,
+                [
+                    "line 1: warning: 3.up is a folder: the line will fail",
+                    "orders 1 bad 0 warnings 1",
+                ],
+            ),
+        )
 
     def test_outgoing_lines_that_lead_elsewhere(self):
         for side in ("up", "pcm"):
@@ -194,9 +250,21 @@ class Orders(InFolder):
         other, beside = self.path("speech.wav", b"RIFF"), self.path("other/1.down", b"")
         for name, target, said in (
             ("1.out", other, f"line 1: note: 1.out is a link: the run empties and writes {other}"),
-            ("1.out", self.folder / "new", f"line 1: note: 1.out is a link: the run empties and writes {self.folder / 'new'}"),
-            ("1.out", self.path("1.pcm"), "line 1: warning: 1.out is the file of 1.pcm: a line will fail"),
-            ("1.down", self.path("1.up"), "line 1: warning: 1.down is the file of 1.up: a line will fail"),
+            (
+                "1.out",
+                self.folder / "new",
+                f"line 1: note: 1.out is a link: the run empties and writes {self.folder / 'new'}",
+            ),
+            (
+                "1.out",
+                self.path("1.pcm"),
+                "line 1: warning: 1.out is the file of 1.pcm: a line will fail",
+            ),
+            (
+                "1.down",
+                self.path("1.up"),
+                "line 1: warning: 1.down is the file of 1.up: a line will fail",
+            ),
             # As in the folder of a part.
             ("1.down", beside, None),
         ):
@@ -204,7 +272,9 @@ class Orders(InFolder):
             link.symlink_to(target)
             wanted = [said] if said else []
             count = f"orders 1 bad 0 warnings {int('warning' in (said or ''))}"
-            self.assertEqual(self.check(b"0 open 1\n", "--lines", self.folder), (0, [*wanted, count]))
+            self.assertEqual(
+                self.check(b"0 open 1\n", "--lines", self.folder), (0, [*wanted, count])
+            )
             link.unlink()
         os.link(self.path("1.up"), self.path("1.down"))
         self.path("1.out").mkdir()
@@ -218,7 +288,10 @@ class Orders(InFolder):
     def test_a_pipe_for_a_line(self):
         os.mkfifo(self.path("3.up"))
         self.path("3.pcm", bytes(1600))
-        wanted = ["line 1: note: a line is a pipe or a device, so that nobody knows when the call ends", "orders 2 bad 0 warnings 0"]
+        wanted = [
+            "line 1: note: a line is a pipe or a device, so that nobody knows when the call ends",
+            "orders 2 bad 0 warnings 0",
+        ]
         self.assertEqual(self.check(b"0 open 3\n11 close 3\n", "--lines", self.folder), (0, wanted))
 
     @unittest.skipUnless(os.getuid(), "root may read and write everything")
@@ -227,7 +300,9 @@ class Orders(InFolder):
 
     def test_lines_of_somebody_else_as_root(self):
         # As if the system said no.
-        with mock.patch.object(os, "access", lambda path, how: how != os.W_OK and not str(path).endswith("1.up")):
+        with mock.patch.object(
+            os, "access", lambda path, how: how != os.W_OK and not str(path).endswith("1.up")
+        ):
             self.check_lines_of_somebody_else()
 
     def check_lines_of_somebody_else(self):
@@ -262,16 +337,30 @@ class Orders(InFolder):
             self.assertEqual(said[-1], "orders 1 bad 0 warnings 0")
 
     def test_a_mark(self):
-        mark = b"save 60\ncall 1 from 0 out 5 down 7\ncall 3 from 20 out 4294967295 down 0\norders\n"
+        mark = (
+            b"save 60\ncall 1 from 0 out 5 down 7\ncall 3 from 20 out 4294967295 down 0\norders\n"
+        )
         given = b"0 open 1\n20 open 3\n60 open 5\n"
         counts = ["mark lines 4 bad 0", "orders 3 bad 0 warnings 0"]
         self.assertEqual(self.check(mark + given, "--mark"), (0, counts))
-        self.assertEqual(self.check(b"save 60\norders\n", "--mark"), (0, ["mark lines 2 bad 0", "orders 0 bad 0 warnings 0"]))
+        self.assertEqual(
+            self.check(b"save 60\norders\n", "--mark"),
+            (0, ["mark lines 2 bad 0", "orders 0 bad 0 warnings 0"]),
+        )
         # Calls that these orders don't have open at the mark's period.
         says = "warning: trau resume will refuse the mark: these orders"
         for orders_after, said in (
-            (b"", [f"line 2: {says} don't have call 1 open at period 60", f"line 3: {says} don't have call 3 open at period 60"]),
-            (b"0 open 1\n20 open 3\n59 close 3\n", [f"line 3: {says} don't have call 3 open at period 60"]),
+            (
+                b"",
+                [
+                    f"line 2: {says} don't have call 1 open at period 60",
+                    f"line 3: {says} don't have call 3 open at period 60",
+                ],
+            ),
+            (
+                b"0 open 1\n20 open 3\n59 close 3\n",
+                [f"line 3: {says} don't have call 3 open at period 60"],
+            ),
             (b"0 open 1\n20 open 3\n60 close 3\n", []),
             (b"0 open 1\n21 open 3\n", [f"line 3: {says} open call 3 at period 21"]),
         ):
@@ -281,8 +370,13 @@ class Orders(InFolder):
         for call, periods in ((1, 61), (3, 61), (5, 60), (7, 59)):
             self.path(f"{call}.up", bytes(40 * periods))
             self.path(f"{call}.pcm", bytes(160 * periods))
-        found = self.check(mark + b"0 open 1\n0 open 5\n0 open 7\n20 open 3\n", "--mark", "--lines", self.folder)[1]
-        self.assertEqual([line for line in found if line.startswith("mark")], [f"mark line 4: {says} have call 5 open at period 60", counts[0]])
+        found = self.check(
+            mark + b"0 open 1\n0 open 5\n0 open 7\n20 open 3\n", "--mark", "--lines", self.folder
+        )[1]
+        self.assertEqual(
+            [line for line in found if line.startswith("mark")],
+            [f"mark line 4: {says} have call 5 open at period 60", counts[0]],
+        )
 
     def test_faults_of_a_mark(self):
         for line, text, said in MARK_FAULTS:
@@ -290,27 +384,46 @@ class Orders(InFolder):
                 status, found = self.check(text, "--mark")
                 self.assertEqual((status, found[0]), (1, f"mark line {line}: {said}"))
         status, found = self.check(b"save 60\norders\n0 open 01\n", "--mark")
-        self.assertEqual((status, found[:2]), (1, ["mark lines 2 bad 0", "line 1: call 01: a leading zero"]))
+        self.assertEqual(
+            (status, found[:2]), (1, ["mark lines 2 bad 0", "line 1: call 01: a leading zero"])
+        )
         long = b"save 60\norders\n" + b"0 level 1 32767\n" * 65536 + b" " * 300000
         status, found = self.check(long, "--mark")
-        self.assertEqual((status, found[0]), (1, f"too long: {len(long):,} octets; the program takes 1,310,720 with the mark"))
+        self.assertEqual(
+            (status, found[0]),
+            (1, f"too long: {len(long):,} octets; the program takes 1,310,720 with the mark"),
+        )
         # A mark where orders are checked without it.
         status, found = self.check(b"save 60\norders\n0 open 1\n")
         said = "a line of a mark, and no order; orders.py check --mark takes a mark with the orders after it"
-        self.assertEqual((status, found), (1, [f"line 1: {said}", f"line 2: {said}", "orders 3 bad 2 warnings 0"]))
+        self.assertEqual(
+            (status, found),
+            (1, [f"line 1: {said}", f"line 2: {said}", "orders 3 bad 2 warnings 0"]),
+        )
 
     def test_strip(self):
         notes = b"# two calls\n\n0 open 1 # Alice\n  \n0 open 2\t#  Bob # her brother\n   # and then\n5 close 1\n \t\r\n9  close 2"
         given, new = self.path("notes.txt", notes), self.path("orders.txt")
         wanted = b"0 open 1\n0 open 2\n5 close 1\n9  close 2\n"
-        self.assertEqual(self.run_tool(orders.main, "strip", given, new), (0, "strip orders 4\n", ""))
+        self.assertEqual(
+            self.run_tool(orders.main, "strip", given, new), (0, "strip orders 4\n", "")
+        )
         self.assertEqual(new.read_bytes(), wanted)
-        ended = subprocess.run([support.TOOLS / "orders.py", "strip", "-"], input=notes, capture_output=True)
+        ended = subprocess.run(
+            [support.TOOLS / "orders.py", "strip", "-"], input=notes, capture_output=True
+        )
         self.assertEqual((ended.returncode, ended.stdout, ended.stderr), (0, wanted, b""))
-        ended = subprocess.run([support.TOOLS / "orders.py", "strip"], input=notes, capture_output=True)
+        ended = subprocess.run(
+            [support.TOOLS / "orders.py", "strip"], input=notes, capture_output=True
+        )
         self.assertEqual((ended.returncode, ended.stdout, ended.stderr), (0, wanted, b""))
         # Nothing else is changed, so orders without comments stay as they are.
-        for content in ((EXAMPLES / "farm" / "orders.txt").read_bytes(), b"", b" 0 open 1\r\n", b"\xff\n"):
+        for content in (
+            (EXAMPLES / "farm" / "orders.txt").read_bytes(),
+            b"",
+            b" 0 open 1\r\n",
+            b"\xff\n",
+        ):
             self.run_tool(orders.main, "strip", self.path("notes.txt", content), new)
             self.assertEqual(new.read_bytes(), content)
         self.assert_refused(orders.main, ["strip", given, given], "is an input")
@@ -321,13 +434,19 @@ class Orders(InFolder):
         self.assert_refused(orders.main, ["check"], "ORDERS")
         self.assert_refused(orders.main, [], "required")
         self.path("orders.txt", b"")
-        self.assert_refused(orders.main, ["check", self.path("orders.txt"), "--lines", self.path("no")], "isn't a folder")
+        self.assert_refused(
+            orders.main,
+            ["check", self.path("orders.txt"), "--lines", self.path("no")],
+            "isn't a folder",
+        )
 
     def test_as_a_program(self):
         tool = support.TOOLS / "orders.py"
         ended = subprocess.run([tool, "check", "-"], input=b"0 open 1\r\n", capture_output=True)
         self.assertEqual((ended.returncode, ended.stderr), (1, b""))
-        self.assertEqual(ended.stdout, b"line 1: a carriage return at its end\norders 1 bad 1 warnings 0\n")
+        self.assertEqual(
+            ended.stdout, b"line 1: a carriage return at its end\norders 1 bad 1 warnings 0\n"
+        )
         for words in ([], ["check"], ["strip"]):
             ended = subprocess.run([tool, *words, "--help"], capture_output=True)
             self.assertEqual((ended.returncode, ended.stderr), (0, b""))
@@ -340,9 +459,18 @@ class LevelOfATone(InFolder):
         return out
 
     def test_numbers(self):
-        self.assertEqual(self.said("-30", "1000"), "level tone -30 dBm0 1000 Hz speech to 245 silence from 269\n")
-        self.assertEqual(self.said("-30", "1000", "--law", "mulaw"), "level tone -30 dBm0 1000 Hz speech to 247 silence from 270\n")
-        for words, part in ((["x", "1000"], "x isn't -60 to 3"), (["-30", "nan"], "nan isn't 50 to 3950"), (["-30"], "HERTZ")):
+        self.assertEqual(
+            self.said("-30", "1000"), "level tone -30 dBm0 1000 Hz speech to 245 silence from 269\n"
+        )
+        self.assertEqual(
+            self.said("-30", "1000", "--law", "mulaw"),
+            "level tone -30 dBm0 1000 Hz speech to 247 silence from 270\n",
+        )
+        for words, part in (
+            (["x", "1000"], "x isn't -60 to 3"),
+            (["-30", "nan"], "nan isn't 50 to 3950"),
+            (["-30"], "HERTZ"),
+        ):
             self.assert_refused(orders.main, ["level", *words], part)
 
     def test_the_loudest(self):
@@ -353,16 +481,30 @@ class LevelOfATone(InFolder):
     def test_by_the_program(self):
         # A second of the tone, at some phase, and its downlink with DTX: at the first number all frames are speech, at the other none is.
         chance = random.Random(1)
-        for words, law in ((("-30", "1000"), Law.A), (("-45", "333"), Law.A), (("-10", "2900"), Law.MU)):
+        for words, law in (
+            (("-30", "1000"), Law.A),
+            (("-45", "333"), Law.A),
+            (("-10", "2900"), Law.MU),
+        ):
             numbers = re.findall(r"(?:to|from) (\d+)", self.said(*words, "--law", law))
             line = tone_peaks.tone(*map(float, words), chance.random(), law, 8000)
             self.path("1.pcm", line)
             self.path("1.up", (EXAMPLES / "7.up").read_bytes()[: 50 * 40])
             kinds = []
             for number in numbers:
-                text = f"0 open 1{' mulaw' if law is Law.MU else ''}\n0 level 1 {number}\n0 dtx 1 on\n"
-                subprocess.run([PROGRAM, "run"], input=text.encode(), cwd=self.folder, check=True, capture_output=True)
-                frames = list(support.frames_of_downlink(bits_of(self.path("1.down").read_bytes())))[25:]
+                text = (
+                    f"0 open 1{' mulaw' if law is Law.MU else ''}\n0 level 1 {number}\n0 dtx 1 on\n"
+                )
+                subprocess.run(
+                    [PROGRAM, "run"],
+                    input=text.encode(),
+                    cwd=self.folder,
+                    check=True,
+                    capture_output=True,
+                )
+                frames = list(
+                    support.frames_of_downlink(bits_of(self.path("1.down").read_bytes()))
+                )[25:]
                 kinds.append({control_of(frame)[15] for frame in frames})
             self.assertEqual(kinds, [{"1"}, {"0"}], words)
 
@@ -371,11 +513,15 @@ class LevelOfATone(InFolder):
 class AgainstTheProgram(InFolder):
     def run_program(self, content, command="run"):
         """What the program says of these orders, run in the folder."""
-        return subprocess.run([PROGRAM, command], input=content, capture_output=True, cwd=self.folder).stdout.decode()
+        return subprocess.run(
+            [PROGRAM, command], input=content, capture_output=True, cwd=self.folder
+        ).stdout.decode()
 
     def test_each_fault(self):
         for line, _ in FAULTS:
-            self.assertEqual(self.run_program(b"0 open 2\n" + line + b"\n0 close 2\n"), "orders line 2\n", line)
+            self.assertEqual(
+                self.run_program(b"0 open 2\n" + line + b"\n0 close 2\n"), "orders line 2\n", line
+            )
 
     def test_each_fault_of_a_mark(self):
         for line, text, _ in MARK_FAULTS:
@@ -389,7 +535,9 @@ class AgainstTheProgram(InFolder):
         for _ in range(200):
             content = bytearray(good)
             for _ in range(source.randint(1, 2)):
-                content[source.randrange(len(content))] = source.choice(b"0123456789 \n\rcaldownsve")
+                content[source.randrange(len(content))] = source.choice(
+                    b"0123456789 \n\rcaldownsve"
+                )
             faults = orders.marks.read_mark(bytes(content))[0].faults
             said = self.run_program(bytes(content), "resume")
             bad += bool(faults)
@@ -432,7 +580,11 @@ class AgainstTheProgram(InFolder):
                 lines.append(f"{stamp} {form}".format(source.randint(1, 6), source.randint(1, 5)))
             content = "\n".join(lines).encode()
             warned = orders.remarks_on(orders.Text.read(content).orders, self.folder).warnings
-            found = [(line, int(re.search(r"\((\d)\)", what)[1])) for line, what in warned if "refuse" in what]
+            found = [
+                (line, int(re.search(r"\((\d)\)", what)[1]))
+                for line, what in warned
+                if "refuse" in what
+            ]
             self.assertEqual(found, refusals(self.run_program(content)), content)
             seen.update(number for _, number in found)
         self.assertEqual(seen, {1, 2, 3, 4, 5, 6, 7})

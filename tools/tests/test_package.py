@@ -16,9 +16,9 @@ from unittest import mock
 
 from support import EXAMPLES, PLAIN_PATH, TOOLS, TOP, InFolder, put_python
 
-import tool_pages
-import trau_deb
-import trau_package
+from trau.packing import man_pages
+from trau.packing import trau_deb
+from trau.packing import trau_package
 
 # Without TRAU_PROGRAM no program is packed, so that these tests prove nothing.
 HAS_PROGRAM = os.access(os.environ.get("TRAU_PROGRAM", ""), os.X_OK)
@@ -95,14 +95,25 @@ class Modules(unittest.TestCase):
         names = re.search(r'^names="(.*?)"$', (TOOLS / "install").read_text(), re.M | re.S)[1]
         self.assertEqual(dict(pair.split(":") for pair in names.split()), wanted)
         links = trau_deb.links({f"usr/share/man/man1/{name}.1.gz": b"" for name in wanted})
-        self.assertEqual({name: links[f"usr/bin/{name}"] for name in wanted}, {name: f"../lib/trau/{file}" for name, file in wanted.items()})
+        self.assertEqual(
+            {name: links[f"usr/bin/{name}"] for name in wanted},
+            {name: f"../lib/trau/{file}" for name, file in wanted.items()},
+        )
 
     def test_all_that_the_tools_import_is_packed(self):
-        packed = {path.name for path in TOOLS.iterdir() if re.fullmatch(trau_package.FOLDERS[0][1], path.name)}
-        self.assertLessEqual({*trau_package.TOOLS, "help.txt", "pages.txt", "grammar.txt", "bad_order.awk"}, packed)
+        packed = {
+            path.name
+            for path in TOOLS.iterdir()
+            if re.fullmatch(trau_package.FOLDERS[0][1], path.name)
+        }
+        self.assertLessEqual(
+            {*trau_package.TOOLS, "help.txt", "pages.txt", "grammar.txt", "bad_order.awk"}, packed
+        )
         for name in sorted(packed):
             if name.endswith(".py"):
-                for found in re.findall(r"^(?:from|import) (\w+)", (TOOLS / name).read_text(), re.M):
+                for found in re.findall(
+                    r"^(?:from|import) (\w+)", (TOOLS / name).read_text(), re.M
+                ):
                     if (TOOLS / f"{found}.py").is_file():
                         self.assertIn(f"{found}.py", packed, name)
 
@@ -128,7 +139,9 @@ class Package(InFolder):
         (made,) = folder.iterdir()
         content = made.read_bytes()
         without = "" if built.library else "package without the C library, which isn't built\n"
-        wanted = f"package {made} octets {len(content)} sha256 {hashlib.sha256(content).hexdigest()}\n"
+        wanted = (
+            f"package {made} octets {len(content)} sha256 {hashlib.sha256(content).hexdigest()}\n"
+        )
         assert said == without + wanted, said
         return made, built
 
@@ -140,8 +153,14 @@ class Package(InFolder):
 
     def said(self, *words, given=b"", folder=None, **changes):
         """The status, standard output and standard error, on a machine without the toolchain."""
-        surroundings = {"PATH": f"{self.commands}:{PLAIN_PATH}", "TMPDIR": str(self.folder), **changes}
-        ended = subprocess.run(words, input=given, capture_output=True, env=surroundings, cwd=folder or self.folder)
+        surroundings = {
+            "PATH": f"{self.commands}:{PLAIN_PATH}",
+            "TMPDIR": str(self.folder),
+            **changes,
+        }
+        ended = subprocess.run(
+            words, input=given, capture_output=True, env=surroundings, cwd=folder or self.folder
+        )
         return ended.returncode, ended.stdout.decode(), ended.stderr.decode()
 
     def test_the_same_octets_again(self):
@@ -155,9 +174,25 @@ class Package(InFolder):
         there = {str(path.relative_to(package)) for path in package.rglob("*") if path.is_file()}
         self.assertEqual(names | {"SHA256SUMS"}, there)
         for line in sums:
-            self.assertEqual(hashlib.sha256((package / line[66:]).read_bytes()).hexdigest(), line[:64])
-        wanted = ("trau_program", "man/trau.1", "man/trau-lines.1", "man/trau-gateway.1", "trau.bash", "tools/orders.py", "examples/farm/orders.txt")
-        for name in (*wanted, "tools/grammar.txt", "README.md", "docs/OPERATORS.md", "docs/CHANGELOG.md"):
+            self.assertEqual(
+                hashlib.sha256((package / line[66:]).read_bytes()).hexdigest(), line[:64]
+            )
+        wanted = (
+            "trau_program",
+            "man/trau.1",
+            "man/trau-lines.1",
+            "man/trau-gateway.1",
+            "trau.bash",
+            "tools/orders.py",
+            "examples/farm/orders.txt",
+        )
+        for name in (
+            *wanted,
+            "tools/grammar.txt",
+            "README.md",
+            "docs/OPERATORS.md",
+            "docs/CHANGELOG.md",
+        ):
             self.assertIn(name, names)
         self.assertEqual(SECOND in names, self.built.second)
         self.assertFalse((package / "crates" / "trau_program").exists())
@@ -174,7 +209,9 @@ class Package(InFolder):
         (package / "trau_program").unlink()
         status, out, err = self.said(package / "tools" / "lines.py", "listen", down, new)
         self.assertEqual((status, err), (0, ""))
-        self.assertEqual(out, "listen samples 16000 found speech 91 silence 8 idle 0 other 0 outside 324\n")
+        self.assertEqual(
+            out, "listen samples 16000 found speech 91 silence 8 idle 0 other 0 outside 324\n"
+        )
 
     def test_the_commands_of_its_readme(self):
         package = self.unpack()
@@ -201,7 +238,10 @@ class Package(InFolder):
         self.assertEqual((status, err), (0, ""))
         given = "the one that TRAU_PROGRAM named when it was packed\n"
         self.assertIn("\nprogram: " + (given if trau_package.is_given() else "for x86-64-v"), out)
-        self.assertRegex(out, r"^trau [0-9a-f]+(-changed)? of \d{4}-\d\d-\d\d, " + re.escape(trau_package.origin()))
+        self.assertRegex(
+            out,
+            r"^trau [0-9a-f]+(-changed)? of \d{4}-\d\d-\d\d, " + re.escape(trau_package.origin()),
+        )
         status, out, err = self.said(package / "demo")
         self.assertEqual((status, err), (0, ""))
         self.assertIn("octet for octet what is recorded in examples/farm/wanted", out)
@@ -209,7 +249,10 @@ class Package(InFolder):
         # What its README says of the model is of a clone.
         said = "demo: a package has no model; demo without --model runs the package's program\n"
         self.assertEqual(self.said(package / "demo", "--model"), (2, "", said))
-        self.assertRegex((package / "README.md").read_text(), r"In a clone the model [^\n]*:\n\n    \$ \./demo --model")
+        self.assertRegex(
+            (package / "README.md").read_text(),
+            r"In a clone the model [^\n]*:\n\n    \$ \./demo --model",
+        )
 
     def test_the_gateway(self):
         package = self.unpack()
@@ -228,14 +271,23 @@ class Package(InFolder):
         self.assertEqual(self.said(self.unpack() / "install", "--prefix", prefix)[0], 0)
         gateway, recording = prefix / "bin" / "trau-gateway", self.folder / "recording"
         status, out, err = self.said(gateway, "--help")
-        self.assertEqual((status, err, out.startswith("usage: trau-gateway "), "gateway.py" in out), (0, "", True, False))
+        self.assertEqual(
+            (status, err, out.startswith("usage: trau-gateway "), "gateway.py" in out),
+            (0, "", True, False),
+        )
         self.assertEqual(self.said(gateway, "what")[2][:27], "trau-gateway: argument run|")
         page = (prefix / "share" / "man" / "man1" / "trau-gateway.1").read_text()
         self.assertIn("trau\\-gateway run [\\-h] [\\-\\-calls FILE]", page)
         if self.built.library:
             surroundings = {"PATH": f"{self.commands}:{PLAIN_PATH}", "TMPDIR": str(self.folder)}
             words = [gateway, "run", recording, "--address", "127.0.0.1"]
-            with subprocess.Popen(words, stdin=subprocess.PIPE, stdout=subprocess.PIPE, stderr=subprocess.PIPE, env=surroundings) as runs:
+            with subprocess.Popen(
+                words,
+                stdin=subprocess.PIPE,
+                stdout=subprocess.PIPE,
+                stderr=subprocess.PIPE,
+                env=surroundings,
+            ) as runs:
                 self.assertEqual(runs.stdout.readline(), b"ready\n")
                 runs.terminate()
                 out, err = runs.communicate()
@@ -253,24 +305,42 @@ class Package(InFolder):
             (self.folder / name.split("/")[-1]).write_bytes((EXAMPLES / name).read_bytes())
         self.assertEqual(self.said(trau, "relay", "7"), (0, "relay frames 312\n", ""))
         self.assertEqual(self.said(trau, "help"), (0, (TOOLS / "help.txt").read_text(), ""))
-        status, out, _ = self.said("sh", "-c", 'ulimit -f 1 && exec "$0" run', trau, given=b"0 open 1")
+        status, out, _ = self.said(
+            "sh", "-c", 'ulimit -f 1 && exec "$0" run', trau, given=b"0 open 1"
+        )
         self.assertEqual((status, "line 1 down failed\n" in out), (6, True))
-        status, out, _ = self.said(prefix / "bin" / "trau-orders", "check", "-", given=b"0 open 1\r\n")
-        self.assertEqual((status, out), (1, "line 1: a carriage return at its end\norders 1 bad 1 warnings 0\n"))
-        self.assertEqual(self.said(prefix / "bin" / "trau-lines", "idle", "3", "9.pcm"), (0, "idle periods 3\n", ""))
+        status, out, _ = self.said(
+            prefix / "bin" / "trau-orders", "check", "-", given=b"0 open 1\r\n"
+        )
+        self.assertEqual(
+            (status, out), (1, "line 1: a carriage return at its end\norders 1 bad 1 warnings 0\n")
+        )
+        self.assertEqual(
+            self.said(prefix / "bin" / "trau-lines", "idle", "3", "9.pcm"),
+            (0, "idle periods 3\n", ""),
+        )
         for tool in ("gateway", "report", "shard", "timeline", "watch"):
             self.assertEqual(self.said(prefix / "bin" / f"trau-{tool}", "--help")[0], 0)
         pages = prefix / "share" / "man" / "man1"
         self.assertIn(".TH TRAU 1", (pages / "trau.1").read_text())
         self.assertIn("trau\\-lines [\\-h] COMMAND", (pages / "trau-lines.1").read_text())
-        self.assertIn("complete -F", (prefix / "share" / "bash-completion" / "completions" / "trau").read_text())
+        self.assertIn(
+            "complete -F",
+            (prefix / "share" / "bash-completion" / "completions" / "trau").read_text(),
+        )
         # Over what is installed, then from there, and away with it; other files stay.
         (prefix / "bin" / "other").write_text("")
         self.assertEqual(self.said(install, f"--prefix={prefix}")[0], 0)
         installed = prefix / "lib" / "trau" / "install"
         self.assertEqual(self.said(installed, "--prefix", prefix)[0], 2)
-        self.assertEqual(self.said(installed, "--remove", "--prefix", prefix), (0, f"install: trau is removed from {prefix}\n", ""))
-        self.assertEqual([str(path.relative_to(prefix)) for path in prefix.rglob("*") if path.is_file()], ["bin/other"])
+        self.assertEqual(
+            self.said(installed, "--remove", "--prefix", prefix),
+            (0, f"install: trau is removed from {prefix}\n", ""),
+        )
+        self.assertEqual(
+            [str(path.relative_to(prefix)) for path in prefix.rglob("*") if path.is_file()],
+            ["bin/other"],
+        )
         self.assertEqual(list((prefix / "bin").iterdir()), [prefix / "bin" / "other"])
 
     def test_where_nothing_can_be_written(self):
@@ -285,7 +355,9 @@ class Package(InFolder):
         # Where the disk is full, here by a limit on the size of files, an earlier package stays as it was.
         self.assertEqual(self.said(install, "--prefix", prefix)[0], 0)
         before = {path: path.lstat().st_ino for path in prefix.rglob("*")}
-        status, out, err = self.said("sh", "-c", 'trap "" XFSZ; ulimit -f 8; exec "$0" --prefix "$1"', install, prefix)
+        status, out, err = self.said(
+            "sh", "-c", 'trap "" XFSZ; ulimit -f 8; exec "$0" --prefix "$1"', install, prefix
+        )
         self.assertEqual((status, out, err.count("\n")), (2, "", 1))
         self.assertIn("File too large", err)
         self.assertEqual({path: path.lstat().st_ino for path in prefix.rglob("*")}, before)
@@ -309,10 +381,14 @@ class Package(InFolder):
 
     def test_below_a_folder_of_a_packager(self):
         package = self.unpack()
-        status, out, _ = self.said(package / "install", "--prefix", "/usr", DESTDIR=str(self.folder / "root"))
+        status, out, _ = self.said(
+            package / "install", "--prefix", "/usr", DESTDIR=str(self.folder / "root")
+        )
         self.assertEqual(status, 0)
         self.assertIn("the program is /usr/bin/trau", out)
-        self.assertEqual(self.said(self.folder / "root" / "usr" / "bin" / "trau")[:2], (1, "usage\n"))
+        self.assertEqual(
+            self.said(self.folder / "root" / "usr" / "bin" / "trau")[:2], (1, "usage\n")
+        )
 
     def test_in_a_clone(self):
         prefix = self.folder / "prefix"
@@ -323,18 +399,29 @@ class Package(InFolder):
     def test_without_the_library(self):
         other = self.path("other")
         other.mkdir()
-        ended = subprocess.run([TOOLS / "package", "--without-library", other], capture_output=True, text=True)
-        self.assertEqual((ended.returncode, ended.stdout.splitlines()[0]), (0, "package without the C library"))
+        ended = subprocess.run(
+            [TOOLS / "package", "--without-library", other], capture_output=True, text=True
+        )
+        self.assertEqual(
+            (ended.returncode, ended.stdout.splitlines()[0]), (0, "package without the C library")
+        )
         with tarfile.open(next(other.iterdir())) as tar:
             self.assertEqual([name for name in tar.getnames() if "/clib/out/" in name], [])
             tar.extractall(other)
         clib = next(path for path in other.iterdir() if path.is_dir()) / "clib"
-        status, out, err = self.said("sh", "-c", f"sed 's|/usr/|/no/|g' {clib}/with >{clib}/there; sh {clib}/there true")
+        status, out, err = self.said(
+            "sh", "-c", f"sed 's|/usr/|/no/|g' {clib}/with >{clib}/there; sh {clib}/there true"
+        )
         lacks = "this package has no C library, and libtrau-fr1 isn't installed; TRAU_CLIB names another folder that has one"
         self.assertEqual((status, out), (2, ""))
-        self.assertEqual(err, f"clib/with: there is no {clib}/out/lib/trau-gsm/libgsm.so.1: {lacks}\n")
+        self.assertEqual(
+            err, f"clib/with: there is no {clib}/out/lib/trau-gsm/libgsm.so.1: {lacks}\n"
+        )
         status, out, err = self.said(clib / "with", "--help")
-        self.assertEqual((status, "on the C library of this package.\n" in out, "clib/build" in out), (0, True, False))
+        self.assertEqual(
+            (status, "on the C library of this package.\n" in out, "clib/build" in out),
+            (0, True, False),
+        )
 
     def test_refused(self):
         package, prefix = self.unpack(), self.folder / "prefix"
@@ -349,7 +436,11 @@ class Package(InFolder):
         self.assertIn("man/trau.1: FAILED", err)
         self.assertIn("the package isn't whole", err)
         self.assertFalse(prefix.exists())
-        for words, part in (([self.folder / "gone"], "isn't a folder"), ([], "FOLDER"), (["--what"], "FOLDER")):
+        for words, part in (
+            ([self.folder / "gone"], "isn't a folder"),
+            ([], "FOLDER"),
+            (["--what"], "FOLDER"),
+        ):
             ended = subprocess.run([TOOLS / "package", *words], capture_output=True, text=True)
             self.assertEqual((ended.returncode, ended.stdout, ended.stderr.count("\n")), (2, "", 1))
             self.assertIn(part, ended.stderr)
@@ -369,7 +460,9 @@ class Debian(InFolder):
         """The files of the packages, by the packages' names, and what was built then."""
         said, built = packed("--deb", folder)
         made = {path.name.partition("_")[0]: path for path in folder.glob("*.deb")}
-        assert all(f"package {path} octets {path.stat().st_size} sha256 " in said for path in made.values()), said
+        assert all(
+            f"package {path} octets {path.stat().st_size} sha256 " in said for path in made.values()
+        ), said
         return made, built
 
     def unpack(self, *names):
@@ -385,7 +478,9 @@ class Debian(InFolder):
 
     def fields(self, made):
         """The fields of a package."""
-        return subprocess.run(["dpkg-deb", "-f", made], capture_output=True, text=True, check=True).stdout
+        return subprocess.run(
+            ["dpkg-deb", "-f", made], capture_output=True, text=True, check=True
+        ).stdout
 
     @unittest.skipUnless(HAS_LIBRARY, "no C library is built")
     def test_the_library(self):
@@ -393,24 +488,45 @@ class Debian(InFolder):
         for name in ("libtrau-fr1", "libtrau-fr-dev"):
             for field in ("Source: trau\n", f"Version: {version}\n", "Multi-Arch: same\n"):
                 self.assertIn(field, self.fields(self.made[name]))
-        self.assertIn(f"Depends: libtrau-fr1 (= {version})", self.fields(self.made["libtrau-fr-dev"]))
+        self.assertIn(
+            f"Depends: libtrau-fr1 (= {version})", self.fields(self.made["libtrau-fr-dev"])
+        )
         root = self.unpack("libtrau-fr1", "libtrau-fr-dev")
         libraries = root / trau_deb.LIBRARIES
-        for name in ("libtrau_fr.so.1", "glibc-hwcaps/x86-64-v3/libtrau_fr.so.1", "trau-gsm/libgsm.so.1", "libtrau_fr.a"):
+        for name in (
+            "libtrau_fr.so.1",
+            "glibc-hwcaps/x86-64-v3/libtrau_fr.so.1",
+            "trau-gsm/libgsm.so.1",
+            "libtrau_fr.a",
+        ):
             self.assertEqual((libraries / name).stat().st_mode & 0o777, 0o644, name)
         self.assertEqual(os.readlink(libraries / "libtrau_fr.so"), "libtrau_fr.so.1")
         control = self.folder / "control"
         subprocess.run(["dpkg-deb", "-e", self.made["libtrau-fr1"], control], check=True)
-        self.assertEqual((control / "shlibs").read_text(), f"libtrau_fr 1 libtrau-fr1 (>= {version})\n")
+        self.assertEqual(
+            (control / "shlibs").read_text(), f"libtrau_fr 1 libtrau-fr1 (>= {version})\n"
+        )
         self.assertEqual((control / "triggers").read_text(), "activate-noawait ldconfig\n")
         told = re.findall(r"^ (trau\w+)@TRAU_FR_1 ", (control / "symbols").read_text(), re.M)
         if shutil.which("nm"):
-            words = ["nm", "-D", "--defined-only", "--without-symbol-versions", libraries / "libtrau_fr.so.1"]
-            exported = re.findall(r" T (\w+)", subprocess.run(words, capture_output=True, text=True, check=True).stdout)
+            words = [
+                "nm",
+                "-D",
+                "--defined-only",
+                "--without-symbol-versions",
+                libraries / "libtrau_fr.so.1",
+            ]
+            exported = re.findall(
+                r" T (\w+)",
+                subprocess.run(words, capture_output=True, text=True, check=True).stdout,
+            )
             self.assertEqual(told, sorted(exported))
         self.assertEqual(len(told), 24)
 
-    @unittest.skipUnless(HAS_LIBRARY and shutil.which("cc") and shutil.which("pkg-config"), "no C library, cc or pkg-config")
+    @unittest.skipUnless(
+        HAS_LIBRARY and shutil.which("cc") and shutil.which("pkg-config"),
+        "no C library, cc or pkg-config",
+    )
     def test_a_program_built_with_it(self):
         root = self.unpack("libtrau-fr1", "libtrau-fr-dev")
         libraries = root / trau_deb.LIBRARIES
@@ -418,29 +534,55 @@ class Debian(InFolder):
         header = (root / "usr" / "include" / "trau_fr.h").read_text()
         example = re.search(r"^ \*     (#include <stdio.h>.*?^ \*     \}$)", header, re.M | re.S)[1]
         self.path("example.c", re.sub(r"^ \* ? ? ? ? ?", "", example, flags=re.M).encode())
-        surroundings = {**os.environ, "PKG_CONFIG_PATH": str(libraries / "pkgconfig"), "PKG_CONFIG_SYSROOT_DIR": str(root)}
+        surroundings = {
+            **os.environ,
+            "PKG_CONFIG_PATH": str(libraries / "pkgconfig"),
+            "PKG_CONFIG_SYSROOT_DIR": str(root),
+        }
         words = ["pkg-config", "--cflags", "--libs", "trau_fr"]
-        flags = subprocess.run(words, capture_output=True, text=True, check=True, env=surroundings).stdout.split()
-        subprocess.run(["cc", "-o", self.path("example"), self.path("example.c"), *flags], check=True)
+        flags = subprocess.run(
+            words, capture_output=True, text=True, check=True, env=surroundings
+        ).stdout.split()
+        subprocess.run(
+            ["cc", "-o", self.path("example"), self.path("example.c"), *flags], check=True
+        )
         surroundings = {"LD_LIBRARY_PATH": str(libraries)}
-        ended = subprocess.run([self.path("example")], input=bytes(640), capture_output=True, check=True, env=surroundings)
+        ended = subprocess.run(
+            [self.path("example")],
+            input=bytes(640),
+            capture_output=True,
+            check=True,
+            env=surroundings,
+        )
         self.assertEqual((len(ended.stdout), ended.stdout[0] >> 4), (66, 0xD))
 
     @unittest.skipUnless(HAS_LIBRARY, "no C library is built")
     def test_a_tool_on_the_installed_library(self):
         root = self.unpack("libtrau-fr1", "trau")
         (root / "usr" / "lib" / "trau" / "trau_program").unlink()
-        words = [root / "usr" / "bin" / "trau-lines", "listen", EXAMPLES / "farm" / "wanted" / "2.down", self.path("2.wav")]
+        words = [
+            root / "usr" / "bin" / "trau-lines",
+            "listen",
+            EXAMPLES / "farm" / "wanted" / "2.down",
+            self.path("2.wav"),
+        ]
         surroundings = {"PATH": PLAIN_PATH, "LD_LIBRARY_PATH": str(root / trau_deb.LIBRARIES)}
         ended = subprocess.run(words, capture_output=True, text=True, env=surroundings)
-        self.assertEqual((ended.returncode, ended.stderr, ended.stdout[:21]), (0, "", "listen samples 16000 "))
+        self.assertEqual(
+            (ended.returncode, ended.stderr, ended.stdout[:21]), (0, "", "listen samples 16000 ")
+        )
 
     def test_what_is_in_it(self):
         made = self.made["trau"]
         version = trau_deb.versions()[0][0]
         self.assertTrue(made.name.startswith(f"trau_{version}_"))
         fields = self.fields(made)
-        for field in (f"Version: {version}", "Depends: libc6 (>= 2.34)", "Recommends: python3 (>= 3.9), libtrau-fr1", "Suggests: python3-dpkt"):
+        for field in (
+            f"Version: {version}",
+            "Depends: libc6 (>= 2.34)",
+            "Recommends: python3 (>= 3.9), libtrau-fr1",
+            "Suggests: python3-dpkt",
+        ):
             self.assertIn(field, fields)
         root = self.unpack("trau")
         surroundings = {"PATH": f"{root}/usr/bin:{PLAIN_PATH}", "TMPDIR": str(self.folder)}
@@ -452,11 +594,28 @@ class Debian(InFolder):
             (["trau-gateway", "run", "--help"], "usage: trau-gateway run "),
             ([root / "usr" / "lib" / "trau" / "demo"], "Four calls"),
         ):
-            ended = subprocess.run(words, capture_output=True, text=True, env=surroundings, cwd=self.folder)
-            self.assertEqual((ended.returncode, ended.stdout.startswith(told)), (0, True), (words, ended.stdout, ended.stderr))
-        for name in ("trau", "trau-gateway", "trau-lines", "trau-orders", "trau-report", "trau-shard", "trau-timeline", "trau-watch"):
+            ended = subprocess.run(
+                words, capture_output=True, text=True, env=surroundings, cwd=self.folder
+            )
+            self.assertEqual(
+                (ended.returncode, ended.stdout.startswith(told)),
+                (0, True),
+                (words, ended.stdout, ended.stderr),
+            )
+        for name in (
+            "trau",
+            "trau-gateway",
+            "trau-lines",
+            "trau-orders",
+            "trau-report",
+            "trau-shard",
+            "trau-timeline",
+            "trau-watch",
+        ):
             self.assertTrue((root / "usr" / "bin" / name).exists(), name)
-            page = gzip.decompress((root / "usr" / "share" / "man" / "man1" / f"{name}.1.gz").read_bytes()).decode()
+            page = gzip.decompress(
+                (root / "usr" / "share" / "man" / "man1" / f"{name}.1.gz").read_bytes()
+            ).decode()
             self.assertTrue(page.startswith(f".TH {name.upper()} 1 "))
         self.assertTrue((root / "usr" / "lib" / "trau" / "docs" / "FILES.md").is_file())
 
@@ -467,11 +626,16 @@ class Debian(InFolder):
 
     @unittest.skipUnless(shutil.which("lintian"), "there is no lintian")
     def test_lintian_finds_no_errors(self):
-        ended = subprocess.run(["lintian", "--fail-on", "error", *self.made.values()], capture_output=True, text=True)
+        ended = subprocess.run(
+            ["lintian", "--fail-on", "error", *self.made.values()], capture_output=True, text=True
+        )
         self.assertEqual((ended.returncode, ended.stdout), (0, ""))
 
     def test_versions(self):
-        for text, why in (("# Changelog\n", "there is no version"), ("## soon\n- x\n", "isn't a version and a date")):
+        for text, why in (
+            ("# Changelog\n", "there is no version"),
+            ("## soon\n- x\n", "isn't a version and a date"),
+        ):
             with mock.patch.object(trau_deb, "read_file", lambda path: text.encode()):
                 with self.assertRaisesRegex(trau_deb.Refusal, why):
                     trau_deb.versions()
@@ -484,11 +648,15 @@ class TheLibrary(InFolder):
     def found(self, is_given, compiler, status):
         """The library's files where it isn't built yet, and clib/build ends with this status."""
         ended = mock.Mock(returncode=status)
-        with mock.patch.dict(os.environ), mock.patch.object(trau_package, "library_is_built", return_value=False):
+        with mock.patch.dict(os.environ), mock.patch.object(
+            trau_package, "library_is_built", return_value=False
+        ):
             os.environ.pop("TRAU_CLIB", None)
             with mock.patch.object(trau_package, "is_given", return_value=is_given):
                 with mock.patch.object(trau_package.shutil, "which", return_value=compiler):
-                    with mock.patch.object(trau_package.subprocess, "run", return_value=ended) as builds:
+                    with mock.patch.object(
+                        trau_package.subprocess, "run", return_value=ended
+                    ) as builds:
                         return trau_package.proved_library(), builds.called
 
     def test_left_out(self):
@@ -507,7 +675,9 @@ class TheLibrary(InFolder):
                 (self.folder / name).parent.mkdir(parents=True, exist_ok=True)
                 (self.folder / name).write_bytes(name.encode())
             found = trau_package.proved_library()
-        self.assertEqual(found, {f"clib/out/{name}": name.encode() for name in trau_package.LIBRARY_FILES})
+        self.assertEqual(
+            found, {f"clib/out/{name}": name.encode() for name in trau_package.LIBRARY_FILES}
+        )
         with mock.patch.dict(os.environ, TRAU_CLIB=str(self.folder), TRAU_PROGRAM=""):
             self.assertEqual(trau_package.origin(), "with a C library that TRAU_CLIB named")
 
@@ -517,8 +687,12 @@ class ManPagesOfTools(unittest.TestCase):
     def test_no_warnings(self):
         for tool in (*trau_package.TOOLS, trau_package.GATEWAY):
             name = f"trau-{tool[:-3]}"
-            page = tool_pages.man_page(name, "trau x", "2026-01-01")
-            ended = subprocess.run(["groff", "-man", "-ww", "-Tascii", "-P-cbou"], input=page.encode(), capture_output=True)
+            page = man_pages.man_page(name, "trau x", "2026-01-01")
+            ended = subprocess.run(
+                ["groff", "-man", "-ww", "-Tascii", "-P-cbou"],
+                input=page.encode(),
+                capture_output=True,
+            )
             self.assertEqual((ended.returncode, ended.stderr), (0, b""), tool)
             text = " ".join(ended.stdout.decode().split())
             self.assertIn(f"{name.upper()}(1)", text)

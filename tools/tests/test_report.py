@@ -10,20 +10,20 @@ from collections import Counter
 
 from support import DATA, EXAMPLES, InFolder, frames_of_downlink
 
-from core.frame import Sort, UpFrame, bits_of, data_of, frame_of, octets_of, write_up
-from core.g711 import Law
-from core.parameters import SILENCE, bits_of_parameters
-from core.profile import DOWN_SPEECH, PCM_OCTETS
-from model.receive import Lost, needs
+from trau.rules.frame import Sort, UpFrame, bits_of, data_of, frame_of, octets_of, write_up
+from trau.rules.g711 import Law
+from trau.rules.parameters import SILENCE, bits_of_parameters
+from trau.rules.profile import DOWN_SPEECH, PCM_OCTETS
+from trau.model.receive import Lost, needs
 from test_columns import frames_by_period
 from test_timeline import lay
 
-import looks
-import report
-import run_lines
-import run_texts
-from run_lines import Heard, Sent
-from uplink_periods import SORTS
+from trau.pictures import looks
+from trau.runs import report
+from trau.runs import run_lines
+from trau.runs import run_texts
+from trau.runs.run_lines import Heard, Sent
+from trau.runs.uplink_periods import SORTS
 
 
 def lay_run(name, folder):
@@ -53,25 +53,38 @@ class Text(Told):
             read = run_texts.read_report(file)
             whole = json.loads(self.told("text", file, "--json"))
             self.assertEqual(len(whole["orders"]), len(read.replies))
-            self.assertEqual(sum("refusal" in order for order in whole["orders"]), file.read_text().count("refused"))
-            self.assertEqual([bridge["sent"] for bridge in whole["bridges"]], [list(b.sent) for b in read.bridges])
+            self.assertEqual(
+                sum("refusal" in order for order in whole["orders"]),
+                file.read_text().count("refused"),
+            )
+            self.assertEqual(
+                [bridge["sent"] for bridge in whole["bridges"]],
+                [list(b.sent) for b in read.bridges],
+            )
             self.assertEqual((whole["end"], whole["left"]), (read.end(), read.left))
             rows = self.rows("text", file)
             self.assertEqual([int(row["call"]) for row in rows], list(read.calls))
             for row, told in zip(rows, whole["calls"]):
                 self.assertEqual(row, {key: str(value) for key, value in told.items()})
-                self.assertIn(f"call {row['call']} from {row['start']} to {row['end']} {row['cause']}\n", file.read_text())
+                self.assertIn(
+                    f"call {row['call']} from {row['start']} to {row['end']} {row['cause']}\n",
+                    file.read_text(),
+                )
 
     def test_lines_that_failed(self):
         counts = "good 0 sid 0 invalid 0 bad 0 idle 0 other 0 miss 0 none 0 made 0"
         text = f"order 1 ok\ncall 9 from 5 to 5 fault up\ncounts 9 {counts}\nline 9 up failed\nline 9 pcm failed\n"
         file = self.path("report.txt", (text + "end period 5 calls 1 left 1\n").encode())
         self.assertEqual(self.rows("text", file)[0]["failed"], "up pcm")
-        self.assertEqual(json.loads(self.told("text", file, "--json"))["failed"][1], {"call": 9, "side": "pcm"})
+        self.assertEqual(
+            json.loads(self.told("text", file, "--json"))["failed"][1], {"call": 9, "side": "pcm"}
+        )
 
     def test_refused(self):
         file = lay_run("mixed", self.folder / "mixed") / "report.txt"
-        self.assert_refused(report.main, ["text", file, "--lines", self.folder], "1.up: No such file or directory")
+        self.assert_refused(
+            report.main, ["text", file, "--lines", self.folder], "1.up: No such file or directory"
+        )
         text = file.read_text()
         for changed in (text[:-1], text.replace("good 61", "good 60"), "", "no memory\n"):
             file.write_text(changed)
@@ -123,7 +136,12 @@ class Aloud(Told):
         self.assertEqual(self.told("text", alone, "--lines", file.parent), MIXED + TOLD_APART)
         # The rows are those of `calls`.
         for row, line in zip(self.rows("calls", file.parent), TOLD_APART.splitlines()):
-            for word, column in (("speech", "speech"), ("lost", "lost"), ("in pauses", "noise"), ("quiet", "quiet")):
+            for word, column in (
+                ("speech", "speech"),
+                ("lost", "lost"),
+                ("in pauses", "noise"),
+                ("quiet", "quiet"),
+            ):
                 self.assertRegex(line, rf"\b{word} {row[column]}\b")
 
     def test_without_the_uplinks(self):
@@ -132,30 +150,48 @@ class Aloud(Told):
         (file.parent / "4.up").write_bytes(bytes(75 * 40))
         said = self.told("text", file).splitlines()
         self.assertEqual("\n".join(said[:4]) + "\n", MIXED)
-        wanted = "speech 31, silence descriptors 4, invalid descriptors 1, lost or empty in pauses 117"
+        wanted = (
+            "speech 31, silence descriptors 4, invalid descriptors 1, lost or empty in pauses 117"
+        )
         self.assertEqual(said[4], f"call 1: Up ended; 153 periods, 3.06 s: {wanted}")
         self.assertEqual(said[5:7], TOLD_APART.splitlines()[1:3])
-        self.assertTrue(said[7].endswith(": silence descriptors 3, invalid descriptors 2, lost or empty in pauses 70"))
+        self.assertTrue(
+            said[7].endswith(
+                ": silence descriptors 3, invalid descriptors 2, lost or empty in pauses 70"
+            )
+        )
         self.assertIn("--lines FOLDER names their folder", said[8])
 
     def test_reasons(self):
         file = self.path("report.txt", REFUSED.encode())
         self.path("1.up", OTHER)
         row = "call 1: open at the last period of --periods; 1 period, 0.02 s: speech 0, lost 0, in pauses 0, quiet 1"
-        self.assertEqual(self.told("text", file), f"{REASONS}{row}; not full rate speech, and not decoded: 1\n")
+        self.assertEqual(
+            self.told("text", file), f"{REASONS}{row}; not full rate speech, and not decoded: 1\n"
+        )
 
     def test_causes(self):
         counts = "good 0 sid 0 invalid 0 bad 0 idle 0 other 0 miss 0 none 0 made 0"
-        for cause, said in (("end pcm 13", "Pcm ended, 13 octets of a period left"), ("fault up", "Up failed"), ("end up 0", "Up ended")):
+        for cause, said in (
+            ("end pcm 13", "Pcm ended, 13 octets of a period left"),
+            ("fault up", "Up failed"),
+            ("end up 0", "Up ended"),
+        ):
             text = f"order 1 ok\ncall 9 from 5 to 5 {cause}\ncounts 9 {counts}\nline 9 down failed\nend period 5 calls 1 left 0\n"
             self.path("9.up", b"")
             told = self.told("text", self.path("report.txt", text.encode()))
-            self.assertEqual(told.splitlines()[1], f"call 9: {said}; 0 periods, 0.00 s, from 0.10 s on; its Down line failed")
+            self.assertEqual(
+                told.splitlines()[1],
+                f"call 9: {said}; 0 periods, 0.00 s, from 0.10 s on; its Down line failed",
+            )
 
 
 class Calls(Told):
     def test_heard(self):
-        sorts = [Sort(word) for word in "bad sid bad good miss none good idle invalid bad good other sid invalid good".split()]
+        sorts = [
+            Sort(word)
+            for word in "bad sid bad good miss none good idle invalid bad good other sid invalid good".split()
+        ]
         wanted = "quiet noise noise speech lost lost speech quiet quiet quiet speech lost noise noise speech"
         codes = run_lines.heard_codes(bytes(map(SORTS.index, sorts)))
         self.assertEqual([run_lines.HEARDS[code].value for code in codes], wanted.split())
@@ -171,7 +207,10 @@ class Calls(Told):
             for number, value in enumerate(run_lines.HEARDS[code] for code in call.heard()):
                 period = call.span.start + number
                 if not any(bridge.start <= period < bridge.end for bridge in spans):
-                    idle = octets[number * PCM_OCTETS : (number + 1) * PCM_OCTETS] == bytes([Law.A.idle()]) * PCM_OCTETS
+                    idle = (
+                        octets[number * PCM_OCTETS : (number + 1) * PCM_OCTETS]
+                        == bytes([Law.A.idle()]) * PCM_OCTETS
+                    )
                     seen[value, idle] += 1
         self.assertEqual(seen[Heard.QUIET, False], 0)
         self.assertGreater(seen[Heard.QUIET, True], 0)
@@ -185,7 +224,11 @@ class Calls(Told):
             for call in run_lines.read_calls(folder, read).values():
                 bits = bits_of(call.octets(folder, "down"))
                 octets = call.octets(folder, "down")
-                kinds = Counter(run_lines.SENTS[code] for made in call.made for code in run_lines.sent(made, octets))
+                kinds = Counter(
+                    run_lines.SENTS[code]
+                    for made in call.made
+                    for code in run_lines.sent(made, octets)
+                )
                 self.assertEqual(kinds[Sent.OTHER], 0)
                 found = list(frames_of_downlink(bits))
                 self.assertLessEqual(sum(kinds.values()) - len(found), 0)
@@ -222,18 +265,29 @@ class Calls(Told):
         for number, periods in ((1, 12), (2, 30), (3, 27)):
             self.path(f"{number}.down", bytes(40 * periods))
         others = "hr 3 efr 3 amr 3 o&m 3 data 3 e-data 3 data14.5 3 hr-data 3 downlink 3"
-        self.assertEqual([row["others"] for row in self.rows("calls", self.folder)], ["efr 12", others, others])
+        self.assertEqual(
+            [row["others"] for row in self.rows("calls", self.folder)], ["efr 12", others, others]
+        )
         *table, first, last = self.told("calls", self.folder).splitlines()
         self.assertEqual(len(table), 4)
         said = "no full rate speech, but frames that trau doesn't decode:"
         self.assertEqual(first, f"call 1: {said} 12 of enhanced full rate speech (C1 to C5 11010)")
-        self.assertTrue(last.startswith(f"call 3: {said} 3 of half rate speech (C1 to C5 00011) and 3 of enhanced full rate speech (C1"))
+        self.assertTrue(
+            last.startswith(
+                f"call 3: {said} 3 of half rate speech (C1 to C5 00011) and 3 of enhanced full rate speech (C1"
+            )
+        )
         self.assertTrue(last.endswith(" and 3 of a downlink's idle frames (C1 to C5 01110)"))
-        self.assertEqual(json.loads(self.told("calls", self.folder, "--json"))[0]["others"], "efr 12")
+        self.assertEqual(
+            json.loads(self.told("calls", self.folder, "--json"))[0]["others"], "efr 12"
+        )
 
     def test_kinds_of_an_uplink(self):
         kinds = (DATA / "osmo-kinds.up").read_bytes()
-        up = self.path("7.up", (EXAMPLES / "7.up").read_bytes()[:400] + bytes(40) + 4 * kinds[240:360] + kinds[1080:])
+        up = self.path(
+            "7.up",
+            (EXAMPLES / "7.up").read_bytes()[:400] + bytes(40) + 4 * kinds[240:360] + kinds[1080:],
+        )
         self.assertEqual(
             [list(row.values()) for row in self.rows("kinds", up)],
             [
@@ -242,7 +296,11 @@ class Calls(Told):
                 ["01110", "a downlink's idle frames", "3", "7360", "23", "8000", "25"],
             ],
         )
-        self.assert_refused(report.main, ["kinds", self.path("8.up", bytes(400))], "8.up: has no frame at any bit; is it an uplink?")
+        self.assert_refused(
+            report.main,
+            ["kinds", self.path("8.up", bytes(400))],
+            "8.up: has no frame at any bit; is it an uplink?",
+        )
 
     def test_periods_that_werent_used(self):
         folder = lay_run("mixed", self.folder / "mixed")
@@ -257,12 +315,17 @@ class Calls(Told):
     def test_a_downlink_that_failed(self):
         folder = lay_run("mixed", self.folder / "mixed")
         first, *others = self.rows("calls", folder)
-        wanted = [{**first, **{column: "0" for column in first if column.startswith("down_")}}, *others]
+        wanted = [
+            {**first, **{column: "0" for column in first if column.startswith("down_")}},
+            *others,
+        ]
         down = folder / "1.down"
         down.unlink()
         self.assert_refused(report.main, ["calls", folder], "1.down: No such file")
         text = (folder / "report.txt").read_text()
-        (folder / "report.txt").write_text(text.replace("\nend period", "\nline 1 down failed\nend period"))
+        (folder / "report.txt").write_text(
+            text.replace("\nend period", "\nline 1 down failed\nend period")
+        )
         self.assertEqual(self.rows("calls", folder), wanted)
         down.mkdir()
         self.assertEqual(self.rows("calls", folder), wanted)
@@ -308,7 +371,9 @@ class Recorded(Told):
         periods = len(frames) // 40
         said = " ".join(f"{sort.value} {counts[sort.value]}" for sort in Sort)
         call = f"call 1 from 1000 to {1000 + periods} end up 0\ncounts 1 {said} made {periods}\n"
-        (self.run / "report.txt").write_text(f"order 1 ok\n{call}end period {1000 + periods} calls 1 left 0\n")
+        (self.run / "report.txt").write_text(
+            f"order 1 ok\n{call}end period {1000 + periods} calls 1 left 0\n"
+        )
         (self.run / "1.up").write_bytes(frames)
         (self.run / "1.down").write_bytes(bytes(40 * periods))
 
@@ -327,11 +392,20 @@ class Losses(Recorded):
 1 1023 1 20.46 20.48 0.46 1 0 0 noise
 1 1028 2 20.56 20.6 0.56 1 1 0 quiet
 1 1033 1 20.66 20.68 0.66 1 0 0 end"""
-        self.assertEqual([list(row.values()) for row in rows], [[*line.split(), ""] for line in wanted.splitlines()])
+        self.assertEqual(
+            [list(row.values()) for row in rows],
+            [[*line.split(), ""] for line in wanted.splitlines()],
+        )
         self.assertEqual(json.loads(self.told("losses", self.run, "--json"))[3]["utc"], None)
-        self.assertEqual(self.told("losses", self.run).splitlines()[1].split(), [*wanted.split()[:10], "-"])
-        self.assertEqual(self.rows("losses", self.run, "--calls", "1", "--report", self.run / "report.txt"), rows)
-        self.assert_refused(report.main, ["losses", self.run, "--calls", "2"], "report.txt: has no call 2")
+        self.assertEqual(
+            self.told("losses", self.run).splitlines()[1].split(), [*wanted.split()[:10], "-"]
+        )
+        self.assertEqual(
+            self.rows("losses", self.run, "--calls", "1", "--report", self.run / "report.txt"), rows
+        )
+        self.assert_refused(
+            report.main, ["losses", self.run, "--calls", "2"], "report.txt: has no call 2"
+        )
         self.lay_call("good good sid bad bad")
         self.assertEqual(self.told("losses", self.run), "  ".join(report.LOSS_COLUMNS) + "\n")
 
@@ -339,12 +413,20 @@ class Losses(Recorded):
         for name in ("mixed", "clean", "harsh", "mulaw"):
             folder = lay_run(name, self.folder / name)
             found = self.rows("losses", folder)
-            for number, call in run_lines.read_calls(folder, run_texts.read_report(folder / "report.txt")).items():
-                lost = [each.n for each in needs(frames_by_period(call.octets(folder, "up"))) if isinstance(each, Lost) and each.n]
+            for number, call in run_lines.read_calls(
+                folder, run_texts.read_report(folder / "report.txt")
+            ).items():
+                lost = [
+                    each.n
+                    for each in needs(frames_by_period(call.octets(folder, "up")))
+                    if isinstance(each, Lost) and each.n
+                ]
                 rows = [row for row in found if row["call"] == str(number)]
                 for column in ("repeated", "muted", "silence"):
                     wanted = sum(kinds_of_loss(n) == column for n in lost)
-                    self.assertEqual(sum(int(row[column]) for row in rows), wanted, (name, number, column))
+                    self.assertEqual(
+                        sum(int(row[column]) for row in rows), wanted, (name, number, column)
+                    )
                 self.assertEqual(sum(int(row["periods"]) for row in rows), len(lost))
                 self.assertEqual(len(rows), lost.count(1))
 
@@ -358,15 +440,34 @@ class Losses(Recorded):
         ):
             self.lay_call(words, PRIMED)
             row = self.rows("calls", self.run)[0]
-            self.assertEqual(" ".join(f"{word} {row[word]}" for word in ("quiet", "speech", "lost")), wanted, words)
-            self.assertEqual([row["period"] for row in self.rows("losses", self.run)], [loss] if loss else [])
-            self.assertIn(f"speech {row['speech']}, lost {row['lost']}", self.told("text", self.run / "report.txt"))
+            self.assertEqual(
+                " ".join(f"{word} {row[word]}" for word in ("quiet", "speech", "lost")),
+                wanted,
+                words,
+            )
+            self.assertEqual(
+                [row["period"] for row in self.rows("losses", self.run)], [loss] if loss else []
+            )
+            self.assertIn(
+                f"speech {row['speech']}, lost {row['lost']}",
+                self.told("text", self.run / "report.txt"),
+            )
         self.lay_call("bad bad", PRIMED)
-        (call,) = run_lines.read_calls(self.run, run_texts.read_report(self.run / "report.txt")).values()
-        self.assertEqual(looks.looks(call.brought()), bytes(looks.CODES[look] for look in (looks.Look.IDLE, looks.Look.QUIET, looks.Look.QUIET)))
+        (call,) = run_lines.read_calls(
+            self.run, run_texts.read_report(self.run / "report.txt")
+        ).values()
+        self.assertEqual(
+            looks.looks(call.brought()),
+            bytes(
+                looks.CODES[look] for look in (looks.Look.IDLE, looks.Look.QUIET, looks.Look.QUIET)
+            ),
+        )
         # Speech is speech, and so is a frame of silence within it.
         self.lay_call("good bad", octets_of(write_up(UpFrame(Sort.GOOD, data=SPEECH))) + PRIMED)
-        self.assertEqual([self.rows("calls", self.run)[0][word] for word in ("quiet", "speech", "lost")], ["0", "3", "1"])
+        self.assertEqual(
+            [self.rows("calls", self.run)[0][word] for word in ("quiet", "speech", "lost")],
+            ["0", "3", "1"],
+        )
 
     def test_a_peer_that_has_gone(self):
         # All is lost up to the call's end, longer than speech is repeated and muted: the table's rate isn't the network's.
@@ -404,11 +505,15 @@ class Utc(Recorded):
 
     def test_of_a_recording_that_isnt_replayed(self):
         (self.run / "report.txt").unlink()
-        said = f"a recording has no report; gateway.py check {self.run} --again NEW makes a run of it"
+        said = (
+            f"a recording has no report; gateway.py check {self.run} --again NEW makes a run of it"
+        )
         for command in ("calls", "losses"):
             self.assert_refused(report.main, [command, self.run], said)
         (self.run / "clock.txt").unlink()
-        self.assert_refused(report.main, ["losses", self.run], "report.txt: No such file or directory")
+        self.assert_refused(
+            report.main, ["losses", self.run], "report.txt: No such file or directory"
+        )
 
     def test_of_other_lines(self):
         # A clock says nothing of a run that opens the call at another period, or whose uplink is elsewhere.
@@ -419,23 +524,38 @@ class Utc(Recorded):
         (self.run / "clock.txt").write_text("no clock\n10 given-up 3\n")
         self.assertEqual(self.times(self.run, "calls"), [""])
         (self.run / "clock.txt").write_text("0 at 2026-13-30T22:59:40.000+00:00\n")
-        self.assert_refused(report.main, ["losses", self.run], "clock.txt: line 1 has no time: '0 at 2026-13")
+        self.assert_refused(
+            report.main, ["losses", self.run], "clock.txt: line 1 has no time: '0 at 2026-13"
+        )
 
     def test_events(self):
         events = self.run / "events.txt"
         self.assert_refused(report.main, ["events", self.run], "events.txt: No such file")
         why = "gsm-unsent: No route, a, pcm-fault: No space"
-        events.write_text(f"1000 call 1 gsm-late 2 gsm-missing 3\n1050 call 12 pcm-fault 1 gsm-unsent 4, {why}\n1100 call 1 gsm-la")
+        events.write_text(
+            f"1000 call 1 gsm-late 2 gsm-missing 3\n1050 call 12 pcm-fault 1 gsm-unsent 4, {why}\n1100 call 1 gsm-la"
+        )
         wanted = """1000 20.0 1 gsm-late 2  2026-11-30T23:00:00.000+00:00
 1000 20.0 1 gsm-missing 3  2026-11-30T23:00:00.000+00:00
 1050 21.0 12 pcm-fault 1 No space 2026-11-30T23:00:31.000+00:00
 1050 21.0 12 gsm-unsent 4 No route, a 2026-11-30T23:00:31.000+00:00"""
-        self.assertEqual([" ".join(row.values()) for row in self.rows("events", self.run)], wanted.splitlines())
+        self.assertEqual(
+            [" ".join(row.values()) for row in self.rows("events", self.run)], wanted.splitlines()
+        )
         (self.run / "clock.txt").unlink()
         self.assertEqual(self.times(self.run, "events"), 4 * [""])
-        for bad in ("1000 call 1\n", "1000 call 1 gsm-late\n", "call 1 gsm-late 2\n", f"{10 ** 11} call 1 gsm-late 2\n"):
+        for bad in (
+            "1000 call 1\n",
+            "1000 call 1 gsm-late\n",
+            "call 1 gsm-late 2\n",
+            f"{10 ** 11} call 1 gsm-late 2\n",
+        ):
             events.write_text(bad)
-            self.assert_refused(report.main, ["events", self.run], "events.txt: line 1 isn't one of a recording's events")
+            self.assert_refused(
+                report.main,
+                ["events", self.run],
+                "events.txt: line 1 isn't one of a recording's events",
+            )
 
 
 class Compared(Told):
@@ -461,9 +581,15 @@ class Compared(Told):
         (self.other / "2.down").write_bytes((self.one / "2.down").read_bytes()[:-100])
         (self.other / "4.out").unlink()
         down, out, gone = self.compare(1)
-        self.assertEqual((down["call"], down["what"], down["period"], down["octet"]), ("2", "down", "97", "3900"))
-        self.assertEqual((down["periods"], down["one"], down["other"]), ("3", "4000 octets", "3900 octets"))
-        self.assertEqual((out["call"], out["what"], out["period"], out["seconds"]), ("3", "out", "93", "1.86"))
+        self.assertEqual(
+            (down["call"], down["what"], down["period"], down["octet"]), ("2", "down", "97", "3900")
+        )
+        self.assertEqual(
+            (down["periods"], down["one"], down["other"]), ("3", "4000 octets", "3900 octets")
+        )
+        self.assertEqual(
+            (out["call"], out["what"], out["period"], out["seconds"]), ("3", "out", "93", "1.86")
+        )
         self.assertEqual((out["octet"], out["periods"], out["one"]), ("3207", "2", ""))
         self.assertEqual((gone["call"], gone["other"]), ("4", "no line"))
 
@@ -472,14 +598,23 @@ class Compared(Told):
             (self.other / name).unlink()
         (self.other / "1.out").mkdir()
         (self.other / "2.out").symlink_to("/dev/null")
-        self.assertEqual([(row["call"], row["other"]) for row in self.compare(1)], [("1", "no line"), ("2", "no line")])
+        self.assertEqual(
+            [(row["call"], row["other"]) for row in self.compare(1)],
+            [("1", "no line"), ("2", "no line")],
+        )
 
     def test_reports(self):
         text = (self.other / "report.txt").read_text()
-        text = text.replace("order 14 refused 5 call 3", "order 14 ok").replace("from 22 to 95 sent 73 73", "from 22 to 95 sent 73 72")
-        text = text.replace("sent 73 72 lost 0 0", "sent 73 72 lost 0 1").replace("made 75", "made 74")
+        text = text.replace("order 14 refused 5 call 3", "order 14 ok").replace(
+            "from 22 to 95 sent 73 73", "from 22 to 95 sent 73 72"
+        )
+        text = text.replace("sent 73 72 lost 0 0", "sent 73 72 lost 0 1").replace(
+            "made 75", "made 74"
+        )
         (self.other / "report.txt").write_text(text)
-        self.assertEqual([row["what"] for row in self.compare(1)], ["order 14", "bridge 1", "counts"])
+        self.assertEqual(
+            [row["what"] for row in self.compare(1)], ["order 14", "bridge 1", "counts"]
+        )
         (self.other / "report.txt").write_text("")
         self.assert_refused(report.main, ["compare", self.one, self.other], "isn't a whole report")
 
@@ -494,43 +629,65 @@ class Sync(Told):
 
     def test_no_loss(self):
         told = self.sync(self.frames)
-        self.assertEqual((told["frames"], told["misses"], told["first"], told["losses"]), (20, 0, 0, []))
-        self.assertEqual(self.told("sync", self.path("9.up")), "  ".join(report.SYNC_COLUMNS) + "\n")
+        self.assertEqual(
+            (told["frames"], told["misses"], told["first"], told["losses"]), (20, 0, 0, [])
+        )
+        self.assertEqual(
+            self.told("sync", self.path("9.up")), "  ".join(report.SYNC_COLUMNS) + "\n"
+        )
 
     def test_broken_bits(self):
         octets = bytearray(self.frames)
         octets[5 * 40] ^= 0x81  # two of the sync zeros
         octets[5 * 40 + 38] ^= 0x80  # the last sync one
         (loss,) = self.sync(octets)["losses"]
-        self.assertEqual((loss["due"], loss["period"], loss["misses"], loss["hunted_from"]), (1600, 5, 1, None))
+        self.assertEqual(
+            (loss["due"], loss["period"], loss["misses"], loss["hunted_from"]), (1600, 5, 1, None)
+        )
         self.assertEqual(loss["broken"], [{"place": 1600, "sync_bits": [0, 7, 304]}])
-        self.assertEqual((loss["match"], loss["slip"], loss["found"], loss["found_period"]), (1920, 0, 1920, 6))
+        self.assertEqual(
+            (loss["match"], loss["slip"], loss["found"], loss["found_period"]), (1920, 0, 1920, 6)
+        )
 
     def test_slips(self):
         bits = bits_of(self.frames)
         for slip, found in ((3, 9 * 320 + 3), (-5, 10 * 320 - 5), (160, 9 * 320 + 160)):
             place = 6 * 320
-            slipped = bits[:place] + "1" * slip + bits[place:] if slip > 0 else bits[: place + slip] + bits[place:]
+            slipped = (
+                bits[:place] + "1" * slip + bits[place:]
+                if slip > 0
+                else bits[: place + slip] + bits[place:]
+            )
             slipped += "1" * (-len(slipped) % 320)
             (loss,) = self.sync(octets_of(slipped))["losses"]
-            self.assertEqual((loss["misses"], loss["hunted_from"], loss["slip"]), (3, 9 * 320, slip))
+            self.assertEqual(
+                (loss["misses"], loss["hunted_from"], loss["slip"]), (3, 9 * 320, slip)
+            )
             self.assertEqual((loss["match"], loss["found"]), (place + slip, found))
 
     def test_no_next_match(self):
         (loss,) = self.sync(self.frames[:80] + bytes(200))["losses"]
-        self.assertEqual((loss["match"], loss["slip"], loss["found"], loss["misses"]), (None, None, None, 3))
+        self.assertEqual(
+            (loss["match"], loss["slip"], loss["found"], loss["misses"]), (None, None, None, 3)
+        )
         self.assertEqual([len(miss["sync_bits"]) for miss in loss["broken"]], [19, 19, 19])
 
     def test_no_frame(self):
         line = self.path("9.up", bytes(80))
-        self.assert_refused(report.main, ["sync", line], "has no frame at any bit; is it an uplink?")
+        self.assert_refused(
+            report.main, ["sync", line], "has no frame at any bit; is it an uplink?"
+        )
 
     def test_frames_text(self):
         text = "".join(f"{place * 320} good\n" for place in range(20)) + "frames 20 left 3\n"
         told = self.path("frames.txt", text.encode())
         self.assertEqual(self.sync(self.frames + b"abc", "--frames", told)["frames"], 20)
         line = self.path("9.up", self.frames)
-        self.assert_refused(report.main, ["sync", line, "--frames", told], "the command `frames` printed other frames")
+        self.assert_refused(
+            report.main,
+            ["sync", line, "--frames", told],
+            "the command `frames` printed other frames",
+        )
 
 
 if __name__ == "__main__":

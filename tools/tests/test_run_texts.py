@@ -5,14 +5,20 @@ from pathlib import Path
 
 from support import CODEC, EXAMPLES, TOP, InFolder
 
-import run_texts
-from core.profile import MOST_PERIODS
-from core.words import Refusal
+from trau.runs import run_texts
+from trau.rules.profile import MOST_PERIODS
+from trau.command_line.words import Refusal
 
 FARMS = (
     (EXAMPLES / "farm" / "orders.txt", EXAMPLES / "farm" / "wanted" / "report.txt"),
-    (TOP / "checks" / "farms" / "clean" / "orders.txt", TOP / "checks" / "farms" / "clean" / "report.txt"),
-    (TOP / "checks" / "farms" / "mulaw" / "orders.txt", TOP / "checks" / "farms" / "mulaw" / "report.txt"),
+    (
+        TOP / "checks" / "farms" / "clean" / "orders.txt",
+        TOP / "checks" / "farms" / "clean" / "report.txt",
+    ),
+    (
+        TOP / "checks" / "farms" / "mulaw" / "orders.txt",
+        TOP / "checks" / "farms" / "mulaw" / "report.txt",
+    ),
     (TOP / "checks" / "farms" / "harsh" / "orders.txt", CODEC / "farm-report.txt"),
 )
 NAME = Path("text")
@@ -29,7 +35,10 @@ class Orders(InFolder):
         for content, why in (
             (b"0 open 1\n0 shut 1\n0 open 2", "text: line 2 isn't an order: '0 shut 1'"),
             (b"5 open 1\n4 open 2\n", "text: line 2 has a stamp below that of the line before"),
-            (b"5 open 4097\n", "text: line 1 names call 4097; the calls of one farm are 1 to 4,096"),
+            (
+                b"5 open 4097\n",
+                "text: line 1 names call 4097; the calls of one farm are 1 to 4,096",
+            ),
             (65537 * b"0 open 1\n", "text: orders too long: 589,833 octets, 65,537 lines"),
         ):
             with self.assertRaisesRegex(Refusal, why):

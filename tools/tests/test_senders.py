@@ -17,17 +17,17 @@ import unittest
 
 from support import DATA, InFolder
 
-import captures
-import code_word
-import lines
-import rtp_streams
-import uplink_frames
+from trau.recordings import captures
+from trau.recordings import code_word
+from trau.recordings import lines
+from trau.recordings import rtp_streams
+from trau.recordings import uplink_frames
 from capture_files import HAS_DPKT, InCaptures, fields, rewritten, sorts_of
-from core.frame import bits_of, data_of, read_up
-from core.g711 import Law
-from core.parameters import SILENCE, bits_of_parameters, data_of_gsm, gsm_of_data
-from core.search import search
-from damages import silence_descriptor
+from trau.rules.frame import bits_of, data_of, read_up
+from trau.rules.g711 import Law
+from trau.rules.parameters import SILENCE, bits_of_parameters, data_of_gsm, gsm_of_data
+from trau.rules.search import search
+from trau.recordings.damages import silence_descriptor
 
 
 def tafs_of(line):
@@ -40,7 +40,10 @@ def tafs_of(line):
 def script():
     """What the sender of osmo.pcap sent in each period: a payload, none of an empty packet, or None where it skipped a frame."""
     rows = (DATA / "osmo.txt").read_text().split("\n")[:-1]
-    return [None if row == "skip" else b"" if row == "empty" else bytes.fromhex(row.split(" ")[-1]) for row in rows]
+    return [
+        None if row == "skip" else b"" if row == "empty" else bytes.fromhex(row.split(" ")[-1])
+        for row in rows
+    ]
 
 
 def is_descriptor(payload):
@@ -52,7 +55,9 @@ def is_descriptor(payload):
 class Senders(InCaptures):
     def packets(self, name):
         """The packets of a capture, with their times."""
-        return list(captures.library("pcap").UniversalReader(io.BytesIO((DATA / name).read_bytes())))
+        return list(
+            captures.library("pcap").UniversalReader(io.BytesIO((DATA / name).read_bytes()))
+        )
 
     def written(self, packets):
         """A capture of these packets and times."""
@@ -66,13 +71,19 @@ class Senders(InCaptures):
 
     def wanted_sorts(self, sent):
         """The sort of each frame: what was sent, and unusable ones for all else."""
-        return ["bad" if not payload else "sid" if is_descriptor(payload) else "good" for payload in sent]
+        return [
+            "bad" if not payload else "sid" if is_descriptor(payload) else "good"
+            for payload in sent
+        ]
 
     def test_frames_that_a_base_station_lost(self):
         sent = script()
         said, line = self.pcap(DATA / "osmo.pcap")
         # Gaps of 1, 3, 12, 1 and 2 frames in speech; two and four empty packets; 10, 23, 47, 5 and 3 frames left out in pauses.
-        self.assertEqual(said, "pcap gsm packets 92 late 0 doubled 0 others 0 frames 86 sid 5 invalid 0 lost 0 gap 19 empty 6 paused 88 lead 0\n")
+        self.assertEqual(
+            said,
+            "pcap gsm packets 92 late 0 doubled 0 others 0 frames 86 sid 5 invalid 0 lost 0 gap 19 empty 6 paused 88 lead 0\n",
+        )
         self.assertEqual(sorts_of(line), self.wanted_sorts(sent))
         datas = [data_of(each.frame) for each in search(bits_of(line))]
         came = [at for at, payload in enumerate(sent) if payload]
@@ -118,7 +129,9 @@ class Senders(InCaptures):
         made.idle(4)
         made.take_all([*datas[5:8], None, None, *datas[8:]])
         up = self.path("7.up", made.line())
-        self.assertEqual(self.run_tool(lines.main, "capture", up, self.path("7.pcap"))[::2], (0, ""))
+        self.assertEqual(
+            self.run_tool(lines.main, "capture", up, self.path("7.pcap"))[::2], (0, "")
+        )
         said, line = self.pcap(self.path("7.pcap"), "--gap", "idle")
         self.assertIn(" lost 2 gap 4 empty 0 paused 0 ", said)
         self.assertEqual(line, made.line())
@@ -130,7 +143,11 @@ class Senders(InCaptures):
         tafs = 0
         for seed in range(40):
             source = random.Random(seed)
-            kinds = source.choices(["speech", "sid", "skip", "empty"], [source.choice((0.1, 8)), 0.4, source.randint(0, 9), 1], k=120)
+            kinds = source.choices(
+                ["speech", "sid", "skip", "empty"],
+                [source.choice((0.1, 8)), 0.4, source.randint(0, 9), 1],
+                k=120,
+            )
             first = (source.randrange(1 << 16), source.randrange(1 << 32))
             arrived, numbers = {}, 0
             for at, kind in enumerate(kinds):
@@ -146,7 +163,11 @@ class Senders(InCaptures):
             packets += [packets[place] for place in source.sample(range(len(packets)), 3)]
             _, line = self.pcap(self.written(sorted(packets)))
             came = [arrived.get(at, ("skip",))[0] for at in range(min(arrived), max(arrived) + 1)]
-            self.assertEqual(sorts_of(line), [{"speech": "good", "sid": "sid"}.get(kind, "bad") for kind in came], seed)
+            self.assertEqual(
+                sorts_of(line),
+                [{"speech": "good", "sid": "sid"}.get(kind, "bad") for kind in came],
+                seed,
+            )
             wanted, since = [], None
             for at, kind in enumerate(came):
                 since = None if kind == "speech" or since is None else since + 1
@@ -162,9 +183,16 @@ class Senders(InCaptures):
         # Frames were dropped before the payloader, which leaves gaps of time stamps, and packets behind it, which leaves numbers out.
         rows = fields("gstreamer.txt")
         words = ["pcap", DATA / "gstreamer.pcap", self.path("line")]
-        self.assert_refused(lines.main, words, "payload types 98 (33 octets that begin with 1101: GSM, which --type 98=gsm takes)")
+        self.assert_refused(
+            lines.main,
+            words,
+            "payload types 98 (33 octets that begin with 1101: GSM, which --type 98=gsm takes)",
+        )
         said, line = self.pcap(DATA / "gstreamer.pcap", "--type", "98=gsm")
-        self.assertEqual(said, "pcap gsm packets 87 late 0 doubled 0 others 0 frames 87 sid 0 invalid 0 lost 3 gap 10 empty 0 paused 0 lead 0\n")
+        self.assertEqual(
+            said,
+            "pcap gsm packets 87 late 0 doubled 0 others 0 frames 87 sid 0 invalid 0 lost 3 gap 10 empty 0 paused 0 lead 0\n",
+        )
         came = {(stamp - rows[0][3]) // 160: payload for _, _, _, stamp, payload in rows}
         self.assertEqual(sorts_of(line), ["good" if at in came else "bad" for at in range(100)])
         for at, payload in came.items():
@@ -175,7 +203,10 @@ class Senders(InCaptures):
         # A filter left out two stretches of sound; three packets were lost.
         rows = fields("ffmpeg.txt")
         said, line = self.pcap(DATA / "ffmpeg.pcap")
-        self.assertEqual(said, "pcap pcma packets 35 late 0 doubled 0 others 0 octets 5472 lost 480 gap 2048 lead 0 padded 0\n")
+        self.assertEqual(
+            said,
+            "pcap pcma packets 35 late 0 doubled 0 others 0 octets 5472 lost 480 gap 2048 lead 0 padded 0\n",
+        )
         wanted = bytearray([Law.A.idle()]) * 8000
         for _, _, _, stamp, payload in rows:
             place = stamp - rows[0][3]
@@ -186,11 +217,17 @@ class Senders(InCaptures):
         def dynamic(rtp):
             rtp.pt = 111
 
-        changed = self.written([(time, rewritten(octets, dynamic)) for time, octets in self.packets("ffmpeg.pcap")])
+        changed = self.written(
+            [(time, rewritten(octets, dynamic)) for time, octets in self.packets("ffmpeg.pcap")]
+        )
         whole = self.pcap(DATA / "ffmpeg.pcap")[1]
         self.assertEqual(self.pcap(changed, "--type", "111=pcma", "--type", "98=gsm")[1], whole)
         for word in ("111", "111=amr", "128=gsm", "x=gsm", "=gsm"):
-            self.assert_refused(lines.main, ["pcap", changed, self.path("line"), "--type", word], "argument --type: ")
+            self.assert_refused(
+                lines.main,
+                ["pcap", changed, self.path("line"), "--type", word],
+                "argument --type: ",
+            )
 
     # Senders that begin anew
 
@@ -204,7 +241,8 @@ class Senders(InCaptures):
         said, line = self.pcap(given, "--restart")
         # 40 frames, 0.58 s from the last of them to the first of the other 40.
         self.assertEqual(
-            said, "pcap gsm packets 80 late 0 doubled 0 others 0 frames 80 sid 0 invalid 0 lost 0 gap 28 empty 0 paused 0 lead 0 restarts 1\n"
+            said,
+            "pcap gsm packets 80 late 0 doubled 0 others 0 frames 80 sid 0 invalid 0 lost 0 gap 28 empty 0 paused 0 lead 0 restarts 1\n",
         )
         self.assertEqual(sorts_of(line), 40 * ["good"] + 28 * ["bad"] + 40 * ["good"])
         self.assertIn(" restarts 0\n", self.pcap(DATA / "osmo.pcap", "--restart")[0])
@@ -216,26 +254,52 @@ class Senders(InCaptures):
             rtp.ts = (rtp.ts - 90 * 8000) % 4294967296
 
         packets = self.packets("gsm.pcap")
-        changed = [(place / 50, rewritten(octets, lower) if place >= 20 else octets) for place, (_, octets) in enumerate(packets)]
-        self.assertEqual(self.pcap(self.written(changed), "--restart")[1], self.pcap(DATA / "gsm.pcap")[1])
-        self.assert_refused(lines.main, ["pcap", self.path("changed.pcap"), self.path("line")], "of packet 21 is -90 s after that of packet 20")
+        changed = [
+            (place / 50, rewritten(octets, lower) if place >= 20 else octets)
+            for place, (_, octets) in enumerate(packets)
+        ]
+        self.assertEqual(
+            self.pcap(self.written(changed), "--restart")[1], self.pcap(DATA / "gsm.pcap")[1]
+        )
+        self.assert_refused(
+            lines.main,
+            ["pcap", self.path("changed.pcap"), self.path("line")],
+            "of packet 21 is -90 s after that of packet 20",
+        )
 
     def test_a_sender_that_was_held_up_has_not_begun_anew(self):
         packets = self.packets("gsm.pcap")
-        late = [(place / 50 + 60 * (place >= 20), octets) for place, (_, octets) in enumerate(packets)]
+        late = [
+            (place / 50 + 60 * (place >= 20), octets) for place, (_, octets) in enumerate(packets)
+        ]
         self.assertEqual(self.pcap(self.written(late))[1], self.pcap(DATA / "gsm.pcap")[1])
 
     def test_two_sources_of_a_call(self):
         given = DATA / "sources.pcap"
-        self.assert_refused(lines.main, ["pcap", given, self.path("line")], "has 2 streams, one of which --stream names: 1 is ")
+        self.assert_refused(
+            lines.main,
+            ["pcap", given, self.path("line")],
+            "has 2 streams, one of which --stream names: 1 is ",
+        )
         one, other = (self.pcap(given, "--stream", number)[1] for number in "12")
         said, line = self.pcap(given, "--stream", "1,2")
-        self.assertEqual(said, "pcap gsm packets 39 late 0 doubled 0 others 0 frames 39 sid 3 invalid 0 lost 0 gap 6 empty 0 paused 0 lead 0\n")
+        self.assertEqual(
+            said,
+            "pcap gsm packets 39 late 0 doubled 0 others 0 frames 39 sid 3 invalid 0 lost 0 gap 6 empty 0 paused 0 lead 0\n",
+        )
         self.assertEqual(line, one + 6 * uplink_frames.LOST + other)
-        self.assert_refused(lines.main, ["pcap", given, self.path("line"), "--stream", "2,1"], "stream 1 begins 0.9")
-        self.assert_refused(lines.main, ["pcap", given, self.path("line"), "--stream", "1,1"], "stream 1 begins 0.5")
+        self.assert_refused(
+            lines.main, ["pcap", given, self.path("line"), "--stream", "2,1"], "stream 1 begins 0.9"
+        )
+        self.assert_refused(
+            lines.main, ["pcap", given, self.path("line"), "--stream", "1,1"], "stream 1 begins 0.5"
+        )
         for word in ("1,", "0", "1,x"):
-            self.assert_refused(lines.main, ["pcap", given, self.path("line"), "--stream", word], "argument --stream: ")
+            self.assert_refused(
+                lines.main,
+                ["pcap", given, self.path("line"), "--stream", word],
+                "argument --stream: ",
+            )
 
     # Packets that have no whole frames
 
@@ -254,14 +318,26 @@ class Senders(InCaptures):
         for payload, said in (
             (frame[:20], "20 octets"),
             (frame[:1], "1 octet"),
-            (bytes([0xC0]) + frame[1:31], "31 octets that begin with 1100: enhanced full rate, which trau doesn't decode"),
-            (b"\xe2" + frame, "34 octets, the second of which begins with 1101: a frame of GSM after an octet of flags, which isn't read here"),
+            (
+                bytes([0xC0]) + frame[1:31],
+                "31 octets that begin with 1100: enhanced full rate, which trau doesn't decode",
+            ),
+            (
+                b"\xe2" + frame,
+                "34 octets, the second of which begins with 1101: a frame of GSM after an octet of flags, which isn't read here",
+            ),
         ):
             given = self.with_payload(7, payload)
             words = ["pcap", given, self.path("line")]
-            self.assert_refused(lines.main, words, f"packet 8 has no whole frames of GSM, but {said}; --partial counts such packets as lost\n")
+            self.assert_refused(
+                lines.main,
+                words,
+                f"packet 8 has no whole frames of GSM, but {said}; --partial counts such packets as lost\n",
+            )
             out, line = self.pcap(given, "--partial")
-            self.assertIn("packets 29 late 0 doubled 0 others 0 frames 29 sid 0 invalid 0 lost 1 gap 0 ", out)
+            self.assertIn(
+                "packets 29 late 0 doubled 0 others 0 frames 29 sid 0 invalid 0 lost 1 gap 0 ", out
+            )
             self.assertIn(" cut 0 wrong 1\n", out)
             self.assertEqual(sorts_of(line), 7 * ["good"] + ["bad"] + 22 * ["good"])
             self.path("line").unlink()
@@ -271,15 +347,25 @@ class Senders(InCaptures):
             def change(rtp):
                 rtp.data, rtp.pt = payload_of(bytes(rtp.data)), kind
 
-            return self.written([(time, rewritten(octets, change)) for time, octets in self.packets("gsm.pcap")])
+            return self.written(
+                [(time, rewritten(octets, change)) for time, octets in self.packets("gsm.pcap")]
+            )
 
         given = changed(lambda frame: bytes([0xC0]) + frame[1:31], 97)
-        said = "97 (31 octets that begin with 1100: enhanced full rate, which trau doesn't decode)\n"
-        self.assert_refused(lines.main, ["pcap", given, self.path("line")], f"its streams have the payload types {said}")
+        said = (
+            "97 (31 octets that begin with 1100: enhanced full rate, which trau doesn't decode)\n"
+        )
+        self.assert_refused(
+            lines.main,
+            ["pcap", given, self.path("line")],
+            f"its streams have the payload types {said}",
+        )
         # A stream that has no frame of GSM is refused with --partial too.
         for words in ([], ["--partial"]):
             said = "packet 1 has no whole frames of GSM, but 31 octets that begin with 1100: enhanced full rate, which trau doesn't decode\n"
-            self.assert_refused(lines.main, ["pcap", given, self.path("line"), "--type", "97=gsm", *words], said)
+            self.assert_refused(
+                lines.main, ["pcap", given, self.path("line"), "--type", "97=gsm", *words], said
+            )
         given = changed(lambda frame: b"\xe0" + frame, 3)
         said = "after an octet of flags, which isn't read here\n"
         self.assert_refused(lines.main, ["pcap", given, self.path("line")], said)
@@ -311,7 +397,10 @@ class Senders(InCaptures):
         self.assertEqual(self.look(packed), self.look(DATA / "sources.pcap"))
         octets = (DATA / "gsm.pcap").read_bytes()
         given = self.path("link.pcap", octets[:20] + (147).to_bytes(4, "little") + octets[24:])
-        self.assertEqual(self.look(given), [f"  not read: {given}: has a kind of link, 147, that isn't known here"])
+        self.assertEqual(
+            self.look(given),
+            [f"  not read: {given}: has a kind of link, 147, that isn't known here"],
+        )
         self.assertEqual(len(self.look(self.path("cut.pcap", octets[:-15]))), 1)
 
 
@@ -330,20 +419,31 @@ class Jumps(unittest.TestCase):
             (-60 * 8000, 0.02, True),
             (600 * 8000, 60.0, True),
         ):
-            self.assertEqual(rtp_streams.has_jumped(first, self.packet(stamp, time)), wanted, (stamp, time))
+            self.assertEqual(
+                rtp_streams.has_jumped(first, self.packet(stamp, time)), wanted, (stamp, time)
+            )
 
 
 class Files(InFolder):
     def test_zeros_for_lost_frames(self):
         frames = (DATA / "speech.gsm").read_bytes()
         descriptor = gsm_of_data(bits_of_parameters(silence_descriptor(SILENCE)))
-        given = self.path("7.gsm", frames[: 33 * 10] + 66 * b"\0" + descriptor + 33 * 30 * b"\0" + frames[33 * 10 :])
+        given = self.path(
+            "7.gsm",
+            frames[: 33 * 10] + 66 * b"\0" + descriptor + 33 * 30 * b"\0" + frames[33 * 10 :],
+        )
         words = ["uplink", given, self.path("7.up")]
-        self.assert_refused(lines.main, words, "no frame of libgsm begins at octet 330: its first four bits aren't 1101; --zeros lost takes")
+        self.assert_refused(
+            lines.main,
+            words,
+            "no frame of libgsm begins at octet 330: its first four bits aren't 1101; --zeros lost takes",
+        )
         status, out, err = self.run_tool(lines.main, *words, "--zeros", "lost")
         self.assertEqual((status, out, err), (0, "uplink frames 73 sid 1 invalid 0 lost 32\n", ""))
         line = self.path("7.up").read_bytes()
-        self.assertEqual(sorts_of(line), 10 * ["good"] + 2 * ["bad"] + ["sid"] + 30 * ["bad"] + 30 * ["good"])
+        self.assertEqual(
+            sorts_of(line), 10 * ["good"] + 2 * ["bad"] + ["sid"] + 30 * ["bad"] + 30 * ["good"]
+        )
         self.assertEqual(tafs_of(line), [12 + 24])
         out = self.run_tool(lines.main, "look", given)[1]
         self.assertIn(": 73 frames of libgsm; zeros stand for lost ones; lines.py uplink ", out)
@@ -362,7 +462,10 @@ class Files(InFolder):
         line.lose(50)
         line.idle(30)
         line.lose(30)
-        self.assertEqual(sorts_of(line.line()), 50 * ["bad"] + ["sid"] + 50 * ["bad"] + 30 * ["idle"] + 30 * ["bad"])
+        self.assertEqual(
+            sorts_of(line.line()),
+            50 * ["bad"] + ["sid"] + 50 * ["bad"] + 30 * ["idle"] + 30 * ["bad"],
+        )
         self.assertEqual(tafs_of(line.line()), [50 + 24, 50 + 48])
 
 

@@ -12,13 +12,13 @@ from collections import Counter
 
 from support import HAS_LOCKS, TOP, InFolder
 
-from core.lines import SIDES
-from core.report import FailedLine, Report
+from trau.rules.lines import SIDES
+from trau.rules.report import FailedLine, Report
 from test_timeline import lay
 
-import listening
-import run_texts
-import shard
+from trau.recordings import listening
+from trau.runs import run_texts
+from trau.runs import shard
 
 
 def restricted(report, orders, numbers):
@@ -46,7 +46,9 @@ class Components(unittest.TestCase):
     def test_bridges_join(self):
         self.assertEqual(self.components(), [])
         self.assertEqual(self.components("open 1", "open 2", "level 9 0"), [[1], [2], [9]])
-        self.assertEqual(self.components("bridge 1 2", "bridge 3 4", "bridge 4 2", "open 5"), [[1, 2, 3, 4], [5]])
+        self.assertEqual(
+            self.components("bridge 1 2", "bridge 3 4", "bridge 4 2", "open 5"), [[1, 2, 3, 4], [5]]
+        )
         self.assertEqual(self.components("bridge 7 7", "bridge 7 4096"), [[7, 4096]])
 
     def test_chain_of_all_calls(self):
@@ -55,7 +57,9 @@ class Components(unittest.TestCase):
         self.assertEqual(self.components(*lines, *lines[:50]), [list(range(1, 4097))])
 
     def test_parts_hold_about_the_same(self):
-        pieces = [(periods, frozenset([call])) for call, periods in enumerate((5, 50, 20, 20, 15), 1)]
+        pieces = [
+            (periods, frozenset([call])) for call, periods in enumerate((5, 50, 20, 20, 15), 1)
+        ]
         parts = shard.parts_of(pieces, 2)
         self.assertEqual(sorted(part.periods for part in parts), [55, 55])
         self.assertEqual(len(shard.parts_of(pieces, 9)), 5)
@@ -75,7 +79,10 @@ class Farms(InFolder):
         cut = self.folder / f"cut-{len(list(self.folder.iterdir()))}"
         status, out, err = self.run_tool(shard.main, "cut", farm, cut, "--parts", parts, *words)
         self.assertEqual((status, err), (0, ""))
-        self.assertRegex(out, r"^shard parts \d+ components \d+ calls \d+ orders \d+ largest \d+ heaviest \d+ of \d+( array 0-\d+)?\n$")
+        self.assertRegex(
+            out,
+            r"^shard parts \d+ components \d+ calls \d+ orders \d+ largest \d+ heaviest \d+ of \d+( array 0-\d+)?\n$",
+        )
         return cut
 
     def give_reports(self, cut, report):
@@ -115,7 +122,11 @@ class Farms(InFolder):
     def programs(self, cut):
         """The program that the script of each part starts, unless TRAU names another one."""
         scripts = [path.read_bytes() for path in cut.glob("*/run.sh")]
-        return {os.fsdecode(part) for script in scripts for part in re.findall(rb"\|\| program=(.*)", script)}
+        return {
+            os.fsdecode(part)
+            for script in scripts
+            for part in re.findall(rb"\|\| program=(.*)", script)
+        }
 
     def test_the_program_that_parts_run(self):
         farm = self.lay("clean")
@@ -123,15 +134,21 @@ class Farms(InFolder):
         self.assertEqual(self.programs(self.cut(farm, 3, "--trau", "trau")), {"trau"})
         # A part runs in its own folder.
         beside = os.path.relpath(self.folder / "trau")
-        self.assertEqual(self.programs(self.cut(farm, 3, "--trau", beside)), {str(self.folder / "trau")})
+        self.assertEqual(
+            self.programs(self.cut(farm, 3, "--trau", beside)), {str(self.folder / "trau")}
+        )
 
     def test_a_program_whose_name_is_no_text(self):
         name = os.fsdecode(b"/tmp/\xff/trau")
-        self.assertEqual(self.programs(self.cut(self.lay("clean"), 3, "--trau", name)), {shlex.quote(name)})
+        self.assertEqual(
+            self.programs(self.cut(self.lay("clean"), 3, "--trau", name)), {shlex.quote(name)}
+        )
 
     def test_refused_orders_keep_calls_together(self):
         cut = self.cut(self.lay("clean"), 9)
-        told = [sorted({call for order in own for call in order.calls}) for own in self.own_orders(cut)]
+        told = [
+            sorted({call for order in own for call in order.calls}) for own in self.own_orders(cut)
+        ]
         self.assertEqual(sorted(told), [[1, 2], [3], [4]])
 
     def own_orders(self, cut):
@@ -150,7 +167,9 @@ class Farms(InFolder):
         self.assertEqual(len(list(cut.glob("*/*.up"))), 4)
         self.assertEqual(len(list(cut.glob("*/*.pcm"))), 3)
         self.give_reports(cut, report)
-        for number, calls in enumerate(([1, 3], [2, 4]) if (cut / "0" / "1.up").exists() else ([2, 4], [1, 3])):
+        for number, calls in enumerate(
+            ([1, 3], [2, 4]) if (cut / "0" / "1.up").exists() else ([2, 4], [1, 3])
+        ):
             for call in calls:
                 (cut / str(number) / f"{call}.down").write_bytes(wanted[f"{call}.down"])
         self.assertEqual(self.run_tool(shard.main, "join", cut)[0], 0)
@@ -163,13 +182,19 @@ class Farms(InFolder):
         cut = self.cut(farm, 3)
         self.give_reports(cut, report)
         self.assertEqual(self.run_tool(shard.main, "join", cut), (6, report.text(), ""))
-        (cut / "0" / "status").write_text("0\n" if (cut / "0" / "status").read_text() == "6\n" else "6\n")
-        self.assert_refused(shard.main, ["join", cut], "isn't the report of a run with this part's status")
+        (cut / "0" / "status").write_text(
+            "0\n" if (cut / "0" / "status").read_text() == "6\n" else "6\n"
+        )
+        self.assert_refused(
+            shard.main, ["join", cut], "isn't the report of a run with this part's status"
+        )
 
     def test_no_orders(self):
         (self.folder / "orders.txt").write_text("")
         cut = self.cut(self.folder, 4)
-        self.assertEqual(self.run_tool(shard.main, "join", cut), (0, "end period 0 calls 0 left 0\n", ""))
+        self.assertEqual(
+            self.run_tool(shard.main, "join", cut), (0, "end period 0 calls 0 left 0\n", "")
+        )
 
     def test_the_older_names_of_the_commands(self):
         farm, cut = self.lay("mixed"), self.folder / "cut"
@@ -183,12 +208,24 @@ class Farms(InFolder):
         farm, cut = self.lay("clean"), self.folder / "a 50% cut"
         words = ["--parts", 9, "--workers", 2, "--batch", 250]
         status, out, err = self.run_tool(shard.main, "cut", farm, cut, *words)
-        self.assertEqual((status, out.split(" of ")[1].split(" ", 1)[1], err), (0, "array 0-2\n", ""))
+        self.assertEqual(
+            (status, out.split(" of ")[1].split(" ", 1)[1], err), (0, "array 0-2\n", "")
+        )
         script = (cut / "slurm.sh").read_text()
-        for line in ("--array=0-2", "--cpus-per-task=2", "--mem=64M", "--time=5", f'--output="{self.folder}/a 50%% cut/%a/log"'):
+        for line in (
+            "--array=0-2",
+            "--cpus-per-task=2",
+            "--mem=64M",
+            "--time=5",
+            f'--output="{self.folder}/a 50%% cut/%a/log"',
+        ):
             self.assertIn(f"#SBATCH {line}\n", script)
         (cut / "1" / "run.sh").write_text("echo part 1\n")
-        ran = subprocess.run(["sh", cut / "slurm.sh"], env={**os.environ, "SLURM_ARRAY_TASK_ID": "1"}, capture_output=True)
+        ran = subprocess.run(
+            ["sh", cut / "slurm.sh"],
+            env={**os.environ, "SLURM_ARRAY_TASK_ID": "1"},
+            capture_output=True,
+        )
         self.assertEqual((ran.returncode, ran.stdout), (0, b"part 1\n"))
 
     def test_what_a_part_is_given(self):
@@ -206,7 +243,12 @@ class Farms(InFolder):
         reading, writing = os.pipe()
         self.addCleanup(os.close, writing)
         words = ["sh", "-c", f'exec sh "$0" 3<&{reading}', str(cut / "0" / "run.sh")]
-        run = subprocess.Popen(words, stderr=subprocess.PIPE, pass_fds=[reading], env={**os.environ, "TRAU": str(program)})
+        run = subprocess.Popen(
+            words,
+            stderr=subprocess.PIPE,
+            pass_fds=[reading],
+            env={**os.environ, "TRAU": str(program)},
+        )
         os.close(reading)
         self.assertEqual(run.stderr.readline(), b"begun\n")
         return run
@@ -218,13 +260,25 @@ class Farms(InFolder):
         self.give_reports(copied, run_texts.read_report(farm / "report.txt"))
         with self.part_that_runs(cut) as run:
             said = f"{farm}: a run, or a part of another cut, writes lines of this folder"
-            self.assert_refused(shard.main, ["cut", farm, self.folder / "second", "--parts", 2], said)
+            self.assert_refused(
+                shard.main, ["cut", farm, self.folder / "second", "--parts", 2], said
+            )
             self.assert_refused(shard.main, ["join", copied], said)
             # A run in the farm's folder is refused too, and another part isn't.
-            ran = subprocess.run([TOP / "trau", "run"], cwd=farm, capture_output=True, stdin=subprocess.DEVNULL, env=self.stand_in())
+            ran = subprocess.run(
+                [TOP / "trau", "run"],
+                cwd=farm,
+                capture_output=True,
+                stdin=subprocess.DEVNULL,
+                env=self.stand_in(),
+            )
             self.assertEqual((ran.returncode, ran.stdout), (125, b""))
             self.assertIn(b" writes lines of this folder; ", ran.stderr)
-            other = subprocess.run(["sh", cut / "1" / "run.sh"], env={**os.environ, "TRAU": "true"}, capture_output=True)
+            other = subprocess.run(
+                ["sh", cut / "1" / "run.sh"],
+                env={**os.environ, "TRAU": "true"},
+                capture_output=True,
+            )
             self.assertEqual((other.returncode, other.stderr), (0, b""))
             run.kill()
             run.wait()
@@ -234,8 +288,16 @@ class Farms(InFolder):
         farm = self.lay("clean")
         cut = self.cut(farm, 3)
         with shard.alone_in(farm):
-            ran = subprocess.run(["sh", cut / "0" / "run.sh"], env={**os.environ, "TRAU": "true"}, capture_output=True, text=True)
-        self.assertEqual((ran.returncode, ran.stderr), (125, f"{cut / '0' / 'run.sh'}: another run writes lines of {farm}\n"))
+            ran = subprocess.run(
+                ["sh", cut / "0" / "run.sh"],
+                env={**os.environ, "TRAU": "true"},
+                capture_output=True,
+                text=True,
+            )
+        self.assertEqual(
+            (ran.returncode, ran.stderr),
+            (125, f"{cut / '0' / 'run.sh'}: another run writes lines of {farm}\n"),
+        )
         self.assertFalse((cut / "0" / "status").exists())
 
     def stand_in(self):
@@ -249,17 +311,28 @@ class Farms(InFolder):
             path.parent.mkdir(exist_ok=True)
             path.write_text("#!/bin/sh\necho ran\n")
             path.chmod(0o755)
-            ran = subprocess.run(["sh", cut / "0" / "run.sh"], cwd=self.folder, env={**os.environ, name: program}, capture_output=True)
-            self.assertEqual((ran.returncode, (cut / "0" / "report.txt").read_text()), (0, "ran\n"), ran.stderr)
+            ran = subprocess.run(
+                ["sh", cut / "0" / "run.sh"],
+                cwd=self.folder,
+                env={**os.environ, name: program},
+                capture_output=True,
+            )
+            self.assertEqual(
+                (ran.returncode, (cut / "0" / "report.txt").read_text()), (0, "ran\n"), ran.stderr
+            )
 
     def test_parts_to_run_again(self):
         farm = self.lay("harsh")
         report = run_texts.read_report(farm / "report.txt")
         cut = self.cut(farm, 3)
-        self.assert_refused(shard.main, ["join", cut], "no whole report of parts 0,1,2; run again: sh ")
+        self.assert_refused(
+            shard.main, ["join", cut], "no whole report of parts 0,1,2; run again: sh "
+        )
         self.give_reports(cut, report)
         (cut / "1" / "status").write_text("137\n")
-        self.assert_refused(shard.main, ["join", cut], f"no whole report of part 1; run again: sh {script(cut, 1)}")
+        self.assert_refused(
+            shard.main, ["join", cut], f"no whole report of part 1; run again: sh {script(cut, 1)}"
+        )
         self.give_reports(cut, report)
         text = (cut / "2" / "report.txt").read_text()
         for changed in (text[:-1], text[text.index("\n") + 1 :], ""):
@@ -273,7 +346,11 @@ class Farms(InFolder):
         report = run_texts.read_report(farm / "report.txt")
         cut = self.cut(farm, 2, "--periods", 153)
         self.give_reports(cut, report)
-        self.assert_refused(shard.main, ["join", cut], "which isn't of a run to period 153; was this part run by other words?")
+        self.assert_refused(
+            shard.main,
+            ["join", cut],
+            "which isn't of a run to period 153; was this part run by other words?",
+        )
 
     def test_refused_words(self):
         farm = self.lay("mixed")
@@ -283,9 +360,19 @@ class Farms(InFolder):
         def refused(part, *words):
             self.assert_refused(shard.main, ["cut", *words], part)
             self.assertFalse(cut.exists())
-            self.assertEqual([path.name for path in self.folder.iterdir() if path.name.startswith(".")], [])
+            self.assertEqual(
+                [path.name for path in self.folder.iterdir() if path.name.startswith(".")], []
+            )
 
-        refused("names call 4097; the calls of one farm are 1 to 4,096", farm, cut, "--parts", 2, "--orders", self.path("bad.txt"))
+        refused(
+            "names call 4097; the calls of one farm are 1 to 4,096",
+            farm,
+            cut,
+            "--parts",
+            2,
+            "--orders",
+            self.path("bad.txt"),
+        )
         refused("--parts", farm, cut)
         refused("0 isn't 1 to 4,096", farm, cut, "--parts", 0)
         refused("251 isn't 1 to 250", farm, cut, "--parts", 2, "--batch", 251)
@@ -296,7 +383,11 @@ class Farms(InFolder):
         self.assert_refused(shard.main, ["cut", farm, farm, "--parts", 2], "is there already")
         # The folder's own name, and not that of the one that is laid out before.
         cut = self.folder / "none" / "cut"
-        self.assert_refused(shard.main, ["cut", farm, cut, "--parts", 2], f"shard.py: {cut}: No such file or directory\n")
+        self.assert_refused(
+            shard.main,
+            ["cut", farm, cut, "--parts", 2],
+            f"shard.py: {cut}: No such file or directory\n",
+        )
         self.assert_refused(shard.main, ["join", farm], "cut.json: No such file")
         (farm / "cut.json").write_text('{"orders_of_parts": [[1]]}')
         self.assert_refused(shard.main, ["join", farm], "isn't what shard.py cut writes")

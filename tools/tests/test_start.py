@@ -21,13 +21,13 @@ from unittest import mock
 
 from support import EXAMPLES, HAS_LOCKS, PLAIN_PATH, TOP, InFolder, put_python
 
-from core.words import Refusal
+from trau.command_line.words import Refusal
 from test_orders import MARK_FAULTS
 
-import build
-import build_for
-import orders
-import trau_words
+from trau.packing import build
+from trau.packing import build_for
+from trau.runs import orders
+from trau.packing import trau_words
 
 CRATES = """# crate: the crates that it stands on
 low:
@@ -118,16 +118,26 @@ class Started(InFolder):
             text = (TOP / name).read_text().replace("/proc/cpuinfo", shlex.quote(str(self.cpuinfo)))
             (self.top / name).write_text(text)
             (self.top / name).chmod(0o755)
-        for name in ("tools", "core"):
-            shutil.copytree(TOP / name, self.top / name, ignore=shutil.ignore_patterns("__pycache__", "tests"))
+        for name in ("tools", "python"):
+            shutil.copytree(
+                TOP / name, self.top / name, ignore=shutil.ignore_patterns("__pycache__", "tests")
+            )
         (self.top / "tools" / "build_for.py").write_text(BUILD_FOR)
         # However full this machine's disk is, the stand-in begins, and keeps what it proves.
-        script = self.top / "tools" / "build.py"
+        script = self.top / "python" / "trau" / "packing" / "build.py"
         script.write_text(re.sub(r"^(DISK_\w+) = .*", r"\1 = 0", script.read_text(), flags=re.M))
-        (self.top / "tools" / "weights.txt").write_text("low 60\nmiddle 120\nhigh 60  # of two\ntrau_program 60\nx86-64-v3 30\n")
-        shutil.copytree(EXAMPLES / "farm", self.top / "examples" / "farm", ignore=shutil.ignore_patterns("*.down", "*.out"))
+        (self.top / "tools" / "weights.txt").write_text(
+            "low 60\nmiddle 120\nhigh 60  # of two\ntrau_program 60\nx86-64-v3 30\n"
+        )
+        shutil.copytree(
+            EXAMPLES / "farm",
+            self.top / "examples" / "farm",
+            ignore=shutil.ignore_patterns("*.down", "*.out"),
+        )
         (self.top / "examples" / "farm" / "wanted").mkdir(exist_ok=True)
-        shutil.copy(EXAMPLES / "farm" / "wanted" / "report.txt", self.top / "examples" / "farm" / "wanted")
+        shutil.copy(
+            EXAMPLES / "farm" / "wanted" / "report.txt", self.top / "examples" / "farm" / "wanted"
+        )
         (self.top / "crates.txt").write_text(CRATES)
         for crate in ("low", "middle", "high", "tests", "trau_program"):
             for part in ("src", "specs", "proofs"):
@@ -158,12 +168,16 @@ class Started(InFolder):
 
     def processor(self, flags=""):
         """The processor's flags, as the script reads them."""
-        self.cpuinfo.write_text(f"processor\t: 0\nmodel name\t: a processor\nflags\t\t: {flags}\nbugs\t\t: {V3}\n")
+        self.cpuinfo.write_text(
+            f"processor\t: 0\nmodel name\t: a processor\nflags\t\t: {flags}\nbugs\t\t: {V3}\n"
+        )
 
     def trau(self, *words, name="trau", given=b"", **changes):
         """The status, standard output and standard error of the script."""
         how = {"input": given, "capture_output": True, "cwd": self.folder, "timeout": PATIENCE}
-        ended = subprocess.run([self.top / name, *words], env={**self.surroundings, **changes}, **how)
+        ended = subprocess.run(
+            [self.top / name, *words], env={**self.surroundings, **changes}, **how
+        )
         return ended.returncode, ended.stdout.decode(), ended.stderr.decode()
 
     def rest(self, run, given=None):
@@ -185,13 +199,20 @@ class Started(InFolder):
                 os.chdir(self.folder)
                 # As a shell at a terminal starts it, also where these tests run in the background, which ignores control-C.
                 signal.signal(signal.SIGINT, signal.SIG_DFL)
-                os.execve(self.top / name, [name, *words], {**self.surroundings, "TERM": "dumb", **changes})
+                os.execve(
+                    self.top / name,
+                    [name, *words],
+                    {**self.surroundings, "TERM": "dumb", **changes},
+                )
             finally:
                 os._exit(127)
         said, hangs_at = b"", time.monotonic() + PATIENCE
         # Linux answers a read with an error once the last process has closed its side.
         with contextlib.suppress(OSError):
-            while select.select([terminal], [], [], max(0, hangs_at - time.monotonic()))[0] and time.monotonic() < hangs_at:
+            while (
+                select.select([terminal], [], [], max(0, hangs_at - time.monotonic()))[0]
+                and time.monotonic() < hangs_at
+            ):
                 piece = os.read(terminal, 4096)
                 if not piece:
                     break
@@ -211,16 +232,27 @@ class Started(InFolder):
     def both_built(self):
         """Both programs, as a package needs them."""
         words = [sys.executable, self.top / "tools" / "build.py", "--both"]
-        ended = subprocess.run(words, env=self.surroundings, stdin=subprocess.DEVNULL, capture_output=True, text=True, timeout=PATIENCE)
+        ended = subprocess.run(
+            words,
+            env=self.surroundings,
+            stdin=subprocess.DEVNULL,
+            capture_output=True,
+            text=True,
+            timeout=PATIENCE,
+        )
         self.assertEqual(ended.returncode, 0, ended.stderr)
-        self.assertEqual(self.asked.read_text(), "ci in trau jobs\nbuild_for trau_program x86-64-v3\n")
+        self.assertEqual(
+            self.asked.read_text(), "ci in trau jobs\nbuild_for trau_program x86-64-v3\n"
+        )
         self.asked.unlink()
         return ended.stderr
 
 
 def without_numbers(text):
     """What was said, without what differs from machine to machine."""
-    return re.sub(r"\d+:\d\d minutes|(about a|some \d+) minutes?|[\d.]+ GB", "..", text).splitlines()
+    return re.sub(
+        r"\d+:\d\d minutes|(about a|some \d+) minutes?|[\d.]+ GB", "..", text
+    ).splitlines()
 
 
 class TheFirstStart(Started):
@@ -228,7 +260,9 @@ class TheFirstStart(Started):
         status, out, err = self.trau("run", "--workers", "2", TRAU_JOBS="2")
         self.assertEqual((status, out), (0, "the program: run --workers 2\n"))
         said = without_numbers(err)
-        self.assertIn("a source changed: its 4 crates are proved, 2 at a time, and then it is built", said[0])
+        self.assertIn(
+            "a source changed: its 4 crates are proved, 2 at a time, and then it is built", said[0]
+        )
         takes = "trau: from nothing that takes .. where it was measured (docs/INSTALL.md); it needs some .. of disk in"
         self.assertEqual(said[1], f"{takes} {self.folder}")
         self.assertEqual(said[2], f"trau: what is proved is kept in {self.folder}/kits/rattle-kept")
@@ -247,10 +281,17 @@ class TheFirstStart(Started):
         # All is proved in a copy of what the program stands on; that is gone afterwards.
         self.assertEqual(self.asked.read_text(), "ci in trau jobs 2\n")
         copied = self.asked.with_name("asked.files").read_text().split()
-        for name in ("./crates.txt", "./HANDLES", "./crates/low/proofs/file", "./crates/trau_program/args"):
+        for name in (
+            "./crates.txt",
+            "./HANDLES",
+            "./crates/low/proofs/file",
+            "./crates/trau_program/args",
+        ):
             self.assertIn(name, copied)
         self.assertEqual([name for name in copied if "/tests/" in name or "must-fail" in name], [])
-        self.assertEqual([name for name in os.listdir(self.folder) if name.startswith("trau-start-")], [])
+        self.assertEqual(
+            [name for name in os.listdir(self.folder) if name.startswith("trau-start-")], []
+        )
         log = (self.top / "crates" / "trau_program" / "out" / "trau.log").read_text()
         self.assertIn("fn high::f: proved", log)
 
@@ -269,7 +310,10 @@ class TheFirstStart(Started):
         )
         self.assertNotIn("/trau_program/", self.asked.with_name("asked.files").read_text())
         out = self.top / "crates" / "trau_program" / "out"
-        self.assertEqual(sorted(path.name for path in out.glob("*x86*")), ["trau.built.x86-64-v3", "trau_program.x86-64-v3"])
+        self.assertEqual(
+            sorted(path.name for path in out.glob("*x86*")),
+            ["trau.built.x86-64-v3", "trau_program.x86-64-v3"],
+        )
         self.assertFalse((out / "trau_program").exists())
         # An older program for the other kind isn't taken for one of these sources.
         (out / "trau_program").write_text("#!/bin/sh\necho older\n")
@@ -281,7 +325,9 @@ class TheFirstStart(Started):
 
     def test_builds_both_where_it_is_asked_to(self):
         said = without_numbers(self.both_built())
-        self.assertEqual(said[-2], "trau: crate 4 of 4, functions 12, .., .. left: the program for x86-64-v3")
+        self.assertEqual(
+            said[-2], "trau: crate 4 of 4, functions 12, .., .. left: the program for x86-64-v3"
+        )
         self.assertEqual(said[-1], "trau: proved and built: 4 crates, functions 12, ..")
         for kind in ("x86-64-v2", "x86-64-v3"):
             self.assertEqual(self.trau(TRAU_IS_BUILT=kind)[0], 0)
@@ -297,7 +343,9 @@ class TheFirstStart(Started):
         self.built()
         (self.top / "crates" / "low" / "src" / "file").write_text("changed")
         self.assertIn("proved and built", self.trau("relay", "7")[2])
-        (self.top / "crates" / "trau_program" / "out" / "trau_program").write_text("#!/bin/sh\necho another\n")
+        (self.top / "crates" / "trau_program" / "out" / "trau_program").write_text(
+            "#!/bin/sh\necho another\n"
+        )
         self.assertIn("proved and built", self.trau("relay", "7")[2])
 
     def test_one_line_that_moves_at_a_terminal(self):
@@ -305,7 +353,10 @@ class TheFirstStart(Started):
         self.assertEqual(status, 0)
         self.assertNotIn("left: low\n", said)
         self.assertIn("\r\x1b[K", said)
-        self.assertRegex(said, r"trau: proved and built: 4 crates, functions 12, \d+:\d\d minutes\nthe program: relay 7\n$")
+        self.assertRegex(
+            said,
+            r"trau: proved and built: 4 crates, functions 12, \d+:\d\d minutes\nthe program: relay 7\n$",
+        )
 
     def test_no_toolchain(self):
         (self.tools / "rt").unlink()
@@ -331,25 +382,39 @@ class TheFirstStart(Started):
         status, out, err = self.trau("relay", "7", FAILS="killed")
         self.assertEqual((status, out), (0, "the program: relay 7\n"), err)
         self.assertIn("a check was killed", err)
-        self.assertEqual(self.asked.read_text().split("\n")[:2], ["ci in trau jobs", "ci in trau jobs 1"])
+        self.assertEqual(
+            self.asked.read_text().split("\n")[:2], ["ci in trau jobs", "ci in trau jobs 1"]
+        )
 
     def test_what_is_kept_comes_first(self):
         status, out, err = self.trau("relay", "7", KEEPS="low")
         self.assertEqual((status, out), (0, "the program: relay 7\n"), err)
-        wanted = ["trau: crate 1 of 4, functions 0, .., .. left: low", "trau: crate 2 of 4, functions 3, .., .. left: middle"]
+        wanted = [
+            "trau: crate 1 of 4, functions 0, .., .. left: low",
+            "trau: crate 2 of 4, functions 3, .., .. left: middle",
+        ]
         self.assertEqual(without_numbers(err)[5:7], wanted)
 
     def test_where_nothing_can_be_kept(self):
         (self.folder / "kits" / "rattle-kept").write_text("")
         status, out, err = self.trau("relay", "7")
         self.assertEqual((status, out), (0, "the program: relay 7\n"), err)
-        self.assertIn("rattle-kept can't be written: a start that is broken off, or that follows a change, begins anew\n", err)
+        self.assertIn(
+            "rattle-kept can't be written: a start that is broken off, or that follows a change, begins anew\n",
+            err,
+        )
         with mock.patch.dict(os.environ, self.surroundings), mock.patch.object(build, "check_disk"):
-            self.assert_refused(build.main, ["--over-kept", "--top", self.top], "nothing is kept, since ")
+            self.assert_refused(
+                build.main, ["--over-kept", "--top", self.top], "nothing is kept, since "
+            )
 
     def test_a_toolchain_that_keeps_nothing(self):
         with mock.patch.dict(os.environ, self.surroundings), mock.patch.object(build, "check_disk"):
-            self.assert_refused(build.main, ["--over-kept", "--top", self.top], "nothing is kept, since there is no ")
+            self.assert_refused(
+                build.main,
+                ["--over-kept", "--top", self.top],
+                "nothing is kept, since there is no ",
+            )
 
     def test_broken_off(self):
         with subprocess.Popen(
@@ -365,7 +430,9 @@ class TheFirstStart(Started):
             ran.send_signal(signal.SIGTERM)
             self.assertIn("broken off; the next start goes on with what is kept", self.rest(ran)[1])
             self.assertEqual(ran.returncode, 130)
-        self.assertEqual([name for name in os.listdir(self.folder) if name.startswith("trau-start-")], [])
+        self.assertEqual(
+            [name for name in os.listdir(self.folder) if name.startswith("trau-start-")], []
+        )
 
     def test_control_c(self):
         status, said = self.at_terminal("relay", "7", stops_at=b"crate 4 of 4", FAILS="sleep")
@@ -374,7 +441,12 @@ class TheFirstStart(Started):
         self.assertIn("the program: relay 7\n", self.at_terminal("relay", "7")[1])
 
     def test_the_second_of_two_waits(self):
-        how = {"env": {**self.surroundings, "FAILS": "pause"}, "cwd": self.folder, "stdin": subprocess.DEVNULL, "text": True}
+        how = {
+            "env": {**self.surroundings, "FAILS": "pause"},
+            "cwd": self.folder,
+            "stdin": subprocess.DEVNULL,
+            "text": True,
+        }
         how.update(stdout=subprocess.PIPE, stderr=subprocess.PIPE)
         # (Two runs in one folder at once would be refused.)
         other = self.folder / "other"
@@ -383,12 +455,16 @@ class TheFirstStart(Started):
             for line in first.stderr:
                 if "crate 4 of 4" in line:
                     break
-            with subprocess.Popen([self.top / "trau", "relay", "8"], **{**how, "cwd": other}) as second:
+            with subprocess.Popen(
+                [self.top / "trau", "relay", "8"], **{**how, "cwd": other}
+            ) as second:
                 said = second.stderr.readline()
                 self.path("asked.goes-on", b"")
                 self.assertEqual(self.rest(first)[0], "the program: relay 7\n")
                 self.assertEqual(self.rest(second), ("the program: relay 8\n", ""))
-            self.assertEqual(said, "trau: another start proves and builds the program; this one waits for it\n")
+            self.assertEqual(
+                said, "trau: another start proves and builds the program; this one waits for it\n"
+            )
         self.assertEqual(self.asked.read_text().count("ci in trau"), 1)
 
     def test_processors_and_memory(self):
@@ -397,7 +473,10 @@ class TheFirstStart(Started):
                 with mock.patch.object(build, "processors", lambda: processors):
                     with mock.patch.object(build, "free_memory", lambda: memory * 10**9):
                         self.assertEqual(build.jobs(), jobs)
-        limits = {"/sys/fs/cgroup/memory.max": 3_000_000, "/sys/fs/cgroup/memory.current": 1_000_000}
+        limits = {
+            "/sys/fs/cgroup/memory.max": 3_000_000,
+            "/sys/fs/cgroup/memory.current": 1_000_000,
+        }
         with mock.patch.object(build, "number_in", limits.get):
             self.assertEqual(build.free_memory(), 2_000_000)
         with mock.patch.object(build, "number_in", {}.get):
@@ -410,25 +489,46 @@ class TheFirstStart(Started):
             return types.SimpleNamespace(free=10**8)
 
         with mock.patch.object(shutil, "disk_usage", usage):
-            with self.assertRaisesRegex(Refusal, r"too little disk: this needs 0\.\d GB, and .* has 0\.1 GB left"):
+            with self.assertRaisesRegex(
+                Refusal, r"too little disk: this needs 0\.\d GB, and .* has 0\.1 GB left"
+            ):
                 build.check_disk(self.top, build.needed(self.top, "trau_program"))
             keeps, kept = build.what_is_kept(str(self.tools / "rt"))
             self.assertFalse(keeps)
-            self.assertRegex(kept, r"^nothing is kept, since .*rattle-kept has less than 5\.2 GB left")
-        with mock.patch.dict(os.environ, self.surroundings), mock.patch.object(shutil, "disk_usage", usage):
+            self.assertRegex(
+                kept, r"^nothing is kept, since .*rattle-kept has less than 5\.2 GB left"
+            )
+        with mock.patch.dict(os.environ, self.surroundings), mock.patch.object(
+            shutil, "disk_usage", usage
+        ):
             status, out, err = self.run_tool(build.main, "--top", self.top)
         self.assertEqual((status, out), (2, ""))
         self.assertIn("trau: too little disk", err)
         self.assertFalse(self.asked.exists())
 
     def test_crates_that_are_needed(self):
-        self.assertEqual(build.needed(self.top, "trau_program"), ["trau_program", "middle", "high", "low"])
+        self.assertEqual(
+            build.needed(self.top, "trau_program"), ["trau_program", "middle", "high", "low"]
+        )
         crates = set(build.crates_of(TOP))
         self.assertEqual(
             crates - set(build.needed(TOP, build.PROGRAM)),
-            {"call_heard", "call_sides", "call_tests", "codec_tests", "farm_tests", "fr_sides", "gsm_frame", "line_tests", "pool_core", "trau_c"},
+            {
+                "call_heard",
+                "call_sides",
+                "call_tests",
+                "codec_tests",
+                "farm_tests",
+                "fr_sides",
+                "gsm_frame",
+                "line_tests",
+                "pool_core",
+                "trau_c",
+            },
         )
-        self.assert_refused(build.main, ["--top", self.top, "--program", "gone"], "has no line of gone")
+        self.assert_refused(
+            build.main, ["--top", self.top, "--program", "gone"], "has no line of gone"
+        )
         self.assert_refused(build.main, ["now"], "unrecognized")
 
     def test_folders_of_killed_starts(self):
@@ -436,7 +536,10 @@ class TheFirstStart(Started):
         for number in (os.getpid(), 2**22 + 1):
             (self.folder / f"trau-start-{number}-x").mkdir()
         self.built()
-        self.assertEqual([name for name in os.listdir(self.folder) if "trau-start-" in name], [f"trau-start-{os.getpid()}-x"])
+        self.assertEqual(
+            [name for name in os.listdir(self.folder) if "trau-start-" in name],
+            [f"trau-start-{os.getpid()}-x"],
+        )
 
 
 class TheTextOfAProgram(unittest.TestCase):
@@ -446,14 +549,29 @@ class TheTextOfAProgram(unittest.TestCase):
 
     def toolchain(self, code, laid_out=True):
         checks = ("stop_on_links", "stop_on_unread", "stop_on_text")
-        rtlib = types.SimpleNamespace(code_of=lambda _: code, fmt=lambda *_: not laid_out, **{name: mock.Mock() for name in checks})
+        rtlib = types.SimpleNamespace(
+            code_of=lambda _: code,
+            fmt=lambda *_: not laid_out,
+            **{name: mock.Mock() for name in checks},
+        )
         reaches = {"Threads": "thread", "Net": "socket"}
-        return types.SimpleNamespace(rtlib=rtlib, stop_on_words=mock.Mock(), REACHES=reaches, RENAMES="renames", IGNORED="ignore")
+        return types.SimpleNamespace(
+            rtlib=rtlib,
+            stop_on_words=mock.Mock(),
+            REACHES=reaches,
+            RENAMES="renames",
+            IGNORED="ignore",
+        )
 
     def test_each(self):
         rt = self.toolchain("thread")
         build_for.check_text(rt, self.CRATE)
-        for check in (rt.rtlib.stop_on_links, rt.rtlib.stop_on_unread, rt.rtlib.stop_on_text, rt.stop_on_words):
+        for check in (
+            rt.rtlib.stop_on_links,
+            rt.rtlib.stop_on_unread,
+            rt.rtlib.stop_on_text,
+            rt.stop_on_words,
+        ):
             check.assert_called_once()
         for code in ("renames", "ignore", "socket"):
             with self.assertRaisesRegex(Refusal, "high: rt ci refuses its text"):
@@ -463,7 +581,13 @@ class TheTextOfAProgram(unittest.TestCase):
 
 
 class TimeLeft(unittest.TestCase):
-    BELOW = {"low": [], "middle": ["low"], "high": ["low"], "program": ["middle", "high"], "x86-64-v3": ["program"]}
+    BELOW = {
+        "low": [],
+        "middle": ["low"],
+        "high": ["low"],
+        "program": ["middle", "high"],
+        "x86-64-v3": ["program"],
+    }
     WEIGHTS = {"low": 100, "middle": 200, "high": 300, "program": 50, "x86-64-v3": 10}
 
     def plan(self, at_once):
@@ -475,7 +599,9 @@ class TimeLeft(unittest.TestCase):
         self.assertEqual(self.plan(2).seconds({"middle", "program", "x86-64-v3"}), 260)
         self.assertEqual(self.plan(2).seconds([]), 0)
         # A crate without a weight has the middle one.
-        self.assertEqual(build.Plan({"new": [], **self.BELOW}, self.WEIGHTS, 1).seconds({"new"}), 100)
+        self.assertEqual(
+            build.Plan({"new": [], **self.BELOW}, self.WEIGHTS, 1).seconds({"new"}), 100
+        )
 
     def progress(self):
         self.now = 0.0
@@ -505,7 +631,12 @@ class TimeLeft(unittest.TestCase):
         self.assertAlmostEqual(progress.seconds_left(), 60 * 120 / 60 - 60)
 
     def test_in_words(self):
-        for seconds, words in ((0, "about a minute"), (89, "about a minute"), (100, "some 2 minutes"), (1320, "some 22 minutes")):
+        for seconds, words in (
+            (0, "about a minute"),
+            (89, "about a minute"),
+            (100, "some 2 minutes"),
+            (1320, "some 22 minutes"),
+        ):
             self.assertEqual(build.minutes_in_words(seconds), words)
 
     def test_weights_of_this_repository(self):
@@ -516,7 +647,10 @@ class TimeLeft(unittest.TestCase):
             plans = [build.plan_of(TOP, build.PROGRAM, asked, at_once) for at_once in (1, 2, 4)]
             whole = [plan.seconds(plan.below) for plan in plans]
             self.assertEqual(whole, sorted(whole, reverse=True))
-            self.assertEqual(plans[0].weights[build.PROGRAM], weights[build.KIND if asked == kinds[1:] else build.PROGRAM])
+            self.assertEqual(
+                plans[0].weights[build.PROGRAM],
+                weights[build.KIND if asked == kinds[1:] else build.PROGRAM],
+            )
             self.assertEqual(build.KIND in plans[0].below, asked == kinds)
 
 
@@ -554,7 +688,9 @@ class TwoPrograms(Started):
         program = self.out / "trau_program.x86-64-v3"
         status, _, err = self.trau("relay", "7", TRAU_PROGRAM=str(program))
         lacking = " ".join(sorted(V3[len(V2) :].split()))
-        self.assertEqual((status, " ".join(sorted(err.split("it lacks ")[1].split()))), (0, lacking))
+        self.assertEqual(
+            (status, " ".join(sorted(err.split("it lacks ")[1].split()))), (0, lacking)
+        )
         self.processor(V3)
         self.assertEqual(self.trau("relay", "7", TRAU_PROGRAM=str(program)), self.V3_RUNS)
 
@@ -586,9 +722,14 @@ class TwoPrograms(Started):
         self.assertEqual(said(), "program: for x86-64-v3")
         self.assertEqual(said(TRAU_CPU="x86-64-v2"), "program: for x86-64-v2")
         program = str(self.out / "trau_program")
-        self.assertEqual(said(TRAU_PROGRAM=program), f"program: {program}, which TRAU_PROGRAM names")
+        self.assertEqual(
+            said(TRAU_PROGRAM=program), f"program: {program}, which TRAU_PROGRAM names"
+        )
         (self.out / "trau_program.x86-64-v3").unlink()
-        self.assertEqual(said(), "program: for x86-64-v2; this machine's processor could run one for x86-64-v3, which isn't built")
+        self.assertEqual(
+            said(),
+            "program: for x86-64-v2; this machine's processor could run one for x86-64-v3, which isn't built",
+        )
         (self.out / "trau_program").unlink()
         self.assertEqual(said(), "program: not built")
 
@@ -616,17 +757,25 @@ class TwoPrograms(Started):
         status, out, err = self.trau("relay", "7", FAILS="second")
         self.assertEqual(self.asked.read_text(), "ci in trau jobs\n" * 2)
         self.assertEqual((status, out), self.V2_RUNS[:2], err)
-        self.assertIn("trau: no program for x86-64-v3 is built; the one for x86-64-v2 runs on all processors\n", err)
+        self.assertIn(
+            "trau: no program for x86-64-v3 is built; the one for x86-64-v2 runs on all processors\n",
+            err,
+        )
         status, out, err = self.trau("relay", "7", FAILS="second", TRAU_CPU="x86-64-v3")
         self.assertEqual((status, out), (125, ""))
-        self.assertIn("trau: no program for x86-64-v3 was built; crates/trau_program/out/trau.log says why\n", err)
+        self.assertIn(
+            "trau: no program for x86-64-v3 was built; crates/trau_program/out/trau.log says why\n",
+            err,
+        )
 
     def test_in_a_package(self):
         for name in ("trau_program", "trau_program.x86-64-v3"):
             shutil.copy(self.out / name, self.top)
         (self.top / "VERSION").write_text("trau of a package\n")
         self.assertEqual(self.trau("relay", "7"), self.V2_RUNS)
-        self.assertEqual(self.trau("--version"), (0, "trau of a package\nprogram: for x86-64-v2\n", ""))
+        self.assertEqual(
+            self.trau("--version"), (0, "trau of a package\nprogram: for x86-64-v2\n", "")
+        )
         self.processor(V3)
         self.assertEqual(self.trau("relay", "7"), self.V3_RUNS)
         self.assertEqual(self.trau("--version")[1], "trau of a package\nprogram: for x86-64-v3\n")
@@ -636,8 +785,13 @@ class TwoPrograms(Started):
         one = "program: for x86-64-v2; this machine's processor could run one for x86-64-v3, which isn't in this package"
         self.assertEqual(self.trau("--version")[1].splitlines()[1], one)
         # Of what kind a program is that somebody named, nobody knows.
-        (self.top / "VERSION").write_text("trau of a package, with a program that TRAU_PROGRAM named\n")
-        self.assertEqual(self.trau("--version")[1].splitlines()[1], "program: the one that TRAU_PROGRAM named when it was packed")
+        (self.top / "VERSION").write_text(
+            "trau of a package, with a program that TRAU_PROGRAM named\n"
+        )
+        self.assertEqual(
+            self.trau("--version")[1].splitlines()[1],
+            "program: the one that TRAU_PROGRAM named when it was packed",
+        )
         self.assertEqual(self.trau("relay", "7", TRAU_CPU="x86-64-v3"), self.V2_RUNS)
         (self.top / "VERSION").write_text("trau of a package\n")
         said = "trau: this package has no program for x86-64-v3\n"
@@ -646,7 +800,9 @@ class TwoPrograms(Started):
     def test_demo(self):
         # The stand-in writes no lines, so that the demo says what it was started with.
         self.processor(V3)
-        self.assertIn("the program for x86-64-v3: run", (self.trau(name="demo"), self.demo_report())[1])
+        self.assertIn(
+            "the program for x86-64-v3: run", (self.trau(name="demo"), self.demo_report())[1]
+        )
         self.processor()
         self.assertIn("the program: run", (self.trau(name="demo"), self.demo_report())[1])
 
@@ -660,7 +816,9 @@ class TwoPrograms(Started):
         for kind, status in (("x86-64-v2", 0), ("x86-64-v3", 0), ("x86-64-v4", 1)):
             self.assertEqual(self.trau(TRAU_IS_BUILT=kind)[0], status)
         status, out, _ = self.trau(TRAU_SUM="ask")
-        self.assertEqual((status, (self.out / "trau.built").read_text().startswith(out.strip())), (0, True))
+        self.assertEqual(
+            (status, (self.out / "trau.built").read_text().startswith(out.strip())), (0, True)
+        )
         # The merge gate notes the first program alone.
         for name in ("trau.built", "trau.built.x86-64-v3"):
             (self.out / name).unlink()
@@ -683,7 +841,10 @@ class Help(Started):
                 self.assertEqual(self.trau(*words), (0, trau_words.page(command), ""), words)
         # Of a name that is no command, none is a pattern.
         for name in ("x", ".*", "r.n", "[", "run\nsave", "run/"):
-            self.assertEqual(self.trau("help", name), (1, "usage\n", f"trau: help {name}: no command; trau help lists them\n"))
+            self.assertEqual(
+                self.trau("help", name),
+                (1, "usage\n", f"trau: help {name}: no command; trau help lists them\n"),
+            )
 
     def test_where_the_program_is_built_too(self):
         self.built()
@@ -692,13 +853,16 @@ class Help(Started):
         self.assertEqual(self.trau(), (1, "usage\n", ""))
 
     def test_version(self):
-        self.assertEqual(self.trau("--version"), (0, "trau of no known commit; a kit\nprogram: not built\n", ""))
+        self.assertEqual(
+            self.trau("--version"), (0, "trau of no known commit; a kit\nprogram: not built\n", "")
+        )
         git = ["git", "-C", self.top, "-c", "user.name=n", "-c", "user.email=e"]
         for words in (["init", "-q"], ["add", "trau"], ["commit", "-qm", "x"]):
             subprocess.run([*git, *words], check=True, env=self.surroundings)
         (self.tools / "rt").unlink()
         self.assertRegex(
-            self.trau("--version")[1], r"^trau [0-9a-f]{7,} of \d{4}-\d\d-\d\d, with changes; no kit: rt isn't on the path\nprogram: not built\n$"
+            self.trau("--version")[1],
+            r"^trau [0-9a-f]{7,} of \d{4}-\d\d-\d\d, with changes; no kit: rt isn't on the path\nprogram: not built\n$",
         )
 
     def test_no_standard_output(self):
@@ -721,7 +885,9 @@ class Help(Started):
         os.mkfifo(self.folder / "7.pcm")
         note = "trau: 7.pcm is a pipe; where its call is opened, it is waited for until someone opens it for writing\n"
         for words in (["encode", "7"], ["resume"]):
-            self.assertEqual(self.at_terminal(*words), (0, f"{note}the program: {' '.join(words)}\n"))
+            self.assertEqual(
+                self.at_terminal(*words), (0, f"{note}the program: {' '.join(words)}\n")
+            )
         self.assertEqual(self.at_terminal("encode", "8"), (0, "the program: encode 8\n"))
         self.assertEqual(self.trau("encode", "7"), (0, "the program: encode 7\n", ""))
         os.mkfifo(self.folder / "7.out")
@@ -769,7 +935,14 @@ class WrongWords(Started):
         "no such/thing": "no: no command; trau help lists them",
     }
     RIGHT = (
-        *("run --workers 64 --batch=1", "save --periods 4294967295", "live --seed 0", "split 4093", "follow 7 316", "frames 1"),
+        *(
+            "run --workers 64 --batch=1",
+            "save --periods 4294967295",
+            "live --seed 0",
+            "split 4093",
+            "follow 7 316",
+            "frames 1",
+        ),
         *("run --", "save --periods 5 --", "drill --seed=2 --"),
     )
 
@@ -787,8 +960,14 @@ class WrongWords(Started):
         self.path("orders.txt", b"0 open 1\n")
         for words, said in (
             ("run orders.txt", "run reads orders from standard input: trau run <orders.txt"),
-            ("run --workers 2 orders.txt", "run reads orders from standard input: trau run .. <orders.txt"),
-            ("save orders.txt --periods 5", "save reads orders from standard input: trau save <orders.txt"),
+            (
+                "run --workers 2 orders.txt",
+                "run reads orders from standard input: trau run .. <orders.txt",
+            ),
+            (
+                "save orders.txt --periods 5",
+                "save reads orders from standard input: trau save <orders.txt",
+            ),
             ("relay 7 orders.txt", "orders.txt: a word too many"),
         ):
             self.assertEqual(self.trau(*words.split()), (1, "usage\n", f"trau: {said}\n"))
@@ -803,7 +982,9 @@ class WrongWords(Started):
                     stderr=subprocess.PIPE,
                     env=self.surroundings,
                     cwd=self.folder,
-                    preexec_fn=lambda: resource.setrlimit(resource.RLIMIT_FSIZE, (0, resource.getrlimit(resource.RLIMIT_FSIZE)[1])),
+                    preexec_fn=lambda: resource.setrlimit(
+                        resource.RLIMIT_FSIZE, (0, resource.getrlimit(resource.RLIMIT_FSIZE)[1])
+                    ),
                 )
             self.assertNotIn(ended.returncode, (-signal.SIGXFSZ, 128 + signal.SIGXFSZ), words)
 
@@ -818,7 +999,12 @@ class BadOrders(Started):
     def run_of(self, content, *words, **changes):
         """The status, standard output and standard error of a run whose orders are a file."""
         path = self.path("orders.txt", content)
-        how = {"capture_output": True, "text": True, "cwd": self.folder, "env": {**self.surroundings, **changes}}
+        how = {
+            "capture_output": True,
+            "text": True,
+            "cwd": self.folder,
+            "env": {**self.surroundings, **changes},
+        }
         with open(path, "rb") as orders:
             ended = subprocess.run([self.top / "trau", *words], stdin=orders, **how)
         return ended.returncode, ended.stdout, ended.stderr
@@ -827,17 +1013,30 @@ class BadOrders(Started):
         # What the script says is a write past the limit, too, if standard error is a file.
         path = self.path("orders.txt", b"0 open 1\n5 open  2\n")
         limit = lambda: resource.setrlimit(resource.RLIMIT_FSIZE, (0, 0))
-        how = {"stdout": subprocess.PIPE, "text": True, "cwd": self.folder, "env": self.surroundings, "preexec_fn": limit}
+        how = {
+            "stdout": subprocess.PIPE,
+            "text": True,
+            "cwd": self.folder,
+            "env": self.surroundings,
+            "preexec_fn": limit,
+        }
         with open(path, "rb") as orders, open(self.folder / "said", "wb") as said:
             ended = subprocess.run([self.top / "trau", "run"], stdin=orders, stderr=said, **how)
         self.assertEqual((ended.returncode, ended.stdout), (0, "the program: run\n"))
 
     def test_the_first_bad_line(self):
         said = "trau: line 2 of the orders: two spaces; tools/orders.py check says what is wrong with each line\n"
-        self.assertEqual(self.run_of(b"0 open 1\n5 open  2\nx", "run"), (0, "the program: run\n", said))
+        self.assertEqual(
+            self.run_of(b"0 open 1\n5 open  2\nx", "run"), (0, "the program: run\n", said)
+        )
         self.assertEqual(self.run_of(b"0 open 1\n5 open  2\nx", "save", "--periods", "5")[2], said)
         marked = said.replace("check says", "check --mark says")
-        self.assertEqual(self.run_of(b"save 5\ncall 1 from 0 out 1 down 1\norders\n0 open 1\n5 open  2\n", "resume")[2], marked)
+        self.assertEqual(
+            self.run_of(
+                b"save 5\ncall 1 from 0 out 1 down 1\norders\n0 open 1\n5 open  2\n", "resume"
+            )[2],
+            marked,
+        )
         said = "trau: line 1 of the mark: period 05: a leading zero; tools/orders.py check --mark says what is wrong with each line\n"
         self.assertEqual(self.run_of(b"save 05\norders\n0 open  1\n", "resume")[2], said)
         self.assertEqual(self.run_of(b"x\n", "relay", "7")[2], "")
@@ -846,14 +1045,32 @@ class BadOrders(Started):
 
     def test_without_the_reason(self):
         (self.tools / "python3").unlink()
-        said = "trau: line 1 of the orders; tools/orders.py check says what is wrong with each line\n"
-        self.assertEqual(self.run_of(b"x\n", "run", PATH=f"{self.tools}:{self.no_python()}")[2], said)
+        said = (
+            "trau: line 1 of the orders; tools/orders.py check says what is wrong with each line\n"
+        )
+        self.assertEqual(
+            self.run_of(b"x\n", "run", PATH=f"{self.tools}:{self.no_python()}")[2], said
+        )
 
     def no_python(self):
         """A folder with the system's commands but Python."""
         folder = self.folder / "commands"
         folder.mkdir()
-        for name in ("awk", "sed", "grep", "head", "cat", "dirname", "readlink", "find", "sort", "cksum", "flock", "stat", "xargs"):
+        for name in (
+            "awk",
+            "sed",
+            "grep",
+            "head",
+            "cat",
+            "dirname",
+            "readlink",
+            "find",
+            "sort",
+            "cksum",
+            "flock",
+            "stat",
+            "xargs",
+        ):
             found = shutil.which(name, path=PLAIN_PATH)
             if found:
                 (folder / name).symlink_to(found)
@@ -863,7 +1080,9 @@ class BadOrders(Started):
         # Whoever has read some of it has the program read the rest; and a pipe can be read once.
         path = self.path("orders.txt", b"# orders\n0 open 1\n")
         how = {"capture_output": True, "text": True, "cwd": self.folder, "env": self.surroundings}
-        script = f"{{ read -r line; {self.top}/trau run; }} <{path}; cat {path} | {self.top}/trau run"
+        script = (
+            f"{{ read -r line; {self.top}/trau run; }} <{path}; cat {path} | {self.top}/trau run"
+        )
         ended = subprocess.run(["sh", "-c", script], **how)
         self.assertEqual((ended.stdout, ended.stderr), (2 * "the program: run\n", ""))
 
@@ -873,8 +1092,35 @@ class FirstBadLine(unittest.TestCase):
 
     def test_of_orders(self):
         chance = random.Random(1)
-        words = ["open", "close", "bridge", "unbridge", "level", "dtx", "on", "uplink", "mulaw", "0", "5", "4096", "4097", "32768", "07", "", "\t", "x\r"]
-        good = ["0 open 1", "0 open 2 mulaw", "0 dtx 1 on", "0 level 2 32767", "3 bridge 1 2", "4 unbridge 2", "4294967294 close 1"]
+        words = [
+            "open",
+            "close",
+            "bridge",
+            "unbridge",
+            "level",
+            "dtx",
+            "on",
+            "uplink",
+            "mulaw",
+            "0",
+            "5",
+            "4096",
+            "4097",
+            "32768",
+            "07",
+            "",
+            "\t",
+            "x\r",
+        ]
+        good = [
+            "0 open 1",
+            "0 open 2 mulaw",
+            "0 dtx 1 on",
+            "0 level 2 32767",
+            "3 bridge 1 2",
+            "4 unbridge 2",
+            "4294967294 close 1",
+        ]
         for _ in range(100):
             lines = list(good)
             for _ in range(chance.randrange(3)):
@@ -883,14 +1129,25 @@ class FirstBadLine(unittest.TestCase):
                 parts[chance.randrange(len(parts))] = chance.choice(words)
                 lines[at] = " ".join(parts)
             text = "\n".join(lines).encode()
-            ran = subprocess.run(["awk", "-f", TOP / "tools" / "bad_order.awk"], input=text, capture_output=True, check=True)
+            ran = subprocess.run(
+                ["awk", "-f", TOP / "tools" / "bad_order.awk"],
+                input=text,
+                capture_output=True,
+                check=True,
+            )
             bad = min(orders.Text.read(text).faults, default=None)
-            self.assertEqual(ran.stdout.decode().strip(), "" if bad is None else f"line {bad}", text)
+            self.assertEqual(
+                ran.stdout.decode().strip(), "" if bad is None else f"line {bad}", text
+            )
 
     def bad_of(self, text):
         """What is bad of a mark and orders."""
         words = ["awk", "-v", "marked=1", "-f", TOP / "tools" / "bad_order.awk"]
-        return subprocess.run(words, input=text, capture_output=True, check=True).stdout.decode().strip()
+        return (
+            subprocess.run(words, input=text, capture_output=True, check=True)
+            .stdout.decode()
+            .strip()
+        )
 
     def test_of_a_mark(self):
         for line, text, said in MARK_FAULTS:
@@ -898,7 +1155,9 @@ class FirstBadLine(unittest.TestCase):
             seen = "the text ends" not in said and "no line feed" not in said and text
             self.assertEqual(self.bad_of(text), f"mark line {line}" if seen else "", text)
         good = b"save 60\ncall 1 from 0 out 4294967295 down 0\ncall 4096 from 59 out 1 down 1\norders\n"
-        self.assertEqual((self.bad_of(good), self.bad_of(good + b"0 open 1\n1 open 0\n")), ("", "line 2"))
+        self.assertEqual(
+            (self.bad_of(good), self.bad_of(good + b"0 open 1\n1 open 0\n")), ("", "line 2")
+        )
 
 
 @unittest.skipUnless(HAS_LOCKS, "there is no flock, or temporary files have no locks")
@@ -954,7 +1213,9 @@ class TwoRuns(Started):
         with self.lasting(*words) as run:
             self.assertEqual(self.trau("relay", "7")[0], 125)
             self.assertEqual(self.trau(*words), (1, "usage\n", "trau: --workers 65: 1 to 64\n"))
-            self.assertEqual(self.trau("--no-lock", *words), (0, "the program: run --workers 65\n", ""))
+            self.assertEqual(
+                self.trau("--no-lock", *words), (0, "the program: run --workers 65\n", "")
+            )
             self.rest(run, b"")
         self.assertEqual(self.trau(*words), (0, "the program: run --workers 65\n", ""))
 
@@ -973,8 +1234,14 @@ class TwoRuns(Started):
 class Demo(Started):
     def test_says_what_there_is_where_nothing_is_built(self):
         status, _, err = self.trau(name="demo")
-        self.assertIn("demo: ./demo --model runs the example in seconds by the model in Python, with nothing of it proved;\n", err)
-        self.assertIn("demo: ./demo --unproved shows the example's report in about a minute, with nothing of it proved\n", err)
+        self.assertIn(
+            "demo: ./demo --model runs the example in seconds by the model in Python, with nothing of it proved;\n",
+            err,
+        )
+        self.assertIn(
+            "demo: ./demo --unproved shows the example's report in about a minute, with nothing of it proved\n",
+            err,
+        )
         self.assertLess(err.index("--unproved"), err.index("crate 1 of 4"))
         self.assertEqual(self.trau(name="demo")[2], "")
 
@@ -985,30 +1252,42 @@ class Demo(Started):
         self.assertTrue(lines[0].startswith("UNPROVED: nothing of this run is proved."))
         self.assertEqual(lines[-1], lines[0])
         self.assertIn("end period 153 calls 4 left 0", lines)
-        self.assertIn("The report is octet for octet what is recorded in examples/farm/wanted.", lines)
+        self.assertIn(
+            "The report is octet for octet what is recorded in examples/farm/wanted.", lines
+        )
         asked = self.asked.read_text()
         self.assertTrue(asked.startswith("try --data 1.up="), asked)
         self.assertIn("-- run in trau_program", asked)
-        self.assertEqual([name for name in os.listdir(self.folder) if name.startswith("trau-demo")], [])
+        self.assertEqual(
+            [name for name in os.listdir(self.folder) if name.startswith("trau-demo")], []
+        )
         # Nothing is built by it, and nothing is called trau.
         self.assertFalse((self.top / "crates" / "trau_program" / "out").exists())
 
     def test_unproved_that_is_broken_off(self):
         status, said = self.at_terminal("--unproved", name="demo", stops_at=b"begun", FAILS="sleep")
         self.assertEqual(status, 130, said)
-        self.assertEqual([name for name in os.listdir(self.folder) if name.startswith("trau-demo")], [])
+        self.assertEqual(
+            [name for name in os.listdir(self.folder) if name.startswith("trau-demo")], []
+        )
 
     def test_says_of_each_call_what_was_lost(self):
         report = self.top / "tools" / "report.py"
-        report.write_text('#!/bin/sh\necho "$PYTHONDONTWRITEBYTECODE $@" >"$ASKED.report"\necho a table\necho "call 1: Up ended; lost 18"\necho "call 2: closed"\n')
+        report.write_text(
+            '#!/bin/sh\necho "$PYTHONDONTWRITEBYTECODE $@" >"$ASKED.report"\necho a table\necho "call 1: Up ended; lost 18"\necho "call 2: closed"\n'
+        )
         said = "\n\nIn words, with lost frames apart from the empty ones of a pause:\n\ncall 1: Up ended; lost 18\ncall 2: closed\n\n"
         status, out, err = self.trau("--unproved", name="demo")
         self.assertEqual(status, 0, err)
         self.assertIn(f"end period 153 calls 4 left 0{said}The report is", out)
         self.built()
-        self.assertIn(f"{said}The lines are in", self.trau(name="demo", PYTHONDONTWRITEBYTECODE="")[1])
+        self.assertIn(
+            f"{said}The lines are in", self.trau(name="demo", PYTHONDONTWRITEBYTECODE="")[1]
+        )
         lines = self.top / "examples" / "farm"
-        self.assertEqual(self.asked.with_name("asked.report").read_text(), f"1 text report.txt --lines {lines}\n")
+        self.assertEqual(
+            self.asked.with_name("asked.report").read_text(), f"1 text report.txt --lines {lines}\n"
+        )
         # A package's machine may have no Python.
         report.write_text("#!/no/python\n")
         status, out, err = self.trau(name="demo")
@@ -1033,15 +1312,25 @@ class Demo(Started):
         script = 'trap "" XFSZ; ulimit -f 4; exec "$0" "$@"'
         for words in ([], [self.folder / "new"]):
             ended = subprocess.run(
-                ["sh", "-c", script, self.top / "demo", *words], capture_output=True, text=True, env=self.surroundings, cwd=self.folder
+                ["sh", "-c", script, self.top / "demo", *words],
+                capture_output=True,
+                text=True,
+                env=self.surroundings,
+                cwd=self.folder,
             )
-            self.assertEqual((ended.returncode, ended.stdout, ended.stderr.count("\n")), (2, "", 1), ended.stderr)
-            self.assertRegex(ended.stderr, "^demo: the example lines can't be copied to .*: File too large\n$")
+            self.assertEqual(
+                (ended.returncode, ended.stdout, ended.stderr.count("\n")), (2, "", 1), ended.stderr
+            )
+            self.assertRegex(
+                ended.stderr, "^demo: the example lines can't be copied to .*: File too large\n$"
+            )
         program = self.path("fails", b"#!/bin/sh\necho line 1 out failed\nexit 6\n")
         program.chmod(0o755)
         status, out, err = self.trau(name="demo", TRAU_PROGRAM=str(program))
         self.assertEqual((status, out), (6, "line 1 out failed\n"))
-        self.assertRegex(err, "^demo: the run in .* ended with status 6; the folder is removed again\n$")
+        self.assertRegex(
+            err, "^demo: the run in .* ended with status 6; the folder is removed again\n$"
+        )
         status, out, err = self.trau(name="demo", TMPDIR=str(self.folder / "gone"))
         self.assertEqual((status, out, err.count("\n")), (2, "", 1))
         # Standard output is no run: its lines stay, and are named.
@@ -1049,18 +1338,38 @@ class Demo(Started):
         with open("/dev/full", "w") as full:
             words = [self.top / "demo", self.folder / "a b"]
             surroundings = {**self.surroundings, "TRAU_PROGRAM": str(program)}
-            ended = subprocess.run(words, stdout=full, stderr=subprocess.PIPE, text=True, env=surroundings, cwd=self.folder)
+            ended = subprocess.run(
+                words,
+                stdout=full,
+                stderr=subprocess.PIPE,
+                text=True,
+                env=surroundings,
+                cwd=self.folder,
+            )
         said = f"demo: standard output can't be written; the lines are in {self.folder}/a b\n"
         self.assertEqual((ended.returncode, ended.stderr), (2, said))
-        self.assertTrue(self.trau("c d", name="demo", TRAU_PROGRAM=str(program))[1].endswith(" -c 1 'c d/1.out'\n"))
+        self.assertTrue(
+            self.trau("c d", name="demo", TRAU_PROGRAM=str(program))[1].endswith(
+                " -c 1 'c d/1.out'\n"
+            )
+        )
         # Broken off, as by control-C.
         program.write_text("#!/bin/sh\necho begun >&2\nexec sleep 7200\n")
         status, said = self.at_terminal(name="demo", stops_at=b"begun", TRAU_PROGRAM=str(program))
         self.assertEqual(status, 130, said)
-        self.assertEqual([path for path in self.folder.iterdir() if path.name.startswith(("trau-demo", "new"))], [])
+        self.assertEqual(
+            [path for path in self.folder.iterdir() if path.name.startswith(("trau-demo", "new"))],
+            [],
+        )
 
     def test_refused(self):
-        for words in (["--unproved", "x"], ["--model", "--unproved"], ["--model", "a", "b"], ["--what"], ["a", "b"]):
+        for words in (
+            ["--unproved", "x"],
+            ["--model", "--unproved"],
+            ["--model", "a", "b"],
+            ["--what"],
+            ["a", "b"],
+        ):
             status, out, err = self.trau(*words, name="demo")
             self.assertEqual((status, out), (2, ""))
             self.assertIn("usage: demo [FOLDER]", err)
@@ -1078,8 +1387,14 @@ class TheModel(Started):
 
     def setUp(self):
         super().setUp()
-        shutil.copytree(TOP / "model", self.top / "model", ignore=shutil.ignore_patterns("__pycache__", "tests"))
-        shutil.copytree(EXAMPLES / "farm" / "wanted", self.top / "examples" / "farm" / "wanted", dirs_exist_ok=True)
+        shutil.copytree(
+            TOP / "model", self.top / "model", ignore=shutil.ignore_patterns("__pycache__", "tests")
+        )
+        shutil.copytree(
+            EXAMPLES / "farm" / "wanted",
+            self.top / "examples" / "farm" / "wanted",
+            dirs_exist_ok=True,
+        )
 
     def assert_by_the_model(self, ended, said=""):
         """That a demo ran the example by the model, and said so first and last."""
@@ -1104,13 +1419,21 @@ class TheModel(Started):
 
     def test_by_the_script(self):
         shutil.copy(EXAMPLES / "7.up", self.folder)
-        self.assertEqual(self.trau("relay", "7", TRAU_PROGRAM="model"), (0, "relay frames 312\n", ""))
+        self.assertEqual(
+            self.trau("relay", "7", TRAU_PROGRAM="model"), (0, "relay frames 312\n", "")
+        )
         note = "trau: this is the model in Python, which TRAU_PROGRAM names: unproved and slow\n"
-        self.assertEqual(self.at_terminal("relay", "7", TRAU_PROGRAM="model"), (0, f"{note}relay frames 312\n"))
+        self.assertEqual(
+            self.at_terminal("relay", "7", TRAU_PROGRAM="model"), (0, f"{note}relay frames 312\n")
+        )
         said = "program: the model in Python, unproved and slow, which TRAU_PROGRAM names"
         self.assertEqual(self.trau("--version", TRAU_PROGRAM="model")[1].splitlines()[1], said)
         (self.tools / "rt").unlink()
-        self.assertTrue(self.trau("run")[2].endswith("; TRAU_PROGRAM=model starts the model, unproved and slow\n"))
+        self.assertTrue(
+            self.trau("run")[2].endswith(
+                "; TRAU_PROGRAM=model starts the model, unproved and slow\n"
+            )
+        )
 
     def test_where_it_cant_be_started(self):
         (self.tools / "python3").unlink()
@@ -1121,7 +1444,9 @@ class TheModel(Started):
         (self.tools / "rt").unlink()
         self.assertEqual(self.trau(name="demo"), (2, "", f"{self.NONE}, and {said}"))
         shutil.rmtree(self.top / "model")
-        self.assertEqual(self.trau(name="demo"), (2, "", f"{self.NONE}, and there is no model here\n"))
+        self.assertEqual(
+            self.trau(name="demo"), (2, "", f"{self.NONE}, and there is no model here\n")
+        )
         said = "trau: TRAU_PROGRAM is 'model', and no program is there\n"
         self.assertEqual(self.trau("relay", "7", TRAU_PROGRAM="model"), (125, "", said))
 

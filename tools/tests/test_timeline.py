@@ -15,17 +15,17 @@ from itertools import groupby
 
 from support import CODEC, EXAMPLES, TOP, InFolder
 
-import levels
-import looks
-import picture
-import timeline
-from core.frame import Sort, bits_of
-from core.g711 import Law
-from core.orders import Order
-from core.report import Bridge, Reply, Span
-from core.search import FRAME_OF_DOWNLINK
-from run_lines import Answered, Call, Run
-from uplink_periods import SORTS
+from trau.runs import levels
+from trau.pictures import looks
+from trau.pictures import picture
+from trau.pictures import timeline
+from trau.rules.frame import Sort, bits_of
+from trau.rules.g711 import Law
+from trau.rules.orders import Order
+from trau.rules.report import Bridge, Reply, Span
+from trau.rules.search import FRAME_OF_DOWNLINK
+from trau.runs.run_lines import Answered, Call, Run
+from trau.runs.uplink_periods import SORTS
 
 SVG = "{http://www.w3.org/2000/svg}"
 CHROMIUM = shutil.which("chromium")
@@ -98,10 +98,17 @@ class Parts(unittest.TestCase):
         stretches = self.columns(values, looks.LOSSES, 10)
         ends = [(each.start, each.end) for each in stretches]
         self.assertEqual(ends, [(0, 40), (40, 50), (50, 70), (70, 80), (80, 90), (90, 100)])
-        shown = [" ".join(f"{part.look.name} {part.steps}" for part in each.parts) for each in stretches]
-        self.assertEqual(shown, ["GOOD 10", "GOOD 8 BAD 1 MISS 1", "GOOD 10", "SID 10", "GOOD 3 BAD 7", "GOOD 10"])
+        shown = [
+            " ".join(f"{part.look.name} {part.steps}" for part in each.parts) for each in stretches
+        ]
+        self.assertEqual(
+            shown,
+            ["GOOD 10", "GOOD 8 BAD 1 MISS 1", "GOOD 10", "SID 10", "GOOD 3 BAD 7", "GOOD 10"],
+        )
         self.assertEqual(stretches[3].said(), "speech, 4 periods, silence descriptor, 6 periods")
-        self.assertEqual(list(looks.columns(bytes([9]) * 7, looks.DownLook, looks.DOWN_LOSSES, 3, 10)), [])
+        self.assertEqual(
+            list(looks.columns(bytes([9]) * 7, looks.DownLook, looks.DOWN_LOSSES, 3, 10)), []
+        )
 
     def test_one_loss_of_thousands_is_seen(self):
         parts = looks.parts_of({looks.Look.GOOD: 9999, looks.Look.MISS: 1}, looks.LOSSES, 10)
@@ -118,12 +125,19 @@ class Parts(unittest.TestCase):
 
     def test_one_colour_a_meaning(self):
         meanings = {look.colour: look.words for look in (*looks.Look, *looks.DownLook)}
-        self.assertEqual(len(meanings), len({look.words for look in (*looks.Look, *looks.DownLook)}))
-        self.assertFalse(set(meanings) & {picture.OUT_COLOUR, picture.PCM_COLOUR, picture.BRIDGE_COLOUR, picture.ALARM})
+        self.assertEqual(
+            len(meanings), len({look.words for look in (*looks.Look, *looks.DownLook)})
+        )
+        self.assertFalse(
+            set(meanings)
+            & {picture.OUT_COLOUR, picture.PCM_COLOUR, picture.BRIDGE_COLOUR, picture.ALARM}
+        )
 
     def test_partners_are_neighbours(self):
         self.assertEqual(looks.order_of_rows([1, 2, 3, 4, 5], [(2, 4), (1, 3)]), [1, 3, 2, 4, 5])
-        self.assertEqual(looks.order_of_rows([1, 2, 3, 4, 5], [(5, 1), (1, 3), (3, 5)]), [1, 5, 3, 2, 4])
+        self.assertEqual(
+            looks.order_of_rows([1, 2, 3, 4, 5], [(5, 1), (1, 3), (3, 5)]), [1, 5, 3, 2, 4]
+        )
         self.assertEqual(looks.order_of_rows([7, 2], [(7, 9), (2, 2)]), [2, 7])
 
 
@@ -149,7 +163,9 @@ class Farms(InFolder):
     def test_laws(self):
         laws = {name: {call.number: call.law for call in run.calls} for name, _, run in self.runs()}
         self.assertEqual(laws["mulaw"], {1: Law.MU, 3: Law.A, 1025: Law.A, 4096: Law.MU})
-        self.assertEqual({law for name in ("mixed", "clean", "harsh") for law in laws[name].values()}, {Law.A})
+        self.assertEqual(
+            {law for name in ("mixed", "clean", "harsh") for law in laws[name].values()}, {Law.A}
+        )
 
     def test_shifts_are_those_of_the_downlinks(self):
         # Between the starts of two frames of a downlink there are 320 bits, and two more for each octet of the shift.
@@ -173,14 +189,20 @@ class Farms(InFolder):
             picture = folder / "run.svg"
             status, out, err = self.run_tool(timeline.main, folder, picture)
             self.assertEqual((status, err), (0, ""))
-            self.assertRegex(out, rf"^timeline calls {len(run.calls)} from 0 to \d+ bridges {len(run.bridges)} shifts")
+            self.assertRegex(
+                out,
+                rf"^timeline calls {len(run.calls)} from 0 to \d+ bridges {len(run.bridges)} shifts",
+            )
             self.check_picture(run, ElementTree.parse(picture).getroot())
 
     def test_picture_of_eight_calls_by_500_periods(self):
         for name in ("mixed", "harsh"):
             (self.folder / name).mkdir()
             lay(name, self.folder / name)
-        uplinks = [*sorted((self.folder / "harsh").glob("*.up")), *sorted((self.folder / "mixed").glob("*.up"))]
+        uplinks = [
+            *sorted((self.folder / "harsh").glob("*.up")),
+            *sorted((self.folder / "mixed").glob("*.up")),
+        ]
         bridges = [
             Bridge((1, 7), 20, 160, (140, 140), (0, 0)),
             Bridge((8, 3), 101, 333, (232, 232), (0, 0)),
@@ -192,7 +214,10 @@ class Farms(InFolder):
             call.take((7 * uplink.read_bytes())[:20000], bridges)
             call.span.counts.update(call.counts())
             calls.append(call)
-        words = [(call.number, f"open {call.number}", None) for call in calls] + [(120, "bridge 1 8", 3), (120, "unbridge 2", 4)]
+        words = [(call.number, f"open {call.number}", None) for call in calls] + [
+            (120, "bridge 1 8", 3),
+            (120, "unbridge 2", 4),
+        ]
         orders = [
             Answered(Order(number, stamp, text.split(" ")[0], (1,), text), Reply(refusal))
             for number, (stamp, text, refusal) in enumerate(words, 1)
@@ -206,7 +231,15 @@ class Farms(InFolder):
     def test_losses_of_a_long_run(self):
         # 100,000 periods in 1,000 pixels. One of each loss, each in the middle of good frames, and two in one column.
         sorts = bytearray([SORTS.index(Sort.GOOD)]) * 100000
-        lost = {1060: "BAD", 20050: "MISS", 30050: "OTHER", 40060: "INVALID", 50050: "NONE", 60010: "BAD", 60090: "MISS"}
+        lost = {
+            1060: "BAD",
+            20050: "MISS",
+            30050: "OTHER",
+            40060: "INVALID",
+            50050: "NONE",
+            60010: "BAD",
+            60090: "MISS",
+        }
         for period, name in lost.items():
             sorts[period] = SORTS.index(Sort[name])
         call = Call(7, Span(0, 100000, "end up 0", {}))
@@ -214,7 +247,11 @@ class Farms(InFolder):
         run = Run([Answered(Order(1, 0, "open", (7,), "open 7"), Reply())], [], [call], self.folder)
         drawn = picture.Picture(run, 1000, picture.FULL)
         root = ElementTree.fromstring(drawn.draw())
-        boxes = [box for box in root.iter(f"{SVG}rect") if (box.findtext(f"{SVG}title") or "").startswith("call 7 from")]
+        boxes = [
+            box
+            for box in root.iter(f"{SVG}rect")
+            if (box.findtext(f"{SVG}title") or "").startswith("call 7 from")
+        ]
         height = float(picture.FULL.band)
         for period, name in lost.items():
             at = drawn.x(period)
@@ -248,7 +285,10 @@ class Farms(InFolder):
                 if found:
                     self.assertEqual(int(found[1]), place)
                     place = int(found[2])
-                    parts = {look.words: re.search(rf"(?:^|, ){look.words}, (\d+) period", found[3]) for look in looks.Look}
+                    parts = {
+                        look.words: re.search(rf"(?:^|, ){look.words}, (\d+) period", found[3])
+                        for look in looks.Look
+                    }
                     counts = {words: int(part[1]) for words, part in parts.items() if part}
                     self.assertEqual(place - int(found[1]), sum(counts.values()))
                     seen.update(counts)
@@ -261,10 +301,18 @@ class Farms(InFolder):
                     self.assertEqual(seen[look.words], call.span.counts[look.name.lower()])
             self.assertTrue(any(text.endswith(call.span.cause) for text in texts))
             shifts = len(list(call.shifts()))
-            self.assertEqual(sum(title.startswith(f"call {call.number}, period ") for title in titles), shifts)
+            self.assertEqual(
+                sum(title.startswith(f"call {call.number}, period ") for title in titles), shifts
+            )
         for bridge in run.bridges:
             a, b = bridge.calls
-            self.assertEqual(sum(title.startswith(f"bridge of {a} and {b} from {bridge.start} ") for title in titles), 2)
+            self.assertEqual(
+                sum(
+                    title.startswith(f"bridge of {a} and {b} from {bridge.start} ")
+                    for title in titles
+                ),
+                2,
+            )
         told = "\n".join(titles)
         for order in run.orders:
             self.assertIn(order.told(), told)
@@ -280,9 +328,14 @@ class Farms(InFolder):
                 self.assertLessEqual(float(box.get("y")) + float(box.get("height")), height)
         rows = {}
         for text in root.iter(f"{SVG}text"):
-            size = {"head": 17, "name": 13, "small": 11, "tiny": 10}.get((text.get("class") or "").split(" ")[0], 12)
+            size = {"head": 17, "name": 13, "small": 11, "tiny": 10}.get(
+                (text.get("class") or "").split(" ")[0], 12
+            )
             wide = len(text.text) * size * 0.56
-            left = float(text.get("x")) - {"start": 0, "middle": wide / 2, "end": wide}[text.get("text-anchor", "start")]
+            left = (
+                float(text.get("x"))
+                - {"start": 0, "middle": wide / 2, "end": wide}[text.get("text-anchor", "start")]
+            )
             self.assertGreaterEqual(left, 0)
             self.assertLessEqual(left + wide, width)
             rows.setdefault(text.get("y"), []).append((left, left + wide, text.text))
@@ -302,10 +355,14 @@ class Pictures(InFolder):
         (self.folder / "report.txt").unlink()
         (self.folder / "orders.txt").rename(self.folder / "words.txt")
         words = ["--report", wanted, "--orders", self.folder / "words.txt", "--width", "3000"]
-        status, out, err = self.run_tool(timeline.main, self.folder, self.folder / "run.svg", *words)
+        status, out, err = self.run_tool(
+            timeline.main, self.folder, self.folder / "run.svg", *words
+        )
         self.assertEqual((status, err), (0, ""))
         self.assertEqual(out, "timeline calls 4 from 0 to 153 bridges 2 shifts 9 refused 1\n")
-        self.assertGreater(float(ElementTree.parse(self.folder / "run.svg").getroot().get("width")), 3000)
+        self.assertGreater(
+            float(ElementTree.parse(self.folder / "run.svg").getroot().get("width")), 3000
+        )
 
     def test_calls_that_never_had_a_period(self):
         # A call whose lines couldn't be read, with failed lines and an order that wasn't executed.
@@ -314,14 +371,23 @@ class Pictures(InFolder):
         self.path("report.txt", (report + "end period 5 calls 1 left 1\n").encode())
         self.path("orders.txt", b"5 open 9\n4294967294 close 9")
         status, out, err = self.run_tool(timeline.main, self.folder, self.folder / "run.svg")
-        self.assertEqual((status, out, err), (0, "timeline calls 1 from 5 to 5 bridges 0 shifts 0 refused 0\n", ""))
+        self.assertEqual(
+            (status, out, err),
+            (0, "timeline calls 1 from 5 to 5 bridges 0 shifts 0 refused 0\n", ""),
+        )
         self.assertIn("fault up, up failed, pcm failed", (self.folder / "run.svg").read_text())
 
     def drawn(self, *words):
-        status, out, err = self.run_tool(timeline.main, self.folder, self.folder / "run.svg", *words)
+        status, out, err = self.run_tool(
+            timeline.main, self.folder, self.folder / "run.svg", *words
+        )
         self.assertEqual((status, err), (0, ""))
         root = ElementTree.parse(self.folder / "run.svg").getroot()
-        return out, [title.text for title in root.iter(f"{SVG}title")], [text.text for text in root.iter(f"{SVG}text")]
+        return (
+            out,
+            [title.text for title in root.iter(f"{SVG}title")],
+            [text.text for text in root.iter(f"{SVG}text")],
+        )
 
     def test_some_calls(self):
         out, titles, texts = self.drawn("--calls", "1,3")
@@ -339,7 +405,9 @@ class Pictures(InFolder):
         out, titles, texts = self.drawn("--from", "50", "--to", "110")
         spans = [re.match(r"call \d (?:downlink )?from (\d+) to (\d+) ", title) for title in titles]
         spans = [(int(found[1]), int(found[2])) for found in spans if found]
-        self.assertEqual((min(start for start, _ in spans), max(end for _, end in spans)), (50, 110))
+        self.assertEqual(
+            (min(start for start, _ in spans), max(end for _, end in spans)), (50, 110)
+        )
         self.assertIn("4 calls, 2 bridges, periods from 50 to 110 (1.00 s to 2.20 s)", texts)
         self.assertTrue(any(text.endswith(", closed") for text in texts))  # call 2
         self.assertNotIn("period 0 (0.00 s), order 1: open 1", texts)
@@ -349,12 +417,21 @@ class Pictures(InFolder):
 
     def test_downlinks(self):
         _, titles, _ = self.drawn()
-        self.assertIn("call 2 downlink from 23 to 96 (0.46 s to 1.92 s): handed over in a bridge, 73 periods", titles)
+        self.assertIn(
+            "call 2 downlink from 23 to 96 (0.46 s to 1.92 s): handed over in a bridge, 73 periods",
+            titles,
+        )
         self.assertIn("call 3 downlink from 74 to 77 (1.48 s to 1.54 s): idle, 3 periods", titles)
-        self.assertTrue(any("downlink from" in title and "silence descriptor" in title for title in titles))
+        self.assertTrue(
+            any("downlink from" in title and "silence descriptor" in title for title in titles)
+        )
         for side in ("Out", "Pcm"):
             self.assertIn(f"call 2: level of {side}", titles)
-        for line in [*self.folder.glob("*.down"), *self.folder.glob("*.out"), *self.folder.glob("*.pcm")]:
+        for line in [
+            *self.folder.glob("*.down"),
+            *self.folder.glob("*.out"),
+            *self.folder.glob("*.pcm"),
+        ]:
             line.unlink()
         _, titles, _ = self.drawn()
         self.assertFalse(any("downlink from" in title or "level of" in title for title in titles))
@@ -376,41 +453,70 @@ class Pictures(InFolder):
         self.assertNotRegex(page, "https?:|src=|href=|@import|url\\((?!#)")
         self.assertIn("call periods 386, of them speech 107, speech lost 18 (14.40 %)", page)
         self.assertIn("no line failed", page)
-        worst = re.findall(r"data-call='(\d)'.*?<td>([\d.]+ %)</td><td>(\d+)</td><td>([\d.]+ s)</td><td>(.*?)</td>", page)
+        worst = re.findall(
+            r"data-call='(\d)'.*?<td>([\d.]+ %)</td><td>(\d+)</td><td>([\d.]+ s)</td><td>(.*?)</td>",
+            page,
+        )
         self.assertEqual(worst[0], ("1", "36.73 %", "18", "0.36 s", "period 89"))
         self.assertEqual([each[0] for each in worst], ["1", "2", "3", "4"])
 
     def test_data_of_the_page(self):
         run = Run.read(self.folder, self.folder / "orders.txt", self.folder / "report.txt")
-        data = json.loads(re.search('<script id="data" type="application/json">(.*?)</script>', self.page())[1])
+        data = json.loads(
+            re.search('<script id="data" type="application/json">(.*?)</script>', self.page())[1]
+        )
         calls = {call.number: call for call in run.calls}
         for told in data["calls"]:
             call = calls[told["number"]]
-            unpacked = {side: zlib.decompress(base64.b64decode(told[side])) for side in ("up", "down", "pcm", "out")}
+            unpacked = {
+                side: zlib.decompress(base64.b64decode(told[side]))
+                for side in ("up", "down", "pcm", "out")
+            }
             self.assertEqual(unpacked["up"], looks.looks(call.sorts))
             self.assertEqual({len(octets) for octets in unpacked.values()}, {call.periods()})
-        part = json.loads(re.search('json">(.*?)</script>', self.page("--from", "50", "--to", "110", "--sort", "worst"))[1])
+        part = json.loads(
+            re.search(
+                'json">(.*?)</script>', self.page("--from", "50", "--to", "110", "--sort", "worst")
+            )[1]
+        )
         self.assertEqual((part["first"], part["last"], part["calls"][0]["number"]), (50, 110, 1))
         self.assertEqual(len(zlib.decompress(base64.b64decode(part["calls"][0]["up"]))), 60)
 
     @unittest.skipUnless(CHROMIUM, "no program chromium")
     def test_page_zooms(self):
         self.path("zoomed.html", self.page().replace("</body>", ZOOMING + "</body>").encode())
-        words = [CHROMIUM, "--headless", "--no-sandbox", "--disable-gpu", f"--user-data-dir={self.folder / 'chromium'}"]
-        words += ["--virtual-time-budget=20000", "--dump-dom", (self.folder / "zoomed.html").as_uri()]
+        words = [
+            CHROMIUM,
+            "--headless",
+            "--no-sandbox",
+            "--disable-gpu",
+            f"--user-data-dir={self.folder / 'chromium'}",
+        ]
+        words += [
+            "--virtual-time-budget=20000",
+            "--dump-dom",
+            (self.folder / "zoomed.html").as_uri(),
+        ]
         # On a busy machine the browser may print the page before the data is unpacked.
         for _ in range(20):
-            ran = subprocess.run(words, stdin=subprocess.DEVNULL, stdout=subprocess.PIPE, stderr=subprocess.DEVNULL)
+            ran = subprocess.run(
+                words, stdin=subprocess.DEVNULL, stdout=subprocess.PIPE, stderr=subprocess.DEVNULL
+            )
             found = re.search("<title>seen (.*?)</title>", ran.stdout.decode())
             if found:
                 break
         told = found[1].split(" | ")
-        before, near, moved, whole = ([float(each) for each in seen.split(" ")] for seen in told[:4])
+        before, near, moved, whole = (
+            [float(each) for each in seen.split(" ")] for seen in told[:4]
+        )
         self.assertEqual((before, whole), ([0, 153, 0], [0, 153, 0]))
         self.assertAlmostEqual(near[1] - near[0], 153 / 1.25, places=3)
         self.assertAlmostEqual(moved[0] - near[0], min(153 / 1.25 / 8, 153 - near[1]), places=3)
         self.assertEqual(told[4], looks.Look.BAD.colour[1:].lower())
-        self.assertRegex(told[5], r"^call 1, period 95 \(1.90 s\): uplink lost: unusable within speech; downlink speech - 18 of 49 periods")
+        self.assertRegex(
+            told[5],
+            r"^call 1, period 95 \(1.90 s\): uplink lost: unusable within speech; downlink speech - 18 of 49 periods",
+        )
 
     def test_sorted(self):
         _, _, texts = self.drawn("--sort", "worst", "--rows", "compact")
@@ -438,13 +544,28 @@ class Pictures(InFolder):
 
     def test_refused_texts(self):
         for name, old, new, part in (
-            ("report.txt", b"good 61 sid 3", b"good 60 sid 4", "2.up: gives good 61, and the report has 60"),
+            (
+                "report.txt",
+                b"good 61 sid 3",
+                b"good 60 sid 4",
+                "2.up: gives good 61, and the report has 60",
+            ),
             ("report.txt", b"made 55", b"made 54", "3.up: gives made 55, and the report has 54"),
             ("report.txt", b"from 0 to 153", b"from 0 to 154", "isn't one of a report there"),
             ("report.txt", b"order 5 ok", b"order 6 ok", "line 5 isn't one of a report"),
-            ("report.txt", b"order 5 ok", b"order 5 refused 8 call 3", "line 5 isn't one of a report"),
+            (
+                "report.txt",
+                b"order 5 ok",
+                b"order 5 refused 8 call 3",
+                "line 5 isn't one of a report",
+            ),
             ("report.txt", b"order 1 ok", b"\xff", "line 1 isn't one of a report"),
-            ("report.txt", b"bridge 1 3", b"bridge 1 5", "has a bridge of call 5, and no such call"),
+            (
+                "report.txt",
+                b"bridge 1 3",
+                b"bridge 1 5",
+                "has a bridge of call 5, and no such call",
+            ),
             ("report.txt", b"from 120 to 131", b"from 120 to 132", "isn't one of a report there"),
             ("report.txt", b"counts 4", b"counts 5", "isn't one of a report"),
             ("report.txt", b"end period", b"end of period", "isn't one of a report"),
@@ -467,13 +588,19 @@ class Pictures(InFolder):
             before = line.read_bytes() if line.is_file() else None
             for size in (0, periods * octets - 1, periods * octets + octets):
                 line.write_bytes(bytes(size))
-                self.refused(f"{name}: has {size} octets, and {periods} periods give {periods * octets}: it is of another run, or")
+                self.refused(
+                    f"{name}: has {size} octets, and {periods} periods give {periods * octets}: it is of another run, or"
+                )
             # One that failed has fewer.
             line.write_bytes(bytes(octets))
             report = self.folder / "report.txt"
             text = report.read_text()
-            report.write_text(text.replace("end period", f"line {name.replace('.', ' ')} failed\nend period"))
-            self.assertEqual(self.run_tool(timeline.main, self.folder, self.folder / "run.svg")[0], 0)
+            report.write_text(
+                text.replace("end period", f"line {name.replace('.', ' ')} failed\nend period")
+            )
+            self.assertEqual(
+                self.run_tool(timeline.main, self.folder, self.folder / "run.svg")[0], 0
+            )
             report.write_text(text)
             (self.folder / "run.svg").unlink()
             line.unlink()
@@ -496,7 +623,9 @@ class Pictures(InFolder):
             self.refused("isn't a call A or calls A-B", "--calls", calls)
         self.refused("invalid choice", "--rows", "wide")
         self.refused("--width", "--width", "wide")
-        self.assert_refused(timeline.main, [self.folder / "gone", self.folder / "run.svg"], "No such file")
+        self.assert_refused(
+            timeline.main, [self.folder / "gone", self.folder / "run.svg"], "No such file"
+        )
 
     def test_refused_parts(self):
         self.refused("report.txt: has no call 5", "--calls", "1-7")
@@ -512,7 +641,10 @@ class Pictures(InFolder):
         self.path("orders.txt", b"5 open 9\n")
         for _ in range(2):
             status, out, err = self.run_tool(timeline.main, self.folder, self.folder / "run.svg")
-            self.assertEqual((status, out, err), (0, "timeline calls 1 from 5 to 5 bridges 0 shifts 0 refused 0\n", ""))
+            self.assertEqual(
+                (status, out, err),
+                (0, "timeline calls 1 from 5 to 5 bridges 0 shifts 0 refused 0\n", ""),
+            )
 
     def test_never_an_input(self):
         shutil.copy(self.folder / "orders.txt", self.folder / "orders.svg")
@@ -521,7 +653,11 @@ class Pictures(InFolder):
 
     def test_names_of_pictures(self):
         for name in ("1.up", "orders.txt", "run.png", "run"):
-            self.assert_refused(timeline.main, [self.folder, self.folder / name], "a picture's name ends with .svg or .html")
+            self.assert_refused(
+                timeline.main,
+                [self.folder, self.folder / name],
+                "a picture's name ends with .svg or .html",
+            )
 
 
 if __name__ == "__main__":

@@ -6,12 +6,12 @@ from unittest import mock
 
 from support import HAS_LOCKS, InFolder
 
-from core.profile import MOST_PERIODS
+from trau.rules.profile import MOST_PERIODS
 from test_timeline import lay
 
-import run_texts
-import shard
-import watch
+from trau.runs import run_texts
+from trau.runs import shard
+from trau.runs import watch
 
 # The clock stands still at this time, except while watch.py sleeps.
 NOW = 1_700_000_000
@@ -38,7 +38,9 @@ class Watching(InFolder):
             meanwhile(slept)
 
         clock = {"time": lambda: NOW + slept, "monotonic": lambda: slept, "sleep": sleep}
-        with mock.patch.object(watch, "time", mock.Mock(**clock)), mock.patch.object(watch, "is_locked", self.is_locked):
+        with mock.patch.object(watch, "time", mock.Mock(**clock)), mock.patch.object(
+            watch, "is_locked", self.is_locked
+        ):
             return self.run_tool(watch.main, *words)
 
     def is_locked(self, folder):
@@ -55,7 +57,9 @@ class Watching(InFolder):
         wanted = {call: span.end - span.start for call, span in report.calls.items()}
         orders = run_texts.read_orders(self.folder / "orders.txt")
         self.assertEqual(watch.expected_periods(self.folder, orders, MOST_PERIODS), wanted)
-        self.assertEqual(watch.expected_periods(self.folder, orders, 80), {1: 80, 2: 80, 4: 60, 3: 7})
+        self.assertEqual(
+            watch.expected_periods(self.folder, orders, 80), {1: 80, 2: 80, 4: 60, 3: 7}
+        )
 
     def test_a_run_that_is_on(self):
         self.put("report.txt", 0, 10)
@@ -67,7 +71,9 @@ class Watching(InFolder):
         self.assertEqual(out, "watch periods 173 of 386, 44 %, calls done 1 of 4, 12 s left\n")
 
     def test_a_run_that_has_ended(self):
-        self.assertEqual(self.watch(self.folder)[1], "watch periods 386 of 386, 100 %, calls done 4 of 4\n")
+        self.assertEqual(
+            self.watch(self.folder)[1], "watch periods 386 of 386, 100 %, calls done 4 of 4\n"
+        )
 
     def test_no_run(self):
         (self.folder / "report.txt").unlink()
@@ -88,7 +94,9 @@ class Watching(InFolder):
 
     def test_growth_of_a_line_is_growth(self):
         self.put("report.txt", 0, 10)
-        status, out, err = self.watch(self.folder, "--plain", "--interval", "2", "--patience", "6", meanwhile=self.grow)
+        status, out, err = self.watch(
+            self.folder, "--plain", "--interval", "2", "--patience", "6", meanwhile=self.grow
+        )
         self.assertEqual((status, err), (0, ""))
         self.assertEqual(out.count("watch periods 0 of 386"), 10)
         self.assertTrue(out.endswith("watch periods 386 of 386, 100 %, calls done 4 of 4\n"))
@@ -113,7 +121,9 @@ class Watching(InFolder):
     def test_a_run_without_a_report(self):
         self.path("report.txt", b"no memory\n")
         status, _, err = self.watch(self.folder, "--plain")
-        self.assertEqual((status, err), (1, f"watch.py: {self.folder}: ended without a report: no memory\n"))
+        self.assertEqual(
+            (status, err), (1, f"watch.py: {self.folder}: ended without a report: no memory\n")
+        )
 
     def test_one_look_at_a_run_that_nobody_has(self):
         self.put("report.txt", 0, 10)
@@ -137,7 +147,9 @@ class Watching(InFolder):
         self.is_locked = lambda folder: next(locks)
         status, out, err = self.watch(self.folder, "--plain")
         self.assertEqual((status, out.count("\n")), (1, 3))
-        self.assertIn("ended without a report: no process of this machine has the folder's lock\n", err)
+        self.assertIn(
+            "ended without a report: no process of this machine has the folder's lock\n", err
+        )
 
     def test_a_run_that_never_had_the_lock(self):
         self.put("report.txt", 0, 10)

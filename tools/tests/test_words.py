@@ -10,10 +10,10 @@ import unittest
 
 from support import TOOLS, TOP, InFolder
 
-import orders
-import trau_words
-from core import profile
-from word_faults import grouped
+from trau.runs import orders
+from trau.packing import trau_words
+from trau.rules import profile
+from trau.command_line.word_faults import grouped
 
 DOCS = TOP / "docs"
 
@@ -37,7 +37,11 @@ MOST_WORDS_IN_ALL = 46000
 # Numbers that have a home: how they are written, the page that has them, and how often others may. All others link there.
 NUMBERS = (
     (r"\b4,?09[36]\b", "docs/COMMANDS.md", {"README.md": 1}),  # call numbers
-    (r"\b1,?048,?576\b|\b1,?310,?720\b|\b65,?536\s+(?:lines|orders)\b", "docs/COMMANDS.md", {}),  # limits of orders
+    (
+        r"\b1,?048,?576\b|\b1,?310,?720\b|\b65,?536\s+(?:lines|orders)\b",
+        "docs/COMMANDS.md",
+        {},
+    ),  # limits of orders
 )
 # Other numbers that look like these: a factor in a rule, and the first cells of a measurement.
 OTHER_NUMBERS = ("seed times 4,096", "| 4,096 | 20 |")
@@ -46,7 +50,9 @@ OTHER_NUMBERS = ("seed times 4,096", "| 4,096 | 20 |")
 def pages():
     """All pages of the repository, without those in folders that are made."""
     for folder, names, files in os.walk(TOP):
-        names[:] = [name for name in names if name not in ("out", "inc") and not name.startswith(".")]
+        names[:] = [
+            name for name in names if name not in ("out", "inc") and not name.startswith(".")
+        ]
         yield from (pathlib.Path(folder, name) for name in files if name.endswith(".md"))
 
 
@@ -93,28 +99,49 @@ class Documents(unittest.TestCase):
     def test_options(self):
         for command, options in trau_words.OPTIONS_OF.items():
             text = (DOCS / "commands" / f"{command}.md").read_text()
-            found = {name: values for name, *values in rows(text, ["`(--\\w+)`", "([\\d,]+) to ([\\d,]+)", "([\\d,]+)"])}
-            wanted = {option.name: [grouped(number) for number in (option.least, option.most, option.default)] for option in options}
+            found = {
+                name: values
+                for name, *values in rows(
+                    text, ["`(--\\w+)`", "([\\d,]+) to ([\\d,]+)", "([\\d,]+)"]
+                )
+            }
+            wanted = {
+                option.name: [
+                    grouped(number) for number in (option.least, option.most, option.default)
+                ]
+                for option in options
+            }
             self.assertEqual(found, wanted, command)
 
     def test_statuses(self):
         # Each is told once, in one table, with its commands; a text that two commands tell in their own words is told of both.
         statuses = {status.number: status for status in trau_words.STATUSES}
         text = (DOCS / "COMMANDS.md").read_text()
-        table = rows(text[text.index("## Statuses") : text.index("## What the lines")], ["(\\d+)", "[^|]+", "([^|]+?)", "([^|]+?)"])
+        table = rows(
+            text[text.index("## Statuses") : text.index("## What the lines")],
+            ["(\\d+)", "[^|]+", "([^|]+?)", "([^|]+?)"],
+        )
         self.assertEqual([int(number) for number, *_ in table], list(statuses))
         for number, text, _ in table:
-            for word in re.findall(r"`(usage|orders [^`]*|no memory|relay refused N|decode refused N)`", text):
+            for word in re.findall(
+                r"`(usage|orders [^`]*|no memory|relay refused N|decode refused N)`", text
+            ):
                 self.assertIn(word, statuses[int(number)].text, number)
         for command in trau_words.COMMANDS:
-            found = {int(number) for number, _, names in table if names == "all" or f"`{command.name}`" in names}
+            found = {
+                int(number)
+                for number, _, names in table
+                if names == "all" or f"`{command.name}`" in names
+            }
             self.assertEqual(found - {125}, set(command.statuses), command.name)
         for page in [TOP / "README.md", *(DOCS / "commands").glob("*.md")]:
             self.assertNotIn("| Status | Meaning |", page.read_text(), page.name)
 
     def test_no_page_grows(self):
         for most, names in MOST_WORDS:
-            self.assertLessEqual(words_of(page for name in names for page in TOP.glob(name)), most, names)
+            self.assertLessEqual(
+                words_of(page for name in names for page in TOP.glob(name)), most, names
+            )
         self.assertLessEqual(words_of(pages()), MOST_WORDS_IN_ALL, "all pages")
 
     def test_numbers_have_one_home(self):
@@ -128,20 +155,35 @@ class Documents(unittest.TestCase):
     def test_numbers_of_the_profile(self):
         # Each is in its crate as a definition and as a constant, and in core/profile.py, by these names.
         text = (DOCS / "ARCHITECTURE.md").read_text()
-        table = rows(text[text.index("| Crate | Definitions |") : text.index("**What must change")], ["`(\\w+)`", "(.*?)"])
+        table = rows(
+            text[text.index("| Crate | Definitions |") : text.index("**What must change")],
+            ["`(\\w+)`", "(.*?)"],
+        )
         self.assertTrue(table)
         for crate, cell in table:
-            specs, src = ("\n".join(path.read_text() for path in (TOP / "crates" / crate).glob(each)) for each in ("specs/*.antt", "src/*.rt"))
+            specs, src = (
+                "\n".join(path.read_text() for path in (TOP / "crates" / crate).glob(each))
+                for each in ("specs/*.antt", "src/*.rt")
+            )
             for name in re.findall(r"\w+", cell):
                 with self.subTest(crate=crate, name=name):
                     wanted = integers(str(getattr(profile, name.upper())))
-                    self.assertEqual(integers(re.search(rf"^{name} = (.*)$", specs, re.M)[1]), wanted)
-                    self.assertEqual(integers(re.search(rf"\bconst {name.upper()}: .* = (.*);$", src, re.M)[1]), wanted)
+                    self.assertEqual(
+                        integers(re.search(rf"^{name} = (.*)$", specs, re.M)[1]), wanted
+                    )
+                    self.assertEqual(
+                        integers(re.search(rf"\bconst {name.upper()}: .* = (.*);$", src, re.M)[1]),
+                        wanted,
+                    )
 
     def test_the_version(self):
         newest = re.search(r"^## ([\d.]+), ", (DOCS / "CHANGELOG.md").read_text(), re.M)[1]
         for name in ("README.md", "docs/INSTALL.md", "docs/LIBRARY.md"):
-            self.assertEqual(set(re.findall(r"(?:of version |_)(\d+\.\d+\.\d+)", (TOP / name).read_text())), {newest}, name)
+            self.assertEqual(
+                set(re.findall(r"(?:of version |_)(\d+\.\d+\.\d+)", (TOP / name).read_text())),
+                {newest},
+                name,
+            )
 
     def test_orders(self):
         text = (DOCS / "OPERATORS.md").read_text()
@@ -151,13 +193,29 @@ class Documents(unittest.TestCase):
         self.assertEqual(shown, set(orders.FORMS))
 
     def test_help(self):
-        self.assertEqual((TOOLS / "help.txt").read_text(), trau_words.help_text(), "tools/trau_words.py help >tools/help.txt")
-        for name, made in (("pages", trau_words.pages_text()), ("grammar", trau_words.grammar_text())):
-            self.assertEqual((TOOLS / f"{name}.txt").read_text(), made, f"tools/trau_words.py {name} >tools/{name}.txt")
+        self.assertEqual(
+            (TOOLS / "help.txt").read_text(),
+            trau_words.help_text(),
+            "tools/trau_words.py help >tools/help.txt",
+        )
+        for name, made in (
+            ("pages", trau_words.pages_text()),
+            ("grammar", trau_words.grammar_text()),
+        ):
+            self.assertEqual(
+                (TOOLS / f"{name}.txt").read_text(),
+                made,
+                f"tools/trau_words.py {name} >tools/{name}.txt",
+            )
         for text in (trau_words.help_text(), trau_words.pages_text()):
             self.assertTrue(all(len(line) < 80 for line in text.splitlines()))
-        for made in (trau_words.help_text(), trau_words.man_page("trau x", "2026-01-01").replace("\\-", "-")):
-            for word in [command.name for command in trau_words.COMMANDS] + [option.name for option in trau_words.OPTIONS_OF["drill"]]:
+        for made in (
+            trau_words.help_text(),
+            trau_words.man_page("trau x", "2026-01-01").replace("\\-", "-"),
+        ):
+            for word in [command.name for command in trau_words.COMMANDS] + [
+                option.name for option in trau_words.OPTIONS_OF["drill"]
+            ]:
                 self.assertIn(word, made)
 
 
@@ -165,14 +223,19 @@ class ManPage(InFolder):
     @unittest.skipUnless(shutil.which("groff"), "there is no groff")
     def test_no_warnings(self):
         page = trau_words.man_page("trau x", "2026-01-01").encode()
-        ended = subprocess.run(["groff", "-man", "-ww", "-Tascii", "-P-cbou"], input=page, capture_output=True)
+        ended = subprocess.run(
+            ["groff", "-man", "-ww", "-Tascii", "-P-cbou"], input=page, capture_output=True
+        )
         self.assertEqual((ended.returncode, ended.stderr), (0, b""))
         text = " ".join(ended.stdout.decode().split())
         self.assertIn("TRAU(1)", text)
         self.assertIn("trau run [--workers N] [--batch N] [--slice N] [--periods N] <ORDERS", text)
         run_ends = "The period at which the run ends, required by save; resume goes on to its mark's if that is greater"
         self.assertIn(f"{run_ends} (1 to 4,294,967,295, else 4,294,967,295).", text)
-        self.assertIn("2 Line N of the orders or of the mark isn't in the grammar: orders line N, save line N.", text)
+        self.assertIn(
+            "2 Line N of the orders or of the mark isn't in the grammar: orders line N, save line N.",
+            text,
+        )
 
 
 @unittest.skipUnless(shutil.which("bash"), "there is no bash")
@@ -181,7 +244,12 @@ class Completion(InFolder):
         """What bash makes of the last word of these."""
         self.path("completion", trau_words.completion().encode())
         script = '. ./completion; COMP_WORDS=("$@"); COMP_CWORD=$(($# - 1)); _trau; echo "${COMPREPLY[*]}"'
-        ended = subprocess.run(["bash", "-c", script, "bash", "trau", *words], cwd=self.folder, capture_output=True, text=True)
+        ended = subprocess.run(
+            ["bash", "-c", script, "bash", "trau", *words],
+            cwd=self.folder,
+            capture_output=True,
+            text=True,
+        )
         self.assertEqual((ended.returncode, ended.stderr), (0, ""))
         return ended.stdout.split()
 
@@ -190,15 +258,22 @@ class Completion(InFolder):
             self.path(name, b"")
         self.assertEqual(self.completed("r"), ["run", "resume", "relay"])
         self.assertEqual(self.completed("--"), ["--help", "--version", "--no-lock"])
-        self.assertEqual(self.completed("run", "--"), ["--workers", "--batch", "--slice", "--periods"])
+        self.assertEqual(
+            self.completed("run", "--"), ["--workers", "--batch", "--slice", "--periods"]
+        )
         self.assertEqual(self.completed("run", "--workers", "2", "--b"), ["--batch"])
         self.assertEqual(self.completed("run", "--workers", ""), [])
         self.assertEqual(self.completed("save", "--periods", "3", "--w"), ["--workers"])
         self.assertEqual(self.completed("resume", "--p"), ["--periods"])
         self.assertEqual(self.completed("d"), ["drill", "decode"])
-        self.assertEqual(self.completed("drill", "--"), ["--workers", "--batch", "--slice", "--periods", "--seed", "--calls"])
+        self.assertEqual(
+            self.completed("drill", "--"),
+            ["--workers", "--batch", "--slice", "--periods", "--seed", "--calls"],
+        )
         self.assertEqual(self.completed("drill", "--seed", ""), [])
-        self.assertEqual(self.completed("live", "--"), ["--seed", "--calls", "--periods", "--callers", "--inbox"])
+        self.assertEqual(
+            self.completed("live", "--"), ["--seed", "--calls", "--periods", "--callers", "--inbox"]
+        )
         self.assertEqual(self.completed("relay", ""), ["12", "7"])
         self.assertEqual(self.completed("encode", ""), ["8"])
         self.assertEqual(self.completed("frames", "7", ""), [])

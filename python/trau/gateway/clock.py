@@ -1,0 +1,60 @@
+"""The gateway's clock: a tick every 20 ms for each call, in four phases of 5 ms, so that not all packets leave at once."""
+
+from __future__ import annotations
+
+import time
+from typing import Callable, Iterator, NamedTuple
+
+PHASES = 4
+PERIOD = 20_000_000  # nanoseconds
+PHASE = PERIOD // PHASES
+# Up to here late turns are made up for, so that neither the recording nor a peer with room for a burst loses speech. Time beyond it is given up.
+MOST_LATE = 1_000_000_000
+
+
+class Turn(NamedTuple):
+    """A tick of the calls of one phase: its period, how many periods late it is, and how many were given up just now."""
+
+    period: int
+    phase: int
+    behind: int
+    given_up: int
+
+
+class Clock:
+    """Turn n is due at start + 5 ms n. Late turns follow one another until they are in time again."""
+
+    def __init__(
+        self,
+        now: Callable[[], int] = time.monotonic_ns,
+        sleep: Callable[[int], None] = lambda wait: time.sleep(wait / 1e9),
+    ) -> None:
+        """A turned clock, as tests have it, gives its own time and its own waiting, both in nanoseconds."""
+        self.now, self.sleep = now, sleep
+        self.late = self.given_up = 0  # turns late by more than a period; periods
+        self.latest = (
+            self.lately
+        ) = 0  # how late a turn was at most, up to the last report and since; nanoseconds
+
+    def report(self) -> int:
+        """How many nanoseconds late a turn was at most since the last report."""
+        lately, self.lately = self.lately, 0
+        self.latest = max(self.latest, lately)
+        return lately
+
+    def turns(self) -> Iterator[Turn]:
+        """The turns without end."""
+        start, number = self.now(), 0
+        while True:
+            due = start + number * PHASE
+            wait = due - self.now()
+            if wait > 0:
+                self.sleep(wait)
+            late = max(0, self.now() - due)
+            given_up = late // PERIOD if late > MOST_LATE else 0
+            start += given_up * PERIOD
+            self.given_up += given_up
+            self.late += late > PERIOD
+            self.lately = max(self.lately, late)
+            yield Turn(number // PHASES, number % PHASES, late // PERIOD - given_up, given_up)
+            number += 1

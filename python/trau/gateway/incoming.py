@@ -1,0 +1,154 @@
+"""One incoming stream: whose packets are taken, and where in the jitter buffer they belong."""
+
+from __future__ import annotations
+
+from collections import Counter
+from typing import Dict, Optional, Tuple
+
+from trau.gateway import rtp
+from trau.gateway.jitter_buffer import LIMIT, JitterBuffer
+from trau.gateway.rtcp import Reception
+from trau.gateway.rtp import HEADER, SAMPLES, Refused
+
+MOST_FAULT = 80  # characters that name one
+STILL = 2  # periods beyond the depth after which a source that brought nothing is still
+
+
+class Incoming:
+    """The stream of one sender. `frame` is the size of a frame that fills a period, or 0 for octets of a line, one a sample."""
+
+    def __init__(self, kind: int, frame: int, buffer: JitterBuffer) -> None:
+        self.kind, self.frame, self.buffer = kind, frame, buffer
+        self.size = frame or SAMPLES  # octets of a period
+        self.half = SAMPLES // 2 if frame else 0  # a period; by which frames may be off the grid
+        self.usual, self.plain = HEADER.size + self.size, bytes(
+            (0x80, kind)
+        )  # most packets have this size, and begin so
+        self.counts: Counter[str] = Counter()
+        self.faults: Dict[str, str] = {}  # what the latest ones were, by the count
+        self.source: Optional[int] = None
+        self.reception: Optional[Reception] = None  # what came of it
+        self.probation: Optional[
+            Tuple[int, int]
+        ] = None  # another source, and the number that it must bring next
+        self.jump: Optional[Tuple[int, int]] = None  # number and stamp with which a jump goes on
+        self.stamp = self.position = 0  # a time stamp, and its place in samples from the first one
+        self.heard: Optional[int] = None  # the tick of the last packet that was taken
+        self.stale, self.stale_until = (
+            0,
+            0,
+        )  # periods that the clock has given up, whose packets are still to be read until this tick
+
+    def fail(self, count: str, failure: Exception) -> None:
+        """Counts a fault of the gateway or its host, and keeps what it was."""
+        self.counts[count] += 1
+        text = getattr(failure, "strerror", None) or f"{type(failure).__name__} {failure}"
+        self.faults[count] = " ".join(text.split())[:MOST_FAULT]
+
+    def packet(self, data: bytes, tick: int, behind: int) -> None:
+        """Takes a datagram that is read at a tick, which is late by `behind` periods."""
+        is_watched = behind == 0  # a late tick says nothing about the path
+        try:
+            if len(data) == self.usual and data.startswith(self.plain):
+                _, _, number, stamp, source = HEADER.unpack_from(data)
+                payload, samples = data[HEADER.size :], SAMPLES
+            else:
+                kind, number, stamp, source, payload = rtp.parse(data)
+                samples = self.samples(kind, payload)
+            if source != self.source:
+                self.take_source(source, number, stamp, tick, behind)
+            self.reception.count(number, stamp, tick if is_watched and not self.stale else None)
+            period, part = self.place(number, stamp, samples, tick, behind)
+        except Refused as refused:
+            self.counts[str(refused)] += 1
+            return
+        self.heard = tick
+        at = 0
+        while at < len(payload):
+            end = at + self.size - part
+            if reason := self.buffer.put(
+                period, part, payload[at:end], tick, is_watched and at == 0
+            ):
+                self.counts[reason] += 1
+            period, part, at = period + 1, 0, end
+
+    def samples(self, kind: int, payload: bytes) -> int:
+        """How far a packet moves the time stamp. Refuses other payload types, and payloads of no whole frames."""
+        if kind != self.kind:
+            raise Refused("other-type")
+        if not payload:
+            raise Refused("empty")
+        if self.frame and len(payload) % self.frame:
+            raise Refused("odd-size")
+        samples = len(payload) // self.frame * SAMPLES if self.frame else len(payload)
+        if samples > LIMIT * SAMPLES:
+            raise Refused("too-long")
+        return samples
+
+    def take_source(self, source: int, number: int, stamp: int, tick: int, behind: int) -> None:
+        """Another source has to bring two packets in a row (RFC 3550, A.1) while the present one is still: of two at once, one is heard."""
+        if self.source is not None:
+            is_next = self.probation == (source, number)
+            self.probation = source, number + 1 & rtp.NUMBERS
+            if not is_next or not self.is_still(tick):
+                raise Refused("probation")
+            self.counts["new-source"] += 1
+        self.counts.update(self.came())
+        self.source, self.probation, self.reception = source, None, Reception(source, number)
+        self.begin(stamp, tick + behind)
+
+    def is_still(self, tick: int) -> bool:
+        """Whether the present source has brought nothing for some periods, and all that it brought is played."""
+        return tick > (self.heard or 0) + self.buffer.depth + STILL and self.buffer.is_empty(tick)
+
+    def came(self) -> Counter[str]:
+        """The packets of the present source, and those that are missing by their numbers."""
+        return Counter(
+            {"packets": self.reception.received, "missing": self.reception.missing()}
+            if self.reception
+            else {}
+        )
+
+    def begin(self, stamp: int, tick: int) -> None:
+        """The stream begins with a packet of this time stamp."""
+        self.stamp, self.position, self.jump = stamp, 0, None
+        self.buffer.start(tick)
+
+    def place(
+        self, number: int, stamp: int, samples: int, tick: int, behind: int
+    ) -> Tuple[int, int]:
+        """The period at which a packet begins, and the place in it; a frame belongs to the nearest period. A jump of the time stamps is
+        believed if the very next packet follows it."""
+        ahead = (stamp - self.stamp + 0x80000000 & rtp.STAMPS) - 0x80000000
+        place = self.position + ahead
+        period, part = divmod(place + self.half, SAMPLES)
+        margin = period - self.buffer.shift - tick
+        if self.stale and self.is_given_up(margin, tick):
+            raise Refused("given-up")
+        if not -LIMIT <= margin <= LIMIT + behind:
+            if self.jump != (number, stamp):
+                self.jump = number + 1 & rtp.NUMBERS, stamp + samples & rtp.STAMPS
+                raise Refused("far")
+            self.counts["jumps"] += 1
+            self.begin(stamp, tick + behind)
+            return 0, 0
+        self.jump = None
+        if ahead > 0:
+            self.stamp, self.position = stamp, place
+            self.buffer.follow(margin, tick)
+        if self.frame:
+            if part != self.half:
+                self.counts["off-the-grid"] += 1
+            return period, 0
+        return period, part
+
+    def give_up(self, periods: int, tick: int) -> None:
+        """The clock has given up time. What came in it is still to be read, and is neither late nor a jump."""
+        self.buffer.give_up(periods, tick)
+        self.stale, self.stale_until = self.stale + periods, tick + LIMIT
+
+    def is_given_up(self, margin: int, tick: int) -> bool:
+        """Whether a packet is of time that was given up, until one comes that isn't."""
+        if margin >= 0 or tick >= self.stale_until:
+            self.stale = 0
+        return -self.stale - LIMIT <= margin < 0 < self.stale

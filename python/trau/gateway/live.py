@@ -1,0 +1,268 @@
+"""The gateway while it runs: the clock turns, lines are taken at the start of a period, and calls are processed phase by phase."""
+
+from __future__ import annotations
+
+import contextlib
+import gc
+import os
+import queue
+import resource
+import select
+import shutil
+import signal
+import sys
+import threading
+import time
+from collections import deque
+from pathlib import Path
+from typing import Deque, List, NamedTuple, Optional, Tuple
+
+from trau.gateway.clock import PHASES, Clock, Turn
+from trau.command_line.words import Refusal
+from trau.gateway.network import Network
+from trau.gateway.recorder import Recorder
+from trau.gateway.switchboard import Switchboard
+from trau.command_line.ends import complain, naming
+
+PERIODS = 50  # in a second
+MOST_LINES = 50  # that are executed in a period
+MOST_LINE = 1000  # octets
+MOST_REPLY = 1000  # characters: a pipe takes them whole or not at all (PIPE_BUF)
+MOST_SAID = 1000  # lines that wait for a reader
+LAST_WORDS = 2  # seconds that a reader has at the end
+MOST_BEHIND = (
+    10  # periods by which the clock may have been late in the last second when a call is opened
+)
+DESCRIPTORS = (10, 64)  # of a call, and of all else
+
+
+class Options(NamedTuple):
+    """The words of the command line."""
+
+    folder: Path
+    calls: Optional[Path]
+    address: str
+    seconds: Optional[int]
+    every: int
+    most_calls: int
+
+
+class Speaker:
+    """Prints lines on standard output by a thread, so that nothing waits for a reader: lines for which there is no room are dropped and counted."""
+
+    def __init__(self) -> None:
+        self.dropped = 0
+        self.lines: "queue.Queue[Optional[str]]" = queue.Queue(MOST_SAID)
+        self.writer = threading.Thread(target=self.write, daemon=True)
+        self.writer.start()
+
+    def __call__(self, text: str) -> None:
+        try:
+            self.lines.put_nowait(text)
+        except queue.Full:
+            self.dropped += 1
+
+    def write(self) -> None:
+        """The thread that prints."""
+        while (text := self.lines.get()) is not None:
+            try:
+                rest = f"{text}\n".encode()
+                while rest:
+                    rest = rest[os.write(1, rest) :]
+            except OSError:
+                self.dropped += 1
+
+    def end(self) -> None:
+        """Prints what is left, if somebody reads it soon."""
+        with contextlib.suppress(queue.Full):
+            self.lines.put_nowait(None)
+        self.writer.join(LAST_WORDS)
+
+
+class Commands:
+    """The lines of standard input, as they come."""
+
+    def __init__(self, descriptor: Optional[int] = 0) -> None:
+        self.descriptor, self.rest = descriptor, b""
+        self.lines: Deque[str] = deque()
+
+    def read(self) -> None:
+        """Takes what has come, without waiting. Standard input may end; the calls go on."""
+        if self.descriptor is None or len(self.lines) >= MOST_LINES:
+            return
+        try:
+            if not select.select([self.descriptor], [], [], 0)[0]:
+                return
+            data = os.read(self.descriptor, 65536)
+        except BlockingIOError:
+            return
+        except OSError as failure:  # nohup gives one that can't be read, and a terminal may go
+            complain("gateway.py", f"standard input: {failure.strerror}")
+            data = b""
+        if not data:
+            self.end()
+            return
+        *lines, self.rest = (self.rest + data).split(b"\n")
+        self.rest = self.rest[: MOST_LINE + 1]
+        self.lines.extend(line.decode("utf-8", "replace") for line in lines)
+
+    def end(self) -> None:
+        """Standard input has ended. A line without its end may have been cut, and isn't executed."""
+        if self.rest:
+            complain("gateway.py", "standard input: the last line has no end, and isn't executed")
+        self.descriptor, self.rest = None, b""
+
+    def taken(self) -> List[str]:
+        """The lines that are executed now; comments and empty ones are left out."""
+        self.read()
+        lines = [self.lines.popleft() for _ in range(min(MOST_LINES, len(self.lines)))]
+        return [line for line in map(without_comment, lines) if line]
+
+
+def without_comment(line: str) -> str:
+    """A line up to its comment, if any."""
+    return line.partition("#")[0].strip()
+
+
+class Gateway:
+    """The calls on a clock."""
+
+    def __init__(self, board: Switchboard, clock: Clock, commands: Commands, say: Speaker) -> None:
+        self.board, self.clock, self.commands, self.say = board, clock, commands, say
+        self.is_to_end, self.late = False, 0  # turns that were said to be late
+        self.busy_until = 0  # the period up to which no call is opened
+
+    def end(self, *_: object) -> None:
+        """Ends the gateway at the next period; for signals."""
+        self.is_to_end = True
+
+    def obey(self, line: str, period: int) -> None:
+        """Executes a line in a period, and says whether it was."""
+        try:
+            if len(line) > MOST_LINE:
+                raise Refusal("the line is too long")
+            if period < self.busy_until and line.split()[0] == "open":
+                raise Refusal("the gateway was behind its clock in the last second")
+            if line == "counts":
+                self.say(f"at {period} calls {len(self.board.connections)} {self.state()}")
+            else:
+                self.board.execute(line, period)
+            self.say(f"ok {period} {' '.join(line.split()[:2])}")
+        except (Refusal, OSError) as refused:
+            self.say(
+                f"refused {period} {line[:80]}: {getattr(refused, 'strerror', None) or refused}"[
+                    :MOST_REPLY
+                ]
+            )
+
+    def state(self) -> str:
+        """What a line says of the gateway: late turns and the latest one, what was given up and dropped, and its processor time."""
+        clock, used = self.clock, time.process_time()
+        latest = max(clock.latest, clock.lately) // 1_000_000
+        times = f"late {clock.late} latest {latest} ms given-up {clock.given_up}"
+        return f"{times} dropped {self.say.dropped} processor {used:.2f} s"
+
+    def begin_period(self, turn: Turn) -> None:
+        """What is done once a period, before its calls."""
+        late = self.clock.late - self.late
+        if turn.period % PERIODS == 0 and late:
+            self.say(f"late {late} latest {self.clock.report() // 1_000_000} ms at {turn.period}")
+            self.late = self.clock.late
+            if late > PERIODS * PHASES // 2:  # most turns
+                self.busy_until = turn.period + PERIODS
+        for line in self.commands.taken():
+            self.obey(line, turn.period)
+        self.board.look_after(turn.period)
+
+    def run(self, periods: Optional[int]) -> Tuple[int, bool]:
+        """Processes this time, or until it is ended; the result is how many periods there were, and whether all is recorded."""
+        is_whole, end, self.board.is_running = False, None, True
+        try:
+            for turn in self.clock.turns():
+                if turn.given_up:
+                    self.board.give_up(turn.given_up, turn.period)
+                if turn.given_up or turn.behind > MOST_BEHIND:
+                    self.busy_until = turn.period + PERIODS
+                if turn.phase == 0:
+                    if (
+                        self.is_to_end
+                        or periods is not None
+                        and turn.period + self.clock.given_up >= periods
+                    ):
+                        break
+                    self.begin_period(turn)
+                self.board.process(turn.phase, turn.period, turn.behind)
+            self.board.end(turn.period)
+            end = turn.period
+        finally:
+            is_whole = self.board.end_recordings(end)
+        return turn.period, is_whole
+
+
+def open_file(board: Switchboard, path: Path) -> None:
+    """Executes the lines of a file before the first period; each one has to be accepted."""
+    with naming(path):
+        lines = path.read_text(encoding="utf-8", errors="replace").splitlines()
+    for number, line in enumerate(map(without_comment, lines), 1):
+        if line:
+            try:
+                board.execute(line, 0)
+            except (Refusal, OSError) as refused:
+                raise Refusal(
+                    f"{path} line {number}: {getattr(refused, 'strerror', None) or refused}"
+                ) from None
+
+
+def begin(board: Switchboard, calls: Optional[Path]) -> None:
+    """Opens the calls of a file, if there is one. If a line is refused, nothing is left of the recordings."""
+    try:
+        if calls:
+            open_file(board, calls)
+    except (Refusal, OSError):
+        board.end_recordings(None)
+        for recorder in board.ended:  # one may be in another's folder
+            shutil.rmtree(recorder.folder, ignore_errors=True)
+        raise
+
+
+def most_calls(wanted: int) -> int:
+    """How many calls the process may have, by their descriptors. Asks the system for as many as are needed."""
+    each, others = DESCRIPTORS
+    needed = each * wanted + others
+    soft, hard = resource.getrlimit(resource.RLIMIT_NOFILE)
+    if 0 <= soft < needed:  # below 0 there is no limit
+        with contextlib.suppress(ValueError, OSError):
+            resource.setrlimit(
+                resource.RLIMIT_NOFILE, (needed if hard < 0 else min(needed, hard), hard)
+            )
+    soft, _ = resource.getrlimit(resource.RLIMIT_NOFILE)
+    return min(wanted, (soft - others) // each) if soft >= 0 else wanted
+
+
+def heed_signals(gateway: Gateway) -> None:
+    """Interrupts and hangups end the gateway, unless they are ignored as nohup has it. In the background the terminal never stops it."""
+    for number in (signal.SIGINT, signal.SIGTERM, signal.SIGHUP):
+        if number != signal.SIGHUP or signal.getsignal(number) != signal.SIG_IGN:
+            signal.signal(number, gateway.end)
+    for number in (signal.SIGTTIN, signal.SIGTTOU):
+        signal.signal(number, signal.SIG_IGN)
+
+
+def run(options: Options) -> int:
+    """Runs the gateway. Status 0, or 1 if the recording ended before."""
+    say = Speaker()
+    with naming(options.folder):
+        recorder = Recorder(options.folder, options.every, say)
+        recorder.make()
+    board = Switchboard(Network(options.address), recorder, most_calls(options.most_calls), say)
+    clock = Clock()
+    gateway = Gateway(board, clock, Commands(None if sys.stdin is None else 0), say)
+    begin(board, options.calls)
+    heed_signals(gateway)
+    gc.collect()
+    gc.freeze()
+    say("ready")
+    periods, is_whole = gateway.run(None if options.seconds is None else options.seconds * PERIODS)
+    say(f"end period {periods} {gateway.state()}")
+    say.end()
+    return 0 if is_whole else 1

@@ -1,0 +1,269 @@
+"""The recording: the four lines of each call and the orders, from which `trau run` makes the same again, when its periods were, and what the
+network did.
+
+Down is held back by one frame, since a run's Down begins with 320 ones and ends with the frame before the last: so the recorded lines are
+those of the run, octet for octet. A thread writes, so a disk that stalls stops no call; a write that fails, or a disk that is too slow, ends
+the recording, and no call.
+"""
+
+from __future__ import annotations
+
+import errno
+import os
+import queue
+import threading
+import time
+from datetime import datetime, timezone
+from pathlib import Path
+from typing import Callable, Dict, Iterable, List, Optional, Set, Tuple
+
+from trau.rules.lines import SIDES
+from trau.rules.profile import MOST_ORDERS, MOST_ORDER_OCTETS
+from trau.command_line.words import Refusal
+
+NEW = os.O_WRONLY | os.O_CREAT | os.O_EXCL | os.O_APPEND
+FIRST_DOWN = b"\xff" * 40
+CLOSE_OCTETS = len("4294967294 close 4096\n")
+MOST_WAITING = 32 << 20  # octets that wait for the disk, some 8 s of 200 calls
+LAST_WRITES = 10  # seconds that the disk has at the end
+TO_BEGIN = 0.02  # seconds that it has to make a folder while calls go on
+CLOCK, EVENTS, ORDERS = "clock.txt", "events.txt", "orders.txt"
+
+Period = Tuple[bytes, bytes, bytes, bytes]  # of Up, Pcm, Down and Out
+Work = Callable[[], object]
+Given = Tuple[
+    float, Optional[int], Work
+]  # since when it waits, its octets (None: it is done also after a failure), and what is done
+
+
+def write_all(descriptor: int, data: bytes) -> None:
+    """Writes all octets, or fails."""
+    if os.write(descriptor, data) != len(data):
+        raise OSError(errno.ENOSPC, os.strerror(errno.ENOSPC))
+
+
+def close_all(descriptors: Iterable[int]) -> None:
+    """Closes all of these, and then fails if one failed. A file system of the network may say only then that there is no room."""
+    failures = []
+    for descriptor in descriptors:
+        try:
+            os.close(descriptor)
+        except OSError as failure:
+            failures.append(failure)
+    for failure in failures:
+        raise failure
+
+
+def now() -> str:
+    """The time (UTC)."""
+    return datetime.now(timezone.utc).isoformat(timespec="milliseconds")
+
+
+class NoRecorder:
+    """What calls have that aren't recorded."""
+
+    used: Set[int] = set()
+    has_ended = False
+
+    def has_room(self, *_: int) -> bool:
+        """There is no order that could be too many."""
+        return True
+
+    def ignore(self, *_: object) -> None:
+        """Records nothing."""
+
+    order = event = open = period = write = close = ignore
+
+
+class Recorder:
+    """Writes a recording into a new folder, after `make`. Its period 0 is the gateway's period `first`."""
+
+    def __init__(
+        self, folder: Path, every: int, say: Callable[[str], None], first: int = 0
+    ) -> None:
+        """`every` is the number of periods that are held before a write; `say` is told once if the recording ends."""
+        self.folder, self.every, self.say, self.first = folder, every, say, first
+        self.texts: Dict[str, int] = {}
+        self.descriptors: Dict[int, List[int]] = {}
+        self.held: Dict[int, List[Period]] = {}
+        self.down: Dict[int, bytes] = {}  # that a call's Down has next
+        self.due: List[int] = []  # calls of which enough is held for a write
+        self.used: Set[int] = set()  # numbers of calls: each serves once
+        self.orders = self.order_octets = 0
+        self.has_ended = self.is_behind = False
+        self.reason = ""  # why it has ended
+        self.given = self.written = 0  # octets, by the two threads
+        self.oldest: Optional[float] = None  # since when that waits which the thread does now
+        self.work: "queue.SimpleQueue[Optional[Given]]" = queue.SimpleQueue()
+        self.writer = threading.Thread(target=self.write_what_comes, daemon=True)
+        self.writer.start()
+
+    def make(self) -> None:
+        """Makes the folder and its texts. Raises OSError if they can't be had."""
+        self.folder.mkdir(mode=0o700, parents=True)
+        for name in (ORDERS, CLOCK, EVENTS):
+            self.texts[name] = os.open(self.folder / name, NEW, 0o600)
+        write_all(self.texts[CLOCK], f"0 every {self.every}\n".encode())
+
+    def make_soon(self) -> None:
+        """Makes the folder by the thread, as the disk may be slow. Raises Refusal if it says in time that it can't be had; else that ends the
+        recording."""
+        said: List[str] = []
+        say, self.say, is_made = self.say, said.append, threading.Event()
+        self.attempt(0, self.make)
+        self.put(None, is_made.set)
+        is_made.wait(TO_BEGIN)
+        self.say = say
+        if self.has_ended:
+            self.end()
+            raise Refusal(self.reason)
+
+    def has_room(self, orders: int, opens: int = 0) -> bool:
+        """Whether a run will take so many orders more, and then a `close` of each open call."""
+        more, octets = orders + opens + len(self.held), 32 * orders + CLOSE_OCTETS * (
+            opens + len(self.held)
+        )
+        return (
+            self.has_ended
+            or self.orders + more <= MOST_ORDERS
+            and self.order_octets + octets <= MOST_ORDER_OCTETS
+        )
+
+    def attempt(self, octets: int, work: Work) -> None:
+        """Has the thread do what may fail or wait, unless the recording has ended."""
+        if self.has_ended:
+            return
+        if self.given - self.written > MOST_WAITING:
+            self.fail("the disk is too slow")
+        else:
+            self.given += octets
+            self.put(octets, work)
+
+    def put(self, octets: Optional[int], work: Work) -> None:
+        """Gives the thread what it is to do."""
+        self.work.put((time.monotonic(), octets, work))
+
+    def write_what_comes(self) -> None:
+        """The thread that writes. After a failure nothing more is written, so that no line has a gap; files are closed all the same."""
+        has_failed = False
+        while (given := self.work.get()) is not None:
+            self.oldest, octets, work = given
+            try:
+                if not has_failed or octets is None:
+                    work()
+            except (
+                Exception
+            ) as failure:  # of any kind: without this thread nothing would be written, and nobody told
+                has_failed = True
+                self.fail(getattr(failure, "strerror", None) or str(failure))
+            self.written += octets or 0
+            if self.work.empty():
+                self.oldest = None
+        self.oldest = None
+
+    def fail(self, reason: str) -> None:
+        """Ends the recording, and says so once."""
+        if not self.has_ended:
+            self.reason, self.has_ended = reason, True
+            self.say(f"recording {self.folder} ended: {reason}")
+
+    def look_after(self, period: int) -> None:
+        """Says that the disk is behind by a second, and that it isn't any longer."""
+        oldest = self.oldest
+        waits = int(time.monotonic() - oldest) if oldest is not None else 0
+        if self.is_behind != (waits > 0):
+            self.is_behind = waits > 0
+            state = f"{waits} s behind" if waits else "in time again"
+            self.say(f"recording {self.folder}: the disk is {state} at {period}")
+
+    def finish(self, until: float) -> None:
+        """Waits for the disk, at most until this time of the monotonic clock, and says what isn't written then."""
+        self.writer.join(max(0, until - time.monotonic()))
+        if self.writer.is_alive():
+            self.fail(f"{self.given - self.written} octets aren't written")
+
+    def text(self, name: str, text: str) -> None:
+        """Writes a line of a text."""
+        line = f"{text}\n".encode()
+        self.attempt(len(line), lambda: write_all(self.texts[name], line))
+
+    def order(self, period: int, text: str) -> None:
+        """Records an order, before anything that it concerns."""
+        line = f"{period - self.first} {text}"
+        self.orders += 1
+        self.order_octets += len(line) + 1
+        self.text(ORDERS, line)
+
+    def time(self, period: int) -> None:
+        """Records when a period is."""
+        self.text(CLOCK, f"{period - self.first} at {now()}")
+
+    def give_up(self, period: int, periods: int) -> None:
+        """Records that the clock has given up time."""
+        self.text(CLOCK, f"{period - self.first} given-up {periods}")
+
+    def event(self, period: int, text: str) -> None:
+        """Records what the network did."""
+        self.text(EVENTS, f"{period - self.first} {text}")
+
+    def open(self, call: int) -> None:
+        """Makes the lines of a call."""
+        descriptors: List[int] = []
+        self.descriptors[call] = descriptors
+        self.used.add(call)
+        self.held[call], self.down[call] = [], FIRST_DOWN
+        self.attempt(
+            0,
+            lambda: descriptors.extend(
+                os.open(self.folder / f"{call}.{side}", NEW, 0o600) for side in SIDES
+            ),
+        )
+
+    def period(self, call: int, period: Period) -> None:
+        """Holds a period of a call. It is written by `write`, after the packets of all calls have left."""
+        held = self.held[call]
+        held.append(period)
+        if len(held) >= self.every:
+            self.due.append(call)
+
+    def write(self) -> None:
+        """Writes what is held of the calls that are due: one write for each line, as a kill hardly comes within one."""
+        if self.due:
+            written = [
+                (self.descriptors[call], self.lines(call)) for call in self.due if self.held[call]
+            ]
+            self.due = []
+            octets = sum(len(line) for _, lines in written for line in lines)
+            self.attempt(
+                octets, lambda: [write_all(*each) for pair in written for each in zip(*pair)]
+            )
+
+    def lines(self, call: int) -> List[bytes]:
+        """Takes what is held of a call, as four parts of its lines."""
+        held, self.held[call] = self.held[call], []
+        up, pcm, down, out = zip(*held)
+        before, self.down[call] = self.down[call], down[-1]
+        return [b"".join(parts) for parts in (up, pcm, (before, *down[:-1]), out)]
+
+    def close(self, call: int) -> None:
+        """Writes what is held of a call and closes its lines."""
+        self.due.append(call)
+        self.write()
+        del self.held[call], self.down[call]
+        descriptors = self.descriptors.pop(call)
+        self.put(None, lambda: close_all(descriptors))
+
+    def end(self, period: Optional[int] = None) -> None:
+        """Ends the recording. What is held of calls that weren't closed is written. A period says that all is whole, with so many orders."""
+        for call in list(self.held):
+            self.close(call)
+        self.put(
+            None,
+            lambda: close_all(
+                self.texts.pop(name) for name in (ORDERS, EVENTS) if name in self.texts
+            ),
+        )
+        if period is not None:
+            self.text(CLOCK, f"{period - self.first} end {self.orders}")
+        self.put(None, lambda: close_all(self.texts.values()))
+        self.work.put(None)

@@ -1,0 +1,1 @@
+"""Building the program, and packages of it with these programs."""

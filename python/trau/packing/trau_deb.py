@@ -1,0 +1,317 @@
+"""Debian packages of the files that a tarball has, made by dpkg-deb: `trau`, and of the C library `libtrau-fr1` and `libtrau-fr-dev`.
+
+What runs lies below /usr/lib/trau, with links in /usr/bin; documents lie below /usr/share/doc/trau. The C library lies where the
+system's loader and compilers look for it, and libgsm's interface in a folder of its own beside it, so that no program takes it unasked.
+"""
+
+import gzip
+import hashlib
+import os
+import re
+import subprocess
+import tempfile
+import time
+from pathlib import Path
+from typing import Dict, List, NamedTuple, Tuple
+
+from trau.packing import trau_words
+from trau.command_line.words import Refusal
+from trau.command_line.files import read_file
+
+TOP = Path(__file__).resolve().parents[3]
+CHANGELOG = "docs/CHANGELOG.md"
+CHANGE_WIDTH = 74
+HOME = "usr/lib/trau"
+DOCUMENTS = "usr/share/doc/trau"
+MACHINES = {"x86_64": "amd64", "aarch64": "arm64"}
+
+# Where the system's libraries lie, and where the tarball has those that clib/build made.
+LIBRARIES = f"usr/lib/{os.uname().machine}-linux-gnu"
+BUILT = "clib/out/"
+
+# Of the C library that the program is linked with.
+DEPENDS = "libc6 (>= 2.34)"
+
+CONTROL = """Package: {name}
+Version: {version}
+Architecture: {machine}
+Maintainer: {author}
+Installed-Size: {size}
+{fields}
+Priority: optional
+Description: {description}
+"""
+
+PROGRAM = f"""Depends: {DEPENDS}
+Recommends: python3 (>= 3.9), libtrau-fr1
+Suggests: python3-dpkt
+Section: comm"""
+
+PROGRAM_DESCRIPTION = """GSM transcoder and rate adaptor unit, on recorded lines
+ Turns the TRAU frames of recorded 16 kbit/s lines (GSM 08.60) into A-law or
+ mu-law octets (G.711) and back, for up to 4,096 calls, with the full rate
+ codec (GSM 06.10), frames for lost speech, comfort noise and bridges.
+ .
+ What it writes is proved: however many threads work the calls, it is octet
+ for octet what a definition gives for its input."""
+
+LIBRARY = """Source: trau
+Depends: libc6 (>= 2.14)
+Multi-Arch: same
+Section: libs"""
+
+CODEC_DESCRIPTION = """\
+ Encodes and decodes GSM 06.10 full rate speech, packs its frames in 33 octets
+ (RTP, files of libgsm) and in pairs of 65 (WAV49), and expands and compresses
+ A-law and mu-law. Each of its functions is proved: it gives what a definition
+ says, allocates nothing, and reads and writes what it is passed alone."""
+
+LIBRARY_DESCRIPTION = f"""GSM full rate codec in integer arithmetic, proved
+{CODEC_DESCRIPTION}
+ .
+ In the folder trau-gsm beside it there is a library with libgsm's interface,
+ on which programs of libgsm run unchanged."""
+
+HEADERS = """Source: trau
+Depends: libtrau-fr1 (= {version})
+Multi-Arch: same
+Section: libdevel"""
+
+HEADERS_DESCRIPTION = f"""GSM full rate codec, proved: header and static library
+{CODEC_DESCRIPTION}
+ .
+ This package has the header, the static library and the file of pkg-config."""
+
+COPYRIGHT = """Files: all
+No licence has been chosen for this software. Nobody but its authors has leave
+to copy, change or distribute it.
+
+Copyright {year} {author}
+"""
+
+
+# For lintian: the program is packed as it was proved and built, octet for octet.
+OVERRIDE = "trau: unstripped-binary-or-object [{}]\n"
+
+# What dpkg does once a library has come, and how packages that are built with it depend on it.
+TRIGGERS = "activate-noawait ldconfig\n"
+SHLIBS = "libtrau_fr 1 libtrau-fr1 (>= {version})\n"
+
+
+class Package(NamedTuple):
+    """A package: its name, what its control file says, its files and links by their paths, and further files for dpkg."""
+
+    name: str
+    fields: str
+    description: str
+    files: Dict[str, bytes]
+    links: Dict[str, str]
+    control: Dict[str, str] = {}
+
+
+def versions() -> List[Tuple[str, str, List[str]]]:
+    """The versions of the changelog, the newest first: number, date, and what changed."""
+    text = read_file(TOP / CHANGELOG).decode()
+    found = []
+    for part in re.split(r"^## ", text, flags=re.M)[1:]:
+        head = re.match(r"(\d+(?:\.\d+)+), (\d{4}-\d\d-\d\d)\n", part)
+        if not head:
+            raise Refusal(
+                f"{CHANGELOG}: a heading isn't a version and a date, as '1.0.0, 2026-11-29'"
+            )
+        found.append(
+            (
+                head[1],
+                head[2],
+                [" ".join(change.split()) for change in re.split(r"^- ", part, flags=re.M)[1:]],
+            )
+        )
+    if not found:
+        raise Refusal(f"{CHANGELOG}: there is no version")
+    return found
+
+
+def changelog(author: str) -> str:
+    """The changelog as Debian's packages have it."""
+    entries = []
+    for version, date, changes in versions():
+        day = time.strftime("%a, %d %b %Y 12:00:00 +0000", time.strptime(date, "%Y-%m-%d"))
+        said = "".join(
+            "  * " + "\n    ".join(trau_words.folded(change, "", CHANGE_WIDTH)) + "\n"
+            for change in changes
+        )
+        entries.append(
+            f"trau ({version}) unstable; urgency=medium\n\n{said}\n -- {author}  {day}\n"
+        )
+    return "\n".join(entries)
+
+
+def zipped(content: bytes) -> bytes:
+    """Content as gzip packs it best, without name and date."""
+    return gzip.compress(content, 9, mtime=0)
+
+
+def place(name: str, content: bytes) -> Tuple[str, bytes]:
+    """Where a file of the tarball goes, and what it holds there."""
+    if name == "trau.bash":
+        return "usr/share/bash-completion/completions/trau", content
+    if name.startswith("man/"):
+        return f"usr/share/man/man1/{name[4:]}.gz", zipped(content)
+    if name.startswith(("README.md", "docs/", "bench/", "crates")) or (
+        name.endswith((".md", ".svg"))
+    ):
+        return f"{DOCUMENTS}/{name}", content
+    if name.endswith(".py"):
+        content = content.replace(b"#!/usr/bin/env python3\n", b"#!/usr/bin/python3\n", 1)
+    return f"{HOME}/{name}", content
+
+
+def common(name: str, author: str, year: str) -> Dict[str, bytes]:
+    """What each package says of itself."""
+    texts = {
+        "changelog.gz": zipped(changelog(author).encode()),
+        "copyright": COPYRIGHT.format(year=year, author=author).encode(),
+    }
+    return {f"usr/share/doc/{name}/{file}": content for file, content in texts.items()}
+
+
+def links(found: Dict[str, bytes]) -> Dict[str, str]:
+    """The links of the package, by their paths: the commands, and the documents beside the scripts."""
+    pages = (Path(name).name[: -len(".1.gz")] for name in found if name.endswith(".1.gz"))
+    others = {"trau": "trau", "trau-gateway": "gateway/gateway.py"}
+    commands = {
+        f"usr/bin/{name}": f"../lib/trau/{others.get(name, f'tools/{name[5:]}.py')}"
+        for name in pages
+    }
+    return {**commands, f"{HOME}/docs": "../../share/doc/trau/docs"}
+
+
+def program(files: Dict[str, bytes]) -> Package:
+    """The package of the program and its tools."""
+    others = ("install", "SHA256SUMS")
+    found = dict(
+        place(name, content)
+        for name, content in files.items()
+        if name not in others and not name.startswith(BUILT)
+    )
+    programs = sorted(path for path, content in found.items() if content.startswith(b"\x7fELF"))
+    found["usr/share/lintian/overrides/trau"] = "".join(map(OVERRIDE.format, programs)).encode()
+    return Package("trau", PROGRAM, PROGRAM_DESCRIPTION, found, links(found))
+
+
+def symbols(header: str, version: str) -> str:
+    """The functions of the library, each since this version, as dpkg-shlibdeps reads them."""
+    names = sorted(set(re.findall(r"\b(trau_\w+)\(", re.sub(r"/\*.*?\*/", "", header, flags=re.S))))
+    each = "".join(f" {name}@TRAU_FR_1 {version}\n" for name in ["TRAU_FR_1", *names])
+    return f"libtrau_fr.so.1 libtrau-fr1 (>= {version})\n{each}"
+
+
+def shared_library(files: Dict[str, bytes], version: str) -> Package:
+    """The package of the shared library, and of libgsm's interface beside it."""
+    shared = re.compile(r"lib/(.*\.so\.1)")
+    found = {
+        f"{LIBRARIES}/{shared.fullmatch(name)[1]}": content
+        for name, content in files.items()
+        if shared.fullmatch(name)
+    }
+    header = files["include/trau_fr.h"].decode()
+    control = {
+        "triggers": TRIGGERS,
+        "shlibs": SHLIBS.format(version=version),
+        "symbols": symbols(header, version),
+    }
+    return Package("libtrau-fr1", LIBRARY, LIBRARY_DESCRIPTION, found, {}, control)
+
+
+def development(files: Dict[str, bytes], page: bytes, version: str) -> Package:
+    """The package of the header and of what a compiler needs beside it, with the library's page."""
+    paths = (
+        files["lib/pkgconfig/trau_fr.pc"]
+        .decode()
+        .replace("prefix=${pcfiledir}/../..", "prefix=/usr")
+    )
+    found = {
+        "usr/include/trau_fr.h": files["include/trau_fr.h"],
+        f"{LIBRARIES}/libtrau_fr.a": files["lib/libtrau_fr.a"],
+        f"{LIBRARIES}/pkgconfig/trau_fr.pc": paths.replace(
+            "libdir=${prefix}/lib\n", f"libdir=/{LIBRARIES}\n"
+        ).encode(),
+        "usr/share/doc/libtrau-fr-dev/LIBRARY.md": page,
+    }
+    link = {f"{LIBRARIES}/libtrau_fr.so": "libtrau_fr.so.1"}
+    return Package(
+        "libtrau-fr-dev", HEADERS.format(version=version), HEADERS_DESCRIPTION, found, link
+    )
+
+
+def lay(root: Path, files: Dict[str, bytes], links: Dict[str, str]) -> None:
+    """Writes the files and links of a package below a folder."""
+    for name, content in files.items():
+        path = root / name
+        path.parent.mkdir(parents=True, exist_ok=True)
+        path.write_bytes(content)
+        runs = content.startswith((b"#!", b"\x7fELF")) and ".so" not in path.name
+        path.chmod(0o755 if runs else 0o644)
+    for name, target in links.items():
+        (root / name).parent.mkdir(parents=True, exist_ok=True)
+        (root / name).symlink_to(target)
+
+
+def packed(package: Package, author: str, seconds: int) -> Tuple[str, bytes]:
+    """The name and the octets of a package, all of whose files have this date."""
+    machine = MACHINES.get(os.uname().machine, os.uname().machine)
+    version = versions()[0][0]
+    files = {
+        **package.files,
+        **common(package.name, author, time.strftime("%Y", time.gmtime(seconds))),
+    }
+    size = sum((len(content) + 1023) // 1024 for content in files.values())
+    control = CONTROL.format(
+        version=version, machine=machine, author=author, size=size, **package._asdict()
+    )
+    sums = "".join(
+        f"{hashlib.md5(content).hexdigest()}  {name}\n" for name, content in sorted(files.items())
+    )
+    with tempfile.TemporaryDirectory() as folder:
+        root = Path(folder) / "root"
+        lay(root, files, package.links)
+        (root / "DEBIAN").mkdir()
+        for name, text in {"control": control, "md5sums": sums, **package.control}.items():
+            (root / "DEBIAN" / name).write_text(text)
+            (root / "DEBIAN" / name).chmod(0o644)
+        for path in (root, *root.rglob("*")):
+            if path.is_dir():
+                path.chmod(0o755)
+            os.utime(path, (seconds, seconds), follow_symlinks=False)
+        made = Path(folder) / "made.deb"
+        words = ["dpkg-deb", "--root-owner-group", "-Zxz", "--build", str(root), str(made)]
+        try:
+            subprocess.run(
+                words,
+                check=True,
+                capture_output=True,
+                text=True,
+                env={**os.environ, "SOURCE_DATE_EPOCH": str(seconds)},
+            )
+        except OSError:
+            raise Refusal(
+                "dpkg-deb isn't on the path; it is part of Debian's package dpkg"
+            ) from None
+        except subprocess.CalledProcessError as ended:
+            raise Refusal(f"dpkg-deb: {ended.stderr.strip()}") from None
+        return f"{package.name}_{version}_{machine}.deb", made.read_bytes()
+
+
+def packages(files: Dict[str, bytes], author: str, seconds: int) -> Dict[str, bytes]:
+    """The packages of these files by their names: the program's, and those of the C library where it is among the files."""
+    version = versions()[0][0]
+    made = [program(files)]
+    built = {
+        name[len(BUILT) :]: content for name, content in files.items() if name.startswith(BUILT)
+    }
+    if built:
+        made += [
+            shared_library(built, version),
+            development(built, files["docs/LIBRARY.md"], version),
+        ]
+    return dict(packed(package, author, seconds) for package in made)

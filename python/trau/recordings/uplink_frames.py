@@ -1,0 +1,69 @@
+"""The frames of an uplink that is made of full rate frames, as a base station sends them: what came, unusable frames for what didn't, and
+idle frames."""
+
+from typing import Iterable, List, Optional
+
+from trau.recordings.code_word import FrameKind, Marker
+from trau.rules.frame import Sort, UpFrame, frame_of, octets_of, write_up
+from trau.rules.parameters import SILENCE, bits_of_parameters
+from trau.rules.profile import TAF_PERIODS, UP_IDLE
+
+
+def unusable(taf: bool) -> bytes:
+    """An unusable frame."""
+    return octets_of(write_up(UpFrame(Sort.BAD, taf, data=bits_of_parameters(SILENCE))))
+
+
+IDLE = octets_of(frame_of(UP_IDLE + "000000" + 10 * "1", 260 * "1"))
+LOST, LOST_WITH_TAF = unusable(False), unusable(True)
+
+
+class UplinkFrames:
+    """Makes the frames of an uplink in their order. A silence descriptor begins a pause, and good speech or an idle frame ends it. In a pause
+    each 24th frame after a descriptor has TAF 1: the next descriptor is due there, and without any the noise fades.
+    """
+
+    def __init__(self, marker: Marker) -> None:
+        self.marker = marker
+        self.frames: List[bytes] = []
+        self.since: Optional[int] = None  # frames since the last descriptor of a pause
+
+    def pauses(self) -> bool:
+        """Whether the next frame is in a pause, if it isn't speech."""
+        return self.since is not None
+
+    def next_is_due(self) -> bool:
+        """Goes on by a frame that isn't speech, and says whether a descriptor is due in it."""
+        if self.since is None:
+            return False
+        self.since += 1
+        return self.since % TAF_PERIODS == 0
+
+    def take(self, data: str) -> None:
+        """A frame that came, D1 to D260."""
+        kind = self.marker.kind(data)
+        is_speech = kind is FrameKind.SPEECH
+        taf = not is_speech and self.next_is_due()
+        self.since = None if is_speech else 0
+        self.frames.append(octets_of(frame_of(self.marker.control(kind, taf), data)))
+
+    def lose(self, count: int = 1) -> None:
+        """Frames that didn't come."""
+        self.frames += [LOST_WITH_TAF if self.next_is_due() else LOST for _ in range(count)]
+
+    def take_all(self, frames: Iterable[Optional[str]]) -> None:
+        """Frames that came, D1 to D260 each, and None for each that didn't."""
+        for data in frames:
+            if data is None:
+                self.lose()
+            else:
+                self.take(data)
+
+    def idle(self, count: int) -> None:
+        """Idle frames."""
+        self.since = None
+        self.frames.append(count * IDLE)
+
+    def line(self) -> bytes:
+        """The frames, one after the other."""
+        return b"".join(self.frames)

@@ -1,0 +1,1 @@
+"""A run read back: its orders, its report and its lines."""

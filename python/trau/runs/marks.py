@@ -1,0 +1,106 @@
+"""A mark, as `trau save` prints it and `trau resume` reads it before the orders, and what is wrong with its lines."""
+
+from dataclasses import dataclass, field
+from typing import Dict, List, Optional, Tuple
+
+from trau.rules.profile import MOST_CALLS, MOST_PERIODS
+from trau.command_line.word_faults import fault_of_number, faults_of_spaces, shown
+
+MOST_SUM = 4294967295
+
+# Lines that no order begins like.
+FIRST_WORDS = ("save", "call", "orders")
+
+CALL_FORM = "call C from S out X down Y"
+
+
+@dataclass
+class Mark:
+    """A mark: its period, the periods at which its calls were opened, where its lines of calls are, and what is wrong with its lines."""
+
+    period: int = 0
+    openings: Dict[int, int] = field(default_factory=dict)
+    lines_of_calls: Dict[int, int] = field(default_factory=dict)
+    faults: Dict[int, List[str]] = field(default_factory=dict)
+    lines: int = 0
+
+    def add_faults(self, line: int, faults: List[Optional[str]]) -> bool:
+        """Notes what is wrong with a line; whether nothing is."""
+        wrong = [each for each in faults if each]
+        if wrong:
+            self.faults.setdefault(line, []).extend(wrong)
+        return not wrong
+
+
+def faults_of_save(mark: Mark, words: List[str]) -> List[Optional[str]]:
+    """What is wrong with the first line; the mark takes its period."""
+    if words[:1] != ["save"] or len(words) != 2:
+        return ["a mark's first line is save P"]
+    fault = fault_of_number("period", words[1], 1, MOST_PERIODS)
+    mark.period = 0 if fault else int(words[1])
+    return [fault]
+
+
+def faults_of_call(mark: Mark, line: int, words: List[str]) -> List[Optional[str]]:
+    """What is wrong with the line of a call; the mark takes the call."""
+    if len(words) != 8 or words[::2] != CALL_FORM.split(" ")[::2]:
+        return [f"a mark's line of a call is {CALL_FORM}"]
+    call, opening, out, down = words[1::2]
+    faults = [
+        fault_of_number("call", call, 1, MOST_CALLS),
+        fault_of_number("S", opening, 0, (mark.period or MOST_PERIODS) - 1),
+        fault_of_number("X", out, 0, MOST_SUM),
+        fault_of_number("Y", down, 0, MOST_SUM),
+    ]
+    if not any(faults):
+        last = max(mark.openings, default=0)
+        if int(call) <= last:
+            faults.append(f"call {call}: not above that of a line before, {last}")
+        else:
+            mark.openings[int(call)], mark.lines_of_calls[int(call)] = int(opening), line
+    return faults
+
+
+def read_mark(octets: bytes) -> Tuple[Mark, bytes]:
+    """The mark at the start of a text, and what comes after it. Where the mark's last line, `orders`, is missing, the orders begin with
+    the first line that is none of a mark."""
+    mark = Mark()
+    place = 0
+    while True:
+        end = octets.find(b"\n", place)
+        content = octets[place:] if end < 0 else octets[place:end]
+        line = mark.lines + 1
+        faults: List[Optional[str]]
+        faults, text = faults_of_spaces(content)
+        words = text.split(" ") if text else []
+        if end < 0 and content:
+            faults.append("no line feed at its end")
+        if line == 1:
+            if not mark.add_faults(1, [*faults, *faults_of_save(mark, words)]) and words[:1] != [
+                "save"
+            ]:
+                return mark, octets
+        elif words == ["orders"]:
+            mark.add_faults(line, faults)
+        elif words[:1] == ["call"]:
+            mark.add_faults(line, [*faults, *faults_of_call(mark, line, words)])
+        else:
+            what = (
+                f"there is '{shown(content.decode('latin-1'))}'"
+                if content
+                else "the text ends"
+                if end < 0
+                else "there is an empty line"
+            )
+            mark.add_faults(line, [f"where the line orders is due, which ends a mark, {what}"])
+            return mark, octets[place:]
+        mark.lines = line
+        if end < 0:
+            if words != ["orders"]:
+                mark.add_faults(
+                    line + 1, ["where the line orders is due, which ends a mark, the text ends"]
+                )
+            return mark, b""
+        place = end + 1
+        if words == ["orders"] and line > 1:
+            return mark, octets[place:]
