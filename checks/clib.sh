@@ -18,9 +18,11 @@ work=$(mktemp -d)
 trap 'rm -rf "$work"' EXIT
 trap 'exit 130' HUP INT TERM
 failed=0
+# shellcheck source=checks/path
+. "$top/checks/path"
 
 if ! command -v cc >/dev/null; then
-    echo "skipped clib: no C compiler"
+    echo "skipped clib: gcc isn't installed"
     exit 0
 fi
 if [ -z "${TRAU_CLIB:-}" ]; then
@@ -63,6 +65,8 @@ said "test_trau_fr of libtrau_fr.a" ./test_static "$vectors" "$tests/data"
 if command -v c++ >/dev/null; then
     echo '#include <trau_fr.h>' >header.cc
     said "the header as C++" c++ -Wall -Wextra -I"$TRAU_CLIB/include" -c header.cc
+else
+    echo "skipped the header as C++: g++ isn't installed"
 fi
 
 # libgsm's interface: behind the system's header, and without leaks.
@@ -71,7 +75,7 @@ if echo '#include <gsm.h>' | cc -E -x c - >/dev/null 2>&1; then
     # shellcheck disable=SC2086
     said "libgsm.c behind gsm.h" cc -include gsm.h -fsyntax-only $gsm_interface
 else
-    echo "skipped gsm.h: not installed"
+    echo "skipped gsm.h: libgsm1-dev isn't installed"
 fi
 echo 'int main(void) { return 0; }' >nothing.c
 if cc -fsanitize=address,undefined -o nothing nothing.c 2>/dev/null && ./nothing; then
@@ -82,27 +86,17 @@ else
     echo "skipped leaks: the compiler has no address sanitizer that runs here"
 fi
 
-# A Python with numpy: the system's, or the one on the path.
-python=python3
-for each in python3 /usr/bin/python3; do
-    if $each -c 'import numpy' 2>/dev/null; then
-        python=$each
-        break
-    fi
-done
-$python -c 'import numpy' 2>/dev/null || echo "skipped numpy: not installed"
-export PYTHONDONTWRITEBYTECODE=1
-export PYTHONPATH="$top/python"
-said "the Python module" $python "$tests/test_trau_fr.py"
+said "the Python module" python3 "$tests/test_trau_fr.py" -v
+say_skipped "the Python module" said.txt
 
 # 10,000 periods of each side from a fixed seed, and some from the day's.
 said "random calls" python3 "$tests/random_sides.py"
 said "random calls of the day" python3 "$tests/random_sides.py" --seed "$(date -u +%Y%m%d)" --calls 8
 
-# hosts CLASS: tests of hosts in clib/examples, and why those were left out that were
+# hosts CLASS: tests of hosts in clib/examples
 hosts() {
     said "examples: $1" python3 "$tests/test_examples.py" -v "$1"
-    sed -n "s/^.* \.\.\. skipped ['\"]\(.*\)['\"]$/skipped $1: \1/p" said.txt | sort -u
+    say_skipped "$1" said.txt
 }
 
 hosts Header
@@ -158,7 +152,7 @@ if command -v sox >/dev/null; then
     cp on.system speech49.wav
     compared "sox from WAV49" "sox -D speech49.wav -t raw -e signed -b 16 -"
 else
-    echo "skipped sox: not installed"
+    echo "skipped sox: sox isn't installed"
 fi
 if command -v toast >/dev/null; then
     compared "toast" "toast -c -a speech.al"
@@ -166,7 +160,7 @@ if command -v toast >/dev/null; then
     compared "untoast" "untoast -c -l toasted.gsm"
     compared "toast, of mu-law" "toast -c -u speech.al"
 else
-    echo "skipped toast: not installed"
+    echo "skipped toast: libgsm-tools isn't installed"
 fi
 if command -v ffmpeg >/dev/null && ffmpeg -v quiet -encoders </dev/null | grep -q libgsm_ms; then
     from="ffmpeg -v error -f alaw -ar 8000 -i speech.al -bitexact"
@@ -177,7 +171,7 @@ if command -v ffmpeg >/dev/null && ffmpeg -v quiet -encoders </dev/null | grep -
     cp on.system ffmpeg49.wav
     compared "ffmpeg from WAV49" "ffmpeg -v error -c:a libgsm_ms -i ffmpeg49.wav -f s16le - </dev/null"
 else
-    echo "skipped ffmpeg: not installed with libgsm"
+    echo "skipped ffmpeg: ffmpeg isn't installed, or has no libgsm"
 fi
 # GStreamer keeps what it learns of its plugins in a file, which the first command writes.
 export GST_REGISTRY="$work/registry"
@@ -188,10 +182,10 @@ if command -v gst-launch-1.0 >/dev/null && gst-inspect-1.0 gsmenc >/dev/null 2>&
         compared "GStreamer gsmenc" "$from ! fdsink </dev/null"
         compared "GStreamer gsmenc and gsmdec" "$from ! gsmdec ! fdsink </dev/null"
     else
-        echo "skipped GStreamer: no rawaudioparse or no alawdec"
+        echo "skipped GStreamer: gstreamer1.0-plugins-base isn't installed"
     fi
 else
-    echo "skipped GStreamer: not installed with gsmenc"
+    echo "skipped GStreamer: gstreamer1.0-tools or gstreamer1.0-plugins-bad isn't installed"
 fi
 
 [ "$failed" = 0 ]

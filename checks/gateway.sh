@@ -17,7 +17,7 @@ if [ -z "${TRAU_CLIB:-}" ]; then
     TRAU_CLIB=$top/clib/out
     if ! TRAU_IS_BUILT=ask "$top/clib/build"; then
         if ! command -v cc >/dev/null; then
-            echo "skipped gateway: no C compiler"
+            echo "skipped gateway: gcc isn't installed"
             exit 0
         fi
         # In a folder of its own: checks/clib.sh may be building clib/out just now.
@@ -27,10 +27,6 @@ if [ -z "${TRAU_CLIB:-}" ]; then
 fi
 export TRAU_CLIB
 
-unit_tests "$top/gateway/tests" "a program"
-if [ "${1:-}" = --long ]; then
-    for test in "$top"/gateway/tests/long_*.py; do
-        python3 "$test" || failed=1
-    done
-fi
+unit_tests "$top/gateway/tests"
+[ "${1:-}" != --long ] || long_tests "$top/gateway/tests"
 exit "$failed"

@@ -6,17 +6,7 @@ set -eu
 # shellcheck source=checks/program
 . "$(dirname "$0")/program"
 
-unit_tests "$top/model/tests" "a library"
-
-# farms SEED: up to thirty farms from this seed on, for fifty seconds at most
-farms() {
-    if "$top/model/random_farms" --seed "$1" --count 30 --seconds 50 --jobs 2 >"$work/said" 2>&1; then
-        echo "ok random farms from seed $1 on: $(tail -n 1 "$work/said")"
-    else
-        fail "random farms from seed $1 on:"
-        cat "$work/said"
-    fi
-}
+unit_tests "$top/model/tests"
 
 # The documents' sessions start `trau`, which is the model here.
 set -- docs/FILES.md docs/OPERATORS.md docs/COMMANDS.md
@@ -32,6 +22,21 @@ else
     fail "the documents:"
     cat "$work/said"
 fi
+
+# Without a program there is nothing to compare random farms with.
+if [ "$TRAU_PROGRAM" -ef "$top/model/trau" ]; then
+    exit "$failed"
+fi
+
+# farms SEED: up to thirty farms from this seed on, for fifty seconds at most
+farms() {
+    if "$top/model/random_farms" --seed "$1" --count 30 --seconds 50 --jobs 2 >"$work/said" 2>&1; then
+        echo "ok random farms from seed $1 on: $(tail -n 1 "$work/said")"
+    else
+        fail "random farms from seed $1 on:"
+        cat "$work/said"
+    fi
+}
 
 farms 1
 farms "$(date -u +%Y%m%d)"

@@ -303,7 +303,8 @@ class Conform(InFolder):
 
 
 @unittest.skipUnless(
-    answers(["pkg-config", "--exists", "libosmocodec", "talloc"]), "libosmocodec isn't installed"
+    answers(["pkg-config", "--exists", "libosmocodec", "talloc"]),
+    "libosmocore-dev or libtalloc-dev isn't installed",
 )
 class Ecu(InFolder):
     """The error concealment unit, registered with libosmocodec, beside the model."""
@@ -440,7 +441,7 @@ def gstreamer() -> str:
 
 @unittest.skipUnless(
     gstreamer(),
-    "GStreamer's rtpjitterbuffer, appsrc, audioconvert, audiorate, wavenc or Python bindings aren't installed",
+    "gstreamer1.0-plugins-base, gstreamer1.0-plugins-good, gir1.2-gstreamer-1.0 or python3-gi isn't installed",
 )
 class GStreamer(InFolder):
     """What the host plays of a lossy recording, beside what a run writes to Out for the same losses."""

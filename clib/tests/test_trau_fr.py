@@ -239,7 +239,7 @@ class Sides(unittest.TestCase):
                 wrong()
 
 
-@unittest.skipUnless(numpy, "numpy isn't installed")
+@unittest.skipUnless(numpy, "python3-numpy isn't installed")
 class Numpy(unittest.TestCase):
     def setUp(self) -> None:
         self.line = (VECTORS / "harsh.pcm").read_bytes()

@@ -135,7 +135,7 @@ class GStreamer(Clients):
 
     def test_both_ends(self):
         if not has_elements(*self.NEEDED):
-            self.skipTest("GStreamer isn't installed with gsmenc")
+            self.skipTest("gstreamer1.0-tools or gstreamer1.0-plugins-bad isn't installed")
         live = self.start("strict off")
         here, gsm, there, pcm = self.ports
         with programs() as start:
@@ -204,7 +204,7 @@ class Reports(Clients):
 
     def test_rtpbin_reads_the_reports(self):
         if not has_elements(*GStreamer.NEEDED, "rtpbin"):
-            self.skipTest("GStreamer isn't installed with gsmenc")
+            self.skipTest("gstreamer1.0-tools or gstreamer1.0-plugins-bad isn't installed")
         live, block = (
             self.start("strict off"),
             r"have-rb=.* rb-packetslost=\(int\)(-?\d+).* rb-round-trip=\(uint\)([1-9]\d*)",

@@ -161,7 +161,7 @@ class Softphones(Clients):
 class Sipp(Softphones):
     def test_alaw(self):
         if not shutil.which("sipp"):
-            self.skipTest("SIPp isn't installed")
+            self.skipTest("sip-tester isn't installed")
         line = b"".join(repeated(LINE, 400))
         (self.folder / "line.al").write_bytes(line)
         tag = "[peer_tag_param]"
@@ -229,7 +229,7 @@ class Baresip(Softphones):
 
     def test_two_softphones(self):
         if not shutil.which("baresip") or not shutil.which("sipp") or not os.path.isdir(MODULES):
-            self.skipTest("baresip or SIPp isn't installed")
+            self.skipTest("baresip-core or sip-tester isn't installed")
         live = self.open(7102, 7106)
         with programs() as start:
             self.answer(start, "gsm", 7000, 5071)

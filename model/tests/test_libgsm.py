@@ -8,7 +8,7 @@ from trau.model.libgsm import Compared, find, table
 LIBRARY = find()
 
 
-@unittest.skipIf(LIBRARY is None, "libgsm isn't installed")
+@unittest.skipIf(LIBRARY is None, "libgsm1-dev isn't installed")
 class Beside(unittest.TestCase):
     """Some streams of each kind."""
 

@@ -1,4 +1,4 @@
-"""Tests of the text of the model and of the package that it shares with the tools: each function says what it is, by which document, with types."""
+"""Tests of the text of the model and of the package that it shares with the tools: each function says what it is, and by which document. (Its types: checks/python.sh.)"""
 
 import ast
 import re
@@ -21,14 +21,6 @@ def functions(tree: ast.Module) -> Iterator[Function]:
         )
 
 
-def untyped(function: Function) -> List[str]:
-    """The arguments without a type, but `self`."""
-    arguments = function.args.posonlyargs + function.args.args + function.args.kwonlyargs
-    return [
-        one.arg for one in arguments if one.annotation is None and one.arg not in ("self", "cls")
-    ]
-
-
 def headings(name: str) -> List[str]:
     """The headings of a document."""
     return [
@@ -47,14 +39,13 @@ def cited(text: str) -> List[Tuple[str, List[str]]]:
 class Text(unittest.TestCase):
     """All modules of both."""
 
-    def test_each_function_has_types_and_a_docstring(self) -> None:
+    def test_each_function_has_a_docstring(self) -> None:
         for path in MODULES:
             for function in functions(ast.parse(path.read_text())):
-                where = "%s of %s" % (function.name, path.name)
-                self.assertEqual(untyped(function), [], where)
-                self.assertIsNotNone(function.returns, where)
                 if function.name != "__init__":
-                    self.assertTrue(ast.get_docstring(function), where)
+                    self.assertTrue(
+                        ast.get_docstring(function), "%s of %s" % (function.name, path.name)
+                    )
 
     def test_each_module_and_class_has_a_docstring(self) -> None:
         for path in MODULES:

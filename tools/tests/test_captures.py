@@ -47,7 +47,7 @@ class WithoutTheLibrary(InFolder):
         )
 
 
-@unittest.skipUnless(HAS_DPKT, "no library dpkt")
+@unittest.skipUnless(HAS_DPKT, "python3-dpkt isn't installed")
 class Captures(InCaptures):
     def test_packets_are_those_that_tshark_reads(self):
         for kind, name in CAPTURES.items():

@@ -90,7 +90,7 @@ class CodeWord(InFolder):
             self.assertTrue(errors >= 16 if speech else errors == 0, errors)
 
 
-@unittest.skipUnless(LIBRARY, "no library libosmocodec")
+@unittest.skipUnless(LIBRARY, "libosmocore-dev isn't installed")
 class BesideTheLibrary(unittest.TestCase):
     """`osmo_fr_check_sid` says whether all bits of the code word are 0, in the 33 octets of a frame."""
 

@@ -209,7 +209,7 @@ class Levels(unittest.TestCase):
             )
             self.assertEqual(levels.sums_plain(b"", law), [])
 
-    @unittest.skipUnless(levels.numpy, "no library numpy")
+    @unittest.skipUnless(levels.numpy, "python3-numpy isn't installed")
     def test_numpy_gives_the_same(self):
         octets = random.Random(4).randbytes(160 * 300 + 7)
         for law in Law:

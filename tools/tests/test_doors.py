@@ -8,7 +8,6 @@ import unittest
 from support import TOP
 
 CRATES = TOP / "crates"
-OPENING = "-- For crates above: "
 CITED = re.compile(r"\bRattle\.(\w+)\.proofs\.([\w.]*\w)")
 NAMED = re.compile(r"\busing\(crate::proofs::([\w:]+)::\w+\)")
 DECLARED = re.compile(r"^(pub )?mod (\w+)$", re.M)
@@ -66,22 +65,6 @@ class Doors(unittest.TestCase):
         }
         rows = {module for module in self.declared if module[-1] in ("Rows", "Worked")}
         self.assertEqual(self.declared.keys() - cited - rows, set())
-
-    def test_openings(self):
-        """A file opens with what it offers exactly if another crate cites it. The lemmas that it names there are public."""
-        doors = {cited for at, cited in self.citations if at[0] != cited[0]}
-        for crate, *path in self.declared:
-            with self.subTest(crate=crate, module=path):
-                text = (
-                    (CRATES / crate / "proofs")
-                    .joinpath(*path)
-                    .with_suffix(".antt")
-                    .read_text(encoding="utf-8")
-                )
-                self.assertEqual(text.startswith(OPENING), (crate, *path) in doors)
-                opening, _, rest = text.partition("\n")
-                for name in re.findall("`(.+?)`", opening) if text.startswith(OPENING) else ():
-                    self.assertRegex(rest, rf"\bpub\b.*[ {{]{re.escape(name)}[ ,}}\n]")
 
 
 if __name__ == "__main__":

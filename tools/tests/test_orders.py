@@ -1,6 +1,7 @@
 """Tests of orders.py: what it says of lines that aren't in the grammar, and what it warns of, against the program where one is
 built."""
 
+import contextlib
 import os
 import random
 import re
@@ -294,15 +295,12 @@ class Orders(InFolder):
         ]
         self.assertEqual(self.check(b"0 open 3\n11 close 3\n", "--lines", self.folder), (0, wanted))
 
-    @unittest.skipUnless(os.getuid(), "root may read and write everything")
     def test_lines_of_somebody_else(self):
-        self.check_lines_of_somebody_else()
-
-    def test_lines_of_somebody_else_as_root(self):
-        # As if the system said no.
-        with mock.patch.object(
+        # Root may read and write everything: then as if the system said no.
+        said_no = mock.patch.object(
             os, "access", lambda path, how: how != os.W_OK and not str(path).endswith("1.up")
-        ):
+        )
+        with contextlib.nullcontext() if os.getuid() else said_no:
             self.check_lines_of_somebody_else()
 
     def check_lines_of_somebody_else(self):

@@ -447,7 +447,7 @@ class Package(InFolder):
 
 
 @unittest.skipUnless(HAS_PROGRAM, "TRAU_PROGRAM names no program")
-@unittest.skipUnless(shutil.which("dpkg-deb"), "there is no dpkg-deb")
+@unittest.skipUnless(shutil.which("dpkg-deb"), "dpkg isn't installed")
 class Debian(InFolder):
     @classmethod
     def setUpClass(cls):
@@ -525,7 +525,7 @@ class Debian(InFolder):
 
     @unittest.skipUnless(
         HAS_LIBRARY and shutil.which("cc") and shutil.which("pkg-config"),
-        "no C library, cc or pkg-config",
+        "no C library is built, or gcc or pkgconf isn't installed",
     )
     def test_a_program_built_with_it(self):
         root = self.unpack("libtrau-fr1", "libtrau-fr-dev")
@@ -624,7 +624,7 @@ class Debian(InFolder):
         for name, path in made.items():
             self.assertEqual(path.read_bytes(), again[name].read_bytes(), name)
 
-    @unittest.skipUnless(shutil.which("lintian"), "there is no lintian")
+    @unittest.skipUnless(shutil.which("lintian"), "lintian isn't installed")
     def test_lintian_finds_no_errors(self):
         ended = subprocess.run(
             ["lintian", "--fail-on", "error", *self.made.values()], capture_output=True, text=True
@@ -682,7 +682,7 @@ class TheLibrary(InFolder):
             self.assertEqual(trau_package.origin(), "with a C library that TRAU_CLIB named")
 
 
-@unittest.skipUnless(shutil.which("groff"), "there is no groff")
+@unittest.skipUnless(shutil.which("groff"), "groff-base isn't installed")
 class ManPagesOfTools(unittest.TestCase):
     def test_no_warnings(self):
         for tool in (*trau_package.TOOLS, trau_package.GATEWAY):

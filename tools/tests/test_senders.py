@@ -51,7 +51,7 @@ def is_descriptor(payload):
     return bool(payload) and code_word.errors_of(data_of_gsm(payload)) == 0
 
 
-@unittest.skipUnless(HAS_DPKT, "no library dpkt")
+@unittest.skipUnless(HAS_DPKT, "python3-dpkt isn't installed")
 class Senders(InCaptures):
     def packets(self, name):
         """The packets of a capture, with their times."""

@@ -1235,14 +1235,10 @@ class Demo(Started):
     def test_says_what_there_is_where_nothing_is_built(self):
         status, _, err = self.trau(name="demo")
         self.assertIn(
-            "demo: ./demo --model runs the example in seconds by the model in Python, with nothing of it proved;\n",
+            "demo: now the program itself is proved and built, once: that took 14:26 and 17:36 minutes on four processors.",
             err,
         )
-        self.assertIn(
-            "demo: ./demo --unproved shows the example's report in about a minute, with nothing of it proved\n",
-            err,
-        )
-        self.assertLess(err.index("--unproved"), err.index("crate 1 of 4"))
+        self.assertLess(err.index("Control-C stops it"), err.index("crate 1 of 4"))
         self.assertEqual(self.trau(name="demo")[2], "")
 
     def test_unproved(self):
@@ -1276,10 +1272,11 @@ class Demo(Started):
         report.write_text(
             '#!/bin/sh\necho "$PYTHONDONTWRITEBYTECODE $@" >"$ASKED.report"\necho a table\necho "call 1: Up ended; lost 18"\necho "call 2: closed"\n'
         )
-        said = "\n\nIn words, with lost frames apart from the empty ones of a pause:\n\ncall 1: Up ended; lost 18\ncall 2: closed\n\n"
+        said = "\n\ncall 1: Up ended; lost 18\ncall 2: closed\n\n"
         status, out, err = self.trau("--unproved", name="demo")
         self.assertEqual(status, 0, err)
-        self.assertIn(f"end period 153 calls 4 left 0{said}The report is", out)
+        self.assertIn("end period 153 calls 4 left 0\n\nWho was heard, ", out)
+        self.assertIn(f"{said}The report is", out)
         self.built()
         self.assertIn(
             f"{said}The lines are in", self.trau(name="demo", PYTHONDONTWRITEBYTECODE="")[1]
@@ -1292,7 +1289,7 @@ class Demo(Started):
         report.write_text("#!/no/python\n")
         status, out, err = self.trau(name="demo")
         self.assertEqual((status, err), (0, ""))
-        self.assertNotIn("In words", out)
+        self.assertNotIn("Who was heard", out)
 
     def test_a_program_by_a_path_from_here(self):
         program = self.path("here", b"#!/bin/sh\necho by here\n")
@@ -1379,9 +1376,9 @@ class Demo(Started):
 
 
 class TheModel(Started):
-    """The example without a program that is built."""
+    """The example by the model, alone and before the program."""
 
-    NOTE = "UNPROVED: this run is by the model, a second program in Python (model/README.md): slow, and nothing of it is proved."
+    FIRST = "Four calls are run by the model: the readable second program, in Python (model/README.md); the proved one gives the same octets."
     NONE = "demo: no program is built, and the Rattle toolchain's command rt, which proves and builds it, isn't on the path"
     SAME = "All that went out, and the report, is octet for octet what is recorded in examples/farm/wanted."
 
@@ -1396,26 +1393,97 @@ class TheModel(Started):
             dirs_exist_ok=True,
         )
 
-    def assert_by_the_model(self, ended, said=""):
-        """That a demo ran the example by the model, and said so first and last."""
-        status, out, err = ended
-        self.assertEqual((status, err), (0, said))
+    def assert_by_the_model(self, out, alone=True):
+        """That a demo ran the calls by the model, said so first, said of each call who was heard, and last how to listen."""
         lines = out.splitlines()
-        self.assertEqual([lines[0], lines[-1]], [self.NOTE] * 2)
-        self.assertIn(self.SAME, lines)
-        self.assertFalse(self.asked.exists())
+        self.assertEqual(lines[0], self.FIRST)
+        self.assertEqual(
+            [line[:8] for line in lines if re.match(r"call \d: .* speech \d+, lost \d+", line)],
+            [f"call {k}: " for k in range(1, 5)],
+        )
+        (listen,) = (
+            number
+            for number, line in enumerate(lines)
+            if line.startswith("To listen to what call 1 sends to the exchange: play ")
+        )
+        self.assertEqual(lines[listen - 1], self.SAME)
+        self.assertEqual(listen == len(lines) - 1, alone)
 
     def test_where_there_is_no_toolchain(self):
         (self.tools / "rt").unlink()
-        self.assert_by_the_model(self.trau(name="demo"), f"{self.NONE}\n")
+        status, out, err = self.trau(name="demo")
+        self.assertEqual((status, err), (0, f"{self.NONE}\n"))
+        self.assert_by_the_model(out)
 
     def test_where_it_is_asked_for(self):
-        self.assert_by_the_model(self.trau("--model", "new", name="demo"))
-        self.assertTrue((self.folder / "new" / "1.out").exists())
-        self.assert_by_the_model(self.trau(name="demo", TRAU_PROGRAM="model"))
+        for words, changes in ((["--model", "new"], {}), ([], {"TRAU_PROGRAM": "model"})):
+            status, out, err = self.trau(*words, name="demo", **changes)
+            self.assertEqual((status, err), (0, ""))
+            self.assert_by_the_model(out)
+            self.assertFalse(self.asked.exists())
+        self.assertEqual(
+            (self.folder / "new" / "1.out").read_bytes(),
+            (EXAMPLES / "farm" / "wanted" / "1.out").read_bytes(),
+        )
         self.built()
-        self.assert_by_the_model(self.trau("--model", name="demo"))
-        self.assertNotIn(self.NOTE, self.trau(name="demo")[1])
+        self.assert_by_the_model(self.trau("--model", name="demo")[1])
+
+    def runs(self, script):
+        """A program that runs this script in the folder of its run, after it has written the recorded answers there."""
+        program = self.path(
+            "program", f"#!/bin/sh\ncp {TOP}/examples/farm/wanted/*.* .\n{script}\n".encode()
+        )
+        program.chmod(0o755)
+        return {"TRAU_PROGRAM": str(program)}
+
+    def test_the_program_runs_the_same_calls(self):
+        program = self.runs(f"exec cat {TOP}/examples/farm/wanted/report.txt")
+        status, out, err = self.trau("new", name="demo", **program)
+        self.assertEqual((status, err), (0, ""))
+        self.assert_by_the_model(out, alone=False)
+        same = "The program that TRAU_PROGRAM names ran the same calls, in new/program, and gave the same octets"
+        self.assertEqual(out.splitlines()[-1], f"{same}: all lines that went out, and the report.")
+
+    def test_where_the_programs_differ(self):
+        wanted = TOP / "examples" / "farm" / "wanted"
+        program = self.runs(f"echo >>1.out; rm 2.down; exec cat {wanted}/report.txt")
+        status, out, err = self.trau(name="demo", **program)
+        self.assertEqual((status, err), (1, ""))
+        self.assertTrue(out.endswith(" and gave other octets than the model: 1.out 2.down\n"), out)
+
+    def test_the_model_comes_before_the_proof(self):
+        # The stand-in for the program writes no lines.
+        status, out, err = self.trau("new", name="demo")
+        self.assertEqual(
+            (status, err.count("now the program itself is proved and built")), (1, 1), err
+        )
+        self.assertIn("trau: proved and built: 4 crates", err)
+        self.assert_by_the_model(out, alone=False)
+        self.assertIn(
+            "\nThe proved program ran the same calls, in new/program, and gave other octets than the model: 1.down 1.out ",
+            out,
+        )
+        # Once it is built, nothing is said of that.
+        self.assertEqual(self.trau("again", name="demo")[2], "")
+
+    def test_what_is_left_of_a_proof_that_fails(self):
+        status, out, err = self.trau("new", name="demo", FAILS="proof")
+        self.assertEqual(status, 125)
+        self.assertIn("fn high::f: not proved", err)
+        self.assert_by_the_model(out + "\n", alone=False)
+        self.assertTrue((self.folder / "new" / "1.out").exists())
+        self.assertFalse((self.folder / "new" / "program").exists())
+        status, _, err = self.trau("again", name="demo", **self.runs("exit 6"))
+        self.assertEqual(
+            (status, err),
+            (
+                6,
+                "demo: the run in again/program ended with status 6; the folder is removed again\n",
+            ),
+        )
+        self.assertEqual(
+            sorted(path.name for path in (self.folder / "again").iterdir() if path.is_dir()), []
+        )
 
     def test_by_the_script(self):
         shutil.copy(EXAMPLES / "7.up", self.folder)
@@ -1439,10 +1507,13 @@ class TheModel(Started):
         (self.tools / "python3").unlink()
         (self.tools / "python3").write_text("#!/bin/sh\nexit 1\n")
         (self.tools / "python3").chmod(0o755)
-        said = "the model needs python3 on the path, 3.9 or later\n"
-        self.assertEqual(self.trau("--model", name="demo"), (2, "", f"demo: {said}"))
+        said = "the model needs python3 on the path, 3.9 or later (Debian: apt-get install python3)"
+        self.assertEqual(self.trau("--model", name="demo"), (2, "", f"demo: {said}\n"))
+        status, out, err = self.trau(name="demo", **self.runs("echo a report"))
+        self.assertEqual((status, err), (0, f"demo: {said}; so the program alone runs the calls\n"))
+        self.assertTrue(out.startswith("Four calls were run by the program.\n"), out)
         (self.tools / "rt").unlink()
-        self.assertEqual(self.trau(name="demo"), (2, "", f"{self.NONE}, and {said}"))
+        self.assertEqual(self.trau(name="demo"), (2, "", f"{self.NONE}, and {said}\n"))
         shutil.rmtree(self.top / "model")
         self.assertEqual(
             self.trau(name="demo"), (2, "", f"{self.NONE}, and there is no model here\n")
@@ -1457,7 +1528,11 @@ class TheModel(Started):
         program.chmod(0o755)
         said = "demo: a package has no model; demo without --model runs the package's program\n"
         self.assertEqual(self.trau("--model", name="demo"), (2, "", said))
-        self.assertNotIn(self.NOTE, self.trau(name="demo", TRAU_PROGRAM="model")[1])
+        self.assertTrue(
+            self.trau(name="demo", TRAU_PROGRAM="model")[1].startswith(
+                "Four calls were run by the program.\n"
+            )
+        )
 
 
 if __name__ == "__main__":

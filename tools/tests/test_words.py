@@ -1,8 +1,6 @@
 """Tests of trau_words.py: its commands, options, statuses and orders are those of the documents, help.txt is what it makes, and
 the man page and the completion are taken by the programs that read them."""
 
-import os
-import pathlib
 import re
 import shutil
 import subprocess
@@ -16,58 +14,6 @@ from trau.rules import profile
 from trau.command_line.word_faults import grouped
 
 DOCS = TOP / "docs"
-
-
-# The most words that pages may have, together where several stand in a row.
-MOST_WORDS = (
-    (1100, ["README.md"]),
-    (4000, ["docs/ARCHITECTURE.md"]),
-    (6000, ["docs/COMMANDS.md", "docs/commands/*.md"]),
-    (3500, ["docs/DEVELOPERS.md"]),
-    (3000, ["docs/PERFORMANCE.md"]),
-    (4500, ["docs/DECISIONS.md"]),
-    (3000, ["tools/README.md"]),
-    (6000, ["docs/PROVED.md"]),
-    (1000, ["bench/README.md"]),
-    (6500, ["docs/FILES.md", "docs/OPERATORS.md", "docs/INSTALL.md"]),
-)
-# The most words of all pages of the repository.
-MOST_WORDS_IN_ALL = 46000
-
-# Numbers that have a home: how they are written, the page that has them, and how often others may. All others link there.
-NUMBERS = (
-    (r"\b4,?09[36]\b", "docs/COMMANDS.md", {"README.md": 1}),  # call numbers
-    (
-        r"\b1,?048,?576\b|\b1,?310,?720\b|\b65,?536\s+(?:lines|orders)\b",
-        "docs/COMMANDS.md",
-        {},
-    ),  # limits of orders
-)
-# Other numbers that look like these: a factor in a rule, and the first cells of a measurement.
-OTHER_NUMBERS = ("seed times 4,096", "| 4,096 | 20 |")
-
-
-def pages():
-    """All pages of the repository, without those in folders that are made."""
-    for folder, names, files in os.walk(TOP):
-        names[:] = [
-            name for name in names if name not in ("out", "inc") and not name.startswith(".")
-        ]
-        yield from (pathlib.Path(folder, name) for name in files if name.endswith(".md"))
-
-
-def words_of(found):
-    """The words of these pages together."""
-    return sum(len(page.read_text().split()) for page in found)
-
-
-def prose(page):
-    """A page's text without what it shows of programs and files, and without other numbers."""
-    text = re.sub(r"^```.*?^```$", "", page.read_text(), flags=re.M | re.S)
-    text = re.sub(r"^    .*$", "", text, flags=re.M)
-    for other in OTHER_NUMBERS:
-        text = text.replace(other, "")
-    return text
 
 
 def integers(text):
@@ -137,21 +83,6 @@ class Documents(unittest.TestCase):
         for page in [TOP / "README.md", *(DOCS / "commands").glob("*.md")]:
             self.assertNotIn("| Status | Meaning |", page.read_text(), page.name)
 
-    def test_no_page_grows(self):
-        for most, names in MOST_WORDS:
-            self.assertLessEqual(
-                words_of(page for name in names for page in TOP.glob(name)), most, names
-            )
-        self.assertLessEqual(words_of(pages()), MOST_WORDS_IN_ALL, "all pages")
-
-    def test_numbers_have_one_home(self):
-        texts = {str(page.relative_to(TOP)): prose(page) for page in pages()}
-        for number, home, others in NUMBERS:
-            self.assertRegex(texts[home], number)
-            for name in texts.keys() - {home}:
-                with self.subTest(page=name, home=home):
-                    self.assertLessEqual(len(re.findall(number, texts[name])), others.get(name, 0))
-
     def test_numbers_of_the_profile(self):
         # Each is in its crate as a definition and as a constant, and in core/profile.py, by these names.
         text = (DOCS / "ARCHITECTURE.md").read_text()
@@ -220,7 +151,7 @@ class Documents(unittest.TestCase):
 
 
 class ManPage(InFolder):
-    @unittest.skipUnless(shutil.which("groff"), "there is no groff")
+    @unittest.skipUnless(shutil.which("groff"), "groff-base isn't installed")
     def test_no_warnings(self):
         page = trau_words.man_page("trau x", "2026-01-01").encode()
         ended = subprocess.run(
@@ -238,7 +169,7 @@ class ManPage(InFolder):
         )
 
 
-@unittest.skipUnless(shutil.which("bash"), "there is no bash")
+@unittest.skipUnless(shutil.which("bash"), "bash isn't installed")
 class Completion(InFolder):
     def completed(self, *words):
         """What bash makes of the last word of these."""
