@@ -22,10 +22,10 @@ TOP = Path(__file__).resolve().parents[2]
 from trau import trau_fr
 from trau.rules.frame import (
     DownFrame,
-    Kind,
-    Sort,
+    FrameKind,
     UpFrame,
     bits_of,
+    kind_of_sp,
     octets_of,
     read_down,
     read_up,
@@ -43,17 +43,17 @@ from trau.rules.parameters import (
 )
 from trau.rules.search import FRAME
 from trau.model import call as calls
-from trau.model.codec import Encoder
+from trau.model.codec import FullRateEncoder
 from trau.model.libgsm import SIGNALS
 from trau.model.receive import effective_frames
 from trau.model.transmit import Coded, sent_frames
 
 LAWS = {Law.A: "alaw", Law.MU: "mulaw"}
 KINDS = {
-    Sort.GOOD: trau_fr.Kind.SPEECH,
-    Sort.SID: trau_fr.Kind.DESCRIPTOR,
-    Sort.BAD: trau_fr.Kind.LOST,
-    Sort.IDLE: trau_fr.Kind.IDLE,
+    FrameKind.SPEECH: trau_fr.Kind.SPEECH,
+    FrameKind.VALID_SID: trau_fr.Kind.DESCRIPTOR,
+    FrameKind.UNUSABLE: trau_fr.Kind.LOST,
+    FrameKind.IDLE: trau_fr.Kind.IDLE,
 }
 MAGIC = 13
 UNKNOWN = (4, 7, 255, 256, 65536, 1 << 31, (1 << 32) - 1)
@@ -135,9 +135,9 @@ def uplink_frame(period: Period) -> UpFrame:
     frame = unpacked(period.octets)
     data = "0" * 260 if frame is None else bits_of_parameters(frame)
     if period.kind == 3:
-        return UpFrame(Sort.IDLE, period.taf)
-    sorts = {} if frame is None else {0: Sort.GOOD, 1: Sort.SID}
-    return UpFrame(sorts.get(period.kind, Sort.BAD), period.taf, data=data)
+        return UpFrame(FrameKind.IDLE, period.taf)
+    kinds = {} if frame is None else {0: FrameKind.SPEECH, 1: FrameKind.VALID_SID}
+    return UpFrame(kinds.get(period.kind, FrameKind.UNUSABLE), period.taf, data=data)
 
 
 def periods_of(draw: random.Random, law: Law, count: int) -> List[Period]:
@@ -153,11 +153,11 @@ def periods_of(draw: random.Random, law: Law, count: int) -> List[Period]:
     return [Period(kind, draw.randrange(4) == 0, frame) for kind, frame in zip(kinds, octets)]
 
 
-def bridges_of(draw: random.Random, count: int) -> List[calls.Span]:
+def bridges_of(draw: random.Random, count: int) -> List[calls.BridgeSpan]:
     """Bridges of random periods, apart from each other."""
     found, at = [], draw.randrange(100)
     while at < count - 40:
-        found.append(calls.Span(at, at + draw.choice((1, 2, 5, 30)), []))
+        found.append(calls.BridgeSpan(at, at + draw.choice((1, 2, 5, 30)), []))
         at = found[-1].end + draw.randrange(1, 120)
     return found
 
@@ -170,7 +170,7 @@ class Heard(NamedTuple):
 
 
 def heard_by_model(
-    number: int, law: Law, frames: Sequence[UpFrame], bridges: Sequence[calls.Span]
+    number: int, law: Law, frames: Sequence[UpFrame], bridges: Sequence[calls.BridgeSpan]
 ) -> List[Heard]:
     """What the model makes of the frames of an uplink."""
     count, uplink = len(frames), calls.Uplink([], frames, effective_frames(number, frames))
@@ -183,7 +183,7 @@ def heard_by_model(
 
 
 def heard_by_library(
-    number: int, law: Law, periods: Sequence[Period], bridges: Sequence[calls.Span]
+    number: int, law: Law, periods: Sequence[Period], bridges: Sequence[calls.BridgeSpan]
 ) -> List[Heard]:
     """The same by a receiver."""
     receiver, found = trau_fr.Receiver(number), []
@@ -201,7 +201,7 @@ def heard_by_library(
 def line_by_model(frame: UpFrame) -> Tuple[bytes, trau_fr.Line]:
     """The 40 octets of an uplink frame, and what is read of them."""
     return octets_of(write_up(frame)), trau_fr.Line(
-        packed(parameters_of_bits(frame.data)), KINDS[frame.sort], frame.taf
+        packed(parameters_of_bits(frame.data)), KINDS[frame.kind], frame.taf
     )
 
 
@@ -224,7 +224,7 @@ def uplink_by_model(octets: bytes) -> Optional[trau_fr.Line]:
     bits = bits_of(octets)
     frame = read_up(bits)
     # An invalid descriptor and a frame of another pattern count as a miss does: no descriptor was due.
-    is_heard, kind = frame.sort in KINDS, KINDS.get(frame.sort, trau_fr.Kind.LOST)
+    is_heard, kind = frame.kind in KINDS, KINDS.get(frame.kind, trau_fr.Kind.LOST)
     return (
         trau_fr.Line(packed(parameters_of_bits(frame.data)), kind, is_heard and frame.taf)
         if FRAME.fullmatch(bits)
@@ -236,8 +236,7 @@ def downlink_by_model(octets: bytes) -> Optional[trau_fr.Line]:
     """The frame of 40 octets of a downlink; None if the sync bits are wrong."""
     bits = bits_of(octets)
     frame = read_down(bits)
-    speech = trau_fr.Kind.SPEECH if frame.sp else trau_fr.Kind.DESCRIPTOR
-    kind = {Kind.SPEECH: speech, Kind.IDLE: trau_fr.Kind.IDLE}.get(frame.kind, trau_fr.Kind.LOST)
+    kind = KINDS.get(frame.kind, trau_fr.Kind.LOST)
     return (
         trau_fr.Line(packed(parameters_of_bits(frame.data)), kind, False)
         if FRAME.fullmatch(bits)
@@ -311,13 +310,13 @@ def sent_by_model(
     starts = [k for k, one in enumerate(settings) if one.anew] + [len(settings)]
     sent = []
     for start, end in zip(starts, starts[1:]):
-        encoder = Encoder()
+        encoder = FullRateEncoder()
         stretch = zip(line[start:end], settings[start:end])
         sent += sent_frames(
             [Coded(encoder.encode(samples), one.level, one.dtx) for samples, one in stretch]
         )
     down = [
-        write_down(DownFrame(Kind.SPEECH, bits_of_parameters(one.parameters), one.sp))
+        write_down(DownFrame(kind_of_sp(one.sp), bits_of_parameters(one.parameters)))
         for one in sent
     ]
     return [

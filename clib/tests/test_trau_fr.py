@@ -12,7 +12,7 @@ from pathlib import Path
 HERE = Path(__file__).resolve().parent
 VECTORS = HERE.parents[1] / "checks" / "vectors"
 
-from trau.rules.frame import bits_of, data_of
+from trau.rules.frame import FrameKind, bits_of, data_of
 from trau.rules.parameters import data_of_gsm, gsm_of_data
 from trau.rules.profile import FIRST_LEVEL
 from trau.recordings import code_word
@@ -113,9 +113,9 @@ class Version(unittest.TestCase):
 
 class Sides(unittest.TestCase):
     KINDS = {
-        code_word.FrameKind.SPEECH: trau_fr.Kind.SPEECH,
-        code_word.FrameKind.VALID: trau_fr.Kind.DESCRIPTOR,
-        code_word.FrameKind.INVALID: trau_fr.Kind.LOST,
+        FrameKind.SPEECH: trau_fr.Kind.SPEECH,
+        FrameKind.VALID_SID: trau_fr.Kind.DESCRIPTOR,
+        FrameKind.INVALID_SID: trau_fr.Kind.LOST,
     }
 
     def setUp(self) -> None:

@@ -78,7 +78,7 @@ def gsm_stream(depth=3):
 
 class Packets(unittest.TestCase):
     def refused(self, data):
-        with self.assertRaises(rtp.Refused) as said:
+        with self.assertRaises(rtp.PacketRefused) as said:
             rtp.parse(data)
         return str(said.exception)
 
@@ -472,7 +472,7 @@ class Fuzz(unittest.TestCase):
             0,
         )
         for data in self.datagrams(50_000, lambda draw: hostile_packet(draw, 3), whole):
-            with contextlib.suppress(rtp.Refused):
+            with contextlib.suppress(rtp.PacketRefused):
                 _, number, stamp, source, _ = rtp.parse(data)
                 came = came or Reception(source, number)
                 came.count(number, stamp, taken)

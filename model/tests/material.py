@@ -5,7 +5,7 @@ from typing import Iterable, List, Optional
 
 TOP = Path(__file__).resolve().parents[2]
 
-from trau.rules.frame import Sort, UpFrame, octets_of, write_up
+from trau.rules.frame import FrameKind, UpFrame, octets_of, write_up
 from trau.rules.parameters import Block, Parameters, bits_of_parameters
 
 CODEC = TOP / "checks" / "vectors"
@@ -34,26 +34,26 @@ def maxima(parameters: Optional[Parameters]) -> Optional[List[int]]:
 
 def speech(
     parameters: Parameters = QUIET,
-    sort: Sort = Sort.GOOD,
+    kind: FrameKind = FrameKind.SPEECH,
     field: int = 0,
     taf: bool = False,
     dtxd: bool = False,
 ) -> UpFrame:
     """An uplink speech frame of this class."""
-    return UpFrame(sort, taf, dtxd, field, bits_of_parameters(parameters))
+    return UpFrame(kind, taf, dtxd, field, bits_of_parameters(parameters))
 
 
 def sid(xmaxc: int) -> UpFrame:
     """A silence descriptor with this coded maximum in all four blocks."""
-    return speech(with_maxima(xmaxc), Sort.SID)
+    return speech(with_maxima(xmaxc), FrameKind.VALID_SID)
 
 
 def unusable(taf: bool = False) -> UpFrame:
     """An unusable speech frame."""
-    return speech(sort=Sort.BAD, taf=taf)
+    return speech(kind=FrameKind.UNUSABLE, taf=taf)
 
 
-IDLE_UP = UpFrame(Sort.IDLE)
+IDLE_UP = UpFrame(FrameKind.IDLE)
 
 
 def line(frames: Iterable[UpFrame]) -> bytes:

@@ -4,7 +4,7 @@ import unittest
 from typing import List, Optional
 
 from material import CODEC, DOWN
-from trau.rules.frame import Kind, bits_of, octets_of
+from trau.rules.frame import FrameKind, bits_of, octets_of
 from trau.model.basestation import asked_fields, field_for, heard_by_period, heard_frames
 
 
@@ -48,7 +48,7 @@ class Frames(unittest.TestCase):
         heard = heard_frames(octets_of(line))
         self.assertEqual(
             [(one.place, one.frame.kind) for one in heard],
-            [(place, Kind.SPEECH) for place in (320, 952, 1268)],
+            [(place, FrameKind.SPEECH) for place in (320, 952, 1268)],
         )
         by_period = heard_by_period(octets_of(line))
         self.assertEqual([len(one) for one in by_period], [0, 1, 0, 1, 1])
@@ -61,9 +61,7 @@ class Frames(unittest.TestCase):
                 for row in (CODEC / (name + ".txt")).read_text().splitlines()
             ]
             heard = heard_frames((CODEC / (name + ".down")).read_bytes())
-            self.assertEqual(
-                [(one.place, int(one.frame.kind is Kind.SPEECH)) for one in heard], rows
-            )
+            self.assertEqual([(one.place, int(one.frame.is_speech())) for one in heard], rows)
 
 
 if __name__ == "__main__":

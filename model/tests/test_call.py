@@ -7,8 +7,17 @@ from material import DOWN, IDLE_DOWN, IDLE_UP, QUIET, UP, line, sid, speech, wit
 from trau.rules.frame import bits_of
 from trau.rules.g711 import Law, compress_all, expand_all
 from trau.rules.parameters import SILENCE, bits_of_parameters
-from trau.model.call import Call, Outgoing, Setting, Span, Uplink, handed, outgoing, uplink
-from trau.model.codec import Decoder, Encoder
+from trau.model.call import (
+    Call,
+    OutgoingLines,
+    Setting,
+    BridgeSpan,
+    Uplink,
+    handed,
+    outgoing,
+    uplink,
+)
+from trau.model.codec import FullRateDecoder, FullRateEncoder
 from trau.model.transmit import Dtx
 
 IDLE_PCM = b"\xd5" * 160  # of A-law; its samples aren't 0
@@ -21,8 +30,8 @@ def call(
     number: int = 7,
     law: Law = Law.A,
     settings: Sequence[Setting] = (),
-    spans: Sequence[Span] = (),
-) -> Outgoing:
+    spans: Sequence[BridgeSpan] = (),
+) -> OutgoingLines:
     """What a call of these lines gives, of as many periods as both have."""
     periods = min(len(up) // 40, len(pcm) // 160)
     return outgoing(Call(number, law, periods, uplink(number, up), pcm, settings, spans))
@@ -30,7 +39,7 @@ def call(
 
 def decoded(frames: int, law: Law = Law.A) -> bytes:
     """The octets of so many frames of silence, from home."""
-    decoder = Decoder()
+    decoder = FullRateDecoder()
     return b"".join(compress_all(law, decoder.decode(QUIET)) for _ in range(frames))
 
 
@@ -65,7 +74,7 @@ class Calls(unittest.TestCase):
         """After a shift of 156 the second frame begins at octet 316."""
         pcm = bytes((37 * k * k + k) % 251 for k in range(160 * 4))
         made = call(line([speech(field=39)] + [speech()] * 3), pcm)
-        encoder = Encoder()
+        encoder = FullRateEncoder()
         wanted = [
             encoder.encode(expand_all(Law.A, pcm[start : start + 160])).parameters
             for start in (0, 316)
@@ -110,7 +119,7 @@ class Calls(unittest.TestCase):
 class Bridges(unittest.TestCase):
     """Two calls, bridged."""
 
-    def pair(self, start: int, end: int) -> Tuple[Outgoing, Outgoing, Uplink]:
+    def pair(self, start: int, end: int) -> Tuple[OutgoingLines, OutgoingLines, Uplink]:
         """Calls 7 and 9 of twelve periods, bridged; the frame of period 3 of call 9 asks for a shift of 156."""
         ups = [
             line([speech(with_maxima(k)) for k in range(12)]),
@@ -119,7 +128,13 @@ class Bridges(unittest.TestCase):
         seven, nine = uplink(7, ups[0]), uplink(9, ups[1])
         of_seven = outgoing(
             Call(
-                7, Law.A, 12, seven, IDLE_PCM * 12, (), [Span(start, end, handed(nine, start, end))]
+                7,
+                Law.A,
+                12,
+                seven,
+                IDLE_PCM * 12,
+                (),
+                [BridgeSpan(start, end, handed(nine, start, end))],
             )
         )
         of_nine = outgoing(
@@ -130,7 +145,7 @@ class Bridges(unittest.TestCase):
                 nine,
                 IDLE_PCM * 12,
                 (),
-                [Span(start, end, handed(seven, start, end))],
+                [BridgeSpan(start, end, handed(seven, start, end))],
             )
         )
         return of_seven, of_nine, seven
@@ -154,17 +169,19 @@ class Bridges(unittest.TestCase):
     def test_a_frame_is_lost_where_the_call_ends(self) -> None:
         up = UP * 3 + line([speech(field=39)]) + UP * 6
         items = [bits_of_parameters(QUIET)] * 6
-        made = outgoing(Call(9, Law.A, 10, uplink(9, up), IDLE_PCM * 10, (), [Span(4, 10, items)]))
+        made = outgoing(
+            Call(9, Law.A, 10, uplink(9, up), IDLE_PCM * 10, (), [BridgeSpan(4, 10, items)])
+        )
         self.assertEqual(made.sent, [5])
 
     def test_decoding_begins_at_home_after_a_bridge_without_a_period(self) -> None:
-        spans = [Span(2, 2, [])]
+        spans = [BridgeSpan(2, 2, [])]
         made = call(UP * 4, IDLE_PCM * 4, spans=spans)
         self.assertEqual(made.out, decoded(2) + decoded(2))
 
     def test_coding_begins_at_home_after_a_bridge_without_a_period(self) -> None:
         pcm = bytes((37 * k * k + k) % 251 for k in range(160 * 4))
-        made = call(UP * 4, pcm, spans=[Span(2, 2, [])])
+        made = call(UP * 4, pcm, spans=[BridgeSpan(2, 2, [])])
         other = call(UP * 2, pcm[320:])
         self.assertEqual(made.down[120:160], other.down[40:80])
 

@@ -15,8 +15,8 @@ from trau.rules.parameters import (
     values_of,
 )
 from trau.model.codec import (
-    Decoder,
-    Encoder,
+    FullRateDecoder,
+    FullRateEncoder,
     code_maximum,
     exponent_and_mantissa,
     reflection_coefficients,
@@ -28,7 +28,7 @@ GREATEST = parameters_of_values([2**width - 1 for width in WIDTHS])
 def encoded(name: str, frames: int) -> List[Parameters]:
     """The parameters of the first frames of a recorded line of A-law, from home."""
     samples = expand_all(Law.A, (CODEC / name).read_bytes()[: 160 * frames])
-    encoder = Encoder()
+    encoder = FullRateEncoder()
     return [
         encoder.encode(samples[start : start + 160]).parameters
         for start in range(0, len(samples), 160)
@@ -48,7 +48,7 @@ class Encoding(unittest.TestCase):
     """The encoder from home."""
 
     def test_silence(self) -> None:
-        coded = Encoder().encode([0] * 160)
+        coded = FullRateEncoder().encode([0] * 160)
         self.assertEqual(coded.parameters, QUIET)
         self.assertEqual((coded.trace.lar, coded.trace.xmax, coded.peak), ((0,) * 8, (0,) * 4, 0))
 
@@ -84,29 +84,31 @@ class Decoding(unittest.TestCase):
     """The decoder from home."""
 
     def test_silence(self) -> None:
-        self.assertEqual(Decoder().decode(QUIET)[:7], [8, 0, 0, 8, 8, 8, 16])
+        self.assertEqual(FullRateDecoder().decode(QUIET)[:7], [8, 0, 0, 8, 8, 8, 16])
 
     def test_lag_out_of_range(self) -> None:
         """In a first frame it is taken as 40, and later as the one before."""
         far, near = (
             QUIET._replace(blocks=(Block(nc, 3, 0, 40, (7,) * 13),) * 4) for nc in (127, 40)
         )
-        self.assertEqual(Decoder().decode(far), Decoder().decode(near))
+        self.assertEqual(FullRateDecoder().decode(far), FullRateDecoder().decode(near))
         first = QUIET._replace(blocks=(QUIET_BLOCK._replace(nc=77),) * 4)
-        decoder, other = Decoder(), Decoder()
+        decoder, other = FullRateDecoder(), FullRateDecoder()
         decoder.decode(first), other.decode(first)
         again = far._replace(blocks=tuple(block._replace(nc=77) for block in far.blocks))
         self.assertEqual(decoder.decode(far), other.decode(again))
 
     def test_greatest_parameters(self) -> None:
-        self.assertTrue(all(-32768 <= sample <= 32767 for sample in Decoder().decode(GREATEST)))
+        self.assertTrue(
+            all(-32768 <= sample <= 32767 for sample in FullRateDecoder().decode(GREATEST))
+        )
 
     def test_recorded_samples(self) -> None:
         rows = [
             list(map(int, row.split()))
             for row in (CODEC / "harsh.samples.txt").read_text().splitlines()
         ]
-        decoder = Decoder()
+        decoder = FullRateDecoder()
         self.assertEqual([decoder.decode(one) for one in parameters_on("harsh.samples.up")], rows)
 
 

@@ -4,9 +4,9 @@ import unittest
 from typing import Dict, Optional, Tuple
 
 from material import CHECKS, CODEC, DOWN, UP, unusable, line
-from trau.rules.frame import DownFrame, Kind, bits_of, octets_of, read_up, write_down
+from trau.rules.frame import DownFrame, FrameKind, bits_of, octets_of, read_up, write_down
 from trau.rules.parameters import bits_of_parameters
-from trau.model.codec import Encoder
+from trau.model.codec import FullRateEncoder
 from trau.model.commands import command
 from trau.model.outside import MemoryDesk, MemoryLines
 
@@ -24,10 +24,10 @@ def run(
 
 def encoded_idle(frames: int) -> bytes:
     """The downlink frames of so many frames of an idle line of A-law, from home; its samples are 8."""
-    encoder = Encoder()
+    encoder = FullRateEncoder()
     coded = [encoder.encode([8] * 160).parameters for _ in range(frames)]
     return b"".join(
-        octets_of(write_down(DownFrame(Kind.SPEECH, bits_of_parameters(one)))) for one in coded
+        octets_of(write_down(DownFrame(FrameKind.SPEECH, bits_of_parameters(one)))) for one in coded
     )
 
 
@@ -245,7 +245,7 @@ class Follow(unittest.TestCase):
         down = written[7, "down"]
         answers = [read_up(bits_of(down[start : start + 40])) for start in range(0, 200, 40)]
         self.assertEqual(
-            [one.sort.value for one in answers], ["idle", "good", "idle", "good", "good"]
+            [one.kind.value for one in answers], ["idle", "good", "idle", "good", "good"]
         )
         self.assertEqual([one.field for one in answers], [0, 0, 0, 1, 1])
         self.assertTrue(all(one.dtxd and not one.taf for one in answers))

@@ -3,8 +3,8 @@
 import unittest
 
 from material import IDLE_UP, speech
-from trau.rules.frame import Sort
-from trau.model.downlink import Item, Made, asked_shifts, down_bits, made_frames, shift_of
+from trau.rules.frame import FrameKind
+from trau.model.downlink import Item, MadeFrame, asked_shifts, down_bits, made_frames, shift_of
 
 
 class Shifts(unittest.TestCase):
@@ -21,7 +21,7 @@ class Shifts(unittest.TestCase):
             None,
             IDLE_UP._replace(field=63),
             None,
-            IDLE_UP._replace(sort=Sort.OTHER, field=5),
+            IDLE_UP._replace(kind=FrameKind.OTHER, field=5),
             speech(field=40),
         ]
         self.assertEqual(asked_shifts(found), {0: 156, 2: -2})
@@ -32,7 +32,8 @@ class Frames(unittest.TestCase):
 
     def test_without_shifts(self) -> None:
         self.assertEqual(
-            made_frames(3, {}, []), [Made(0, 0, None), Made(160, 0, None), Made(320, 0, None)]
+            made_frames(3, {}, []),
+            [MadeFrame(0, 0, None), MadeFrame(160, 0, None), MadeFrame(320, 0, None)],
         )
 
     def test_shifts(self) -> None:
@@ -75,14 +76,14 @@ class Bits(unittest.TestCase):
     """The bits of the Down line."""
 
     def test_delays_and_advances(self) -> None:
-        made = [Made(0, 2, None), Made(162, -2, None), Made(320, 0, None)]
+        made = [MadeFrame(0, 2, None), MadeFrame(162, -2, None), MadeFrame(320, 0, None)]
         bits = down_bits(made, ["0" * 320] * 3, 5)
         zeros = [320, 4, 316 + 320]
         self.assertEqual(bits[320:], "0" * zeros[0] + "1" * zeros[1] + "0" * zeros[2])
         self.assertEqual(bits[:320], "1" * 320)
 
     def test_it_ends_with_its_periods(self) -> None:
-        self.assertEqual(down_bits([Made(0, 0, None)], ["0" * 320], 1), "1" * 320)
+        self.assertEqual(down_bits([MadeFrame(0, 0, None)], ["0" * 320], 1), "1" * 320)
         self.assertEqual(down_bits([], [], 0), "")
 
 

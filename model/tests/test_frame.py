@@ -5,10 +5,9 @@ import unittest
 
 from material import DOWN, IDLE_DOWN, QUIET, UP, speech
 from trau.rules.frame import (
-    SPEECH,
+    SPEECH_CLASSES,
     DownFrame,
-    Kind,
-    Sort,
+    FrameKind,
     UpFrame,
     bits_of,
     control_of,
@@ -64,17 +63,17 @@ class Frames(unittest.TestCase):
 
     def test_frames_down(self) -> None:
         self.assertEqual(
-            octets_of(write_down(DownFrame(Kind.SPEECH, bits_of_parameters(QUIET)))), DOWN
+            octets_of(write_down(DownFrame(FrameKind.SPEECH, bits_of_parameters(QUIET)))), DOWN
         )
-        self.assertEqual(octets_of(write_down(DownFrame(Kind.IDLE))), IDLE_DOWN)
+        self.assertEqual(octets_of(write_down(DownFrame(FrameKind.IDLE))), IDLE_DOWN)
         self.assertEqual(
-            read_down(bits_of(DOWN)[:316]), DownFrame(Kind.SPEECH, bits_of_parameters(QUIET))
+            read_down(bits_of(DOWN)[:316]), DownFrame(FrameKind.SPEECH, bits_of_parameters(QUIET))
         )
-        self.assertEqual(read_down(bits_of(IDLE_DOWN)).kind, Kind.IDLE)
-        self.assertEqual(read_down(bits_of(UP)).kind, Kind.OTHER)
+        self.assertEqual(read_down(bits_of(IDLE_DOWN)).kind, FrameKind.IDLE)
+        self.assertEqual(read_down(bits_of(UP)).kind, FrameKind.OTHER)
 
     def test_a_silence_descriptor_down(self) -> None:
-        frame = DownFrame(Kind.SPEECH, bits_of_parameters(QUIET), False)
+        frame = DownFrame(FrameKind.VALID_SID, bits_of_parameters(QUIET))
         self.assertEqual(octets_of(write_down(frame)), DOWN[:38] + b"\xa5\xff")
         self.assertEqual(read_down(write_down(frame)), frame)
 
@@ -84,7 +83,7 @@ class Frames(unittest.TestCase):
             bits = bits_of(UP)
             words[bfi, first, second] = read_up(
                 f"{bits[:28]}{bfi}{first}{second}{bits[31:]}"
-            ).sort.value
+            ).kind.value
         by_descriptor = [
             [words[bfi, first, second] for bfi in (0, 1)]
             for first, second in itertools.product((0, 1), repeat=2)
@@ -95,15 +94,15 @@ class Frames(unittest.TestCase):
         )
 
     def test_other_frames_are_unusable(self) -> None:
-        for sort in (Sort.IDLE, Sort.OTHER):
-            frame = UpFrame(sort, True, True, 26, "01" * 130)
+        for kind in (FrameKind.IDLE, FrameKind.OTHER):
+            frame = UpFrame(kind, True, True, 26, "01" * 130)
             self.assertEqual(
                 (read_up(write_up(frame)), control_of(write_up(frame))[11:14]), (frame, "100")
             )
 
     def test_control_bits_come_back(self) -> None:
-        for sort, field, taf in itertools.product(SPEECH, (0, 1, 32, 63), (False, True)):
-            frame = speech(QUIET, sort, field, taf, not taf)
+        for kind, field, taf in itertools.product(SPEECH_CLASSES, (0, 1, 32, 63), (False, True)):
+            frame = speech(QUIET, kind, field, taf, not taf)
             self.assertEqual(read_up(write_up(frame)), frame)
 
 

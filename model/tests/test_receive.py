@@ -4,13 +4,13 @@ import unittest
 from typing import List, Optional, Sequence
 
 from material import IDLE_UP, QUIET, maxima, sid, speech, unusable, with_maxima
-from trau.rules.frame import Sort, UpFrame
+from trau.rules.frame import FrameKind, UpFrame
 from trau.rules.noise import RandomSource
 from trau.rules.parameters import SILENCE, Parameters
 from trau.model.receive import effective_frames
 
 GOOD = speech(with_maxima(20))
-INVALID = speech(sort=Sort.INVALID, taf=True)
+INVALID = speech(kind=FrameKind.INVALID_SID, taf=True)
 
 
 def maxima_of(frames: Sequence[Optional[UpFrame]]) -> List[Optional[int]]:
@@ -44,7 +44,7 @@ class LostSpeech(unittest.TestCase):
         )
 
     def test_what_counts_as_lost(self) -> None:
-        other = UpFrame(Sort.OTHER, True)
+        other = UpFrame(FrameKind.OTHER, True)
         for lost in (None, other, unusable(), unusable(taf=True), INVALID):
             self.assertEqual(effective_frames(7, [GOOD, lost]), [with_maxima(20)] * 2)
 

@@ -4,8 +4,8 @@ import unittest
 from typing import List, Optional, Sequence
 
 from material import CHECKS, CODEC, UP
-from trau.rules.frame import Sort, bits_of, octets_of
-from trau.rules.search import Yield, search, sort_of_period, yields_by_period
+from trau.rules.frame import FrameKind, bits_of, octets_of
+from trau.rules.search import Yield, search, kind_of_period, yields_by_period
 
 BROKEN = b"\x80" + UP[1:]  # its first sync bit is wrong
 
@@ -58,7 +58,7 @@ class Search(unittest.TestCase):
     def test_frames_of_other_kinds_are_found(self) -> None:
         other = UP[:2] + b"\xfc" + UP[3:]
         (one,) = yields_of(other)
-        self.assertIs(one.sort(), Sort.OTHER)
+        self.assertIs(one.kind(), FrameKind.OTHER)
 
     def test_recorded_offsets(self) -> None:
         rows = [
@@ -73,7 +73,7 @@ class Search(unittest.TestCase):
     def test_recorded_words(self) -> None:
         """The frames of a call of the example that begins five bits late."""
         line = (CHECKS.parent / "examples" / "farm" / "3.up").read_bytes()
-        words = [sort_of_period(one).value for one in by_period(line)]
+        words = [kind_of_period(one).value for one in by_period(line)]
         found = [one for one in by_period(line) if one is not None]
         self.assertEqual(
             [words.count(word) for word in ("bad", "good", "invalid", "sid")], [40, 107, 1, 1]

@@ -87,8 +87,7 @@ class Text(unittest.TestCase):
             "__future__",
             "concurrent",
             "threading",
-            "model",
-            "core",
+            "trau",
             "dataclasses",
             "functools",
         }

@@ -11,7 +11,7 @@ from material import CHECKS, TOP, UP
 from trau.model.checkpoint import Mark, MarkCall, differs, read_mark, text_of_mark
 from trau.model.compare import MODEL, differences
 from trau.model.drill import drawn_orders, drawn_period, draws
-from trau.model.lines import Folder, Streams
+from trau.model.lines import FolderLines, StandardStreams
 from trau.rules.orders import BadLine
 from trau.model.outside import MemoryDesk, MemoryLines
 from trau.model.recorded import checksum
@@ -148,7 +148,7 @@ class Files(unittest.TestCase):
 
     def test_reading(self) -> None:
         Path("7.up").write_bytes(bytes(range(100)))
-        lines = Folder()
+        lines = FolderLines()
         self.assertEqual(lines.read(7, "up", 60), (bytes(range(60)), False))
         self.assertEqual(lines.read(7, "up"), (bytes(range(60, 100)), False))
         self.assertEqual(lines.read(7, "pcm"), (b"", True))
@@ -157,7 +157,7 @@ class Files(unittest.TestCase):
 
     def test_writing(self) -> None:
         Path("7.out").write_bytes(b"older octets")
-        lines = Folder()
+        lines = FolderLines()
         self.assertTrue(lines.write(7, "out", b"new"))
         self.assertTrue(lines.write(7, "out", b"er"))
         self.assertEqual(Path("7.out").read_bytes(), b"newer")
@@ -167,7 +167,7 @@ class Files(unittest.TestCase):
     def test_a_stream_that_is_a_folder(self) -> None:
         descriptor = os.open(".", os.O_RDONLY)
         self.addCleanup(os.close, descriptor)
-        self.assertEqual(Streams(descriptor, 1).read(9), (b"", True))
+        self.assertEqual(StandardStreams(descriptor, 1).read(9), (b"", True))
 
     def test_the_program(self) -> None:
         Path("7.up").write_bytes(UP * 2)

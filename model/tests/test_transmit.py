@@ -5,10 +5,10 @@ from typing import List
 
 from material import QUIET, with_maxima
 from trau.rules.parameters import Block
-from trau.model.codec import Encoded, Encoder, Trace, code_ratios
+from trau.model.codec import Encoded, FullRateEncoder, Trace, code_ratios
 from trau.model.transmit import Coded, sent_frames, silence_descriptor
 
-SILENT = Encoder().encode([0] * 160)
+SILENT = FullRateEncoder().encode([0] * 160)
 DESCRIPTOR = silence_descriptor([Coded(SILENT, 256, True)] * 4)
 
 

@@ -18,9 +18,9 @@ def fields(name):
     return [(*map(int, row[:4]), bytes.fromhex(row[4])) for row in rows]
 
 
-def sorts_of(line):
-    """The sort of each frame of an uplink."""
-    return [each.sort().value for each in search(bits_of(line))]
+def kinds_of(line):
+    """The kind of each frame of an uplink."""
+    return [each.kind().value for each in search(bits_of(line))]
 
 
 def rewritten(octets, change):

@@ -14,8 +14,8 @@ from trau.recordings import captures
 from trau.recordings import code_word
 from trau.recordings import lines
 from trau.recordings import uplink_frames
-from capture_files import HAS_DPKT, InCaptures, fields, rewritten, sorts_of
-from trau.rules.frame import Sort, bits_of
+from capture_files import HAS_DPKT, InCaptures, fields, rewritten, kinds_of
+from trau.rules.frame import FrameKind, bits_of
 from trau.rules.g711 import Law, samples_by_octet
 from trau.rules.parameters import SILENCE, bits_of_parameters, gsm_of_data
 from trau.rules.search import search
@@ -26,12 +26,12 @@ CAPTURES = {"gsm": "gsm.pcap", "pcma": "pcma.pcapng", "pcmu": "pcmu.pcap"}
 
 class WithoutTheLibrary(InFolder):
     def test_idle_and_lost_frames(self):
-        for octets, sort in (
-            (uplink_frames.IDLE, Sort.IDLE),
-            (uplink_frames.LOST, Sort.BAD),
-            (uplink_frames.LOST_WITH_TAF, Sort.BAD),
+        for octets, kind in (
+            (uplink_frames.IDLE, FrameKind.IDLE),
+            (uplink_frames.LOST, FrameKind.UNUSABLE),
+            (uplink_frames.LOST_WITH_TAF, FrameKind.UNUSABLE),
         ):
-            self.assertEqual([each.sort() for each in search(bits_of(octets))], [sort])
+            self.assertEqual([each.kind() for each in search(bits_of(octets))], [kind])
 
     def test_asked_for_with_a_word(self):
         said = f"captures need the library dpkt, which {sys.executable} doesn't have; apt-get install python3-dpkt "
@@ -122,7 +122,7 @@ class Captures(InCaptures):
             "pcap gsm packets 27 late 0 doubled 0 others 0 frames 27 sid 0 invalid 0 lost 3 gap 0 empty 0 paused 0 lead 0\n",
         )
         self.assertEqual(
-            [place for place, sort in enumerate(sorts_of(line)) if sort == "bad"], [7, 8, 20]
+            [place for place, kind in enumerate(kinds_of(line)) if kind == "bad"], [7, 8, 20]
         )
         said, line = self.changed(lambda packets: packets[:4] + packets[6:], "pcma")
         whole = b"".join(row[4] for row in fields("pcma.txt"))
@@ -183,7 +183,7 @@ class Captures(InCaptures):
             said,
             "pcap gsm packets 30 late 0 doubled 0 others 0 frames 30 sid 0 invalid 0 lost 0 gap 5 empty 0 paused 0 lead 0\n",
         )
-        self.assertEqual(sorts_of(line)[9:16], ["good", *5 * ["bad"], "good"])
+        self.assertEqual(kinds_of(line)[9:16], ["good", *5 * ["bad"], "good"])
 
         def digit(rtp):
             rtp.pt, rtp.data = 101, bytes(4)
@@ -197,7 +197,7 @@ class Captures(InCaptures):
             said,
             "pcap gsm packets 30 late 0 doubled 0 others 2 frames 28 sid 0 invalid 0 lost 0 gap 2 empty 0 paused 0 lead 0\n",
         )
-        self.assertEqual(sorts_of(line)[9:13], ["good", "bad", "bad", "good"])
+        self.assertEqual(kinds_of(line)[9:13], ["good", "bad", "bad", "good"])
 
     def test_time_stamps_that_go_back(self):
         def earlier(rtp):
@@ -260,11 +260,11 @@ class Captures(InCaptures):
             "pcap gsm packets 30 late 0 doubled 0 others 0 frames 30 sid 1 invalid 1 lost 0 gap 0 empty 0 paused 5 lead 0\n",
         )
         self.assertEqual(
-            sorts_of(line)[9:19], ["good", "sid", "invalid", *5 * ["bad"], "good", "good"]
+            kinds_of(line)[9:19], ["good", "sid", "invalid", *5 * ["bad"], "good", "good"]
         )
         said, line = self.changed(change, words=("--sid", "keep"))
         self.assertIn("frames 30 sid 0 invalid 0 lost 0 gap 5 empty 0 paused 0 ", said)
-        self.assertEqual(sorts_of(line)[9:19], [*3 * ["good"], *5 * ["bad"], "good", "good"])
+        self.assertEqual(kinds_of(line)[9:19], [*3 * ["good"], *5 * ["bad"], "good", "good"])
 
     def test_captures_that_were_cut(self):
         whole = self.pcap(DATA / "gsm.pcap")[1]
@@ -304,7 +304,7 @@ class Captures(InCaptures):
             "packets 20 late 0 doubled 0 others 0 frames 20 sid 0 invalid 0 lost 10 gap 0 empty 0 paused 0 lead 0 cut 10 wrong 0",
             said,
         )
-        self.assertEqual(sorts_of(line)[:5], ["good", "bad", "good", "good", "bad"])
+        self.assertEqual(kinds_of(line)[:5], ["good", "bad", "good", "good", "bad"])
 
     def test_lines_that_keep_step(self):
         # Two streams of one capture, the second of which begins 0.12 s after the first: ffmpeg sends a packet of RTCP before.
@@ -371,7 +371,7 @@ class Captures(InCaptures):
             self.assertIn(
                 f"packets {counts[False]} late 0 doubled 0 others 0 frames {counts[False]} ", said
             )
-            self.assertLessEqual(sorts_of(line).count("bad"), counts[True])
+            self.assertLessEqual(kinds_of(line).count("bad"), counts[True])
             self.capture(folder / "wanted" / f"{call}.down", self.folder / "d.pcap")
             self.run_tool(
                 lines.main, "gsm", folder / "wanted" / f"{call}.down", self.folder / "d.gsm"

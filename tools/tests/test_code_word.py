@@ -11,8 +11,8 @@ from support import CODEC, DATA, EXAMPLES, InFolder, frames_of_downlink
 
 from trau.recordings import code_word
 from trau.recordings import lines
-from trau.recordings.code_word import CODE_WORD_BITS, FrameKind
-from trau.rules.frame import Sort, bits_of, control_of, data_of, read_up
+from trau.recordings.code_word import CODE_WORD_BITS
+from trau.rules.frame import FrameKind, bits_of, control_of, data_of, read_up
 from trau.rules.noise import RandomSource, comfort_noise
 from trau.rules.parameters import (
     LARC_WIDTHS,
@@ -64,9 +64,9 @@ class CodeWord(InFolder):
             data = with_errors(descriptor(source), errors, source)
             self.assertEqual(code_word.errors_of(data), errors)
             kind = (
-                FrameKind.VALID
+                FrameKind.VALID_SID
                 if errors < 2
-                else FrameKind.INVALID
+                else FrameKind.INVALID_SID
                 if errors < 16
                 else FrameKind.SPEECH
             )
@@ -79,7 +79,9 @@ class CodeWord(InFolder):
             self.assertGreaterEqual(least, 24, name)
         # Not so for a line that nobody speaks on: three frames of steps and pulses at full scale look like descriptors.
         kinds = Counter(map(code_word.kind_of, data_of_line((CODEC / "harsh.down").read_bytes())))
-        self.assertEqual(kinds, {FrameKind.SPEECH: 251, FrameKind.VALID: 1, FrameKind.INVALID: 2})
+        self.assertEqual(
+            kinds, {FrameKind.SPEECH: 251, FrameKind.VALID_SID: 1, FrameKind.INVALID_SID: 2}
+        )
 
     def test_descriptors_of_a_downlink(self):
         # The silence descriptors that a run sent, SP 0, have the whole code word, and its comfort noise has none.
@@ -142,7 +144,7 @@ class BesideTheLibrary(unittest.TestCase):
 
 class Uplinks(InFolder):
     def uplink(self, frames, *words):
-        """What is said of an uplink of frames with these bits, and the sorts of its frames."""
+        """What is said of an uplink of frames with these bits, and the kinds of its frames."""
         given = self.path("given.gsm", b"".join(map(gsm_of_data, frames)))
         status, out, err = self.run_tool(lines.main, "uplink", given, self.path("7.up"), *words)
         self.assertEqual((status, err), (0, ""))
@@ -158,8 +160,16 @@ class Uplinks(InFolder):
         ]
         said, found = self.uplink(frames)
         self.assertEqual(said, "uplink frames 7 sid 2 invalid 2\n")
-        sorts = [each.sort() for each in found]
-        self.assertEqual(sorts, [*2 * [Sort.GOOD], *2 * [Sort.SID], *2 * [Sort.INVALID], Sort.GOOD])
+        kinds = [each.kind() for each in found]
+        self.assertEqual(
+            kinds,
+            [
+                *2 * [FrameKind.SPEECH],
+                *2 * [FrameKind.VALID_SID],
+                *2 * [FrameKind.INVALID_SID],
+                FrameKind.SPEECH,
+            ],
+        )
         self.assertEqual(
             [control_of(each.frame)[11:14] for each in found[2:6]], ["010", "010", "101", "101"]
         )
@@ -170,7 +180,7 @@ class Uplinks(InFolder):
             10 * [descriptor(random.Random(4))], "--sid", "keep", "--dtxd", "1"
         )
         self.assertEqual(said, "uplink frames 10 sid 0 invalid 0\n")
-        self.assertEqual({each.sort() for each in found}, {Sort.GOOD})
+        self.assertEqual({each.kind() for each in found}, {FrameKind.SPEECH})
 
     def test_a_downlink_there_and_back(self):
         down, new = EXAMPLES / "farm" / "wanted" / "2.down", self.path("2.gsm")

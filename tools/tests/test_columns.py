@@ -16,22 +16,22 @@ from trau.runs import run_lines
 from trau.command_line import side_by_side
 from trau.pictures import timeline
 from trau.runs import uplink_periods
-from trau.rules.frame import Sort, bits_of, control_of, octets_of, read_up
+from trau.rules.frame import FrameKind, bits_of, control_of, octets_of, read_up
 from trau.rules.g711 import Law, samples_by_octet
 from trau.rules.profile import DOWN_IDLE, DOWN_SPEECH, PCM_OCTETS, UP_IDLE, UP_SPEECH
-from trau.rules.report import Bridge
-from trau.rules.search import FRAME, sort_of_period, yields_by_period
+from trau.rules.report import ReportedBridge
+from trau.rules.search import FRAME, kind_of_period, yields_by_period
 from trau.command_line.words import Refusal
 from trau.model.downlink import asked_shifts, made_frames
-from trau.runs.run_lines import Heard, Sent
+from trau.runs.run_lines import Heard, DownlinkKind
 from test_timeline import lay, levels_of
-from trau.runs.uplink_periods import SORTS
+from trau.runs.uplink_periods import FRAME_KINDS
 
 SPEECH = bits_of((EXAMPLES / "7.up").read_bytes())
 
 
 def damaged(source, frames):
-    """An uplink at any bit, with frames of all sorts, broken sync bits, bits left out and bits put in."""
+    """An uplink at any bit, with frames of all kinds, broken sync bits, bits left out and bits put in."""
     bits = [
         "1" * source.randrange(330)
         if source.random() < 0.5
@@ -76,12 +76,16 @@ def made_by_the_model(octets, spans):
     ]
 
 
-def heard_one_by_one(sorts):
+def heard_one_by_one(kinds):
     """What each period gives, by the class of its frame and what came before."""
     state = Heard.QUIET
-    for sort in sorts:
-        if sort in (Sort.GOOD, Sort.SID, Sort.IDLE):
-            state = {Sort.GOOD: Heard.SPEECH, Sort.SID: Heard.NOISE, Sort.IDLE: Heard.QUIET}[sort]
+    for kind in kinds:
+        if kind in (FrameKind.SPEECH, FrameKind.VALID_SID, FrameKind.IDLE):
+            state = {
+                FrameKind.SPEECH: Heard.SPEECH,
+                FrameKind.VALID_SID: Heard.NOISE,
+                FrameKind.IDLE: Heard.QUIET,
+            }[kind]
         elif state is Heard.SPEECH:
             state = Heard.LOST
         yield state
@@ -94,12 +98,12 @@ def sent_one_by_one(octet, handed, bits):
         return None
     control = control_of(frame)
     if control.startswith(DOWN_IDLE):
-        return Sent.IDLE
+        return DownlinkKind.IDLE
     if not control.startswith(DOWN_SPEECH):
-        return Sent.OTHER
+        return DownlinkKind.OTHER
     if handed:
-        return Sent.HANDED
-    return Sent.SPEECH if control[15] == "1" else Sent.SILENCE
+        return DownlinkKind.HANDED
+    return DownlinkKind.SPEECH if control[15] == "1" else DownlinkKind.SILENCE
 
 
 class Uplinks(unittest.TestCase):
@@ -119,19 +123,21 @@ class Uplinks(unittest.TestCase):
     def test_the_search(self):
         seen = set()
         for octets in self.lines():
-            sorts = [sort_of_period(each) for each in yields_by_period(bits_of(octets))]
-            self.assertEqual([SORTS[code] for code in uplink_periods.searched(octets).sorts], sorts)
+            kinds = [kind_of_period(each) for each in yields_by_period(bits_of(octets))]
+            self.assertEqual(
+                [FRAME_KINDS[code] for code in uplink_periods.searched(octets).kinds], kinds
+            )
             self.assertEqual(
                 uplink_periods.searched(octets).asking,
                 list(asked_shifts(frames_by_period(octets)).items()),
             )
             heard = [
                 run_lines.HEARDS[code]
-                for code in run_lines.heard_codes(bytes(SORTS.index(sort) for sort in sorts))
+                for code in run_lines.heard_codes(bytes(FRAME_KINDS.index(kind) for kind in kinds))
             ]
-            self.assertEqual(heard, list(heard_one_by_one(sorts)))
-            seen.update(sorts)
-        self.assertEqual(seen, set(Sort))
+            self.assertEqual(heard, list(heard_one_by_one(kinds)))
+            seen.update(kinds)
+        self.assertEqual(seen, set(FrameKind))
 
     def test_the_hunt(self):
         frame = SPEECH[:320]
@@ -154,12 +160,13 @@ class Uplinks(unittest.TestCase):
             octets = damaged(source, 200)[: 40 * 150]
             cuts = sorted(source.sample(range(10, 170), 6))
             bridges = [
-                Bridge((7, 8), a, b, (b - a, b - a), (0, 0)) for a, b in zip(cuts[::2], cuts[1::2])
+                ReportedBridge((7, 8), a, b, (b - a, b - a), (0, 0))
+                for a, b in zip(cuts[::2], cuts[1::2])
             ]
             if number % 3 == 0:
                 bridges = [
-                    Bridge((7, 8), 20, 40, (20, 20), (0, 0)),
-                    Bridge((9, 7), 41, 42, (1, 1), (0, 0)),
+                    ReportedBridge((7, 8), 20, 40, (20, 20), (0, 0)),
+                    ReportedBridge((9, 7), 41, 42, (1, 1), (0, 0)),
                 ]
             wanted = made_by_the_model(
                 octets, [(bridge.start - 10, bridge.end - 10) for bridge in bridges]

@@ -20,7 +20,7 @@ from trau.recordings import file_kinds
 from trau.recordings import lines
 from trau.runs import orders
 from trau.recordings import readings
-from trau.recordings.file_kinds import Kind
+from trau.recordings.file_kinds import FileKind
 
 FARM = EXAMPLES / "farm"
 UP = (EXAMPLES / "7.up").read_bytes()
@@ -232,9 +232,9 @@ class Look(InFolder):
 
     def test_every_line_of_the_examples(self):
         for path in (*FARM.glob("*.up"), *EXAMPLES.glob("7.up")):
-            self.assertIs(file_kinds.look(*file_kinds.head_of(path)).kind, Kind.UPLINK)
+            self.assertIs(file_kinds.look(*file_kinds.head_of(path)).kind, FileKind.UPLINK)
         for path in (FARM / "wanted").glob("*.down"):
-            self.assertIs(file_kinds.look(*file_kinds.head_of(path)).kind, Kind.DOWNLINK)
+            self.assertIs(file_kinds.look(*file_kinds.head_of(path)).kind, FileKind.DOWNLINK)
 
     def test_slots_and_whole_lines(self):
         slot = merged([UP[:4000], bytes(4000), shifted(UP, 5)[:4000], DOWN[:4000]])

@@ -11,7 +11,7 @@ import support
 from support import CODEC, DATA, EXAMPLES, InFolder, frames_of_downlink
 
 from trau.recordings import lines
-from trau.rules.frame import Sort, UpFrame, bits_of, data_of, frame_of, octets_of, read_up
+from trau.rules.frame import FrameKind, UpFrame, bits_of, data_of, frame_of, octets_of, read_up
 from trau.rules.g711 import Law, samples_by_octet
 from trau.rules.noise import RandomSource, comfort_noise
 from trau.rules.parameters import (
@@ -28,7 +28,7 @@ from trau.recordings.damages import silence_descriptor
 
 def yields(octets):
     """The yields of an uplink, as places with words."""
-    return [(each.place, each.sort().value) for each in search(bits_of(octets))]
+    return [(each.place, each.kind().value) for each in search(bits_of(octets))]
 
 
 def frames_of(octets):
@@ -106,7 +106,7 @@ class Frames(InFolder):
         self.lines("uplink", DATA / "speech.gsm", self.path("7.up"), "--dtxd", "1")
         self.assertEqual(
             {frame._replace(data="") for frame in frames_of(self.path("7.up").read_bytes())},
-            {UpFrame(Sort.GOOD, dtxd=True, data="")},
+            {UpFrame(FrameKind.SPEECH, dtxd=True, data="")},
         )
 
     def test_frames_of_a_downlink_at_any_bit(self):

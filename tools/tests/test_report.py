@@ -10,7 +10,7 @@ from collections import Counter
 
 from support import DATA, EXAMPLES, InFolder, frames_of_downlink
 
-from trau.rules.frame import Sort, UpFrame, bits_of, data_of, frame_of, octets_of, write_up
+from trau.rules.frame import FrameKind, UpFrame, bits_of, data_of, frame_of, octets_of, write_up
 from trau.rules.g711 import Law
 from trau.rules.parameters import SILENCE, bits_of_parameters
 from trau.rules.profile import DOWN_SPEECH, PCM_OCTETS
@@ -22,8 +22,8 @@ from trau.pictures import looks
 from trau.runs import report
 from trau.runs import run_lines
 from trau.runs import run_texts
-from trau.runs.run_lines import Heard, Sent
-from trau.runs.uplink_periods import SORTS
+from trau.runs.run_lines import Heard, DownlinkKind
+from trau.runs.uplink_periods import FRAME_KINDS
 
 
 def lay_run(name, folder):
@@ -188,12 +188,12 @@ class Aloud(Told):
 
 class Calls(Told):
     def test_heard(self):
-        sorts = [
-            Sort(word)
+        kinds = [
+            FrameKind(word)
             for word in "bad sid bad good miss none good idle invalid bad good other sid invalid good".split()
         ]
         wanted = "quiet noise noise speech lost lost speech quiet quiet quiet speech lost noise noise speech"
-        codes = run_lines.heard_codes(bytes(map(SORTS.index, sorts)))
+        codes = run_lines.heard_codes(bytes(map(FRAME_KINDS.index, kinds)))
         self.assertEqual([run_lines.HEARDS[code].value for code in codes], wanted.split())
 
     def test_quiet_periods_are_idle_on_the_out_lines(self):
@@ -229,11 +229,15 @@ class Calls(Told):
                     for made in call.made
                     for code in run_lines.sent(made, octets)
                 )
-                self.assertEqual(kinds[Sent.OTHER], 0)
+                self.assertEqual(kinds[DownlinkKind.OTHER], 0)
                 found = list(frames_of_downlink(bits))
                 self.assertLessEqual(sum(kinds.values()) - len(found), 0)
                 speech = sum(frame[17:22] == DOWN_SPEECH for frame in found)
-                whole = kinds[Sent.SPEECH] + kinds[Sent.SILENCE] + kinds[Sent.HANDED]
+                whole = (
+                    kinds[DownlinkKind.SPEECH]
+                    + kinds[DownlinkKind.SILENCE]
+                    + kinds[DownlinkKind.HANDED]
+                )
                 self.assertIn(speech - whole, (0, 1))
             for bridge in read.bridges:
                 self.assertLessEqual(bridge.sent[0], bridge.end - bridge.start)
@@ -342,7 +346,7 @@ class Calls(Told):
 
 
 SPEECH = data_of(bits_of((EXAMPLES / "7.up").read_bytes()[:40]))
-PRIMED = octets_of(write_up(UpFrame(Sort.GOOD, data=bits_of_parameters(SILENCE))))
+PRIMED = octets_of(write_up(UpFrame(FrameKind.SPEECH, data=bits_of_parameters(SILENCE))))
 CLOCK = """0 every 1
 0 at 2026-11-30T22:59:40.000+00:00
 1010 given-up 100
@@ -364,12 +368,12 @@ class Recorded(Told):
         self.run.mkdir()
 
     def lay_call(self, words, first=b""):
-        """Lays call 1, whose uplink has these sorts of frames in a row, after a first one."""
-        sorts = [Sort(word) for word in words.split()]
-        frames = first + b"".join(octets_of(write_up(UpFrame(sort, data=SPEECH))) for sort in sorts)
-        counts = Counter(sort.value for sort in (*sorts, *len(first) // 40 * [Sort.GOOD]))
+        """Lays call 1, whose uplink has these kinds of frames in a row, after a first one."""
+        kinds = [FrameKind(word) for word in words.split()]
+        frames = first + b"".join(octets_of(write_up(UpFrame(kind, data=SPEECH))) for kind in kinds)
+        counts = Counter(kind.value for kind in (*kinds, *len(first) // 40 * [FrameKind.SPEECH]))
         periods = len(frames) // 40
-        said = " ".join(f"{sort.value} {counts[sort.value]}" for sort in Sort)
+        said = " ".join(f"{kind.value} {counts[kind.value]}" for kind in FrameKind)
         call = f"call 1 from 1000 to {1000 + periods} end up 0\ncounts 1 {said} made {periods}\n"
         (self.run / "report.txt").write_text(
             f"order 1 ok\n{call}end period {1000 + periods} calls 1 left 0\n"
@@ -459,11 +463,14 @@ class Losses(Recorded):
         self.assertEqual(
             looks.looks(call.brought()),
             bytes(
-                looks.CODES[look] for look in (looks.Look.IDLE, looks.Look.QUIET, looks.Look.QUIET)
+                looks.CODES[look]
+                for look in (looks.UplinkLook.IDLE, looks.UplinkLook.QUIET, looks.UplinkLook.QUIET)
             ),
         )
         # Speech is speech, and so is a frame of silence within it.
-        self.lay_call("good bad", octets_of(write_up(UpFrame(Sort.GOOD, data=SPEECH))) + PRIMED)
+        self.lay_call(
+            "good bad", octets_of(write_up(UpFrame(FrameKind.SPEECH, data=SPEECH))) + PRIMED
+        )
         self.assertEqual(
             [self.rows("calls", self.run)[0][word] for word in ("quiet", "speech", "lost")],
             ["0", "3", "1"],

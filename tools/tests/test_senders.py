@@ -22,7 +22,7 @@ from trau.recordings import code_word
 from trau.recordings import lines
 from trau.recordings import rtp_streams
 from trau.recordings import uplink_frames
-from capture_files import HAS_DPKT, InCaptures, fields, rewritten, sorts_of
+from capture_files import HAS_DPKT, InCaptures, fields, rewritten, kinds_of
 from trau.rules.frame import bits_of, data_of, read_up
 from trau.rules.g711 import Law
 from trau.rules.parameters import SILENCE, bits_of_parameters, data_of_gsm, gsm_of_data
@@ -69,8 +69,8 @@ class Senders(InCaptures):
 
     # A base station of Osmocom
 
-    def wanted_sorts(self, sent):
-        """The sort of each frame: what was sent, and unusable ones for all else."""
+    def wanted_kinds(self, sent):
+        """The kind of each frame: what was sent, and unusable ones for all else."""
         return [
             "bad" if not payload else "sid" if is_descriptor(payload) else "good"
             for payload in sent
@@ -84,7 +84,7 @@ class Senders(InCaptures):
             said,
             "pcap gsm packets 92 late 0 doubled 0 others 0 frames 86 sid 5 invalid 0 lost 0 gap 19 empty 6 paused 88 lead 0\n",
         )
-        self.assertEqual(sorts_of(line), self.wanted_sorts(sent))
+        self.assertEqual(kinds_of(line), self.wanted_kinds(sent))
         datas = [data_of(each.frame) for each in search(bits_of(line))]
         came = [at for at, payload in enumerate(sent) if payload]
         self.assertEqual([gsm_of_data(datas[at]) for at in came], [sent[at] for at in came])
@@ -108,19 +108,19 @@ class Senders(InCaptures):
         said, line = self.pcap(DATA / "osmo.pcap", "--gap", "idle")
         self.assertIn(" lost 0 gap 19 empty 6 paused 88 lead 0\n", said)
         pauses, wanted = False, []
-        for payload, sort in zip(sent, self.wanted_sorts(sent)):
-            pauses = sort == "sid" or pauses and sort != "good"
-            wanted.append("idle" if payload is None and not pauses else sort)
-        self.assertEqual(sorts_of(line), wanted)
+        for payload, kind in zip(sent, self.wanted_kinds(sent)):
+            pauses = kind == "sid" or pauses and kind != "good"
+            wanted.append("idle" if payload is None and not pauses else kind)
+        self.assertEqual(kinds_of(line), wanted)
 
     def test_a_pause_whose_descriptor_is_lost(self):
         # The first descriptor is the 48th packet: what follows up to the next one is lost speech.
         packets = self.packets("osmo.pcap")
         said, line = self.pcap(self.written(packets[:47] + packets[48:]))
         self.assertIn(" sid 4 invalid 0 lost 1 gap 29 empty 6 paused 78 lead 0\n", said)
-        wanted = self.wanted_sorts(script())
+        wanted = self.wanted_kinds(script())
         wanted[wanted.index("sid")] = "bad"
-        self.assertEqual(sorts_of(line), wanted)
+        self.assertEqual(kinds_of(line), wanted)
 
     def test_idle_frames_there_and_back(self):
         datas = [data_of_gsm(payload) for payload in script()[:12]]
@@ -164,7 +164,7 @@ class Senders(InCaptures):
             _, line = self.pcap(self.written(sorted(packets)))
             came = [arrived.get(at, ("skip",))[0] for at in range(min(arrived), max(arrived) + 1)]
             self.assertEqual(
-                sorts_of(line),
+                kinds_of(line),
                 [{"speech": "good", "sid": "sid"}.get(kind, "bad") for kind in came],
                 seed,
             )
@@ -194,7 +194,7 @@ class Senders(InCaptures):
             "pcap gsm packets 87 late 0 doubled 0 others 0 frames 87 sid 0 invalid 0 lost 3 gap 10 empty 0 paused 0 lead 0\n",
         )
         came = {(stamp - rows[0][3]) // 160: payload for _, _, _, stamp, payload in rows}
-        self.assertEqual(sorts_of(line), ["good" if at in came else "bad" for at in range(100)])
+        self.assertEqual(kinds_of(line), ["good" if at in came else "bad" for at in range(100)])
         for at, payload in came.items():
             self.assertEqual(gsm_of_data(data_of(bits_of(line[40 * at : 40 * at + 40]))), payload)
         self.assertEqual(rows[-1][2] - rows[0][2] + 1 - len(rows), 3)
@@ -244,7 +244,7 @@ class Senders(InCaptures):
             said,
             "pcap gsm packets 80 late 0 doubled 0 others 0 frames 80 sid 0 invalid 0 lost 0 gap 28 empty 0 paused 0 lead 0 restarts 1\n",
         )
-        self.assertEqual(sorts_of(line), 40 * ["good"] + 28 * ["bad"] + 40 * ["good"])
+        self.assertEqual(kinds_of(line), 40 * ["good"] + 28 * ["bad"] + 40 * ["good"])
         self.assertIn(" restarts 0\n", self.pcap(DATA / "osmo.pcap", "--restart")[0])
 
     def test_a_number_that_jumps_back(self):
@@ -339,7 +339,7 @@ class Senders(InCaptures):
                 "packets 29 late 0 doubled 0 others 0 frames 29 sid 0 invalid 0 lost 1 gap 0 ", out
             )
             self.assertIn(" cut 0 wrong 1\n", out)
-            self.assertEqual(sorts_of(line), 7 * ["good"] + ["bad"] + 22 * ["good"])
+            self.assertEqual(kinds_of(line), 7 * ["good"] + ["bad"] + 22 * ["good"])
             self.path("line").unlink()
 
     def test_streams_of_other_codecs(self):
@@ -442,7 +442,7 @@ class Files(InFolder):
         self.assertEqual((status, out, err), (0, "uplink frames 73 sid 1 invalid 0 lost 32\n", ""))
         line = self.path("7.up").read_bytes()
         self.assertEqual(
-            sorts_of(line), 10 * ["good"] + 2 * ["bad"] + ["sid"] + 30 * ["bad"] + 30 * ["good"]
+            kinds_of(line), 10 * ["good"] + 2 * ["bad"] + ["sid"] + 30 * ["bad"] + 30 * ["good"]
         )
         self.assertEqual(tafs_of(line), [12 + 24])
         out = self.run_tool(lines.main, "look", given)[1]
@@ -463,7 +463,7 @@ class Files(InFolder):
         line.idle(30)
         line.lose(30)
         self.assertEqual(
-            sorts_of(line.line()),
+            kinds_of(line.line()),
             50 * ["bad"] + ["sid"] + 50 * ["bad"] + 30 * ["idle"] + 30 * ["bad"],
         )
         self.assertEqual(tafs_of(line.line()), [50 + 24, 50 + 48])

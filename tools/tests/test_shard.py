@@ -231,7 +231,10 @@ class Farms(InFolder):
     def test_what_a_part_is_given(self):
         # 64 MB and 70 kB for each call of the part with the most; 5 minutes and 0.1 ms for each period of the heaviest.
         words = shard.parser().parse_args(["cut", "farm", "cut", "--parts", "2"])
-        parts = [shard.Part(frozenset(range(1000)), 1), shard.Part(frozenset([5000]), 36_000_000)]
+        parts = [
+            shard.FarmPart(frozenset(range(1000)), 1),
+            shard.FarmPart(frozenset([5000]), 36_000_000),
+        ]
         script = shard.array_of(words, parts)
         self.assertIn("--mem=134M\n", script)
         self.assertIn("--time=65\n", script)

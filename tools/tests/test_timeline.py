@@ -19,13 +19,13 @@ from trau.runs import levels
 from trau.pictures import looks
 from trau.pictures import picture
 from trau.pictures import timeline
-from trau.rules.frame import Sort, bits_of
+from trau.rules.frame import FrameKind, bits_of
 from trau.rules.g711 import Law
 from trau.rules.orders import Order
-from trau.rules.report import Bridge, Reply, Span
+from trau.rules.report import ReportedBridge, Reply, ReportedCall
 from trau.rules.search import FRAME_OF_DOWNLINK
-from trau.runs.run_lines import Answered, Call, Run
-from trau.runs.uplink_periods import SORTS
+from trau.runs.run_lines import Answered, RecordedCall, Run
+from trau.runs.uplink_periods import FRAME_KINDS
 
 SVG = "{http://www.w3.org/2000/svg}"
 CHROMIUM = shutil.which("chromium")
@@ -88,13 +88,17 @@ class Parts(unittest.TestCase):
     def columns(self, values, losses, size):
         """The stretches of columns of looks, with a height of ten steps."""
         codes = bytes(looks.CODES[look] for look in values)
-        return list(looks.columns(codes, looks.Look, losses, size, 10))
+        return list(looks.columns(codes, looks.UplinkLook, losses, size, 10))
 
     def test_a_column_shows_losses_in_proportion(self):
-        values = 100 * [looks.Look.GOOD]
-        values[41], values[44], values[46] = looks.Look.MISS, looks.Look.BAD, looks.Look.SID
-        values[70:76] = 6 * [looks.Look.SID]
-        values[80:87] = 7 * [looks.Look.BAD]
+        values = 100 * [looks.UplinkLook.SPEECH]
+        values[41], values[44], values[46] = (
+            looks.UplinkLook.MISSED,
+            looks.UplinkLook.UNUSABLE,
+            looks.UplinkLook.VALID_SID,
+        )
+        values[70:76] = 6 * [looks.UplinkLook.VALID_SID]
+        values[80:87] = 7 * [looks.UplinkLook.UNUSABLE]
         stretches = self.columns(values, looks.LOSSES, 10)
         ends = [(each.start, each.end) for each in stretches]
         self.assertEqual(ends, [(0, 40), (40, 50), (50, 70), (70, 80), (80, 90), (90, 100)])
@@ -103,30 +107,44 @@ class Parts(unittest.TestCase):
         ]
         self.assertEqual(
             shown,
-            ["GOOD 10", "GOOD 8 BAD 1 MISS 1", "GOOD 10", "SID 10", "GOOD 3 BAD 7", "GOOD 10"],
+            [
+                "SPEECH 10",
+                "SPEECH 8 UNUSABLE 1 MISSED 1",
+                "SPEECH 10",
+                "VALID_SID 10",
+                "SPEECH 3 UNUSABLE 7",
+                "SPEECH 10",
+            ],
         )
         self.assertEqual(stretches[3].said(), "speech, 4 periods, silence descriptor, 6 periods")
         self.assertEqual(
-            list(looks.columns(bytes([9]) * 7, looks.DownLook, looks.DOWN_LOSSES, 3, 10)), []
+            list(looks.columns(bytes([9]) * 7, looks.DownlinkLook, looks.DOWN_LOSSES, 3, 10)), []
         )
 
     def test_one_loss_of_thousands_is_seen(self):
-        parts = looks.parts_of({looks.Look.GOOD: 9999, looks.Look.MISS: 1}, looks.LOSSES, 10)
-        self.assertEqual(parts, ((looks.Look.GOOD, 9), (looks.Look.MISS, 1)))
-        parts = looks.parts_of({looks.Look.BAD: 9999, looks.Look.MISS: 1}, looks.LOSSES, 10)
+        parts = looks.parts_of(
+            {looks.UplinkLook.SPEECH: 9999, looks.UplinkLook.MISSED: 1}, looks.LOSSES, 10
+        )
+        self.assertEqual(parts, ((looks.UplinkLook.SPEECH, 9), (looks.UplinkLook.MISSED, 1)))
+        parts = looks.parts_of(
+            {looks.UplinkLook.UNUSABLE: 9999, looks.UplinkLook.MISSED: 1}, looks.LOSSES, 10
+        )
         self.assertEqual(sum(part.steps for part in parts), 10)
         self.assertEqual(parts[-1].steps, 1)
 
     def test_what_came_before(self):
-        sorts = "bad sid bad good bad miss bad idle bad other bad good none bad".split()
-        codes = looks.looks(bytes(looks.CODES[looks.Look[sort.upper()]] for sort in sorts))
+        kinds = "bad sid bad good bad miss bad idle bad other bad good none bad".split()
+        codes = looks.looks(bytes(FRAME_KINDS.index(FrameKind(word)) for word in kinds))
         wanted = "quiet sid pause good bad miss bad idle quiet other quiet good none bad".split()
-        self.assertEqual([list(looks.Look)[code].name.lower() for code in codes], wanted)
+        words = [*(kind.value for kind in FRAME_KINDS), "pause", "quiet"]
+        self.assertEqual([words[code] for code in codes], wanted)
+        names = [kind.name for kind in FRAME_KINDS]
+        self.assertEqual([look.name for look in looks.UplinkLook], [*names, "PAUSE", "QUIET"])
 
     def test_one_colour_a_meaning(self):
-        meanings = {look.colour: look.words for look in (*looks.Look, *looks.DownLook)}
+        meanings = {look.colour: look.words for look in (*looks.UplinkLook, *looks.DownlinkLook)}
         self.assertEqual(
-            len(meanings), len({look.words for look in (*looks.Look, *looks.DownLook)})
+            len(meanings), len({look.words for look in (*looks.UplinkLook, *looks.DownlinkLook)})
         )
         self.assertFalse(
             set(meanings)
@@ -204,13 +222,13 @@ class Farms(InFolder):
             *sorted((self.folder / "mixed").glob("*.up")),
         ]
         bridges = [
-            Bridge((1, 7), 20, 160, (140, 140), (0, 0)),
-            Bridge((8, 3), 101, 333, (232, 232), (0, 0)),
-            Bridge((7, 1), 301, 500, (199, 199), (0, 0)),
+            ReportedBridge((1, 7), 20, 160, (140, 140), (0, 0)),
+            ReportedBridge((8, 3), 101, 333, (232, 232), (0, 0)),
+            ReportedBridge((7, 1), 301, 500, (199, 199), (0, 0)),
         ]
         calls = []
         for number, uplink in enumerate(uplinks[:8], 1):
-            call = Call(number, Span(number, number + 500, "end up 0", {}))
+            call = RecordedCall(number, ReportedCall(number, number + 500, "end up 0", {}))
             call.take((7 * uplink.read_bytes())[:20000], bridges)
             call.span.counts.update(call.counts())
             calls.append(call)
@@ -230,20 +248,20 @@ class Farms(InFolder):
 
     def test_losses_of_a_long_run(self):
         # 100,000 periods in 1,000 pixels. One of each loss, each in the middle of good frames, and two in one column.
-        sorts = bytearray([SORTS.index(Sort.GOOD)]) * 100000
+        kinds = bytearray([FRAME_KINDS.index(FrameKind.SPEECH)]) * 100000
         lost = {
-            1060: "BAD",
-            20050: "MISS",
+            1060: "UNUSABLE",
+            20050: "MISSED",
             30050: "OTHER",
-            40060: "INVALID",
+            40060: "INVALID_SID",
             50050: "NONE",
-            60010: "BAD",
-            60090: "MISS",
+            60010: "UNUSABLE",
+            60090: "MISSED",
         }
         for period, name in lost.items():
-            sorts[period] = SORTS.index(Sort[name])
-        call = Call(7, Span(0, 100000, "end up 0", {}))
-        call.sorts = bytes(sorts)
+            kinds[period] = FRAME_KINDS.index(FrameKind[name])
+        call = RecordedCall(7, ReportedCall(0, 100000, "end up 0", {}))
+        call.kinds = bytes(kinds)
         run = Run([Answered(Order(1, 0, "open", (7,), "open 7"), Reply())], [], [call], self.folder)
         drawn = picture.Picture(run, 1000, picture.FULL)
         root = ElementTree.fromstring(drawn.draw())
@@ -260,9 +278,15 @@ class Farms(InFolder):
                 for box in boxes
                 if float(box.get("x")) <= at < float(box.get("x")) + float(box.get("width"))
             }
-            lost = (looks.Look.BAD, looks.Look.MISS) if period > 60000 else (looks.Look[name],)
+            lost = (
+                (looks.UplinkLook.UNUSABLE, looks.UplinkLook.MISSED)
+                if period > 60000
+                else (looks.UplinkLook[name],)
+            )
             wanted = {look.colour: 1.0 for look in lost}
-            self.assertEqual(colours, {looks.Look.GOOD.colour: height - len(lost), **wanted}, name)
+            self.assertEqual(
+                colours, {looks.UplinkLook.SPEECH.colour: height - len(lost), **wanted}, name
+            )
         for box in boxes:
             self.assertGreaterEqual(float(box.get("width")), 1)
         # The boxes are next to one another, and no loss is in a box of another colour.
@@ -287,18 +311,18 @@ class Farms(InFolder):
                     place = int(found[2])
                     parts = {
                         look.words: re.search(rf"(?:^|, ){look.words}, (\d+) period", found[3])
-                        for look in looks.Look
+                        for look in looks.UplinkLook
                     }
                     counts = {words: int(part[1]) for words, part in parts.items() if part}
                     self.assertEqual(place - int(found[1]), sum(counts.values()))
                     seen.update(counts)
             self.assertEqual(place, call.span.end)
-            parts = (looks.Look.BAD, looks.Look.PAUSE, looks.Look.QUIET)
+            parts = (looks.UplinkLook.UNUSABLE, looks.UplinkLook.PAUSE, looks.UplinkLook.QUIET)
             unusable = sum(seen[look.words] for look in parts)
             self.assertEqual(unusable, call.span.counts["bad"])
-            for look in looks.Look:
+            for look in looks.UplinkLook:
                 if look not in parts:
-                    self.assertEqual(seen[look.words], call.span.counts[look.name.lower()])
+                    self.assertEqual(seen[look.words], call.span.counts[FrameKind[look.name].value])
             self.assertTrue(any(text.endswith(call.span.cause) for text in texts))
             shifts = len(list(call.shifts()))
             self.assertEqual(
@@ -472,7 +496,7 @@ class Pictures(InFolder):
                 side: zlib.decompress(base64.b64decode(told[side]))
                 for side in ("up", "down", "pcm", "out")
             }
-            self.assertEqual(unpacked["up"], looks.looks(call.sorts))
+            self.assertEqual(unpacked["up"], looks.looks(call.kinds))
             self.assertEqual({len(octets) for octets in unpacked.values()}, {call.periods()})
         part = json.loads(
             re.search(
@@ -512,7 +536,7 @@ class Pictures(InFolder):
         self.assertEqual((before, whole), ([0, 153, 0], [0, 153, 0]))
         self.assertAlmostEqual(near[1] - near[0], 153 / 1.25, places=3)
         self.assertAlmostEqual(moved[0] - near[0], min(153 / 1.25 / 8, 153 - near[1]), places=3)
-        self.assertEqual(told[4], looks.Look.BAD.colour[1:].lower())
+        self.assertEqual(told[4], looks.UplinkLook.UNUSABLE.colour[1:].lower())
         self.assertRegex(
             told[5],
             r"^call 1, period 95 \(1.90 s\): uplink lost: unusable within speech; downlink speech - 18 of 49 periods",

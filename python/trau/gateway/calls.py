@@ -10,6 +10,8 @@ from functools import lru_cache
 from typing import Callable, Container, DefaultDict, Dict, NamedTuple, Optional, Tuple
 
 from trau.gateway import rtp
+from trau.rules.parameters import GSM_MAGIC
+from trau.rules.profile import TAF_PERIODS
 from trau import trau_fr
 from trau.gateway.incoming import Incoming
 from trau.gateway.jitter_buffer import JitterBuffer
@@ -18,7 +20,6 @@ from trau.gateway.rtp import SAMPLES
 from trau.gateway.settings import Settings
 from trau.trau_fr import OCTETS, Kind
 
-DESCRIPTOR_EACH = 24  # periods of a pause (GSM 06.31)
 SOFT = 256  # samples below it are a pause of a line, for the jitter buffer alone
 SOFT_BLOCK = 4  # codes of block maxima up to it are soft speech, for the jitter buffer alone
 BLOCK_MAXIMA = (
@@ -85,7 +86,7 @@ class Stream(NamedTuple):
         }
 
 
-class Call:
+class LiveCall:
     """One phone call. `hear` and then `speak` are called once a period; in a bridge both calls hear before one speaks."""
 
     def __init__(self, settings: Settings, start: int) -> None:
@@ -110,7 +111,7 @@ class Call:
             self.handed
         ) = b""  # of this period: its frame on Up, the octets of Out, and what goes to the partner of a bridge
         self.is_quiet = True
-        self.partner: Optional[Call] = None
+        self.partner: Optional[LiveCall] = None
         self.parted: Optional[int] = None  # the period at which its last bridge ended
         self.counts: DefaultDict[str, int] = defaultdict(int)
 
@@ -120,7 +121,7 @@ class Call:
         if self.is_to_prime:
             self.is_to_prime = False
             frame = SILENCE if frame is None or trau_fr.kind_of(frame) is LOST else frame
-        if frame is not None and frame[0] >> 4 != 0xD:
+        if frame is not None and frame[0] >> 4 != GSM_MAGIC:
             self.counts["not-gsm"] += 1
             return None
         return frame
@@ -134,7 +135,7 @@ class Call:
             self.since_descriptor = 0
         elif self.since_descriptor is not None:
             self.since_descriptor += 1
-        is_due = self.since_descriptor is not None and self.since_descriptor % DESCRIPTOR_EACH == 0
+        is_due = self.since_descriptor is not None and self.since_descriptor % TAF_PERIODS == 0
         self.counts["no-gsm" if frame is None else COUNTED[kind]] += 1
         return kind, is_due and frame is None
 
@@ -182,7 +183,7 @@ class Call:
         self.sender = self.sender or trau_fr.Sender()
         octets, is_speech = self.sender.send_line(pcm, self.level, self.dtx, self.law)
         self.pause = None if is_speech else 0 if self.pause is None else self.pause + 1
-        if is_speech or self.pause % DESCRIPTOR_EACH == 0:
+        if is_speech or self.pause % TAF_PERIODS == 0:
             send_gsm(self.to_gsm.packet(period, octets, is_speech))
         return trau_fr.write_downlink(octets, SPEECH if is_speech else DESCRIPTOR)
 

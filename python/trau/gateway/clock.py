@@ -5,8 +5,10 @@ from __future__ import annotations
 import time
 from typing import Callable, Iterator, NamedTuple
 
+from trau.rules.profile import PERIODS_A_SECOND
+
 PHASES = 4
-PERIOD = 20_000_000  # nanoseconds
+PERIOD = 1_000_000_000 // PERIODS_A_SECOND  # nanoseconds
 PHASE = PERIOD // PHASES
 # Up to here late turns are made up for, so that neither the recording nor a peer with room for a burst loses speech. Time beyond it is given up.
 MOST_LATE = 1_000_000_000

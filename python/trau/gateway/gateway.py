@@ -24,6 +24,7 @@ from typing import Sequence
 
 from trau.command_line.words import Refusal, Words, number_within
 from trau.command_line.ends import tool
+from trau.rules.profile import MOST_CALLS
 
 try:
     from trau import trau_fr
@@ -71,7 +72,7 @@ def words_of(given: Sequence[str]) -> argparse.Namespace:
     )
     run.add_argument(
         "--most",
-        type=number_within(1, 4096),
+        type=number_within(1, MOST_CALLS),
         default=200,
         metavar="N",
         help="calls that may be open at a time (200)",

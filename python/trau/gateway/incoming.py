@@ -8,7 +8,7 @@ from typing import Dict, Optional, Tuple
 from trau.gateway import rtp
 from trau.gateway.jitter_buffer import LIMIT, JitterBuffer
 from trau.gateway.rtcp import Reception
-from trau.gateway.rtp import HEADER, SAMPLES, Refused
+from trau.gateway.rtp import HEADER, SAMPLES, PacketRefused
 
 MOST_FAULT = 80  # characters that name one
 STILL = 2  # periods beyond the depth after which a source that brought nothing is still
@@ -59,7 +59,7 @@ class Incoming:
                 self.take_source(source, number, stamp, tick, behind)
             self.reception.count(number, stamp, tick if is_watched and not self.stale else None)
             period, part = self.place(number, stamp, samples, tick, behind)
-        except Refused as refused:
+        except PacketRefused as refused:
             self.counts[str(refused)] += 1
             return
         self.heard = tick
@@ -75,14 +75,14 @@ class Incoming:
     def samples(self, kind: int, payload: bytes) -> int:
         """How far a packet moves the time stamp. Refuses other payload types, and payloads of no whole frames."""
         if kind != self.kind:
-            raise Refused("other-type")
+            raise PacketRefused("other-type")
         if not payload:
-            raise Refused("empty")
+            raise PacketRefused("empty")
         if self.frame and len(payload) % self.frame:
-            raise Refused("odd-size")
+            raise PacketRefused("odd-size")
         samples = len(payload) // self.frame * SAMPLES if self.frame else len(payload)
         if samples > LIMIT * SAMPLES:
-            raise Refused("too-long")
+            raise PacketRefused("too-long")
         return samples
 
     def take_source(self, source: int, number: int, stamp: int, tick: int, behind: int) -> None:
@@ -91,7 +91,7 @@ class Incoming:
             is_next = self.probation == (source, number)
             self.probation = source, number + 1 & rtp.NUMBERS
             if not is_next or not self.is_still(tick):
-                raise Refused("probation")
+                raise PacketRefused("probation")
             self.counts["new-source"] += 1
         self.counts.update(self.came())
         self.source, self.probation, self.reception = source, None, Reception(source, number)
@@ -124,11 +124,11 @@ class Incoming:
         period, part = divmod(place + self.half, SAMPLES)
         margin = period - self.buffer.shift - tick
         if self.stale and self.is_given_up(margin, tick):
-            raise Refused("given-up")
+            raise PacketRefused("given-up")
         if not -LIMIT <= margin <= LIMIT + behind:
             if self.jump != (number, stamp):
                 self.jump = number + 1 & rtp.NUMBERS, stamp + samples & rtp.STAMPS
-                raise Refused("far")
+                raise PacketRefused("far")
             self.counts["jumps"] += 1
             self.begin(stamp, tick + behind)
             return 0, 0

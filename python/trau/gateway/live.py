@@ -19,12 +19,12 @@ from typing import Deque, List, NamedTuple, Optional, Tuple
 
 from trau.gateway.clock import PHASES, Clock, Turn
 from trau.command_line.words import Refusal
+from trau.rules.profile import PERIODS_A_SECOND
 from trau.gateway.network import Network
 from trau.gateway.recorder import Recorder
 from trau.gateway.switchboard import Switchboard
 from trau.command_line.ends import complain, naming
 
-PERIODS = 50  # in a second
 MOST_LINES = 50  # that are executed in a period
 MOST_LINE = 1000  # octets
 MOST_REPLY = 1000  # characters: a pipe takes them whole or not at all (PIPE_BUF)
@@ -165,11 +165,11 @@ class Gateway:
     def begin_period(self, turn: Turn) -> None:
         """What is done once a period, before its calls."""
         late = self.clock.late - self.late
-        if turn.period % PERIODS == 0 and late:
+        if turn.period % PERIODS_A_SECOND == 0 and late:
             self.say(f"late {late} latest {self.clock.report() // 1_000_000} ms at {turn.period}")
             self.late = self.clock.late
-            if late > PERIODS * PHASES // 2:  # most turns
-                self.busy_until = turn.period + PERIODS
+            if late > PERIODS_A_SECOND * PHASES // 2:  # most turns
+                self.busy_until = turn.period + PERIODS_A_SECOND
         for line in self.commands.taken():
             self.obey(line, turn.period)
         self.board.look_after(turn.period)
@@ -182,7 +182,7 @@ class Gateway:
                 if turn.given_up:
                     self.board.give_up(turn.given_up, turn.period)
                 if turn.given_up or turn.behind > MOST_BEHIND:
-                    self.busy_until = turn.period + PERIODS
+                    self.busy_until = turn.period + PERIODS_A_SECOND
                 if turn.phase == 0:
                     if (
                         self.is_to_end
@@ -262,7 +262,9 @@ def run(options: Options) -> int:
     gc.collect()
     gc.freeze()
     say("ready")
-    periods, is_whole = gateway.run(None if options.seconds is None else options.seconds * PERIODS)
+    periods, is_whole = gateway.run(
+        None if options.seconds is None else options.seconds * PERIODS_A_SECOND
+    )
     say(f"end period {periods} {gateway.state()}")
     say.end()
     return 0 if is_whole else 1

@@ -18,12 +18,12 @@ from pathlib import Path
 from typing import Callable, Dict, Iterable, List, Optional, Set, Tuple
 
 from trau.rules.lines import SIDES
-from trau.rules.profile import MOST_ORDERS, MOST_ORDER_OCTETS
+from trau.rules.profile import FRAME_OCTETS, MOST_CALLS, MOST_ORDER_OCTETS, MOST_ORDERS, MOST_STAMP
 from trau.command_line.words import Refusal
 
 NEW = os.O_WRONLY | os.O_CREAT | os.O_EXCL | os.O_APPEND
-FIRST_DOWN = b"\xff" * 40
-CLOSE_OCTETS = len("4294967294 close 4096\n")
+FIRST_DOWN = b"\xff" * FRAME_OCTETS
+CLOSE_OCTETS = len(f"{MOST_STAMP} close {MOST_CALLS}\n")
 MOST_WAITING = 32 << 20  # octets that wait for the disk, some 8 s of 200 calls
 LAST_WRITES = 10  # seconds that the disk has at the end
 TO_BEGIN = 0.02  # seconds that it has to make a folder while calls go on

@@ -6,13 +6,16 @@ import os
 import struct
 from typing import Callable, Tuple
 
-MULAW, GSM, ALAW = 0, 3, 8  # payload types
-SAMPLES = 160  # of a period, in units of the time stamp
+from trau.rules import payload_types
+from trau.rules.profile import PCM_OCTETS
+
+GSM, ALAW, MULAW = payload_types.GSM, payload_types.PCMA, payload_types.PCMU
+SAMPLES = PCM_OCTETS  # of a period, in units of the time stamp
 HEADER = struct.Struct(">BBHII")
 NUMBERS, STAMPS = 0xFFFF, 0xFFFFFFFF
 
 
-class Refused(Exception):
+class PacketRefused(Exception):
     """A packet that isn't taken; the text is the reason under which it is counted."""
 
 
@@ -26,27 +29,27 @@ def payload_of(data: bytes) -> bytes:
     at, end = HEADER.size + 4 * (data[0] & 15), len(data)
     if data[0] & 16:
         if end < at + 4:
-            raise Refused("not-rtp")
+            raise PacketRefused("not-rtp")
         at += 4 + 4 * int.from_bytes(data[at + 2 : at + 4], "big")
     if data[0] & 32:
         if data[-1] == 0:
-            raise Refused("not-rtp")
+            raise PacketRefused("not-rtp")
         end -= data[-1]
     if at > end:
-        raise Refused("not-rtp")
+        raise PacketRefused("not-rtp")
     return data[at:end]
 
 
 def parse(data: bytes) -> Packet:
     """The packet in a datagram. Raises Refused if it is none, or RTCP on the same port (RFC 5761)."""
     if len(data) < HEADER.size:
-        raise Refused("not-rtp")
+        raise PacketRefused("not-rtp")
     first, second, number, stamp, source = HEADER.unpack_from(data)
     if first >> 6 != 2:
-        raise Refused("not-rtp")
+        raise PacketRefused("not-rtp")
     kind = second & 127
     if 64 <= kind <= 95:
-        raise Refused("rtcp")
+        raise PacketRefused("rtcp")
     return kind, number, stamp, source, payload_of(data) if first & 63 else data[HEADER.size :]
 
 

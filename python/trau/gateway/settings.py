@@ -6,7 +6,7 @@ import ipaddress
 from dataclasses import dataclass, field
 from typing import Callable, Dict, List, Tuple
 
-from trau.rules.profile import MOST_CALLS, MOST_LEVEL
+from trau.rules.profile import FIRST_LEVEL, MOST_CALLS, MOST_LEVEL
 from trau.command_line.words import Refusal
 from trau.command_line.words import number as number_of
 
@@ -33,7 +33,7 @@ class Settings:
 
     number: int
     law: str = "alaw"
-    level: int = 256
+    level: int = FIRST_LEVEL
     dtx: bool = False
     depth: int = 3
     prime: bool = True

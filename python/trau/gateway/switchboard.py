@@ -8,16 +8,16 @@ from dataclasses import dataclass, field
 from pathlib import Path
 from typing import Callable, Dict, List, Optional, Set, Tuple, Union
 
-from trau.rules.profile import MOST_CALLS, MOST_LEVEL
+from trau.rules.profile import MOST_CALLS, MOST_LEVEL, PERIODS_A_SECOND
 from trau.command_line.words import Refusal
-from trau.gateway.calls import STILL_AFTER, Call
+from trau.gateway.calls import STILL_AFTER, LiveCall
 from trau.gateway.clock import PHASES
 from trau.gateway.network import Network, SocketEndpoint
 from trau.gateway.recorder import LAST_WRITES, NoRecorder, Recorder
 from trau.runs.run_texts import REFUSALS
 from trau.gateway.settings import Settings, number, read_open, switch
 
-SECOND, HOUR = 50, 180_000  # periods
+SECOND, HOUR = PERIODS_A_SECOND, 3600 * PERIODS_A_SECOND  # periods
 REFUSED = {
     "stranger",
     "other-port",
@@ -39,7 +39,7 @@ Say = Callable[[str], None]
 class Connection:
     """An open call with its phase, its recording, and its endpoints, by sides."""
 
-    call: Call
+    call: LiveCall
     phase: int
     recorder: Union[Recorder, NoRecorder]
     endpoints: Dict[str, SocketEndpoint] = field(default_factory=dict)
@@ -143,7 +143,7 @@ class Switchboard:
         if len(self.connections) >= self.most_calls:
             raise Refusal(f"{self.most_calls} calls are open")
         self.hold_to_room(recorder, 3, 1)
-        call = Call(settings, period)
+        call = LiveCall(settings, period)
         self.connections[call.number] = self.connected(call, settings, recorder)
         recorder.open(call.number)
         recorder.order(period, f"open {call.number}{' mulaw' if call.law == 'mulaw' else ''}")
@@ -151,7 +151,7 @@ class Switchboard:
         recorder.order(period, f"dtx {call.number} {'on' if call.dtx else 'off'}")
 
     def connected(
-        self, call: Call, settings: Settings, recorder: Union[Recorder, NoRecorder]
+        self, call: LiveCall, settings: Settings, recorder: Union[Recorder, NoRecorder]
     ) -> Connection:
         """The call with its two sockets, in the phase with the fewest calls."""
         phases = [connection.phase for connection in self.connections.values()]
@@ -231,7 +231,7 @@ class Switchboard:
         self.part(connection.call, period)
         connection.recorder.order(period, f"unbridge {connection.call.number}")
 
-    def part(self, call: Call, period: int) -> None:
+    def part(self, call: LiveCall, period: int) -> None:
         """Ends the bridge of a call."""
         other = call.partner
         call.partner = other.partner = None

@@ -6,29 +6,29 @@ Places are counted in bits from the start of the line. What is asked for, and ho
 from typing import List, NamedTuple, Sequence
 
 from trau.rules import profile
-from trau.rules.frame import DownFrame, Kind, Sort, UpFrame, bits_of, read_down
+from trau.rules.frame import DownFrame, FrameKind, UpFrame, bits_of, read_down
 from trau.rules.search import FRAME_OF_DOWNLINK
 
 
-class Heard(NamedTuple):
+class HeardFrame(NamedTuple):
     """A frame of a downlink, and the place of its first bit."""
 
     place: int
     frame: DownFrame
 
 
-def heard_frames(octets: bytes) -> List[Heard]:
+def heard_frames(octets: bytes) -> List[HeardFrame]:
     """The frames of a downlink: each at the first place that matches, 316 bits or more behind the one before (docs/commands/follow.md)."""
     return [
-        Heard(found.start(), read_down(found.group()))
+        HeardFrame(found.start(), read_down(found.group()))
         for found in FRAME_OF_DOWNLINK.finditer(bits_of(octets))
     ]
 
 
-def heard_by_period(octets: bytes) -> List[List[Heard]]:
+def heard_by_period(octets: bytes) -> List[List[HeardFrame]]:
     """For each whole period of the line the frames whose bit 315 it holds: two at most (docs/commands/follow.md)."""
     periods = len(octets) // profile.FRAME_OCTETS
-    by_period: List[List[Heard]] = [[] for _ in range(periods)]
+    by_period: List[List[HeardFrame]] = [[] for _ in range(periods)]
     for one in heard_frames(octets[: profile.FRAME_OCTETS * periods]):
         by_period[(one.place + profile.FOUND_BITS - 1) // profile.FRAME_BITS].append(one)
     return by_period
@@ -42,7 +42,7 @@ def field_for(wanted: int, place: int) -> int:
     return offset // (2 * profile.STEP_OCTETS)
 
 
-def end_of_wait(by_period: Sequence[Sequence[Heard]], request: int) -> int:
+def end_of_wait(by_period: Sequence[Sequence[HeardFrame]], request: int) -> int:
     """The period in which a request of this period waits no more, or the number of periods (docs/commands/follow.md, 2)."""
     last = by_period[request][-1].place
     frames = 0
@@ -56,7 +56,7 @@ def end_of_wait(by_period: Sequence[Sequence[Heard]], request: int) -> int:
     return len(by_period)
 
 
-def asked_fields(by_period: Sequence[Sequence[Heard]], wanted: int) -> List[int]:
+def asked_fields(by_period: Sequence[Sequence[HeardFrame]], wanted: int) -> List[int]:
     """The alignment field that is sent up in each period (docs/commands/follow.md)."""
     fields = [0] * len(by_period)
     period = 0
@@ -67,14 +67,14 @@ def asked_fields(by_period: Sequence[Sequence[Heard]], wanted: int) -> List[int]
     return fields
 
 
-def answer(heard: Sequence[Heard], field: int) -> UpFrame:
+def answer(heard: Sequence[HeardFrame], field: int) -> UpFrame:
     """The frame that is sent up in a period in which these were found (docs/commands/follow.md)."""
-    if heard and heard[-1].frame.kind is Kind.SPEECH:
-        return UpFrame(Sort.GOOD, False, True, field, heard[-1].frame.data)
-    return UpFrame(Sort.IDLE, False, True, field)
+    if heard and heard[-1].frame.is_speech():
+        return UpFrame(FrameKind.SPEECH, False, True, field, heard[-1].frame.data)
+    return UpFrame(FrameKind.IDLE, False, True, field)
 
 
-def answers(by_period: Sequence[Sequence[Heard]], wanted: int) -> List[UpFrame]:
+def answers(by_period: Sequence[Sequence[HeardFrame]], wanted: int) -> List[UpFrame]:
     """The frames that are sent up, one a period (docs/commands/follow.md)."""
     return [
         answer(heard, field) for heard, field in zip(by_period, asked_fields(by_period, wanted))

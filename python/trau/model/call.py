@@ -13,20 +13,20 @@ from trau.rules import profile
 from trau.rules.frame import (
     Bits,
     DownFrame,
-    Kind,
-    Sort,
+    FrameKind,
     UpFrame,
     bits_of,
+    kind_of_sp,
     octets_of,
     read_up,
     write_down,
 )
 from trau.rules.g711 import Law, compress_all, expand_all
 from trau.rules.parameters import SILENCE, bits_of_parameters
-from trau.rules.search import sort_of_period, yields_by_period
+from trau.rules.search import kind_of_period, yields_by_period
 
-from trau.model.codec import Decoder, Encoder
-from trau.model.downlink import Made, asked_shifts, down_bits, made_frames
+from trau.model.codec import FullRateDecoder, FullRateEncoder
+from trau.model.downlink import MadeFrame, asked_shifts, down_bits, made_frames
 from trau.model.receive import Effective, effective_frames
 from trau.model.transmit import Coded, Dtx, sent_frames
 
@@ -39,7 +39,7 @@ class Setting(NamedTuple):
     dtx: Optional[Dtx] = None
 
 
-class Span(NamedTuple):
+class BridgeSpan(NamedTuple):
     """A bridge of the call (docs/OPERATORS.md, "Bridges")."""
 
     start: int  # its first period
@@ -50,7 +50,7 @@ class Span(NamedTuple):
 class Uplink(NamedTuple):
     """The uplink half of a call, period by period."""
 
-    sorts: List[Sort]
+    kinds: List[FrameKind]
     frames: List[Optional[UpFrame]]
     effective: List[Effective]
 
@@ -64,15 +64,15 @@ class Call(NamedTuple):
     up: Uplink  # of as many periods or more
     pcm: bytes  # 160 octets a period, or more
     settings: Sequence[Setting]  # in the orders' order
-    spans: Sequence[Span]  # in order, a period or more between two
+    spans: Sequence[BridgeSpan]  # in order, a period or more between two
 
 
-class Outgoing(NamedTuple):
+class OutgoingLines(NamedTuple):
     """What a call writes, and what its report says of it."""
 
     out: bytes  # 160 octets a period
     down: bytes  # 40 octets a period
-    counts: List[int]  # how many periods yielded each sort, and how many frames were made
+    counts: List[int]  # how many periods yielded each kind, and how many frames were made
     sent: List[int]  # for each bridge how many of the frames that were handed to this call went out
 
 
@@ -83,7 +83,7 @@ def uplink(number: int, up: bytes) -> Uplink:
     """The frames and the effective frames of the whole periods of an Up line (docs/commands/frames.md, docs/PROFILE.md)."""
     yields = yields_by_period(bits_of(up))
     frames = [read_up(one.frame) if one and one.frame else None for one in yields]
-    return Uplink(list(map(sort_of_period, yields)), frames, effective_frames(number, frames))
+    return Uplink(list(map(kind_of_period, yields)), frames, effective_frames(number, frames))
 
 
 def handed(up: Uplink, start: int, end: int) -> List[Bits]:
@@ -127,7 +127,7 @@ def out_line(call: Call) -> bytes:
     ]
     blocks = [bytes([call.law.idle()]) * profile.PCM_OCTETS] * call.periods
     for first, end in runs(plain, [k in starts for k in range(call.periods)]):
-        decoder = Decoder()
+        decoder = FullRateDecoder()
         for k in range(first, end):
             parameters = call.up.effective[k]
             assert parameters is not None
@@ -164,12 +164,12 @@ def asked_dtx(call: Call) -> List[bool]:
     return list(accumulate(said, lambda old, new: old if new is None else new, initial=False))[1:]
 
 
-def coded_frames(call: Call, made: Sequence[Made]) -> List[Coded]:
+def coded_frames(call: Call, made: Sequence[MadeFrame]) -> List[Coded]:
     """The frames of the encoder, from home, that are made in a row (docs/PROFILE.md, "The downlink")."""
     settings, asked = in_force(call), asked_dtx(call)
-    encoder = Encoder()
+    encoder = FullRateEncoder()
 
-    def coded(frame: Made) -> Coded:
+    def coded(frame: MadeFrame) -> Coded:
         level, mode = settings[frame.period]
         octets = call.pcm[frame.start : frame.start + profile.PCM_OCTETS]
         on = mode is Dtx.ON or (mode is Dtx.UPLINK and asked[frame.period])
@@ -178,24 +178,26 @@ def coded_frames(call: Call, made: Sequence[Made]) -> List[Coded]:
     return [coded(frame) for frame in made]
 
 
-def down_frames(call: Call, made: Sequence[Made]) -> List[DownFrame]:
+def down_frames(call: Call, made: Sequence[MadeFrame]) -> List[DownFrame]:
     """What each frame that is made carries (docs/PROFILE.md, "The downlink")."""
-    frames = [DownFrame(Kind.IDLE)] * len(made)
+    frames = [DownFrame(FrameKind.IDLE)] * len(made)
     for j, frame in enumerate(made):
         if frame.item is not None:
-            frames[j] = DownFrame(Kind.SPEECH, call.spans[frame.item.span].items[frame.item.number])
+            frames[j] = DownFrame(
+                FrameKind.SPEECH, call.spans[frame.item.span].items[frame.item.number]
+            )
     is_coded = [
         frame.item is None and call.up.effective[frame.period] is not None for frame in made
     ]
     for first, end in runs(is_coded, breaks_of_coding(call, made)):
         sent = sent_frames(coded_frames(call, made[first:end]))
         frames[first:end] = [
-            DownFrame(Kind.SPEECH, bits_of_parameters(one.parameters), one.sp) for one in sent
+            DownFrame(kind_of_sp(one.sp), bits_of_parameters(one.parameters)) for one in sent
         ]
     return frames
 
 
-def breaks_of_coding(call: Call, made: Sequence[Made]) -> List[bool]:
+def breaks_of_coding(call: Call, made: Sequence[MadeFrame]) -> List[bool]:
     """For each frame whether a bridge started after the period of the frame before and not after its own (docs/PROFILE.md)."""
     starts = [span.start for span in call.spans]
     begun = [bisect_right(starts, frame.period) for frame in made]
@@ -205,7 +207,7 @@ def breaks_of_coding(call: Call, made: Sequence[Made]) -> List[bool]:
 # The whole.
 
 
-def outgoing(call: Call) -> Outgoing:
+def outgoing(call: Call) -> OutgoingLines:
     """The Out and Down lines of a call, its report's counts, and how many handed frames went out of each bridge (docs/OPERATORS.md, "The report,
     line by line")."""
     made = made_frames(
@@ -217,5 +219,5 @@ def outgoing(call: Call) -> Outgoing:
     carried = [frame.item.span for frame in made if frame.item is not None]
     sent = [carried.count(span) for span in range(len(call.spans))]
     down = octets_of(down_bits(made, bits, call.periods))
-    counts = [*map(call.up.sorts[: call.periods].count, Sort), len(made)]
-    return Outgoing(out_line(call), down, counts, sent)
+    counts = [*map(call.up.kinds[: call.periods].count, FrameKind), len(made)]
+    return OutgoingLines(out_line(call), down, counts, sent)

@@ -256,7 +256,7 @@ def place_pulses(position: int, pulses: Sequence[int]) -> List[int]:
     return block
 
 
-class Encoder:
+class FullRateEncoder:
     """The encoder, from its home state on (GSM 06.10 section 4.2): every memory is 0."""
 
     def __init__(self) -> None:
@@ -323,7 +323,7 @@ def short_term_synthesis(
     return speech, state
 
 
-class Decoder:
+class FullRateDecoder:
     """The decoder, from its home state on (GSM 06.10 section 4.3): every memory is 0, and the last lag is 40."""
 
     def __init__(self) -> None:

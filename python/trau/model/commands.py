@@ -12,8 +12,7 @@ from trau.rules import profile
 from trau.rules.frame import (
     Bits,
     DownFrame,
-    Kind,
-    Sort,
+    FrameKind,
     bits_of,
     octets_of,
     read_up,
@@ -28,7 +27,7 @@ from trau.rules.slots import merge, split
 from trau.command_line.words import number
 
 from trau.model.basestation import answers, heard_by_period
-from trau.model.codec import Decoder, Encoder
+from trau.model.codec import FullRateDecoder, FullRateEncoder
 from trau.model.outside import Desk, Given, Lines, Status
 
 
@@ -79,7 +78,7 @@ def speech_of(octets: bytes) -> Optional[Bits]:
     """D1 to D260 of a block that is a good speech frame, else None (docs/commands/relay.md)."""
     bits = bits_of(octets)
     frame = read_up(bits) if FRAME.fullmatch(bits) else None
-    return frame.data if frame is not None and frame.sort is Sort.GOOD else None
+    return frame.data if frame is not None and frame.kind is FrameKind.SPEECH else None
 
 
 def good_blocks(given: Given) -> List[Bits]:
@@ -94,12 +93,12 @@ def good_blocks(given: Given) -> List[Bits]:
 
 def relayed(data: Sequence[Bits]) -> List[bytes]:
     """The downlink frames of the data bits, with SP 1 (docs/commands/relay.md)."""
-    return [octets_of(write_down(DownFrame(Kind.SPEECH, bits))) for bits in data]
+    return [octets_of(write_down(DownFrame(FrameKind.SPEECH, bits))) for bits in data]
 
 
 def decoded(data: Sequence[Bits]) -> List[bytes]:
     """The A-law octets of the data bits, from home (docs/commands/decode.md)."""
-    decoder = Decoder()
+    decoder = FullRateDecoder()
     return [compress_all(Law.A, decoder.decode(parameters_of_bits(bits))) for bits in data]
 
 
@@ -133,10 +132,10 @@ def speech(
 
 def encoded(blocks: Sequence[bytes]) -> Iterable[bytes]:
     """The downlink frames of blocks of 160 octets of A-law, from home, with SP 1 (docs/commands/encode.md)."""
-    encoder = Encoder()
+    encoder = FullRateEncoder()
     for octets in blocks:
         parameters = encoder.encode(expand_all(Law.A, octets)).parameters
-        yield octets_of(write_down(DownFrame(Kind.SPEECH, bits_of_parameters(parameters))))
+        yield octets_of(write_down(DownFrame(FrameKind.SPEECH, bits_of_parameters(parameters))))
 
 
 def encode(call: int, lines: Lines, desk: Desk) -> str:
@@ -216,7 +215,7 @@ def follow(call: int, wanted: int, lines: Lines, desk: Desk) -> str:
     by_period = heard_by_period(given.octets)
     for heard, frame in zip(by_period, answers(by_period, wanted)):
         write_line(lines, call, DOWN, octets_of(write_up(frame)))
-        write_text(desk, "".join(f"{one.place} {one.frame.kind.value}\n" for one in heard))
+        write_text(desk, "".join(f"{one.place} {one.frame.word()}\n" for one in heard))
     if given.failed:
         raise line_failure(call, UP)
     return f"follow frames {sum(map(len, by_period))} left {len(given.octets) % profile.FRAME_OCTETS}\n"
@@ -225,21 +224,21 @@ def follow(call: int, wanted: int, lines: Lines, desk: Desk) -> str:
 # Words.
 
 
-class Command(NamedTuple):
+class CallCommand(NamedTuple):
     """A command on one call: what does it and answers the text at its end, and the least and greatest numbers that its words may be."""
 
     work: Callable[..., str]
     ranges: Sequence[Tuple[int, int]] = ((1, profile.MOST_CALLS),)
 
 
-COMMANDS: Dict[str, Command] = {
-    "relay": Command(partial(speech, "relay", DOWN, relayed)),
-    "decode": Command(partial(speech, "decode", OUT, decoded)),
-    "encode": Command(encode),
-    "frames": Command(frames),
-    "split": Command(split_slot, ((1, profile.MOST_SLOT_CALL),)),
-    "merge": Command(merge_slot, ((1, profile.MOST_SLOT_CALL),)),
-    "follow": Command(follow, ((1, profile.MOST_CALLS), (0, profile.MOST_WANTED))),
+COMMANDS: Dict[str, CallCommand] = {
+    "relay": CallCommand(partial(speech, "relay", DOWN, relayed)),
+    "decode": CallCommand(partial(speech, "decode", OUT, decoded)),
+    "encode": CallCommand(encode),
+    "frames": CallCommand(frames),
+    "split": CallCommand(split_slot, ((1, profile.MOST_SLOT_CALL),)),
+    "merge": CallCommand(merge_slot, ((1, profile.MOST_SLOT_CALL),)),
+    "follow": CallCommand(follow, ((1, profile.MOST_CALLS), (0, profile.MOST_WANTED))),
 }
 
 

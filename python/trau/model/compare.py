@@ -26,7 +26,7 @@ def is_built(program: Path) -> bool:
     )
 
 
-class Answer(NamedTuple):
+class StepResult(NamedTuple):
     """What a step gave: the status (None: it didn't end), what was printed, and each file of its folder (None: a link, folder or device)."""
 
     status: Optional[int]
@@ -54,7 +54,7 @@ def contents(folder: Path) -> Dict[str, Optional[bytes]]:
     }
 
 
-def run_step(program: Path, step: Step, before: bytes, folder: Path) -> Answer:
+def run_step(program: Path, step: Step, before: bytes, folder: Path) -> StepResult:
     """What a program gives for a step; `before` is what the step before printed."""
     printed = folder.with_name(folder.name + ".text")
     given = folder.with_name(folder.name + ".stdin")
@@ -94,13 +94,13 @@ def run_step(program: Path, step: Step, before: bytes, folder: Path) -> Answer:
     finally:
         os.close(reads)
         os.close(writes)
-    return Answer(status, printed.read_bytes() if printed.exists() else b"", contents(folder))
+    return StepResult(status, printed.read_bytes() if printed.exists() else b"", contents(folder))
 
 
-def answers(program: Path, trial: Trial, folder: Path) -> List[Answer]:
+def answers(program: Path, trial: Trial, folder: Path) -> List[StepResult]:
     """What a program gives for each step of a trial, each in a folder of its own."""
     folder.mkdir(parents=True)
-    found: List[Answer] = []
+    found: List[StepResult] = []
     for place, step in enumerate(trial.steps):
         lay(trial.files, folder / str(place))
         found.append(run_step(program, step, found[-1].text if found else b"", folder / str(place)))
@@ -125,7 +125,7 @@ def differences(trial: Trial, program: Path, model: Path, keep: Optional[Path] =
     return found
 
 
-def step_differences(step: Step, one: Answer, other: Answer) -> List[str]:
+def step_differences(step: Step, one: StepResult, other: StepResult) -> List[str]:
     """What differs between the program's answer and the model's."""
     found = (
         [] if one.status == other.status else [f"status {one.status}, of the model {other.status}"]

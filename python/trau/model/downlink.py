@@ -9,7 +9,7 @@ from bisect import bisect_left, bisect_right
 from typing import Dict, List, NamedTuple, Optional, Sequence, Tuple
 
 from trau.rules import profile
-from trau.rules.frame import Bits, Sort, UpFrame, shift_of
+from trau.rules.frame import Bits, FrameKind, UpFrame, shift_of
 
 
 class Item(NamedTuple):
@@ -19,7 +19,7 @@ class Item(NamedTuple):
     number: int
 
 
-class Made(NamedTuple):
+class MadeFrame(NamedTuple):
     """A frame that is made: where it takes its 160 octets of the Pcm line, in which period, and the shift that it takes."""
 
     start: int
@@ -42,7 +42,7 @@ def asked_shifts(frames: Sequence[Optional[UpFrame]]) -> Dict[int, int]:
     fields = {
         k: frame.field
         for k, frame in enumerate(frames)
-        if frame is not None and frame.sort is not Sort.OTHER
+        if frame is not None and frame.kind is not FrameKind.OTHER
     }
     shifts = {k: shift_of(field) for k, field in fields.items()}
     return {k: shift for k, shift in shifts.items() if shift}
@@ -50,13 +50,13 @@ def asked_shifts(frames: Sequence[Optional[UpFrame]]) -> Dict[int, int]:
 
 def made_frames(
     periods: int, asked: Dict[int, int], spans: Sequence[Tuple[int, int]]
-) -> List[Made]:
+) -> List[MadeFrame]:
     """The frames that are made in so many periods (docs/PROFILE.md, "The downlink").
 
     `spans` has the first period of each bridge and the first that it doesn't have, in order, a period or more between them.
     """
     starts = [start for start, _ in spans]
-    made: List[Made] = []
+    made: List[MadeFrame] = []
     when: List[int] = []  # their periods
     taken = (
         -1
@@ -68,7 +68,7 @@ def made_frames(
         shift = 0
         if item is None:
             shift, taken = shift_taken(asked, taken, period), period
-        made.append(Made(start, shift, item))
+        made.append(MadeFrame(start, shift, item))
         when.append(period)
         start += profile.PCM_OCTETS + shift
     return made
@@ -95,7 +95,7 @@ def item_of(
     return Item(span, number) if number < end - start else None
 
 
-def bits_between(frame: Made, bits: Bits) -> Bits:
+def bits_between(frame: MadeFrame, bits: Bits) -> Bits:
     """What the Down line has from a frame on to the next: with the ones that a delay puts in, without the time bits that an advance
     leaves out (docs/FILES.md, "Time alignment")."""
     if frame.shift >= 0:
@@ -103,7 +103,7 @@ def bits_between(frame: Made, bits: Bits) -> Bits:
     return bits[: 2 * frame.shift]
 
 
-def down_bits(made: Sequence[Made], bits: Sequence[Bits], periods: int) -> Bits:
+def down_bits(made: Sequence[MadeFrame], bits: Sequence[Bits], periods: int) -> Bits:
     """The Down line of so many periods: ones, and then the frames (docs/FILES.md, "Time alignment")."""
     line = "1" * profile.LEADING_ONES + "".join(map(bits_between, made, bits))
     return line[: profile.FRAME_BITS * periods]

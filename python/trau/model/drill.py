@@ -7,12 +7,12 @@ from itertools import islice
 from typing import Iterator, List, NamedTuple, Sequence
 
 from trau.rules import profile
-from trau.rules.frame import Bits, Sort, UpFrame, octets_of, write_up
+from trau.rules.frame import Bits, FrameKind, UpFrame, octets_of, write_up
 from trau.rules.orders import Order, read_order
 from trau.rules.report import text_of
 
 from trau.model.checkpoint import sum_of
-from trau.model.farm import Farm, Incoming, farm_of, plan_of, report_of
+from trau.model.farm import Farm, IncomingLines, farm_of, plan_of, report_of
 from trau.model.outside import Given
 
 
@@ -45,20 +45,20 @@ def drawn_period(source: Iterator[int], period: int) -> Drawn:
 def uplink_octets(draw: int, data: Bits, field: int, period: int) -> bytes:
     """The octets of Up that a draw stands for: a frame, also an idle one, with the drawn data bits, or no frame and zeros
     (docs/commands/drill.md, "What is drawn")."""
-    sort = next(sort for least, sort in profile.DRILL_FRAMES if draw >= least)
-    if sort is None:
+    kind = next(kind for least, kind in profile.DRILL_FRAMES if draw >= least)
+    if kind is None:
         return bytes(profile.FRAME_OCTETS)
     taf = period % profile.DRILL_TAF_PERIODS == profile.DRILL_TAF_PERIODS - 1
-    return octets_of(write_up(UpFrame(Sort(sort), taf, True, field, data)))
+    return octets_of(write_up(UpFrame(FrameKind(kind), taf, True, field, data)))
 
 
-def drawn_lines(seed: int, call: int, periods: int) -> Incoming:
+def drawn_lines(seed: int, call: int, periods: int) -> IncomingLines:
     """The incoming lines of a call: its periods in order, each from the draws after those of the period before
     (docs/commands/drill.md, "What is drawn")."""
     source = draws(seed, call)
     drawn = [drawn_period(source, period) for period in range(periods)]
     up, pcm = (b"".join(period[side] for period in drawn) for side in (0, 1))
-    return Incoming(Given(up, False), Given(pcm, False))
+    return IncomingLines(Given(up, False), Given(pcm, False))
 
 
 def drawn_orders(calls: int, periods: int) -> List[Order]:

@@ -13,7 +13,16 @@ from trau.rules.lines import DOWN, INCOMING, OCTETS_OF_SIDE, OUT, SIDES
 from trau.rules.orders import Order
 from trau.rules.report import COUNTS, FailedLine, Reply, Report
 
-from trau.model.call import Call, Outgoing, Setting, Span, Uplink, handed, outgoing, uplink
+from trau.model.call import (
+    Call,
+    OutgoingLines,
+    Setting,
+    BridgeSpan,
+    Uplink,
+    handed,
+    outgoing,
+    uplink,
+)
 from trau.model.outside import Given, Lines
 from trau.model.transmit import Dtx
 
@@ -42,7 +51,7 @@ class End(NamedTuple):
         return self.cause.value + side + (f" {self.left}" if self.cause is Cause.END else "")
 
 
-class Incoming(NamedTuple):
+class IncomingLines(NamedTuple):
     """What the two incoming lines of a call gave."""
 
     up: Given
@@ -54,13 +63,13 @@ class Incoming(NamedTuple):
         return min(len(given.octets) // OCTETS_OF_SIDE[side] for side, given in zip(INCOMING, self))
 
 
-class Plan(NamedTuple):
+class RunPlan(NamedTuple):
     """All of a run that is known without working any octet. `accepted` has the accepted orders, `bridges` the bridges with their ends."""
 
     orders: Sequence[Order]
     periods: int
     left: int
-    incoming: Mapping[int, Incoming]
+    incoming: Mapping[int, IncomingLines]
     opening: Mapping[int, int]
     replies: Sequence[Reply]
     accepted: Sequence[Order]
@@ -74,14 +83,14 @@ class CallOfRun(NamedTuple):
     number: int
     opening: int
     end: End
-    outgoing: Outgoing
+    outgoing: OutgoingLines
 
 
 class Farm(NamedTuple):
     """What a run gives: the replies, the bridges as they were accepted, the calls by number, the orders that weren't executed."""
 
     replies: Sequence[Reply]
-    bridges: Sequence[report.Bridge]
+    bridges: Sequence[report.ReportedBridge]
     calls: Sequence[CallOfRun]
     left: int
 
@@ -117,7 +126,7 @@ def last_moments(orders: Sequence[Order], periods: int) -> Dict[int, int]:
     return {**latest, **closed}
 
 
-def read_incoming(orders: Sequence[Order], periods: int, lines: Lines) -> Dict[int, Incoming]:
+def read_incoming(orders: Sequence[Order], periods: int, lines: Lines) -> Dict[int, IncomingLines]:
     """What the incoming lines of each opened call gave, as far as the run can need them, Up before Pcm, by rising number
     (docs/OPERATORS.md, "When an order takes effect").
 
@@ -131,14 +140,16 @@ def read_incoming(orders: Sequence[Order], periods: int, lines: Lines) -> Dict[i
             lines.read(number, side, most * OCTETS_OF_SIDE[side]) if most else Given(b"", False)
             for side in INCOMING
         )
-        given[number] = Incoming(up, pcm)
+        given[number] = IncomingLines(up, pcm)
     return given
 
 
 # What follows from orders and lines
 
 
-def plan_of(orders: Sequence[Order], periods: int, incoming: Mapping[int, Incoming]) -> Plan:
+def plan_of(
+    orders: Sequence[Order], periods: int, incoming: Mapping[int, IncomingLines]
+) -> RunPlan:
     """Replies, ends and bridges of a run that ends at so many periods, over what its incoming lines gave (docs/commands/run.md)."""
     known = executed(orders, periods)
     opening = openings(known)
@@ -150,7 +161,7 @@ def plan_of(orders: Sequence[Order], periods: int, incoming: Mapping[int, Incomi
         for number in sorted(opening)
     }
     bridges = [ended_bridge(bridge, ends) for bridge in board.bridges]
-    return Plan(
+    return RunPlan(
         known,
         periods,
         len(orders) - len(known),
@@ -171,7 +182,7 @@ def ended_bridge(bridge: Bridge, ends: Mapping[int, End]) -> Bridge:
     )
 
 
-def end_of(opening: int, incoming: Incoming, closing: Optional[int], periods: int) -> End:
+def end_of(opening: int, incoming: IncomingLines, closing: Optional[int], periods: int) -> End:
     """A call's end: `closed` goes before `limit`, and `limit` before the ends of its lines, of which Up goes before Pcm
     (docs/OPERATORS.md, "Ends and their causes")."""
     natural = opening + incoming.periods
@@ -195,7 +206,7 @@ def end_of(opening: int, incoming: Incoming, closing: Optional[int], periods: in
 # What the calls send
 
 
-def farm_of(plan: Plan) -> Farm:
+def farm_of(plan: RunPlan) -> Farm:
     """The octets and counts of each call of a run, and what went out in each bridge (docs/commands/run.md)."""
     uplinks = {
         number: uplink(
@@ -215,14 +226,16 @@ def farm_of(plan: Plan) -> Farm:
     )
 
 
-def _reported(plan: Plan, calls: Mapping[int, CallOfRun], bridge: Bridge) -> report.Bridge:
+def _reported(
+    plan: RunPlan, calls: Mapping[int, CallOfRun], bridge: Bridge
+) -> report.ReportedBridge:
     """A bridge's calls and periods; of the frames of each how many went out on the other's downlink, and how many were lost
     (docs/OPERATORS.md, "The report, line by line")."""
     sent = [
         calls[to].outgoing.sent[_bridges_of_call(plan, to).index(bridge)]
         for to in reversed(bridge.calls)
     ]
-    return report.Bridge(
+    return report.ReportedBridge(
         bridge.calls,
         bridge.start,
         bridge.end,
@@ -231,7 +244,7 @@ def _reported(plan: Plan, calls: Mapping[int, CallOfRun], bridge: Bridge) -> rep
     )
 
 
-def _call_of(plan: Plan, uplinks: Mapping[int, Uplink], number: int) -> CallOfRun:
+def _call_of(plan: RunPlan, uplinks: Mapping[int, Uplink], number: int) -> CallOfRun:
     """One call of a run, from its own lines and orders, and in bridges from its partner's uplink (docs/commands/run.md)."""
     opening, end = plan.opening[number], plan.ends[number]
     spans = [
@@ -257,23 +270,25 @@ def _setting(order: Order, opening: int) -> Setting:
     return Setting(order.stamp - opening, dtx=Dtx(order.value()))
 
 
-def _bridges_of_call(plan: Plan, number: int) -> List[Bridge]:
+def _bridges_of_call(plan: RunPlan, number: int) -> List[Bridge]:
     """The bridges of a call, in order (docs/OPERATORS.md, "Bridges")."""
     return [bridge for bridge in plan.bridges if number in bridge.calls]
 
 
-def _span_of_call(plan: Plan, uplinks: Mapping[int, Uplink], number: int, bridge: Bridge) -> Span:
+def _span_of_call(
+    plan: RunPlan, uplinks: Mapping[int, Uplink], number: int, bridge: Bridge
+) -> BridgeSpan:
     """A bridge as one of its calls sees it: its own periods, and what its partner hands over in these (docs/OPERATORS.md, "Bridges")."""
     partner = bridge.partner_of(number)
     opening, of_partner = plan.opening[number], plan.opening[partner]
     items = handed(uplinks[partner], bridge.start - of_partner, bridge.end - of_partner)
-    return Span(bridge.start - opening, bridge.end - opening, items)
+    return BridgeSpan(bridge.start - opening, bridge.end - opening, items)
 
 
 # What is read ahead, and what fails
 
 
-def rounds(plan: Plan, batch: int, also: Sequence[int] = ()) -> List[Tuple[int, int]]:
+def rounds(plan: RunPlan, batch: int, also: Sequence[int] = ()) -> List[Tuple[int, int]]:
     """The rounds of a run, each by its first period and the first that it doesn't have (docs/commands/run.md).
 
     Where a call is open at the clock, a round goes to the next stamp, to the run's end or as far as the batch allows; where none
@@ -289,7 +304,7 @@ def rounds(plan: Plan, batch: int, also: Sequence[int] = ()) -> List[Tuple[int, 
     return found
 
 
-def is_read_at(plan: Plan, number: int, clock: int) -> bool:
+def is_read_at(plan: RunPlan, number: int, clock: int) -> bool:
     """Whether a call's lines are read in a round that begins at the clock: it is open there after the orders of that stamp
     (docs/OPERATORS.md, "Faults").
 
@@ -300,7 +315,7 @@ def is_read_at(plan: Plan, number: int, clock: int) -> bool:
     )
 
 
-def faults_met(plan: Plan, batch: int, also: Sequence[int] = ()) -> List[Tuple[int, str]]:
+def faults_met(plan: RunPlan, batch: int, also: Sequence[int] = ()) -> List[Tuple[int, str]]:
     """The incoming lines that failed in a run: those of which a round asked for more octets than they gave before a failure
     (docs/OPERATORS.md, "Faults")."""
     failing = [
@@ -345,7 +360,7 @@ def in_order(failed: Sequence[Tuple[int, str]]) -> List[FailedLine]:
 def report_of(farm: Farm, failed: Sequence[FailedLine]) -> Report:
     """The report: replies, bridges, calls with their counts, and the lines that failed (docs/OPERATORS.md, "The report, line by line")."""
     calls = {
-        call.number: report.Span(
+        call.number: report.ReportedCall(
             call.opening, call.end.at, call.end.words(), dict(zip(COUNTS, call.outgoing.counts))
         )
         for call in farm.calls

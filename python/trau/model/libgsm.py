@@ -12,7 +12,7 @@ from trau.rules.arithmetic import saturate
 from trau.rules.g711 import Law, expand_all
 from trau.rules.parameters import GSM_OCTETS, WIDTHS, Parameters, parameters_of_values, values_of
 
-from trau.model.codec import SAMPLES, Decoder, Encoder
+from trau.model.codec import SAMPLES, FullRateDecoder, FullRateEncoder
 
 FRAMES = 50  # of a stream, from home
 DATA = Path(__file__).resolve().parents[3] / "checks" / "vectors"
@@ -153,7 +153,7 @@ def differences(ours: Sequence[object], theirs: Sequence[object]) -> Compared:
 def encoders(library: ctypes.CDLL, samples: Sequence[int]) -> Tuple[Compared, List[Parameters]]:
     """Both encoders from home on a stream of samples, and the model's parameters."""
     frames = [samples[start : start + SAMPLES] for start in range(0, len(samples), SAMPLES)]
-    encoder, other = Encoder(), Libgsm(library)
+    encoder, other = FullRateEncoder(), Libgsm(library)
     ours = [encoder.encode(frame).parameters for frame in frames]
     theirs = [other.encode(frame) for frame in frames]
     other.close()
@@ -162,7 +162,7 @@ def encoders(library: ctypes.CDLL, samples: Sequence[int]) -> Tuple[Compared, Li
 
 def decoders(library: ctypes.CDLL, parameters: Sequence[Parameters]) -> Compared:
     """Both decoders from home on a stream of parameters."""
-    decoder, other = Decoder(), Libgsm(library)
+    decoder, other = FullRateDecoder(), Libgsm(library)
     compared = differences(
         [decoder.decode(one) for one in parameters], [other.decode(one) for one in parameters]
     )

@@ -66,7 +66,7 @@ def is_recording(identity: Identity) -> bool:
     return any(os.path.exists(name) and identity_of(os.stat(name)) == identity for name in names)
 
 
-class Folder:
+class FolderLines:
     """The lines of the current folder: file `7.up` is the Up line of call 7. Keeps how far each line was read and written, and which
     line has which file of a disk."""
 
@@ -124,7 +124,7 @@ class Folder:
             os.ftruncate(descriptor, 0)
 
 
-class Streams:
+class StandardStreams:
     """Standard input, which has the orders, and standard output, which takes the texts, as descriptors of the system."""
 
     def __init__(self, reads: int, writes: int) -> None:

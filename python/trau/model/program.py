@@ -5,10 +5,10 @@
 
 from typing import Sequence
 
-from trau.model.lines import Folder, Streams
+from trau.model.lines import FolderLines, StandardStreams
 from trau.model.top import top
 
 
 def main(words: Sequence[str], reads: int = 0) -> int:
     """The exit status of the model for these words, with standard input as this descriptor."""
-    return top(words, Folder(), Streams(reads=reads, writes=1))
+    return top(words, FolderLines(), StandardStreams(reads=reads, writes=1))

@@ -8,7 +8,7 @@ descriptor (SID) or an idle frame. All numbers are this project's profile (docs/
 from typing import List, NamedTuple, Optional, Sequence, Union
 
 from trau.rules import profile
-from trau.rules.frame import Sort, UpFrame
+from trau.rules.frame import FrameKind, UpFrame
 from trau.rules.noise import RandomSource, comfort_noise
 from trau.rules.parameters import SILENCE, Parameters, parameters_of_bits
 
@@ -65,12 +65,16 @@ def mixed(old: Parameters, new: Parameters, step: int) -> Parameters:
 
 def is_anchor(frame: Optional[UpFrame]) -> bool:
     """Whether the periods after it look back to this frame (docs/PROFILE.md, "Lost speech")."""
-    return frame is not None and frame.sort in (Sort.GOOD, Sort.SID, Sort.IDLE)
+    return frame is not None and frame.kind in (
+        FrameKind.SPEECH,
+        FrameKind.VALID_SID,
+        FrameKind.IDLE,
+    )
 
 
 def missed_descriptor(frame: Optional[UpFrame]) -> bool:
     """Whether a silence descriptor was due in this period and what came is an unusable speech frame (GSM 06.31, TAF)."""
-    return frame is not None and frame.sort is Sort.BAD and frame.taf
+    return frame is not None and frame.kind is FrameKind.UNUSABLE and frame.taf
 
 
 def stretches(frames: Sequence[Optional[UpFrame]]) -> List[List[Optional[UpFrame]]]:
@@ -106,9 +110,9 @@ def noise(stretch: Sequence[Optional[UpFrame]], before: Need) -> List[Need]:
 def needs_of_stretch(stretch: Sequence[Optional[UpFrame]], before: Need) -> List[Need]:
     """What each period of a stretch needs; `before` is what the period before it needed (docs/PROFILE.md, "Lost speech")."""
     first = stretch[0]
-    if first is not None and first.sort is Sort.SID:
+    if first is not None and first.kind is FrameKind.VALID_SID:
         return noise(stretch, before)
-    if first is not None and first.sort is Sort.GOOD:
+    if first is not None and first.kind is FrameKind.SPEECH:
         good = parameters_of_bits(first.data)
         return [Lost(good, min(n, profile.SILENT_FROM_LOST)) for n in range(len(stretch))]
     return [None] * len(stretch)

@@ -34,7 +34,7 @@ class Coded(NamedTuple):
         return not self.on or self.encoded.peak >= self.level
 
 
-class Sent(NamedTuple):
+class SentFrame(NamedTuple):
     """What is sent of a frame: parameters, and SP, which says that they are speech (GSM 06.31)."""
 
     parameters: Parameters
@@ -68,7 +68,7 @@ def last_place(places: Sequence[bool]) -> List[Optional[int]]:
     return list(accumulate(marks, lambda last, mark: last if mark is None else mark))[:-1]
 
 
-def sent_frames(frames: Sequence[Coded]) -> List[Sent]:
+def sent_frames(frames: Sequence[Coded]) -> List[SentFrame]:
     """What is sent of the frames that are encoded in a row from home (docs/OPERATORS.md, "Levels and discontinuous transmission")."""
     pauses = lengths_of_pauses(frames)
     made = [length >= profile.DESCRIBED_FROM for length in pauses]
@@ -77,15 +77,15 @@ def sent_frames(frames: Sequence[Coded]) -> List[Sent]:
     def descriptor(j: int) -> Parameters:
         return silence_descriptor(frames[j - profile.DESCRIPTOR_FRAMES + 1 : j + 1])
 
-    def one(j: int) -> Sent:
+    def one(j: int) -> SentFrame:
         if pauses[j] == 0:
-            return Sent(frames[j].encoded.parameters, True)
+            return SentFrame(frames[j].encoded.parameters, True)
         if made[j]:
-            return Sent(descriptor(j), False)
+            return SentFrame(descriptor(j), False)
         first = j - pauses[j] + 1
         last = last_made[first]
         if last is None or first - last >= profile.HANGOVER_AFTER:
-            return Sent(frames[j].encoded.parameters, True)
-        return Sent(descriptor(last), False)
+            return SentFrame(frames[j].encoded.parameters, True)
+        return SentFrame(descriptor(last), False)
 
     return [one(j) for j in range(len(frames))]

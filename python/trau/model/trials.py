@@ -12,11 +12,11 @@ from trau.rules import profile
 from trau.rules.frame import (
     Bits,
     DownFrame,
-    Kind,
-    Sort,
+    FrameKind,
     UpFrame,
     bits_of,
     data_of,
+    kind_of_sp,
     octets_of,
     write_down,
     write_up,
@@ -117,7 +117,7 @@ def uplink_frame(source: random.Random, shape: str) -> Bits:
         return random_bits(source, 320)
     taf, dtxd = source.random() < 0.3, source.random() < 0.8
     bits = list(
-        write_up(UpFrame(Sort(shape), taf, dtxd, random_field(source), speech_data(source)))
+        write_up(UpFrame(FrameKind(shape), taf, dtxd, random_field(source), speech_data(source)))
     )
     if source.random() < 0.1:
         for place in (
@@ -165,7 +165,9 @@ def hostile_line(source: random.Random, periods: int) -> bytes:
     """An Up line that strains the search or the downlink: no frame at all, the same shift in each frame, frames that overlap."""
     field = source.choice((0, 39, 62, 63))
     frame = write_up(
-        UpFrame(Sort.GOOD, False, True, field, source.choice((speech_data(source), "1" * 260)))
+        UpFrame(
+            FrameKind.SPEECH, False, True, field, source.choice((speech_data(source), "1" * 260))
+        )
     )
     piece = source.choice(("0" * 320, "1" * 320, frame, frame, frame[:305], frame[:316]))
     count = periods * 320 // len(piece) + 1
@@ -195,7 +197,7 @@ def exchange_line(source: random.Random, law: Law, periods: int) -> bytes:
 # Orders
 
 
-class Member(NamedTuple):
+class DrawnCall(NamedTuple):
     """A call of a farm that is drawn: its number, its law, its opening, and the periods of its lines."""
 
     number: int
@@ -204,14 +206,14 @@ class Member(NamedTuple):
     periods: int
 
 
-def draw_members(source: random.Random) -> List[Member]:
+def draw_members(source: random.Random) -> List[DrawnCall]:
     """One to six calls."""
     count = source.randrange(1, 7)
     numbers = source.sample(source.choice((range(1, 10), range(1, 4097))), count)
     base = source.choice((0, 0, 0, 0, 7, 4_000_000_000))
     most = MOST_WORK // count
     return [
-        Member(
+        DrawnCall(
             number,
             source.choice((Law.A, Law.A, Law.MU)),
             base + source.choice((0, 0, source.randrange(30))),
@@ -230,7 +232,7 @@ def draw_members(source: random.Random) -> List[Member]:
     ]
 
 
-def draw_orders(source: random.Random, members: Sequence[Member]) -> List[Tuple[int, str]]:
+def draw_orders(source: random.Random, members: Sequence[DrawnCall]) -> List[Tuple[int, str]]:
     """Orders by stamp: an `open` of each call, and others, some of which are refused."""
     opens = [
         (member.opening, f"open {member.number}" + (" mulaw" if member.law is Law.MU else ""))
@@ -240,7 +242,7 @@ def draw_orders(source: random.Random, members: Sequence[Member]) -> List[Tuple[
     return sorted(orders, key=lambda order: order[0])
 
 
-def draw_order(source: random.Random, members: Sequence[Member]) -> Tuple[int, str]:
+def draw_order(source: random.Random, members: Sequence[DrawnCall]) -> Tuple[int, str]:
     """An order on calls of the farm, mostly while they are open, often at an end; now and then on another call or another time."""
     one, other = source.choice(members), source.choice(members)
     if source.random() < 0.93:
@@ -287,7 +289,7 @@ def text_of_orders(source: random.Random, orders: Sequence[Tuple[int, str]]) -> 
     return text[:-1] if source.random() < 0.2 else text
 
 
-def draw_farm(source: random.Random) -> Tuple[Dict[str, Entry], List[Member], bytes]:
+def draw_farm(source: random.Random) -> Tuple[Dict[str, Entry], List[DrawnCall], bytes]:
     """The incoming lines of a farm, its calls, and its orders."""
     members = draw_members(source)
     files: Dict[str, Entry] = {}
@@ -343,7 +345,7 @@ def joined(source: random.Random, command: str, options: List[List[str]]) -> Lis
     return words
 
 
-def periods_words(source: random.Random, members: Sequence[Member]) -> List[List[str]]:
+def periods_words(source: random.Random, members: Sequence[DrawnCall]) -> List[List[str]]:
     """`--periods` in one of four runs, around the ends of the calls."""
     first = min(member.opening for member in members)
     last = max(member.opening + member.periods for member in members)
@@ -401,7 +403,7 @@ def tool_trial(source: random.Random) -> Tuple[Dict[str, Entry], List[Step]]:
     call, command = source.choice((7, 4096)), source.choice(("relay", "decode", "encode", "frames"))
     periods = source.randrange(40)
     good = [
-        octets_of(write_up(UpFrame(Sort.GOOD, False, True, 0, speech_data(source))))
+        octets_of(write_up(UpFrame(FrameKind.SPEECH, False, True, 0, speech_data(source))))
         for _ in range(periods)
     ]
     whole = b"".join(good)
@@ -439,8 +441,9 @@ def follow_trial(source: random.Random) -> Tuple[Dict[str, Entry], List[Step]]:
     """A downlink of frames that stand in step, are moved or broken, followed."""
     bits = "1" * source.choice((320, 0, source.randrange(400)))
     for _ in range(source.randrange(60)):
-        kind = source.choice((Kind.SPEECH, Kind.SPEECH, Kind.SPEECH, Kind.IDLE))
-        frame = write_down(DownFrame(kind, speech_data(source), source.random() < 0.7))
+        is_idle = source.choice((False, False, False, True))
+        data, speech_kind = speech_data(source), kind_of_sp(source.random() < 0.7)
+        frame = write_down(DownFrame(FrameKind.IDLE if is_idle else speech_kind, data))
         if source.random() < 0.1:
             frame = with_bit_turned(frame, source.randrange(32))
         bits += frame[: source.choice((320, 320, 320, 320, 316))] + "1" * source.choice(

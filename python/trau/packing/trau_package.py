@@ -59,7 +59,7 @@ FOLDERS = (
 )
 
 
-class Member(NamedTuple):
+class PackagedFile(NamedTuple):
     """A file of the package: its content, and whether it is a program."""
 
     content: bytes
@@ -195,36 +195,38 @@ def documents() -> Dict[str, Path]:
     return found
 
 
-def members(state: State, library: Dict[str, bytes]) -> Dict[str, Member]:
+def members(state: State, library: Dict[str, bytes]) -> Dict[str, PackagedFile]:
     """The files of the package, by their names in it, with these of the C library."""
-    found = {name: Member(read_file(TOP / name), True) for name in SCRIPTS}
-    found["install"] = Member(read_file(TOP / "tools" / "install"), True)
-    found.update((name, Member(content, True)) for name, content in programs().items())
-    found["VERSION"] = Member(f"trau {state.commit} of {state.date}, {origin()}\n".encode())
-    found["man/trau.1"] = Member(trau_words.man_page(f"trau {state.commit}", state.date).encode())
+    found = {name: PackagedFile(read_file(TOP / name), True) for name in SCRIPTS}
+    found["install"] = PackagedFile(read_file(TOP / "tools" / "install"), True)
+    found.update((name, PackagedFile(content, True)) for name, content in programs().items())
+    found["VERSION"] = PackagedFile(f"trau {state.commit} of {state.date}, {origin()}\n".encode())
+    found["man/trau.1"] = PackagedFile(
+        trau_words.man_page(f"trau {state.commit}", state.date).encode()
+    )
     for script in (*TOOLS, GATEWAY):
         name = f"trau-{Path(script).stem}"
-        found[f"man/{name}.1"] = Member(
+        found[f"man/{name}.1"] = PackagedFile(
             man_pages.man_page(name, f"trau {state.commit}", state.date).encode()
         )
-    found["trau.bash"] = Member(trau_words.completion().encode())
+    found["trau.bash"] = PackagedFile(trau_words.completion().encode())
     for folder, packed, running in FOLDERS:
         for name, path in files_below(TOP / folder).items():
             if re.fullmatch(packed, name):
-                found[f"{folder}/{name}"] = Member(read_file(path), name in running)
-    found.update((name, Member(content)) for name, content in library.items())
-    found["clib/with"] = Member(read_file(TOP / "clib" / "with"), True)
+                found[f"{folder}/{name}"] = PackagedFile(read_file(path), name in running)
+    found.update((name, PackagedFile(content)) for name, content in library.items())
+    found["clib/with"] = PackagedFile(read_file(TOP / "clib" / "with"), True)
     for name, path in documents().items():
-        found.setdefault(name, Member(read_file(path)))
+        found.setdefault(name, PackagedFile(read_file(path)))
     sums = [
         f"{hashlib.sha256(member.content).hexdigest()}  {name}\n"
         for name, member in sorted(found.items())
     ]
-    found["SHA256SUMS"] = Member("".join(sums).encode())
+    found["SHA256SUMS"] = PackagedFile("".join(sums).encode())
     return found
 
 
-def tarball(state: State, found: Dict[str, Member]) -> bytes:
+def tarball(state: State, found: Dict[str, PackagedFile]) -> bytes:
     """The octets of the package."""
     packed = io.BytesIO()
     with gzip.GzipFile(fileobj=packed, mode="wb", mtime=state.seconds, filename="") as zipped:

@@ -40,7 +40,7 @@ class Option(NamedTuple):
     means: str
 
 
-class Status(NamedTuple):
+class StatusText(NamedTuple):
     """A status of the program, and the text on standard output."""
 
     number: int
@@ -176,35 +176,35 @@ ORDERS = (
 )
 
 STATUSES = (
-    Status(
+    StatusText(
         0,
         "the command ran to its end, and no line failed",
         "the command's text; of run, resume and drill, the report",
     ),
-    Status(1, "these words are no command", "usage"),
-    Status(
+    StatusText(1, "these words are no command", "usage"),
+    StatusText(
         2, "line N of the orders or of the mark isn't in the grammar", "orders line N, save line N"
     ),
-    Status(3, "standard input failed while the orders were read", "orders unread"),
-    Status(
+    StatusText(3, "standard input failed while the orders were read", "orders unread"),
+    StatusText(
         4, "standard output failed while the command's text went out", "the beginning of the text"
     ),
-    Status(5, "out of memory", "no memory"),
-    Status(
+    StatusText(5, "out of memory", "no memory"),
+    StatusText(
         6,
         "a line failed",
         "line C up failed, with the line's side; the report, which names the lines",
     ),
-    Status(
+    StatusText(
         7,
         "the orders have more than 1,048,576 octets or more than 65,536 lines, or with their mark more than 1,310,720 octets",
         "orders too long",
     ),
-    Status(8, "a block isn't a good speech frame", "relay refused N, decode refused N"),
-    Status(
+    StatusText(8, "a block isn't a good speech frame", "relay refused N, decode refused N"),
+    StatusText(
         9, "the mark isn't that of this run: call C is the least that differs", "save differs C"
     ),
-    Status(
+    StatusText(
         125,
         "(of the script trau) there is no program to run, or another run writes lines of this folder",
         "",

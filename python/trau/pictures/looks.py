@@ -7,20 +7,20 @@ from typing import Any, Dict, Iterator, List, NamedTuple, Optional, Sequence, Tu
 
 from trau.rules.profile import FRAME_BITS, PCM_OCTETS
 from trau.runs.octet_columns import table
-from trau.runs.run_lines import NOTHING_SENT, Call, sent
-from trau.runs.uplink_periods import BAD, by_what_came_before
+from trau.runs.run_lines import NOTHING_SENT, RecordedCall, sent
+from trau.runs.uplink_periods import UNUSABLE, by_what_came_before
 
 
-class Look(enum.Enum):
-    """What a period of an uplink yields, in the order of the sorts, and two that say more about unusable frames."""
+class UplinkLook(enum.Enum):
+    """What a period of an uplink yields, in the order of the kinds, and two that say more about unusable frames."""
 
-    GOOD = ("speech", "#0072B2")
-    SID = ("silence descriptor", "#56B4E9")
-    INVALID = ("invalid silence descriptor", "#AA3377")
-    BAD = ("lost: unusable within speech", "#E66100")
+    SPEECH = ("speech", "#0072B2")
+    VALID_SID = ("silence descriptor", "#56B4E9")
+    INVALID_SID = ("invalid silence descriptor", "#AA3377")
+    UNUSABLE = ("lost: unusable within speech", "#E66100")
     IDLE = ("idle", "#9E9E9E")
     OTHER = ("another kind of frame", "#F0E442")
-    MISS = ("missed: no frame where one is due", "#1A1A1A")
+    MISSED = ("missed: no frame where one is due", "#1A1A1A")
     NONE = ("nothing yielded", "url(#nothing)")
     PAUSE = ("pause: unusable after a descriptor", "#CFE9F8")
     QUIET = ("quiet: unusable with no speech before", "#E2E2E2")
@@ -30,14 +30,14 @@ class Look(enum.Enum):
         self.colour = colour
 
 
-class DownLook(enum.Enum):
+class DownlinkLook(enum.Enum):
     """What begins in a period of a downlink, in the order of what is sent. What an uplink has too has its words and colour."""
 
-    SPEECH = Look.GOOD.value
-    SILENCE = Look.SID.value
-    IDLE = Look.IDLE.value
+    SPEECH = UplinkLook.SPEECH.value
+    SILENCE = UplinkLook.VALID_SID.value
+    IDLE = UplinkLook.IDLE.value
     HANDED = ("handed over in a bridge", "#009E73")
-    OTHER = Look.OTHER.value
+    OTHER = UplinkLook.OTHER.value
 
     def __init__(self, words: str, colour: str) -> None:
         self.words = words
@@ -45,24 +45,30 @@ class DownLook(enum.Enum):
 
 
 # Each is drawn wherever it comes, be it for one period of thousands in a column.
-LOSSES = (Look.BAD, Look.INVALID, Look.OTHER, Look.MISS, Look.NONE)
-DOWN_LOSSES = (DownLook.OTHER,)
+LOSSES = (
+    UplinkLook.UNUSABLE,
+    UplinkLook.INVALID_SID,
+    UplinkLook.OTHER,
+    UplinkLook.MISSED,
+    UplinkLook.NONE,
+)
+DOWN_LOSSES = (DownlinkLook.OTHER,)
 
-# A look's code is its place in their order, which for the looks of sorts is the code of the sort.
-CODES = {look: code for kind in (Look, DownLook) for code, look in enumerate(kind)}
+# A look's code is its place in their order, which for the looks of kinds is the code of the kind.
+CODES = {look: code for kind in (UplinkLook, DownlinkLook) for code, look in enumerate(kind)}
 LOOKS_BEHIND = [
-    table(lambda sort, code=code: code if sort == BAD else sort)
-    for code in (BAD, CODES[Look.PAUSE], CODES[Look.QUIET])
+    table(lambda kind, code=code: code if kind == UNUSABLE else kind)
+    for code in (UNUSABLE, CODES[UplinkLook.PAUSE], CODES[UplinkLook.QUIET])
 ]
 
 
-def looks(sorts: bytes) -> bytes:
+def looks(kinds: bytes) -> bytes:
     """The codes of how the periods of an uplink look. An unusable frame after a silence descriptor is a pause, in which none is sent. After
     an idle frame, and before the first usable frame, there is nothing to lose."""
-    return by_what_came_before(sorts, *LOOKS_BEHIND)
+    return by_what_came_before(kinds, *LOOKS_BEHIND)
 
 
-def down_looks(call: Call, octets: bytes, first: int, last: int) -> bytes:
+def down_looks(call: RecordedCall, octets: bytes, first: int, last: int) -> bytes:
     """The codes of how the periods of a downlink look, from one of the call on to another, by the last frame that begins in each; the octets
     are those from the first period on."""
     periods = bytearray([NOTHING_SENT]) * (last - first)
@@ -78,20 +84,20 @@ def down_looks(call: Call, octets: bytes, first: int, last: int) -> bytes:
     return bytes(periods)
 
 
-class Part(NamedTuple):
+class ColumnPart(NamedTuple):
     """A look, and how much of a column's height it takes, in steps."""
 
     look: Any
     steps: int
 
 
-class Stretch(NamedTuple):
+class DrawnStretch(NamedTuple):
     """Periods in a row that are drawn alike: their first, the one after the last, the parts of their height from the top, and how many have
     which look."""
 
     start: int
     end: int
-    parts: Tuple[Part, ...]
+    parts: Tuple[ColumnPart, ...]
     counts: Dict[Any, int]
 
     def said(self) -> str:
@@ -103,12 +109,12 @@ class Stretch(NamedTuple):
         )
 
 
-def parts_of(counts: Dict[Any, int], losses: Sequence[Any], steps: int) -> Tuple[Part, ...]:
+def parts_of(counts: Dict[Any, int], losses: Sequence[Any], steps: int) -> Tuple[ColumnPart, ...]:
     """The parts of a column: each loss by its share of the periods, a step at least, below what most of the others are."""
     total = sum(counts.values())
     others = [look for look in counts if counts[look] and look not in losses]
     left = steps
-    parts: List[Part] = []
+    parts: List[ColumnPart] = []
     lost = [look for look in losses if counts.get(look)]
     for number, look in enumerate(lost):
         behind = len(lost) - 1 - number  # of which each has a step at least
@@ -118,10 +124,10 @@ def parts_of(counts: Dict[Any, int], losses: Sequence[Any], steps: int) -> Tuple
             if last_one
             else min(max(1, round(steps * counts[look] / total)), max(1, left - behind), left)
         )
-        parts.append(Part(look, height))
+        parts.append(ColumnPart(look, height))
         left -= height
     if others and left:
-        parts.insert(0, Part(max(others, key=lambda look: counts[look]), left))
+        parts.insert(0, ColumnPart(max(others, key=lambda look: counts[look]), left))
     return tuple(part for part in parts if part.steps)
 
 
@@ -144,20 +150,20 @@ def column_ends(values: bytes, size: int) -> Iterator[int]:
 
 def columns(
     values: bytes, kind: Type[enum.Enum], losses: Sequence[Any], size: int, steps: int
-) -> Iterator[Stretch]:
+) -> Iterator[DrawnStretch]:
     """Stretches of columns of so many periods each that show the same; nothing where no period of a column has a look."""
-    waiting: Optional[Stretch] = None
+    waiting: Optional[DrawnStretch] = None
     start = 0
     for end in column_ends(values, size):
         counts = counted(values, kind, start, end)
         parts = parts_of(counts, losses, steps) if counts else ()
         if waiting and waiting.parts == parts:
             sums = {look: waiting.counts.get(look, 0) + counts.get(look, 0) for look in kind}
-            waiting = Stretch(waiting.start, end, parts, sums)
+            waiting = DrawnStretch(waiting.start, end, parts, sums)
         else:
             if waiting and waiting.parts:
                 yield waiting
-            waiting = Stretch(start, end, parts, counts)
+            waiting = DrawnStretch(start, end, parts, counts)
         start = end
     if waiting and waiting.parts:
         yield waiting

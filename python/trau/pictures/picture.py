@@ -13,9 +13,9 @@ from trau.runs import outcomes
 from trau.runs import run_lines
 from trau.runs.call_lines import LOWEST_LEVEL, QUARTERS
 from trau.rules.profile import PERIODS_A_SECOND
-from trau.rules.report import Bridge
-from trau.pictures.looks import DOWN_LOSSES, LOSSES, DownLook, Look
-from trau.runs.run_lines import Answered, Call, Run
+from trau.rules.report import ReportedBridge
+from trau.pictures.looks import DOWN_LOSSES, LOSSES, DownlinkLook, UplinkLook
+from trau.runs.run_lines import Answered, RecordedCall, Run
 
 # Lengths are in pixels.
 LEFT, TOP, RIGHT = 130, 24, 24
@@ -105,7 +105,7 @@ class Picture:
         self.last = max(self.first + 1, run.end() if last is None else last)
         self.scale = min(TICK_ROOM, width / (self.last - self.first))
         self.column = max(1, round(LEAST_COLUMN / self.scale)) if self.scale < LEAST_COLUMN else 1
-        self.lines: Dict[int, call_lines.Lines] = {}
+        self.lines: Dict[int, call_lines.CallLines] = {}
         self.plot_right = self.x(self.last)
         self.outcomes = {call.number: outcomes.outcome_of(call) for call in run.calls}
         words = [self.row_words(call) for call in run.calls]
@@ -223,7 +223,7 @@ class Picture:
 
     # Layers
 
-    def read_lines(self, column: int, processes: int) -> Dict[int, call_lines.Lines]:
+    def read_lines(self, column: int, processes: int) -> Dict[int, call_lines.CallLines]:
         """What the calls' lines have, by columns of this many periods."""
         return call_lines.read_lines(
             self.run, range(self.first, self.last, column), bool(self.shape.level), processes
@@ -298,11 +298,11 @@ class Picture:
         def level(colour: str) -> Callable[[float, float], None]:
             return lambda x, y: self.line(x - 13, y, x + 13, y, colour, 2)
 
-        shown = [look for look in Look if look is not Look.PAUSE]
-        shown.insert(shown.index(Look.SID) + 1, Look.PAUSE)
+        shown = [look for look in UplinkLook if look is not UplinkLook.PAUSE]
+        shown.insert(shown.index(UplinkLook.VALID_SID) + 1, UplinkLook.PAUSE)
         edge = {"stroke": INK, "stroke_width": 0.75}
         entries = [(look.words, swatch(look.colour, 14, **edge)) for look in shown]
-        entries.append((DownLook.HANDED.words, swatch(DownLook.HANDED.colour, 8, **edge)))
+        entries.append((DownlinkLook.HANDED.words, swatch(DownlinkLook.HANDED.colour, 8, **edge)))
         if self.shape.level:
             entries += [("level of Out", level(OUT_COLOUR)), ("level of Pcm", level(PCM_COLOUR))]
         return entries + [
@@ -349,7 +349,7 @@ class Picture:
 
     # Bridges
 
-    def draw_link(self, bridge: Bridge) -> None:
+    def draw_link(self, bridge: ReportedBridge) -> None:
         """The bars that tie the rows of a bridge's calls, drawn behind the rows between them."""
         if not all(call in self.rows for call in bridge.calls):
             return
@@ -366,7 +366,7 @@ class Picture:
         for x in (left, right):
             self.line(x, upper, x, lower, BRIDGE_COLOUR, 1.5)
 
-    def draw_bridge(self, bridge: Bridge) -> None:
+    def draw_bridge(self, bridge: ReportedBridge) -> None:
         """The bar of a bridge in the rows of its calls."""
         left, right = self.x(bridge.start), self.x(bridge.end)
         a, b = bridge.calls
@@ -390,19 +390,19 @@ class Picture:
 
     # Calls
 
-    def end_words(self, call: Call) -> str:
+    def end_words(self, call: RecordedCall) -> str:
         """Why a call ended, and which of its lines failed; nothing where its end isn't in the picture."""
         if not self.first <= call.span.end <= self.last:
             return ""
         return ", ".join([call.span.cause, *(f"{side} failed" for side in call.failed)])
 
-    def row_words(self, call: Call) -> str:
+    def row_words(self, call: RecordedCall) -> str:
         """The text at the end of a call's row: the part of its speech that was lost, the longest gap, and why it ended."""
         return ", ".join(
             words for words in (self.outcomes[call.number].short(), self.end_words(call)) if words
         )
 
-    def draw_call(self, call: Call) -> None:
+    def draw_call(self, call: RecordedCall) -> None:
         """The row of a call."""
         top = self.top(call.number)
         left, right = self.x(call.span.start), self.x(call.span.end)
@@ -413,10 +413,10 @@ class Picture:
             self.text(LEFT - 34, top + 26, f"{call.span.start} to {call.span.end}", "small", "end")
         shown = slice(max(0, self.first - call.span.start), max(0, self.last - call.span.start))
         self.draw_band(
-            call, looks.looks(call.brought())[shown], Look, LOSSES, top, self.shape.band, ""
+            call, looks.looks(call.brought())[shown], UplinkLook, LOSSES, top, self.shape.band, ""
         )
         down = (self.top(call.number, "down"), self.shape.down - 3, "downlink ")
-        self.draw_band(call, self.lines[call.number].down, DownLook, DOWN_LOSSES, *down)
+        self.draw_band(call, self.lines[call.number].down, DownlinkLook, DOWN_LOSSES, *down)
         if self.shape.level:
             self.draw_levels(call)
         frame = {"fill": "none", "stroke": INK, "stroke_width": 0.75, "pointer_events": "none"}
@@ -450,7 +450,7 @@ class Picture:
 
     def draw_band(
         self,
-        call: Call,
+        call: RecordedCall,
         values: bytes,
         kind: Type[Enum],
         losses: Sequence[Enum],
@@ -475,7 +475,7 @@ class Picture:
                 self.box(**place, fill=look.colour, title=title, shape_rendering="crispEdges")
                 y += high
 
-    def draw_levels(self, call: Call) -> None:
+    def draw_levels(self, call: RecordedCall) -> None:
         """The levels of a call's Pcm and Out line."""
         top, height = self.top(call.number, "level"), self.shape.level - 4
         drawn = self.lines[call.number].levels
@@ -491,7 +491,7 @@ class Picture:
                 steps = self.level_steps(call, drawn[side], top, height)
                 self.add("path", title, d=steps, fill="none", stroke=colour, stroke_width=1.1)
 
-    def level_steps(self, call: Call, values: bytes, top: float, height: float) -> str:
+    def level_steps(self, call: RecordedCall, values: bytes, top: float, height: float) -> str:
         """The path of a line's levels, one for each column."""
         start = max(call.span.start, self.first)
         end = min(call.span.end, self.last)
@@ -506,7 +506,7 @@ class Picture:
             )
         return "".join(steps)
 
-    def draw_shifts(self, call: Call, top: float) -> None:
+    def draw_shifts(self, call: RecordedCall, top: float) -> None:
         """Marks of the shifts of a call's downlink, with their octets where there is room, and of those that wait."""
         waiting = [
             asked
@@ -534,7 +534,13 @@ class Picture:
         return self.x(period) + self.scale / 2
 
     def draw_shift(
-        self, call: Call, top: float, period: int, octets: int, marks: Sequence[float], free: float
+        self,
+        call: RecordedCall,
+        top: float,
+        period: int,
+        octets: int,
+        marks: Sequence[float],
+        free: float,
     ) -> float:
         """The mark of a shift, its octets if no other mark or text is in the way, and where the room after them begins."""
         x = self.mark_of(period)

@@ -15,9 +15,9 @@ from trau.runs import outcomes
 from trau.runs import run_lines
 from trau.rules.lines import name_of
 from trau.rules.profile import PERIODS_A_SECOND
-from trau.pictures.looks import DOWN_LOSSES, LOSSES, DownLook, Look
+from trau.pictures.looks import DOWN_LOSSES, LOSSES, DownlinkLook, UplinkLook
 from trau.pictures.picture import ALARM, BRIDGE_COLOUR, OUT_COLOUR, PCM_COLOUR, Picture
-from trau.runs.run_lines import Call
+from trau.runs.run_lines import RecordedCall
 
 MOST_WORST = 10
 SCRIPT = Path(__file__).with_name("picture_page.js")
@@ -66,7 +66,9 @@ def looks_of(kind: Type[Enum], losses: Sequence[Enum]) -> List[Dict[str, Any]]:
     return [{"words": look.words, "colour": look.colour, "loss": look in losses} for look in kind]
 
 
-def data_of_call(picture: Picture, call: Call, lines: call_lines.Lines) -> Dict[str, Any]:
+def data_of_call(
+    picture: Picture, call: RecordedCall, lines: call_lines.CallLines
+) -> Dict[str, Any]:
     """What the page has of a call, in the periods that are shown."""
     start, end = max(call.span.start, picture.first), min(call.span.end, picture.last)
     shown = slice(start - call.span.start, max(start, end) - call.span.start)
@@ -92,15 +94,15 @@ def data_of_call(picture: Picture, call: Call, lines: call_lines.Lines) -> Dict[
     }
 
 
-def data_of(picture: Picture, lines: Dict[int, call_lines.Lines]) -> Dict[str, Any]:
+def data_of(picture: Picture, lines: Dict[int, call_lines.CallLines]) -> Dict[str, Any]:
     """What the page's script draws."""
     return {
         "first": picture.first,
         "last": picture.last,
         "shape": picture.shape._asdict(),
         "colours": {"out": OUT_COLOUR, "pcm": PCM_COLOUR, "bridge": BRIDGE_COLOUR, "alarm": ALARM},
-        "looks": looks_of(Look, LOSSES),
-        "downLooks": looks_of(DownLook, DOWN_LOSSES),
+        "looks": looks_of(UplinkLook, LOSSES),
+        "downLooks": looks_of(DownlinkLook, DOWN_LOSSES),
         "calls": [data_of_call(picture, call, lines[call.number]) for call in picture.run.calls],
         "orders": [
             {
@@ -146,7 +148,7 @@ def worst(picture: Picture) -> Iterator[str]:
 
 def legend() -> Iterator[str]:
     """The colours."""
-    entries = {look.words: look.colour for look in (*Look, *DownLook)}
+    entries = {look.words: look.colour for look in (*UplinkLook, *DownlinkLook)}
     entries["bridge"] = BRIDGE_COLOUR
     entries.update({"level of Out": OUT_COLOUR, "level of Pcm": PCM_COLOUR})
     hatched = "repeating-linear-gradient(135deg, #777777 0 1px, #FFFFFF 1px 4px)"
@@ -154,7 +156,7 @@ def legend() -> Iterator[str]:
         yield f"<span><i style='background: {hatched if colour.startswith('url') else colour}'></i>{escape(words)}</span>"
 
 
-def page_of(picture: Picture, lines: Dict[int, call_lines.Lines]) -> bytes:
+def page_of(picture: Picture, lines: Dict[int, call_lines.CallLines]) -> bytes:
     """The page of a picture, with the lines of its calls by single periods."""
     text = json.dumps(data_of(picture, lines), separators=(",", ":")).replace("<", "\\u003c")
     parts = (

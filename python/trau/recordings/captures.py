@@ -13,7 +13,7 @@ from typing import Iterable, Iterator, List, NamedTuple, Optional, Sequence, Tup
 from trau.runs import run_lines
 from trau.recordings import uplink_frames
 from trau.recordings.code_word import Marker
-from trau.rules.frame import Kind, Sort, bits_of, data_of, read_down
+from trau.rules.frame import FrameKind, bits_of, data_of, read_down
 from trau.rules.g711 import Law
 from trau.rules.noise import RandomSource, comfort_noise
 from trau.rules.parameters import (
@@ -23,17 +23,15 @@ from trau.rules.parameters import (
     gsm_of_data,
     parameters_of_bits,
 )
+from trau.rules.payload_types import GSM, PCMA, PCMU
 from trau.rules.profile import PCM_OCTETS, SAMPLES_A_SECOND
-from trau.rules.search import FRAME_OF_DOWNLINK, sort_of_period, yields_by_period
+from trau.rules.search import FRAME_OF_DOWNLINK, kind_of_period, yields_by_period
 from trau.command_line.words import Refusal
 from trau.recordings.rtp_packets import (
-    GSM,
     NAMES,
-    PCMA,
-    PCMU,
     PLAIN_TYPES,
     Packet,
-    Streams,
+    CapturedStreams,
     chosen,
     kind_of,
     library,
@@ -46,13 +44,13 @@ from trau.recordings.rtp_streams import (
     STAMPS,
     Counts,
     Gap,
-    Lost,
+    LostUnits,
     Stretch,
     stretches,
     without_wrong,
 )
 from trau.recordings.uplink_frames import UplinkFrames
-from trau.runs.uplink_periods import SORTS
+from trau.runs.uplink_periods import FRAME_KINDS
 
 LAWS = {PCMA: Law.A, PCMU: Law.MU}
 IDLE_UPLINK = uplink_frames.IDLE
@@ -77,7 +75,7 @@ def uplink_of(
             missing[EMPTIED] += stretch.count(EMPTY)
             line.take_all(None if frame == EMPTY else data_of_gsm(frame) for frame in stretch)
             continue
-        what = LOST if isinstance(stretch, Lost) else PAUSED if line.pauses() else GAP
+        what = LOST if isinstance(stretch, LostUnits) else PAUSED if line.pauses() else GAP
         missing[what] += stretch.units
         if what == GAP and gaps_are_idle:
             line.idle(stretch.units)
@@ -109,14 +107,16 @@ def pcm_of(found: Iterable[Stretch], lead: int, sent: Law, law: Law) -> Tuple[by
     )
     line = b"".join([lead * PCM_OCTETS * idle, *octets])
     padded = -len(line) % PCM_OCTETS
-    said = f"octets {total(parts, list)} lost {total(parts, Lost)} gap {total(parts, Gap)} lead {lead} padded {padded}"
+    said = f"octets {total(parts, list)} lost {total(parts, LostUnits)} gap {total(parts, Gap)} lead {lead} padded {padded}"
     return line + padded * idle, said
 
 
 MOST_OVERLAP = 1.0  # seconds, in which the streams of a call may overlap that are joined
 
 
-def chosen_streams(name: Path, streams: Streams, numbers: Sequence[int]) -> List[List[Packet]]:
+def chosen_streams(
+    name: Path, streams: CapturedStreams, numbers: Sequence[int]
+) -> List[List[Packet]]:
     """The packets of the streams with these numbers, which follow one another and are of one kind; or of the only one."""
     found = [chosen(name, streams, "--stream", number) for number in numbers or (None,)]
     for at, (before, packets) in enumerate(zip(found, found[1:])):
@@ -168,13 +168,13 @@ class Sound(NamedTuple):
 def sounds_of_uplink(octets: bytes) -> Iterator[Sound]:
     """What an uplink gives: good frames; lost ones; comfort noise in pauses; nothing elsewhere."""
     yields = yields_by_period(bits_of(octets))
-    sorts = [sort_of_period(each) for each in yields]
+    kinds = [kind_of_period(each) for each in yields]
     source = RandomSource(1)
     descriptor = SILENCE
-    heard = run_lines.heard_codes(bytes(map(SORTS.index, sorts)))
-    for period, (each, sort, code) in enumerate(zip(yields, sorts, heard)):
+    heard = run_lines.heard_codes(bytes(map(FRAME_KINDS.index, kinds)))
+    for period, (each, kind, code) in enumerate(zip(yields, kinds, heard)):
         stamp = period * PCM_OCTETS
-        if sort is Sort.SID:
+        if kind is FrameKind.VALID_SID:
             descriptor = parameters_of_bits(data_of(each.frame))
         if code == run_lines.SPEECH_HEARD:
             yield Sound(stamp, gsm_of_data(data_of(each.frame)))
@@ -189,10 +189,10 @@ def sounds_of_downlink(octets: bytes) -> Iterator[Sound]:
     source = RandomSource(1)
     for found in FRAME_OF_DOWNLINK.finditer(bits_of(octets)):
         frame = read_down(found.group())
-        if frame.kind is Kind.SPEECH:
+        if frame.is_speech():
             data = (
                 frame.data
-                if frame.sp
+                if frame.kind is FrameKind.SPEECH
                 else bits_of_parameters(comfort_noise(parameters_of_bits(frame.data), source))
             )
             # Two bits of the line are the time of a sample.

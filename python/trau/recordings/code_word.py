@@ -4,11 +4,10 @@ A base station looks for the code word and marks the frame by C13 and C14 of its
 marks, so the tools that make uplinks from them do this work of the base station.
 """
 
-import enum
 from collections import Counter
 from typing import Tuple
 
-from trau.rules.frame import speech_control
+from trau.rules.frame import FrameKind, speech_control
 from trau.rules.parameters import BLOCK_WIDTHS, LARC_WIDTHS
 
 
@@ -40,18 +39,10 @@ LEAST_ERRORS_OF_INVALID = 2
 LEAST_ERRORS_OF_SPEECH = 16
 
 
-class FrameKind(enum.Enum):
-    """What a full rate frame is by its code word."""
-
-    SPEECH = "speech"
-    VALID = "sid"
-    INVALID = "invalid"
-
-
 MARKS = {
     FrameKind.SPEECH: "000",
-    FrameKind.VALID: "010",
-    FrameKind.INVALID: "101",
+    FrameKind.VALID_SID: "010",
+    FrameKind.INVALID_SID: "101",
 }  # C12 (BFI), C13 and C14 (SID)
 
 
@@ -61,11 +52,11 @@ def errors_of(data: str) -> int:
 
 
 def kind_of(data: str) -> FrameKind:
-    """What D1 to D260 are, by GSM 06.31 section 6.1."""
+    """What D1 to D260 are, by GSM 06.31 section 6.1: a speech frame, a valid or an invalid SID frame."""
     errors = errors_of(data)
     if errors >= LEAST_ERRORS_OF_SPEECH:
         return FrameKind.SPEECH
-    return FrameKind.INVALID if errors >= LEAST_ERRORS_OF_INVALID else FrameKind.VALID
+    return FrameKind.INVALID_SID if errors >= LEAST_ERRORS_OF_INVALID else FrameKind.VALID_SID
 
 
 class Marker:
@@ -88,4 +79,6 @@ class Marker:
 
     def said(self) -> str:
         """The descriptors that were marked, in words."""
-        return f"sid {self.counts[FrameKind.VALID]} invalid {self.counts[FrameKind.INVALID]}"
+        return (
+            f"sid {self.counts[FrameKind.VALID_SID]} invalid {self.counts[FrameKind.INVALID_SID]}"
+        )

@@ -5,14 +5,14 @@ import re
 from pathlib import Path
 from typing import Callable, List, NamedTuple, Optional, Sequence, Set, Tuple
 
-from trau.rules.frame import SPEECH, Sort, bits_of, octets_of, read_up, write_up
+from trau.rules.frame import SPEECH_CLASSES, FrameKind, bits_of, octets_of, read_up, write_up
 from trau.rules.parameters import Block, Parameters, bits_of_parameters, parameters_of_bits
 from trau.rules.profile import FRAME_BITS, TAF_PERIODS
 from trau.rules.search import search
 from trau.command_line.words import Refusal
 
 
-class Part(NamedTuple):
+class FrameRange(NamedTuple):
     """Every `step`th number from `first` to `last`, or to the last there is."""
 
     first: int
@@ -20,26 +20,26 @@ class Part(NamedTuple):
     step: int
 
 
-def part_named(word: str) -> Part:
+def part_named(word: str) -> FrameRange:
     """Reads a part `A`, `A-B` or `every:N` of a word that names frames."""
     found = re.fullmatch(r"(\d+)(?:-(\d+))?|every:(\d+)", word, re.ASCII)
     if not found:
         raise argparse.ArgumentTypeError(f"'{word}' isn't a frame A, frames A-B or every:N")
     if found[3]:
-        part = Part(int(found[3]) - 1, None, int(found[3]))
+        part = FrameRange(int(found[3]) - 1, None, int(found[3]))
     else:
-        part = Part(int(found[1]), int(found[2] or found[1]), 1)
+        part = FrameRange(int(found[1]), int(found[2] or found[1]), 1)
     if part.step == 0 or part.last is not None and part.last < part.first:
         raise argparse.ArgumentTypeError(f"'{word}' names no frames")
     return part
 
 
-def frames_named(word: str) -> List[Part]:
+def frames_named(word: str) -> List[FrameRange]:
     """The numbers of frames that a word of the command line names: parts with commas between."""
     return list(map(part_named, word.split(",")))
 
 
-def numbers_within(parts: Sequence[Part], count: int) -> Set[int]:
+def numbers_within(parts: Sequence[FrameRange], count: int) -> Set[int]:
     """The numbers that are named, all below `count`."""
     numbers: Set[int] = set()
     for part in parts:
@@ -85,12 +85,12 @@ def paused(frame: str, number: int, begins: bool) -> str:
     taf = number % TAF_PERIODS == TAF_PERIODS - 1
     speech = read_up(frame)
     if not begins and not taf:
-        return write_up(speech._replace(sort=Sort.BAD, taf=False))
+        return write_up(speech._replace(kind=FrameKind.UNUSABLE, taf=False))
     data = bits_of_parameters(silence_descriptor(parameters_of_bits(speech.data)))
-    return write_up(speech._replace(sort=Sort.SID, taf=taf, data=data))
+    return write_up(speech._replace(kind=FrameKind.VALID_SID, taf=taf, data=data))
 
 
-class Uplink:
+class DamagedUplink:
     """The frames of an uplink, by the numbers of the search's yields, with the bits before each."""
 
     def __init__(self, name: Path, octets: bytes) -> None:
@@ -98,7 +98,7 @@ class Uplink:
         yields = list(search(bits))
         if not yields:
             raise Refusal(f"{name}: no frame found")
-        self.sorts = [each.sort() for each in yields]
+        self.kinds = [each.kind() for each in yields]
         self.before: List[str] = []
         self.frames: List[str] = []
         place = 0
@@ -110,7 +110,7 @@ class Uplink:
 
     def is_speech(self, number: int) -> bool:
         """Whether a yield is a speech frame, of whatever class."""
-        return self.sorts[number] in SPEECH
+        return self.kinds[number] in SPEECH_CLASSES
 
     def slip(self, number: int, bits: int) -> None:
         """Puts ones before a frame, or leaves out the last bits before it."""
@@ -135,10 +135,10 @@ class Uplink:
 
 def damaged(name: Path, octets: bytes, asked: argparse.Namespace) -> Tuple[bytes, str]:
     """An uplink with the damages that the words ask for, done in the order of the kinds, and the number of each."""
-    line = Uplink(name, octets)
+    line = DamagedUplink(name, octets)
     count = len(line.frames)
 
-    def named(parts: Sequence[Part]) -> Set[int]:
+    def named(parts: Sequence[FrameRange]) -> Set[int]:
         """The speech frames that an option names."""
         return set(filter(line.is_speech, numbers_within(parts, count)))
 
@@ -146,7 +146,9 @@ def damaged(name: Path, octets: bytes, asked: argparse.Namespace) -> Tuple[bytes
     for number in pause:
         line.frames[number] = paused(line.frames[number], number, number - 1 not in pause)
     for number in drop:
-        line.frames[number] = write_up(read_up(line.frames[number])._replace(sort=Sort.BAD))
+        line.frames[number] = write_up(
+            read_up(line.frames[number])._replace(kind=FrameKind.UNUSABLE)
+        )
     for number in zero:
         line.frames[number] = FRAME_BITS * "0"
 
@@ -160,7 +162,7 @@ def damaged(name: Path, octets: bytes, asked: argparse.Namespace) -> Tuple[bytes
         if (
             align.frame in zero
             or not line.is_speech(align.frame)
-            and line.sorts[align.frame] is not Sort.IDLE
+            and line.kinds[align.frame] is not FrameKind.IDLE
         ):
             raise Refusal(f"frame {align.frame} has no alignment field")
         line.frames[align.frame] = frame[:22] + f"{align.value:06b}" + frame[28:]  # C6 to C11

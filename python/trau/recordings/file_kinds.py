@@ -31,7 +31,7 @@ from trau.command_line.files import STREAM, opened, read_file
 HEAD_OCTETS = 1 << 16
 
 
-class Kind(enum.Enum):
+class FileKind(enum.Enum):
     """What a file may be."""
 
     EMPTY = "empty"
@@ -53,15 +53,15 @@ class Kind(enum.Enum):
     UNKNOWN = "unknown"
 
 
-class Look(NamedTuple):
+class FileDescription(NamedTuple):
     """What a file is: its kind, the same in words, the command that makes something of it, whether its octets have their bits in the other
     order, and what its slots are. In the command {} stands for the file's name."""
 
-    kind: Kind
+    kind: FileKind
     said: str
     command: str = ""
     turned: bool = False
-    slots: Tuple[Look, ...] = ()
+    slots: Tuple[FileDescription, ...] = ()
 
 
 # By the head
@@ -74,7 +74,7 @@ PACKED_BY_GZIP = "packed by gzip"
 # Magics by kind and command, with what the files are.
 MAGICS = (
     (
-        Kind.SOUND,
+        FileKind.SOUND,
         SOX,
         {
             b"RIFX": "a WAV file of big-endian samples",
@@ -83,7 +83,7 @@ MAGICS = (
         },
     ),
     (
-        Kind.SOUND,
+        FileKind.SOUND,
         SOX,
         {
             b"fLaC": "a FLAC file",
@@ -92,9 +92,9 @@ MAGICS = (
             b"FORM": "an AIFF file",
         },
     ),
-    (Kind.SOUND, SOX, {b"Creative Voice File": "a VOC file", b"NIST_1A": "a SPHERE file"}),
+    (FileKind.SOUND, SOX, {b"Creative Voice File": "a VOC file", b"NIST_1A": "a SPHERE file"}),
     (
-        Kind.SOUND,
+        FileKind.SOUND,
         FFMPEG,
         {
             b"#!AMR": "an AMR file",
@@ -103,7 +103,7 @@ MAGICS = (
         },
     ),
     (
-        Kind.SOUND,
+        FileKind.SOUND,
         FFMPEG,
         {
             b"\x30\x26\xb2\x75\x8e\x66\xcf\x11": "a Windows Media file",
@@ -111,23 +111,23 @@ MAGICS = (
         },
     ),
     (
-        Kind.CAPTURE,
+        FileKind.CAPTURE,
         PCAP,
         dict.fromkeys(
             (b"\xa1\xb2\xc3\xd4", b"\xd4\xc3\xb2\xa1", b"\xa1\xb2\x3c\x4d", b"\x4d\x3c\xb2\xa1"),
             "a pcap capture",
         ),
     ),
-    (Kind.CAPTURE, PCAP, {b"\x0a\x0d\x0d\x0a": "a pcapng capture"}),
+    (FileKind.CAPTURE, PCAP, {b"\x0a\x0d\x0d\x0a": "a pcapng capture"}),
     (
-        Kind.OTHER_CAPTURE,
+        FileKind.OTHER_CAPTURE,
         EDITCAP,
         dict.fromkeys(
             (b"\xa1\xb2\xcd\x34", b"\x34\xcd\xb2\xa1"), "a pcap capture of a modified libpcap"
         ),
     ),
     (
-        Kind.OTHER_CAPTURE,
+        FileKind.OTHER_CAPTURE,
         EDITCAP,
         {
             b"snoop\0\0\0": "a snoop capture",
@@ -135,28 +135,28 @@ MAGICS = (
         },
     ),
     (
-        Kind.PACKED,
+        FileKind.PACKED,
         "lines.py reads such files where their names end with .gz",
         {b"\x1f\x8b\x08": PACKED_BY_GZIP},
     ),
-    (Kind.PACKED, "bunzip2 -k {}", {b"BZh": "packed by bzip2"}),
-    (Kind.PACKED, "unxz -k {}", {b"\xfd7zXZ\0": "packed by xz"}),
-    (Kind.PACKED, "unzip {}", {b"PK\3\4": "a zip archive"}),
-    (Kind.PROGRAM, "", {b"\x7fELF": "a program or a library"}),
+    (FileKind.PACKED, "bunzip2 -k {}", {b"BZh": "packed by bzip2"}),
+    (FileKind.PACKED, "unxz -k {}", {b"\xfd7zXZ\0": "packed by xz"}),
+    (FileKind.PACKED, "unzip {}", {b"PK\3\4": "a zip archive"}),
+    (FileKind.PROGRAM, "", {b"\x7fELF": "a program or a library"}),
 )
 # Magics that don't begin their files: their places come first. The head of a tar archive has the sync bits of a frame by its digits.
 MAGICS_WITHIN = (
-    (4, Kind.SOUND, FFMPEG, {b"ftyp": "an MP4 or QuickTime file"}),
-    (257, Kind.PACKED, "tar xf {}", {b"ustar": "a tar archive"}),
+    (4, FileKind.SOUND, FFMPEG, {b"ftyp": "an MP4 or QuickTime file"}),
+    (257, FileKind.PACKED, "tar xf {}", {b"ustar": "a tar archive"}),
 )
 
 
-def by_magic(head: bytes, size: int) -> Optional[Look]:
+def by_magic(head: bytes, size: int) -> Optional[FileDescription]:
     """A file whose first octets show its kind."""
     for place, kind, command, magics in (*((0, *each) for each in MAGICS), *MAGICS_WITHIN):
         said = next((said for magic, said in magics.items() if head.startswith(magic, place)), None)
         if said:
-            return Look(kind, said, command)
+            return FileDescription(kind, said, command)
     return None
 
 
@@ -167,21 +167,23 @@ WAV_SAMPLES = {
 }
 
 
-def by_wav(head: bytes, size: int) -> Optional[Look]:
+def by_wav(head: bytes, size: int) -> Optional[FileDescription]:
     """A WAV file."""
     if not wav_files.is_wav(head):
         return None
     try:
         wav = wav_files.read_wav(Path("wav"), head, partial=True)
     except Refusal:
-        return Look(Kind.SOUND, "a WAV file without a whole head")
+        return FileDescription(FileKind.SOUND, "a WAV file without a whole head")
     form = f"{wav.samples_a_second} Hz, channels {wav.channels}"
     if wav.tag == wav_files.WAV_GSM:
-        return Look(Kind.SOUND, f"a WAV file of GSM frames, {form}", "lines.py uplink {} NEW.up")
+        return FileDescription(
+            FileKind.SOUND, f"a WAV file of GSM frames, {form}", "lines.py uplink {} NEW.up"
+        )
     said = f"a WAV file, {form}, bits {wav.sample_bits} {WAV_SAMPLES.get(wav.tag, f'of format {wav.tag}')}"
     is_taken = (wav.channels, wav.samples_a_second) == (1, SAMPLES_A_SECOND)
     is_taken = is_taken and (wav.tag, wav.sample_bits) in wav_files.SAMPLE_KINDS
-    return Look(Kind.SOUND, said, "lines.py pcm {} NEW.pcm" if is_taken else SOX)
+    return FileDescription(FileKind.SOUND, said, "lines.py pcm {} NEW.pcm" if is_taken else SOX)
 
 
 # An idle line of A-law has the four bits of libgsm's magic in each octet.
@@ -199,7 +201,7 @@ def is_mostly_magic(octets: bytes) -> bool:
     return sum(others) > MOST_MAGIC * len(others)
 
 
-def by_gsm(head: bytes, size: int) -> Optional[Look]:
+def by_gsm(head: bytes, size: int) -> Optional[FileDescription]:
     """Frames of libgsm, each of which begins with its magic, and the other octets of which mostly don't. Zeros may stand for lost frames."""
     frames = [head[place : place + GSM_OCTETS] for place in range(0, len(head), GSM_OCTETS)]
     lost = sum(not any(frame) for frame in frames)
@@ -212,8 +214,8 @@ def by_gsm(head: bytes, size: int) -> Optional[Look]:
     cut, word = (f", and {left} octets of one that was cut", " --partial") if left else ("", "")
     if lost:
         cut, word = f"{cut}; zeros stand for lost ones", f"{word} --zeros lost"
-    return Look(
-        Kind.GSM,
+    return FileDescription(
+        FileKind.GSM,
         f"{size // GSM_OCTETS} frames of libgsm{cut}",
         f"lines.py uplink {{}} NEW.up{word}",
     )
@@ -222,27 +224,27 @@ def by_gsm(head: bytes, size: int) -> Optional[Look]:
 ORDER_LINE = re.compile(rb"\d+ (?:%b) [^\n]*" % "|".join(FORMS).encode())
 
 
-def by_text(head: bytes, size: int) -> Optional[Look]:
+def by_text(head: bytes, size: int) -> Optional[FileDescription]:
     """A text, of orders maybe."""
     if b"\n" not in head or re.search(rb"[^\t\n\r -~]", head):
         return None
     if re.match(rb"save \d+\n", head):
-        return Look(
-            Kind.TEXT,
+        return FileDescription(
+            FileKind.TEXT,
             "the mark of a run, which trau resume reads with the orders after it",
             "orders.py check --mark {}",
         )
     if any(ORDER_LINE.match(line) for line in head.split(b"\n")):
-        return Look(Kind.TEXT, "a text of orders", "orders.py check {}")
+        return FileDescription(FileKind.TEXT, "a text of orders", "orders.py check {}")
     if head.startswith((b"order 1 ", b"end period ")):
-        return Look(Kind.REPORT, "the report of a run", "report.py text {}")
-    return Look(Kind.TEXT, "a text")
+        return FileDescription(FileKind.REPORT, "the report of a run", "report.py text {}")
+    return FileDescription(FileKind.TEXT, "a text")
 
 
 # By frames
 
 
-class Frames(NamedTuple):
+class FoundFrames(NamedTuple):
     """The frames that were found in bits: those of an uplink and those of a downlink, those of other kinds by C1 to C5, the bit at which the
     first one begins, and the part of the bits from there on that frames cover."""
 
@@ -264,7 +266,7 @@ LEAST_COVERED = 0.5
 WAYS = ("up", "down")
 
 
-def frames_of(octets: bytes) -> Optional[Frames]:
+def frames_of(octets: bytes) -> Optional[FoundFrames]:
     """The frames of a line. Sync bits alone may come by chance, so most frames must have known code words. Some of full rate speech must follow
     one another, or the frames must be most of what is there. Those in a row are of one way, or of one other kind, and each begins where the one
     before ended, or after a shift of the timing."""
@@ -294,10 +296,10 @@ def frames_of(octets: bytes) -> Optional[Frames]:
         are_few or covered < LEAST_COVERED
     ):
         return None
-    return Frames(counts["up"], counts["down"], others, first, covered)
+    return FoundFrames(counts["up"], counts["down"], others, first, covered)
 
 
-def others_said(frames: Frames) -> str:
+def others_said(frames: FoundFrames) -> str:
     """The frames of a line of speech that aren't full rate, in words; one or two may be there by chance."""
     counts = Counter({code: count for code, count in frames.others.items() if count >= LEAST_ROW})
     kinds = " and ".join(
@@ -310,29 +312,29 @@ def others_said(frames: Frames) -> str:
     )
 
 
-def line_said(frames: Frames) -> Tuple[Kind, str]:
+def line_said(frames: FoundFrames) -> Tuple[FileKind, str]:
     """The kind of a line of frames, and the same in words."""
     place = f"its first frame at bit {frames.first}"
     if not frames.up + frames.down:
         code = max(frames.others, key=frames.others.__getitem__)
         return (
-            Kind.OTHER_FRAMES,
+            FileKind.OTHER_FRAMES,
             f"a line of {frame_kinds.said_of(code)}, which trau doesn't decode, {place}",
         )
-    kind = Kind.UPLINK if frames.up >= frames.down else Kind.DOWNLINK
+    kind = FileKind.UPLINK if frames.up >= frames.down else FileKind.DOWNLINK
     return kind, f"{kind.value}, {place}{others_said(frames)}"
 
 
 COMMANDS = {
-    Kind.UPLINK: "trau run takes it as C.up, and makes sound of it",
-    Kind.DOWNLINK: "lines.py listen {} NEW.wav",
+    FileKind.UPLINK: "trau run takes it as C.up, and makes sound of it",
+    FileKind.DOWNLINK: "lines.py listen {} NEW.wav",
 }
 LSB_FIRST = " --lsb-first"
 TURN = f"lines.py slot {{}} NEW{LSB_FIRST}"
 TURNED = ", with the bits of each octet in the other order"
 
 
-def by_frames(head: bytes, size: int) -> Optional[Look]:
+def by_frames(head: bytes, size: int) -> Optional[FileDescription]:
     """A line of frames, in the order of bits that gives more of them."""
     found = [
         (frames_of(octets_turned(head) if turned else head), turned) for turned in (False, True)
@@ -341,10 +343,12 @@ def by_frames(head: bytes, size: int) -> Optional[Look]:
     if not frames:
         return None
     kind, said = line_said(frames)
-    return Look(kind, said + TURNED * turned, TURN if turned else COMMANDS.get(kind, ""), turned)
+    return FileDescription(
+        kind, said + TURNED * turned, TURN if turned else COMMANDS.get(kind, ""), turned
+    )
 
 
-def frames_of_channels(slot: bytes) -> Dict[int, Frames]:
+def frames_of_channels(slot: bytes) -> Dict[int, FoundFrames]:
     """The frames in the channels of a slot, of those that have a line of frames."""
     found = ((number, frames_of(channel_octets(slot, number))) for number in range(CHANNELS))
     return {
@@ -352,7 +356,7 @@ def frames_of_channels(slot: bytes) -> Dict[int, Frames]:
     }
 
 
-def channels_said(channels: Mapping[int, Frames]) -> str:
+def channels_said(channels: Mapping[int, FoundFrames]) -> str:
     """The channels of a slot that have frames, in words."""
     return "; ".join(
         f"channel {number} is {line_said(frames)[1]}" for number, frames in channels.items()
@@ -391,14 +395,16 @@ SLOT_ALIGNMENTS = [Alignment(turned, bit) for bit in (0, 1) for turned in (False
 LINE_ALIGNMENTS = [Alignment(turned, bit) for bit in range(8) for turned in (False, True)]
 
 
-def by_channels(head: bytes, size: int) -> Optional[Look]:
+def by_channels(head: bytes, size: int) -> Optional[FileDescription]:
     """A time slot that carries lines of frames in its channels of 16 kbit/s, in the alignment that gives more of them."""
     found = [(frames_of_channels(way.aligned(head)), way) for way in SLOT_ALIGNMENTS]
     channels, way = max(found, key=lambda each: sum(frames.count() for frames in each[0].values()))
     if not channels:
         return None
     said = f"a time slot of 64 kbit/s{way.said()}: {channels_said(channels)}{TURNED * way.turned}"
-    return Look(Kind.SLOT, said, f"lines.py slot {{}} NEW.up --channel J{way.words()}", way.turned)
+    return FileDescription(
+        FileKind.SLOT, said, f"lines.py slot {{}} NEW.up --channel J{way.words()}", way.turned
+    )
 
 
 def spans_said(numbers: Sequence[int]) -> str:
@@ -410,10 +416,12 @@ def spans_said(numbers: Sequence[int]) -> str:
     return f"slot{'s' * (len(numbers) > 1)} {', '.join(f'{row[0]}-{row[-1]}' if len(row) > 1 else str(row[0]) for row in rows)}"
 
 
-def look_of_line(what: str, octets: bytes, more: int, way: Alignment, first: int) -> Look:
+def look_of_line(
+    what: str, octets: bytes, more: int, way: Alignment, first: int
+) -> FileDescription:
     """A whole line that begins with these octets and has more, and its slots from this one on: each with frames alone, and then the others,
     those that are alike together."""
-    found: List[Look] = []
+    found: List[FileDescription] = []
     others: Dict[str, List[int]] = {}
     for number in range(first, SLOTS_OF_E1):
         slot = octets[number::SLOTS_OF_E1]
@@ -421,8 +429,8 @@ def look_of_line(what: str, octets: bytes, more: int, way: Alignment, first: int
         if channels:
             words = f"--slot {number} --of {SLOTS_OF_E1} --channel J{way.words()}"
             found.append(
-                Look(
-                    Kind.SLOT,
+                FileDescription(
+                    FileKind.SLOT,
                     f"slot {number}: {channels_said(channels)}",
                     f"lines.py slot {{}} NEW.up {words}",
                 )
@@ -431,10 +439,17 @@ def look_of_line(what: str, octets: bytes, more: int, way: Alignment, first: int
             others.setdefault(
                 (by_constant(slot, more) or by_statistics(slot) or UNKNOWN).said, []
             ).append(number)
-    found += (Look(Kind.SLOT, f"{spans_said(alike)}: {said}") for said, alike in others.items())
+    found += (
+        FileDescription(FileKind.SLOT, f"{spans_said(alike)}: {said}")
+        for said, alike in others.items()
+    )
     command = f"lines.py slot {{}} NEW.pcm --slot N --of {SLOTS_OF_E1}{way.words()}"
-    return Look(
-        Kind.E1, what.format(way.said()) + TURNED * way.turned, command, way.turned, tuple(found)
+    return FileDescription(
+        FileKind.E1,
+        what.format(way.said()) + TURNED * way.turned,
+        command,
+        way.turned,
+        tuple(found),
     )
 
 
@@ -456,7 +471,7 @@ def has_signal(octets: bytes) -> bool:
     return False
 
 
-def by_signal(head: bytes, size: int) -> Optional[Look]:
+def by_signal(head: bytes, size: int) -> Optional[FileDescription]:
     """A whole E1 line, whose slot 0 begins at any bit of the first octets."""
     for way in LINE_ALIGNMENTS:
         octets = way.aligned(head)
@@ -472,7 +487,7 @@ def by_signal(head: bytes, size: int) -> Optional[Look]:
     return None
 
 
-def by_slots(head: bytes, size: int) -> Optional[Look]:
+def by_slots(head: bytes, size: int) -> Optional[FileDescription]:
     """A whole line without the signal, of as many slots as an E1 line, in the alignment in which more of their channels have frames."""
     lines = {way: way.aligned(head) for way in SLOT_ALIGNMENTS}
     counts = {
@@ -487,7 +502,7 @@ def by_slots(head: bytes, size: int) -> Optional[Look]:
 # By statistics
 
 
-def by_constant(head: bytes, more: int) -> Optional[Look]:
+def by_constant(head: bytes, more: int) -> Optional[FileDescription]:
     """An idle line, each octet of which is the same, or of its start if there are more; that of silence has either sign."""
     if len(head) < PCM_OCTETS or head.count(head[0]) < len(head):
         return None
@@ -496,28 +511,30 @@ def by_constant(head: bytes, more: int) -> Optional[Look]:
     return (
         look_of_reading(Reading(law, False))._replace(said=f"{said}, silence of {law.title()}")
         if law
-        else Look(Kind.UNKNOWN, said)
+        else FileDescription(FileKind.UNKNOWN, said)
     )
 
 
-def look_of_reading(reading: Reading) -> Look:
+def look_of_reading(reading: Reading) -> FileDescription:
     """What a file is by the best reading of its octets."""
     if reading.law is None:
         command = "sox -t raw -r 8000 -c 1 -b 16 -e signed-integer {} NEW.wav"
-        return Look(Kind.LINEAR, "sound of 16 bits a sample, as it seems", command)
+        return FileDescription(FileKind.LINEAR, "sound of 16 bits a sample, as it seems", command)
     law = "" if reading.law is Law.A else f" --law {reading.law}"
     order = LSB_FIRST * reading.turned
     said = f"{reading.law.title()}, as it seems{TURNED * reading.turned}"
-    return Look(Kind.LAW, said, f"lines.py pcm {{}} NEW.pcm --raw{order}{law}", reading.turned)
+    return FileDescription(
+        FileKind.LAW, said, f"lines.py pcm {{}} NEW.pcm --raw{order}{law}", reading.turned
+    )
 
 
-def by_statistics(head: bytes) -> Optional[Look]:
+def by_statistics(head: bytes) -> Optional[FileDescription]:
     """Sound of a law, or samples of 16 bits, where one of them is plainly the best reading."""
     best = readings.best_reading(head)
     return look_of_reading(best) if best else None
 
 
-def other_than_law(head: bytes, law: Law) -> Optional[Look]:
+def other_than_law(head: bytes, law: Law) -> Optional[FileDescription]:
     """What octets that are said to have this law plainly are instead."""
     other = readings.plainly_other(head, law)
     return look_of_reading(other) if other else None
@@ -525,20 +542,20 @@ def other_than_law(head: bytes, law: Law) -> Optional[Look]:
 
 # All of it
 
-UNKNOWN = Look(Kind.UNKNOWN, "nothing that is known here")
-Tests = Sequence[Callable[[bytes, int], Optional[Look]]]
+UNKNOWN = FileDescription(FileKind.UNKNOWN, "nothing that is known here")
+Tests = Sequence[Callable[[bytes, int], Optional[FileDescription]]]
 TESTS_OF_HEADS: Tests = (by_wav, by_magic, by_text, by_gsm)
 TESTS: Tests = (*TESTS_OF_HEADS, by_frames, by_signal, by_channels)
 
 
-def known_kind(head: bytes, size: int, tests: Tests = TESTS) -> Optional[Look]:
+def known_kind(head: bytes, size: int, tests: Tests = TESTS) -> Optional[FileDescription]:
     """The kind that the head of a file of this many octets shows, without statistics."""
     if not size:
-        return Look(Kind.EMPTY, "empty")
+        return FileDescription(FileKind.EMPTY, "empty")
     return next(filter(None, (test(head, size) for test in tests)), None)
 
 
-def look(head: bytes, size: int) -> Look:
+def look(head: bytes, size: int) -> FileDescription:
     """What a file of so many octets with this head is."""
     return (
         known_kind(head, size)
@@ -559,10 +576,10 @@ def head_of(path: Path, octets: int = HEAD_OCTETS) -> Tuple[bytes, int]:
         return head, max(len(head), path.stat().st_size)
 
 
-def of_line(found: Look, name: Path) -> Look:
+def of_line(found: FileDescription, name: Path) -> FileDescription:
     """What is found of a file, with the command that makes sound of it if it has the name of a line from or to the exchange."""
     if (
-        found.kind is not Kind.LAW
+        found.kind is not FileKind.LAW
         or found.turned
         or recordings.name_within(name).suffix not in (".out", ".pcm")
     ):
@@ -571,7 +588,7 @@ def of_line(found: Look, name: Path) -> Look:
     return found._replace(command=f"lines.py sound {{}} NEW.wav{law}")
 
 
-def command_for(found: Look, name: Path) -> str:
+def command_for(found: FileDescription, name: Path) -> str:
     """The command that takes this file, in words that follow what the file is. Only lines.py unpacks what it reads."""
     command = as_started(found.command)
     if not found.command.startswith("lines.py "):
@@ -579,12 +596,12 @@ def command_for(found: Look, name: Path) -> str:
     return f"; {command}".replace("{}", recordings.quoted(name))
 
 
-def said_beside(found: Look, name: Path, not_this: str) -> str:
+def said_beside(found: FileDescription, name: Path, not_this: str) -> str:
     """What a file is instead of what was wanted, with the command that takes it."""
     return f"{found.said}, and {not_this}{command_for(found, name)}"
 
 
-def refuse(name: Path, found: Look, not_this: str, more: str = "") -> NoReturn:
+def refuse(name: Path, found: FileDescription, not_this: str, more: str = "") -> NoReturn:
     """Refuses a file that isn't what was wanted."""
     raise Refusal(f"{name}: is {said_beside(found, name, not_this)}{more}")
 
@@ -593,11 +610,11 @@ def refuse_other(
     name: Path,
     content: bytes,
     not_this: str,
-    wanted: Kind = Kind.EMPTY,
+    wanted: FileKind = FileKind.EMPTY,
     tests: Tests = TESTS,
     size: int = 0,
 ) -> None:
     """Refuses a file that is plainly of another kind than the one that is wanted, if any. It may have more octets than these."""
     found = known_kind(content[:HEAD_OCTETS], max(size, len(content)), tests)
-    if found and found.kind not in (Kind.EMPTY, wanted):
+    if found and found.kind not in (FileKind.EMPTY, wanted):
         refuse(name, found, not_this)

@@ -7,7 +7,7 @@ from typing import List, Mapping, NamedTuple, Optional, Tuple
 from trau.recordings import file_kinds
 from trau.recordings import wav_files
 from trau.recordings.code_word import Marker
-from trau.rules.frame import Kind, bits_of, read_down, read_up
+from trau.rules.frame import FrameKind, bits_of, read_down, read_up
 from trau.rules.noise import RandomSource, comfort_noise
 from trau.rules.parameters import (
     GSM_MAGIC,
@@ -53,7 +53,7 @@ def data_of_file(name: Path, given: bytes, partial: bool, zeros_are_lost: bool) 
         None,
     )
     if wrong is not None or not whole or left and not partial:
-        file_kinds.refuse_other(name, given, "no frames of libgsm", file_kinds.Kind.GSM)
+        file_kinds.refuse_other(name, given, "no frames of libgsm", file_kinds.FileKind.GSM)
     if not whole or left and not partial:
         raise Refusal(
             f"{name}: {len(given)} octets are no frames of libgsm, which have {size} octets each"
@@ -115,7 +115,7 @@ def uplink_of(
 # From a downlink
 
 
-SORTS = ("speech", "silence", "idle", "other")
+WORDS = ("speech", "silence", "idle", "other")
 
 
 def treated(data: str, treatment: str, source: RandomSource) -> Optional[str]:
@@ -136,7 +136,7 @@ class Treated(NamedTuple):
 
 
 def treated_downlink(name: Path, octets: bytes, treatments: Mapping[str, str]) -> Treated:
-    """The frames of a downlink, wherever they begin, by the treatment of each sort."""
+    """The frames of a downlink, wherever they begin, by the treatment of each kind."""
     bits = bits_of(octets)
     source = RandomSource(1)
     counts: Counter = Counter()
@@ -144,15 +144,15 @@ def treated_downlink(name: Path, octets: bytes, treatments: Mapping[str, str]) -
     written, inside, of_uplink = 0, 0, 0
     for found in FRAME_OF_DOWNLINK.finditer(bits):
         frame = read_down(found.group())
-        sort = "silence" if frame.kind is Kind.SPEECH and not frame.sp else frame.kind.value
-        counts[sort] += 1
+        word = "silence" if frame.kind is FrameKind.VALID_SID else frame.word()
+        counts[word] += 1
         inside += found.end() - found.start()
-        of_uplink += frame.kind is Kind.OTHER and read_up(found.group()).is_speech()
-        data = treated(frame.data, treatments[sort], source)
+        of_uplink += frame.kind is FrameKind.OTHER and read_up(found.group()).is_speech()
+        data = treated(frame.data, treatments[word], source)
         if data is not None:
             frames.append((found.start() - written, data))
             written = found.end()
-    said = " ".join(f"{sort} {counts[sort]}" for sort in SORTS) + f" outside {len(bits) - inside}"
+    said = " ".join(f"{word} {counts[word]}" for word in WORDS) + f" outside {len(bits) - inside}"
     if of_uplink and of_uplink == sum(counts.values()):
         listens = as_started(f"lines.py listen {quoted(name)} NEW.wav")
         raise Refusal(

@@ -44,13 +44,13 @@ from trau.command_line.words import (
     option,
     switch,
 )
-from trau.recordings.file_kinds import Kind, Look
+from trau.recordings.file_kinds import FileKind, FileDescription
 from trau.command_line.ends import FAILED, complain, tool
 from trau.command_line.files import STREAM, write_file
 from trau.recordings.wav_files import LAWS_BY_TAG, WAV_ALAW, WAV_LINEAR, WAV_MULAW
 
 
-class Made(NamedTuple):
+class MadeFile(NamedTuple):
     """What a command made: the content of the file, a line that says what was done, and what the file is."""
 
     content: bytes
@@ -107,32 +107,32 @@ def check_frames(name: Path, octets: bytes) -> None:
         raise Refusal(f"{name}: is {OF_A_LAW} by its name, and {not_this}; {makes_sound}")
 
 
-def uplink(words: argparse.Namespace, given: bytes) -> Made:
+def uplink(words: argparse.Namespace, given: bytes) -> MadeFile:
     """An uplink, from frames of libgsm or from those of a WAV file."""
     marker = Marker(words.sid == "keep", words.dtxd == 1)
-    return Made(
+    return MadeFile(
         *gsm_files.uplink_of(words.given, given, marker, words.partial, words.zeros == "lost"),
         UPLINK,
     )
 
 
-def gsm(words: argparse.Namespace, given: bytes) -> Made:
+def gsm(words: argparse.Namespace, given: bytes) -> MadeFile:
     """Frames of libgsm, from a downlink."""
     check_frames(words.given, given)
     treatments = {"speech": "keep", "silence": words.silence, "idle": words.idle, "other": "skip"}
     found = gsm_files.treated_downlink(words.given, given, treatments)
     frames = [gsm_of_data(data) for _, data in found.frames]
-    return Made(b"".join(frames), f"gsm frames {len(frames)} found {found.said}", FRAMES)
+    return MadeFile(b"".join(frames), f"gsm frames {len(frames)} found {found.said}", FRAMES)
 
 
-def listen(words: argparse.Namespace, given: bytes) -> Made:
+def listen(words: argparse.Namespace, given: bytes) -> MadeFile:
     """A WAV file, from a downlink or an uplink."""
     check_frames(words.given, given)
     octets, said = listening.alaw_of_line(words.given, given, words.trau)
     if words.start is not None:
         start = words.start / PERIODS_A_SECOND
         said += f" run {start:.2f} to {start + len(octets) / SAMPLES_A_SECOND:.2f}"
-    return Made(linear_wav(octets, Law.A), f"listen samples {len(octets)} {said}", WAV)
+    return MadeFile(linear_wav(octets, Law.A), f"listen samples {len(octets)} {said}", WAV)
 
 
 # Octets of A-law or mu-law, and samples: to a Pcm line, and from an Out line
@@ -155,9 +155,9 @@ def check_law(words: argparse.Namespace, name: Path, octets: bytes) -> None:
         raise Refusal(
             f"{name}: is a line of frames by its name, and {not_this}{listens if words.made is sound else ''}"
         )
-    file_kinds.refuse_other(name, octets, not_this, Kind.LAW)
+    file_kinds.refuse_other(name, octets, not_this, FileKind.LAW)
     other = file_kinds.other_than_law(octets, words.law)
-    if other and other.kind is Kind.LAW and not other.turned:
+    if other and other.kind is FileKind.LAW and not other.turned:
         law = "" if words.law is Law.MU else f" --law {Law.MU}"
         other = other._replace(
             command=f"lines.py {words.made.__name__} {{}} {MADE_OF_A_LAW[words.made.__name__]}{law}"
@@ -166,20 +166,20 @@ def check_law(words: argparse.Namespace, name: Path, octets: bytes) -> None:
         file_kinds.refuse(name, other, not_this, "; --trust takes it as it is")
 
 
-def pcm(words: argparse.Namespace, given: bytes) -> Made:
+def pcm(words: argparse.Namespace, given: bytes) -> MadeFile:
     """A Pcm line of whole periods, from a WAV file or raw octets of its law."""
     if words.raw:
         octets = octets_turned(given) if words.lsb_first else given
         check_law(words, words.given, octets)
     else:
         if not wav_files.is_wav(given):
-            file_kinds.refuse_other(words.given, given, "no plain WAV file", Kind.LAW)
+            file_kinds.refuse_other(words.given, given, "no plain WAV file", FileKind.LAW)
         octets = wav_files.octets_of_wav(words.given, given, words.law, words.partial)
     if not octets:
         raise Refusal(f"{words.given}: holds no samples")
     padded = -len(octets) % PCM_OCTETS
     line = octets + bytes([words.law.idle()]) * padded
-    return Made(line, f"pcm periods {len(line) // PCM_OCTETS} padded {padded}", OF_A_LAW)
+    return MadeFile(line, f"pcm periods {len(line) // PCM_OCTETS} padded {padded}", OF_A_LAW)
 
 
 def linear_wav(octets: bytes, law: Law) -> bytes:
@@ -190,32 +190,32 @@ def linear_wav(octets: bytes, law: Law) -> bytes:
     return wav_files.wav_of(WAV_LINEAR, 16, samples.tobytes())
 
 
-def sound(words: argparse.Namespace, given: bytes) -> Made:
+def sound(words: argparse.Namespace, given: bytes) -> MadeFile:
     """A WAV file or raw octets, from an Out line."""
     if not given:
         raise Refusal(f"{words.given}: holds no octets")
     check_law(words, words.given, given)
     said = f"sound samples {len(given)}"
     if words.raw:
-        return Made(given, said, OF_A_LAW)
+        return MadeFile(given, said, OF_A_LAW)
     if words.tag in LAWS_BY_TAG:
         table = words.law.table_to(LAWS_BY_TAG[words.tag])
-        return Made(wav_files.wav_of(words.tag, 8, given.translate(table)), said, WAV)
-    return Made(linear_wav(given, words.law), said, WAV)
+        return MadeFile(wav_files.wav_of(words.tag, 8, given.translate(table)), said, WAV)
+    return MadeFile(linear_wav(given, words.law), said, WAV)
 
 
 # Captures of network packets: to a line, and from lines
 
 
-def pcap(words: argparse.Namespace, given: bytes) -> Made:
+def pcap(words: argparse.Namespace, given: bytes) -> MadeFile:
     """An uplink or a Pcm line, from streams of a capture."""
-    file_kinds.refuse_other(words.given, given, "no capture in pcap or pcapng", Kind.CAPTURE)
+    file_kinds.refuse_other(words.given, given, "no capture in pcap or pcapng", FileKind.CAPTURE)
     marker = Marker(words.sid == "keep")
     line, said, is_uplink = captures.line_of(words.given, given, words, marker)
-    return Made(line, said, UPLINK if is_uplink else OF_A_LAW)
+    return MadeFile(line, said, UPLINK if is_uplink else OF_A_LAW)
 
 
-def capture(words: argparse.Namespace, given: bytes) -> Made:
+def capture(words: argparse.Namespace, given: bytes) -> MadeFile:
     """A capture, from lines of calls."""
     more = [(name, recordings.read_recording(name)) for name in words.also]
     lines = [
@@ -224,25 +224,27 @@ def capture(words: argparse.Namespace, given: bytes) -> Made:
     for name, octets in lines:
         if name.suffix[1:] in ENDINGS_OF[OF_A_LAW]:
             check_law(words, name, octets)
-    return Made(*captures.capture_of(lines, words.law), CAPTURE)
+    return MadeFile(*captures.capture_of(lines, words.law), CAPTURE)
 
 
 # Time slots, an idle line, and damage
 
 
-def slot(words: argparse.Namespace, given: bytes) -> Made:
+def slot(words: argparse.Namespace, given: bytes) -> MadeFile:
     """A time slot, whose octets were taken from a recording of a whole line as it was read, or a channel of it."""
     if not given:
         raise Refusal(f"{words.given}: has no octet of slot {words.slot}")
     if words.channel is None:
-        return Made(given, f"slot octets {len(given)}", SLOT)
+        return MadeFile(given, f"slot octets {len(given)}", SLOT)
     channel = channel_octets(given, words.channel)
     if not channel:
         raise Refusal(
             f"{words.given}: slot {words.slot} has {len(given)} octets, and four make one of a channel"
         )
     left = len(given) % CHANNELS
-    return Made(channel, f"slot octets {len(channel)} channel {words.channel} left {left}", CHANNEL)
+    return MadeFile(
+        channel, f"slot octets {len(channel)} channel {words.channel} left {left}", CHANNEL
+    )
 
 
 MOST_IDLE_PERIODS = 1_000_000
@@ -250,18 +252,18 @@ MOST_STREAMS = 1_000_000
 MOST_SKIPPED = 1 << 40
 
 
-def idle(words: argparse.Namespace, _: bytes) -> Made:
+def idle(words: argparse.Namespace, _: bytes) -> MadeFile:
     """An idle Pcm line."""
-    return Made(
+    return MadeFile(
         bytes([words.law.idle()]) * PCM_OCTETS * words.periods,
         f"idle periods {words.periods}",
         OF_A_LAW,
     )
 
 
-def damage(words: argparse.Namespace, given: bytes) -> Made:
+def damage(words: argparse.Namespace, given: bytes) -> MadeFile:
     """An uplink with damages of the kinds that the options name."""
-    return Made(*damages.damaged(words.given, given, words), UPLINK)
+    return MadeFile(*damages.damaged(words.given, given, words), UPLINK)
 
 
 # What is read and written
@@ -337,7 +339,7 @@ def streams_said(name: Path, content: bytes) -> List[str]:
     return found or [f"no stream of RTP{streams.cut_off}"]
 
 
-def looked_at(name: Path) -> Tuple[Look, List[str]]:
+def looked_at(name: Path) -> Tuple[FileDescription, List[str]]:
     """What a file is, or what is in it if gzip packed it; and more lines of a capture and of a whole line."""
     head, size = file_kinds.head_of(name, LOOKED_INTO if name == STREAM else file_kinds.HEAD_OCTETS)
     found = file_kinds.look(head[: file_kinds.HEAD_OCTETS], size)
@@ -347,9 +349,9 @@ def looked_at(name: Path) -> Tuple[Look, List[str]]:
         )
         found = file_kinds.look(head[: file_kinds.HEAD_OCTETS], len(head))
         found = found._replace(said=f"{file_kinds.PACKED_BY_GZIP}: {found.said}")
-    elif found.kind is Kind.CAPTURE and name != STREAM:
+    elif found.kind is FileKind.CAPTURE and name != STREAM:
         head, _ = file_kinds.head_of(name, LOOKED_INTO)
-    streams = streams_said(name, head) if found.kind is Kind.CAPTURE else []
+    streams = streams_said(name, head) if found.kind is FileKind.CAPTURE else []
     return file_kinds.of_line(found, name), streams + [
         each.said + file_kinds.command_for(each, name) for each in found.slots
     ]

@@ -13,7 +13,7 @@ from trau.recordings import file_kinds
 from trau.recordings import gsm_files
 from trau.recordings import recordings
 from trau.runs import run_texts
-from trau.rules.frame import Sort, UpFrame, octets_of, write_up
+from trau.rules.frame import FrameKind, UpFrame, octets_of, write_up
 from trau.rules.g711 import Law
 from trau.rules.parameters import SILENCE, bits_of_parameters, gsm_of_data
 from trau.rules.profile import FRAME_BITS, FRAME_OCTETS, PCM_OCTETS
@@ -89,7 +89,7 @@ def decoded_by_program(frames: List[str], trau: str) -> bytes:
     with tempfile.TemporaryDirectory() as folder:
         write_line(
             Path(folder, "1.up"),
-            b"".join(octets_of(write_up(UpFrame(Sort.GOOD, data=data))) for data in frames),
+            b"".join(octets_of(write_up(UpFrame(FrameKind.SPEECH, data=data))) for data in frames),
         )
         said_by_program(trau, ["decode", "1"], folder)
         return read_file(Path(folder, "1.out"))

@@ -24,12 +24,12 @@ from typing import (
 )
 
 from trau.rules.parameters import GSM_MAGIC, GSM_OCTETS
+from trau.rules.payload_types import GSM, PCMA, PCMU
 from trau.rules.profile import PERIODS_A_SECOND
 from trau.command_line.words import Refusal
 
 
 # The payload types of RFC 3551 are the kinds of speech here. A dynamic type is one of them if the words say so.
-PCMU, GSM, PCMA = 0, 3, 8
 NAMES = {PCMU: "pcmu", GSM: "gsm", PCMA: "pcma"}
 KINDS = {name: kind for kind, name in NAMES.items()}
 PLAIN_TYPES = {kind: kind for kind in NAMES}
@@ -221,7 +221,7 @@ def types_said(packets: Sequence[Packet]) -> str:
     )
 
 
-class Streams(NamedTuple):
+class CapturedStreams(NamedTuple):
     """The RTP packets of a capture by their flows, in their order; how many with speech weren't captured whole; the streams without speech
     of the three kinds; and how many of all packets were cut off, in words."""
 
@@ -233,7 +233,7 @@ class Streams(NamedTuple):
 
 def streams_of(
     name: Path, content: bytes, partial: bool = False, types: Mapping[int, int] = PLAIN_TYPES
-) -> Streams:
+) -> CapturedStreams:
     """The streams of a capture, whose payload types of speech have these kinds. A packet that wasn't captured whole is left out where
     `partial` says so."""
     rtp_kind, errors = library("rtp").RTP, library("dpkt")
@@ -272,7 +272,7 @@ def streams_of(
         for flow, each in streams.items()
         if flow not in with_speech and len(each) >= LEAST_OF_STREAM
     }
-    return Streams(with_speech, cut, others, cut_off)
+    return CapturedStreams(with_speech, cut, others, cut_off)
 
 
 def kinds_said(packets: Sequence[Packet]) -> str:
@@ -304,7 +304,7 @@ def flow_said(flow: Flow, packets: Sequence[Packet]) -> str:
     return f"{flow.said()}, packets {len(packets)}, payload types {types_said(packets)}"
 
 
-def chosen(name: Path, found: Streams, option: str, number: Optional[int]) -> List[Packet]:
+def chosen(name: Path, found: CapturedStreams, option: str, number: Optional[int]) -> List[Packet]:
     """The packets of the stream with the number that an option gives, counted from 1, or of the only one."""
     streams = found.by_flow
     if not streams:

@@ -9,7 +9,8 @@ from trau.recordings import rtp_packets
 from trau.rules.parameters import GSM_MAGIC, GSM_OCTETS
 from trau.rules.profile import PCM_OCTETS, SAMPLES_A_SECOND
 from trau.command_line.words import Refusal
-from trau.recordings.rtp_packets import GSM, Packet
+from trau.recordings.rtp_packets import Packet
+from trau.rules.payload_types import GSM
 
 # Time stamps count samples, each of them an octet of a Pcm line.
 SEQUENCES, STAMPS = 1 << 16, 1 << 32
@@ -31,7 +32,7 @@ class Counts:
     restarts: int = 0
 
 
-class Lost(NamedTuple):
+class LostUnits(NamedTuple):
     """Units whose packets have missing numbers."""
 
     units: int
@@ -46,7 +47,7 @@ class Gap(NamedTuple):
 EMPTY = b""  # the unit of a packet of GSM without payload: a frame that its sender had lost
 
 # A stretch of a stream: units that came, or none.
-Stretch = Union[List[Any], Lost, Gap]
+Stretch = Union[List[Any], LostUnits, Gap]
 
 
 def near(value: int, before: int, size: int) -> int:
@@ -154,7 +155,7 @@ def gap(name: Path, missing: int, units: int, size: int, packet: Packet) -> Iter
         )
     lost = max(0, min(units, missing))
     if lost:
-        yield Lost(lost)
+        yield LostUnits(lost)
     if units > lost:
         yield Gap(units - lost)
 

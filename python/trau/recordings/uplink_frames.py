@@ -3,15 +3,15 @@ idle frames."""
 
 from typing import Iterable, List, Optional
 
-from trau.recordings.code_word import FrameKind, Marker
-from trau.rules.frame import Sort, UpFrame, frame_of, octets_of, write_up
+from trau.recordings.code_word import Marker
+from trau.rules.frame import FrameKind, UpFrame, frame_of, octets_of, write_up
 from trau.rules.parameters import SILENCE, bits_of_parameters
 from trau.rules.profile import TAF_PERIODS, UP_IDLE
 
 
 def unusable(taf: bool) -> bytes:
     """An unusable frame."""
-    return octets_of(write_up(UpFrame(Sort.BAD, taf, data=bits_of_parameters(SILENCE))))
+    return octets_of(write_up(UpFrame(FrameKind.UNUSABLE, taf, data=bits_of_parameters(SILENCE))))
 
 
 IDLE = octets_of(frame_of(UP_IDLE + "000000" + 10 * "1", 260 * "1"))

@@ -11,7 +11,7 @@ from trau.rules.orders import Order
 from trau.rules.report import Reply
 
 
-class Refused(enum.IntEnum):
+class OrderRefusal(enum.IntEnum):
     """Why an order is refused; the value is the number in the report (docs/OPERATORS.md, "Refusals")."""
 
     ALREADY_OPEN = 1
@@ -75,25 +75,25 @@ class Board:
         first = order.calls[0]
         if order.verb == "open":
             if first in self.ends:
-                return Reply(Refused.ALREADY_OPEN, first)
-            return Reply(Refused.NUMBER_USED, first) if first in self.opened else Reply()
+                return Reply(OrderRefusal.ALREADY_OPEN, first)
+            return Reply(OrderRefusal.NUMBER_USED, first) if first in self.opened else Reply()
         if order.verb == "bridge" and first == order.calls[1]:
-            return Reply(Refused.SAME_CALL, first)
+            return Reply(OrderRefusal.SAME_CALL, first)
         for call in order.calls:
             if call not in self.ends:
-                return Reply(Refused.NOT_OPEN, call)
+                return Reply(OrderRefusal.NOT_OPEN, call)
         if order.verb == "unbridge" and first not in self.bridge_of:
-            return Reply(Refused.NOT_BRIDGED, first)
+            return Reply(OrderRefusal.NOT_BRIDGED, first)
         return self.reply_to_bridge(order) if order.verb == "bridge" else Reply()
 
     def reply_to_bridge(self, order: Order) -> Reply:
         """Why a bridge of open calls is refused: a call is bridged, or its bridge was ended in this very period (docs/OPERATORS.md, "Refusals")."""
         for call in order.calls:
             if call in self.bridge_of:
-                return Reply(Refused.BRIDGED, call, self.bridge_of[call].partner_of(call))
+                return Reply(OrderRefusal.BRIDGED, call, self.bridge_of[call].partner_of(call))
         for call in order.calls:
             if call in self.ended and self.ended[call].end == order.stamp:
-                return Reply(Refused.DRAINING, call, self.ended[call].partner_of(call))
+                return Reply(OrderRefusal.DRAINING, call, self.ended[call].partner_of(call))
         return Reply()
 
     def accept(self, order: Order) -> None:

@@ -42,38 +42,47 @@ def data_of(frame: Bits) -> Bits:
     return "".join([frame[first : first + 15] for first in range(33, 305, 16)]) + frame[305:310]
 
 
-class Sort(enum.Enum):
-    """What a period of an uplink yields: a speech frame by its class, modelled on GSM 06.31, another frame by its kind, the miss of a frame, or
-    nothing. The value is its word in texts (docs/FILES.md, "Classes"; docs/commands/frames.md)."""
+class FrameKind(enum.Enum):
+    """What a frame is, or what a period of a line has instead of one: the one vocabulary of this package.
 
-    GOOD = "good"
-    SID = "sid"  # a valid silence descriptor
-    INVALID = "invalid"  # an invalid one
-    BAD = "bad"  # an unusable frame
+    The first four are the classes of a speech frame (GSM 06.31, section 6.1): a good speech frame, a valid and an invalid
+    SID frame (silence descriptor), and an unusable frame. A downlink has speech frames, valid SID frames, idle frames and
+    others. The value is the kind's word in texts (docs/FILES.md, "Classes"; docs/commands/frames.md).
+    """
+
+    SPEECH = "good"
+    VALID_SID = "sid"
+    INVALID_SID = "invalid"
+    UNUSABLE = "bad"
     IDLE = "idle"
     OTHER = "other"
-    MISS = "miss"
-    NONE = "none"
+    MISSED = "miss"  # no frame, where the search expects one
+    NONE = "none"  # nothing: the search has no place for a frame here
 
 
-SPEECH = (Sort.GOOD, Sort.SID, Sort.INVALID, Sort.BAD)
+SPEECH_CLASSES = (
+    FrameKind.SPEECH,
+    FrameKind.VALID_SID,
+    FrameKind.INVALID_SID,
+    FrameKind.UNUSABLE,
+)
 # Classes by BFI and by the two bits of SID (docs/FILES.md, "Classes"); what isn't here is an invalid silence descriptor, and is written as 001.
-CLASSES = {"000": Sort.GOOD, "100": Sort.BAD, "010": Sort.SID}
-CLASS_BITS = {**{sort: bits for bits, sort in CLASSES.items()}, Sort.INVALID: "001"}
-UP_PATTERNS = {Sort.IDLE: profile.UP_IDLE, Sort.OTHER: profile.UP_OTHER}
+CLASSES = {"000": FrameKind.SPEECH, "100": FrameKind.UNUSABLE, "010": FrameKind.VALID_SID}
+CLASS_BITS = {**{kind: bits for bits, kind in CLASSES.items()}, FrameKind.INVALID_SID: "001"}
+UP_PATTERNS = {FrameKind.IDLE: profile.UP_IDLE, FrameKind.OTHER: profile.UP_OTHER}
 
 
-def sort_of(control: Bits) -> Sort:
+def kind_of_control(control: Bits) -> FrameKind:
     """The class of an uplink's speech frame, and the kind of another frame, by C1 to C21 (docs/FILES.md, "Control bits" and "Classes")."""
     if control.startswith(profile.UP_SPEECH):
-        return CLASSES.get(control[11:14], Sort.INVALID)
-    return Sort.IDLE if control.startswith(profile.UP_IDLE) else Sort.OTHER
+        return CLASSES.get(control[11:14], FrameKind.INVALID_SID)
+    return FrameKind.IDLE if control.startswith(profile.UP_IDLE) else FrameKind.OTHER
 
 
 class UpFrame(NamedTuple):
     """An uplink frame as it is read (docs/FILES.md, "Control bits")."""
 
-    sort: Sort
+    kind: FrameKind
     taf: bool = False  # a silence descriptor is due in this period
     dtxd: bool = False  # discontinuous transmission applies downlink
     field: int = 0  # the alignment field, 0 to 63
@@ -81,14 +90,14 @@ class UpFrame(NamedTuple):
 
     def is_speech(self) -> bool:
         """Whether it is a speech frame, of whatever class (docs/FILES.md, "Classes")."""
-        return self.sort in SPEECH
+        return self.kind in SPEECH_CLASSES
 
 
 def read_up(frame: Bits) -> UpFrame:
     """An uplink frame of 320 bits (docs/FILES.md, "Control bits"); the spare and time bits aren't looked at."""
     control = control_of(frame)
     return UpFrame(
-        sort_of(control),
+        kind_of_control(control),
         control[14] == "1",
         control[16] == "1",
         int(control[5:11], 2),
@@ -118,40 +127,46 @@ def speech_control(
 
 def write_up(frame: UpFrame) -> Bits:
     """The 320 bits of an uplink frame (docs/FILES.md, "Control bits"). One that isn't speech is marked as unusable."""
-    class_bits = CLASS_BITS.get(frame.sort, CLASS_BITS[Sort.BAD])
-    pattern = UP_PATTERNS.get(frame.sort, profile.UP_SPEECH)
+    class_bits = CLASS_BITS.get(frame.kind, CLASS_BITS[FrameKind.UNUSABLE])
+    pattern = UP_PATTERNS.get(frame.kind, profile.UP_SPEECH)
     return frame_of(
         speech_control(class_bits, frame.taf, frame.dtxd, frame.field, pattern), frame.data
     )
 
 
-class Kind(enum.Enum):
-    """What C1 to C5 say a downlink frame is (this project's profile); the value is its word in texts."""
-
-    SPEECH = "speech"
-    IDLE = "idle"
-    OTHER = "other"
-
-
 class DownFrame(NamedTuple):
-    """A downlink frame (docs/FILES.md, "Control bits"): `data` and `sp` are those of a speech frame."""
+    """A downlink frame (docs/FILES.md, "Control bits"): a speech frame, a valid SID frame (its bit SP is 0), an idle or
+    another frame."""
 
-    kind: Kind
-    data: Bits = "1" * 260
-    sp: bool = True  # not a silence descriptor
+    kind: FrameKind
+    data: Bits = "1" * 260  # D1 to D260 of a speech or SID frame
 
+    def is_speech(self) -> bool:
+        """Whether it is a speech frame or a SID frame."""
+        return self.kind in (FrameKind.SPEECH, FrameKind.VALID_SID)
 
-DOWN_KINDS = {profile.DOWN_SPEECH: Kind.SPEECH, profile.DOWN_IDLE: Kind.IDLE}
+    def word(self) -> str:
+        """Its word in texts, in which a SID frame is one of speech (docs/commands/follow.md)."""
+        return "speech" if self.is_speech() else self.kind.value
 
 
 def read_down(frame: Bits) -> DownFrame:
     """A downlink frame of 316 bits or more (docs/FILES.md, "Control bits")."""
     control = control_of(frame)
-    return DownFrame(DOWN_KINDS.get(control[:5], Kind.OTHER), data_of(frame), control[15] == "1")
+    if control.startswith(profile.DOWN_SPEECH):
+        return DownFrame(kind_of_sp(control[15] == "1"), data_of(frame))
+    is_idle = control.startswith(profile.DOWN_IDLE)
+    return DownFrame(FrameKind.IDLE if is_idle else FrameKind.OTHER, data_of(frame))
+
+
+def kind_of_sp(sp: bool) -> FrameKind:
+    """The kind of a downlink's frame by its bit SP (GSM 06.31): a speech frame, or a SID frame."""
+    return FrameKind.SPEECH if sp else FrameKind.VALID_SID
 
 
 def write_down(frame: DownFrame) -> Bits:
-    """The 320 bits of a downlink frame, speech or idle (docs/FILES.md, "Control bits")."""
-    if frame.kind is Kind.SPEECH:
-        return frame_of(f"{profile.DOWN_SPEECH}0000001111{frame.sp:b}11111", frame.data)
+    """The 320 bits of a downlink frame, speech, SID or idle (docs/FILES.md, "Control bits")."""
+    if frame.is_speech():
+        sp = frame.kind is FrameKind.SPEECH
+        return frame_of(f"{profile.DOWN_SPEECH}0000001111{sp:b}11111", frame.data)
     return frame_of(profile.DOWN_IDLE + "000000" + "1" * 10, "1" * 260)

@@ -102,7 +102,7 @@ DRILL_ADD = 1_013_904_223
 DRILL_MODULUS = 1 << 32
 DRILL_CALLS = 4_096  # call C begins at the seed times this, plus C
 DRILL_DRAWS = 256  # a draw is the highest octet of the generator
-# The frame on Up: from which draw on it is of which sort (frame.py); None: no frame.
+# The frame on Up: from which draw on it is of which kind (frame.py); None: no frame.
 DRILL_FRAMES = (
     (250, None),
     (244, "idle"),

@@ -3,10 +3,10 @@
 from dataclasses import dataclass, field
 from typing import Dict, List, NamedTuple, Optional, Sequence, Tuple
 
-from trau.rules.frame import Sort
+from trau.rules.frame import FrameKind
 from trau.rules.lines import SIDES
 
-COUNTS = (*(sort.value for sort in Sort), "made")  # the words of a call's counts
+COUNTS = (*(kind.value for kind in FrameKind), "made")  # the words of a call's counts
 
 
 def text_of(lines: Sequence[str]) -> str:
@@ -30,7 +30,7 @@ class Reply(NamedTuple):
         return f"order {order} refused {int(self.refusal)} call {self.call}{partner}"
 
 
-class Bridge(NamedTuple):
+class ReportedBridge(NamedTuple):
     """A bridge of two calls, from its first period to the one after its last; of the frames of each how many went out on the other's downlink,
     and how many were lost (docs/OPERATORS.md, "The report, line by line")."""
 
@@ -46,7 +46,7 @@ class Bridge(NamedTuple):
         return f"bridge {self.calls[0]} {self.calls[1]} from {self.start} to {self.end} {frames}"
 
 
-class Span(NamedTuple):
+class ReportedCall(NamedTuple):
     """A call's first period, the one after its last, why it ended there, and its counts: what was found on its uplink by kind and class, and
     how many frames were made for its downlink (docs/OPERATORS.md, "The report, line by line")."""
 
@@ -80,8 +80,8 @@ class Report:
     """The report of a run: replies, bridges as they were accepted, calls by number, failed lines, and the orders that weren't executed."""
 
     replies: List[Reply] = field(default_factory=list)
-    bridges: List[Bridge] = field(default_factory=list)
-    calls: Dict[int, Span] = field(default_factory=dict)
+    bridges: List[ReportedBridge] = field(default_factory=list)
+    calls: Dict[int, ReportedCall] = field(default_factory=dict)
     failed: List[FailedLine] = field(default_factory=list)
     left: int = 0
 

@@ -7,7 +7,7 @@ this project's profile.
 import re
 from typing import Iterator, List, NamedTuple, Optional
 
-from trau.rules.frame import Bits, Sort, control_of, sort_of
+from trau.rules.frame import Bits, FrameKind, control_of, kind_of_control
 from trau.rules.profile import FRAME_BITS, FRAME_OCTETS, MISSES_TO_HUNT
 
 # The 35 sync bits (GSM 08.60, full rate speech frames): sixteen zeros, and nineteen ones, each sixteen bits after the one before.
@@ -28,9 +28,9 @@ class Yield(NamedTuple):
     place: int
     frame: Optional[Bits]
 
-    def sort(self) -> Sort:
-        """The sort of an uplink's yield (docs/commands/frames.md)."""
-        return Sort.MISS if self.frame is None else sort_of(control_of(self.frame))
+    def kind(self) -> FrameKind:
+        """The kind of an uplink's yield (docs/commands/frames.md)."""
+        return FrameKind.MISSED if self.frame is None else kind_of_control(control_of(self.frame))
 
     def period(self) -> int:
         """The period that holds the yield's last bit (docs/commands/frames.md)."""
@@ -38,7 +38,7 @@ class Yield(NamedTuple):
 
     def line(self) -> str:
         """The yield's line of text (docs/commands/frames.md)."""
-        return f"{self.place} {self.sort().value}\n"
+        return f"{self.place} {self.kind().value}\n"
 
 
 def search(line: Bits) -> Iterator[Yield]:
@@ -69,9 +69,9 @@ def yields_by_period(line: Bits) -> List[Optional[Yield]]:
     return by_period
 
 
-def sort_of_period(each: Optional[Yield]) -> Sort:
-    """The sort of what a period yields, if anything (docs/commands/frames.md)."""
-    return Sort.NONE if each is None else each.sort()
+def kind_of_period(each: Optional[Yield]) -> FrameKind:
+    """The kind of what a period yields, if anything (docs/commands/frames.md)."""
+    return FrameKind.NONE if each is None else each.kind()
 
 
 def end_of_text(yields: int, octets: int) -> str:

@@ -7,7 +7,7 @@ from trau.runs import levels
 from trau.pictures import looks
 from trau.rules.lines import name_of
 from trau.rules.profile import FRAME_OCTETS, PCM_OCTETS
-from trau.runs.run_lines import Call, Run
+from trau.runs.run_lines import RecordedCall, Run
 from trau.command_line.side_by_side import results_of
 
 LEVEL_SIDES = ("pcm", "out")
@@ -16,7 +16,7 @@ QUARTERS = 4
 PERIODS_TOGETHER = 5000  # of a line whose levels are taken
 
 
-class Lines(NamedTuple):
+class CallLines(NamedTuple):
     """What the lines of a call have in the periods asked for: the codes of the downlink's looks by periods, and by columns the level of the
     loudest period, in quarters of a dB above -60 dBm0, 0 to 240; nothing if there is no line."""
 
@@ -29,7 +29,7 @@ def quarters(level: float) -> int:
     return round(QUARTERS * (min(0.0, max(float(LOWEST_LEVEL), level)) - LOWEST_LEVEL))
 
 
-def levels_of(folder: Path, call: Call, side: str, periods: range) -> bytes:
+def levels_of(folder: Path, call: RecordedCall, side: str, periods: range) -> bytes:
     """The level of a line's loudest period in each column; the periods are those of the call at which columns begin."""
     if not (folder / name_of(call.number, side)).is_file():
         return b""
@@ -46,14 +46,14 @@ def levels_of(folder: Path, call: Call, side: str, periods: range) -> bytes:
     return bytes(found)
 
 
-def lines_of(folder: Path, call: Call, columns: range, with_levels: bool) -> Lines:
+def lines_of(folder: Path, call: RecordedCall, columns: range, with_levels: bool) -> CallLines:
     """What the lines of a call have in periods of the run, given by those at which columns begin."""
     first, last = (
         max(0, columns.start - call.span.start),
         min(call.span.end, columns.stop) - call.span.start,
     )
     if last <= first:
-        return Lines(b"", {side: b"" for side in LEVEL_SIDES})
+        return CallLines(b"", {side: b"" for side in LEVEL_SIDES})
     sides = LEVEL_SIDES if with_levels else ()
     found = {
         side: levels_of(folder, call, side, range(first, last, columns.step)) for side in sides
@@ -62,10 +62,10 @@ def lines_of(folder: Path, call: Call, columns: range, with_levels: bool) -> Lin
     if (folder / f"{call.number}.down").is_file():
         # A frame that begins in the last period has its control bits after it.
         down = looks.down_looks(call, call.octets(folder, "down", first, last + 1), first, last)
-    return Lines(down, found)
+    return CallLines(down, found)
 
 
-def read_lines(run: Run, columns: range, with_levels: bool, processes: int) -> Dict[int, Lines]:
+def read_lines(run: Run, columns: range, with_levels: bool, processes: int) -> Dict[int, CallLines]:
     """What the lines of a run's calls have in periods of the run, given by those at which columns begin."""
     octets = FRAME_OCTETS + (len(LEVEL_SIDES) * PCM_OCTETS if with_levels else 0)
     pieces = [(run.folder, call, columns, with_levels) for call in run.calls]

@@ -4,7 +4,7 @@ channels. `trau` decodes full rate speech alone; of the others it takes the idle
 from collections import Counter
 from typing import Iterator, Mapping, NamedTuple
 
-from trau.rules.frame import Sort, bits_of, control_of
+from trau.rules.frame import FrameKind, bits_of, control_of
 from trau.rules.profile import DOWN_IDLE, DOWN_SPEECH, UP_IDLE, UP_SPEECH
 from trau.rules.search import search
 
@@ -79,7 +79,7 @@ def code_of(frame: str) -> str:
 def codes_of_others(octets: bytes) -> Iterator[str]:
     """C1 to C5 of each frame of an uplink that counts as `other`."""
     for each in search(bits_of(octets)):
-        if each.frame is not None and each.sort() is Sort.OTHER:
+        if each.frame is not None and each.kind() is FrameKind.OTHER:
             yield code_of(each.frame)
 
 

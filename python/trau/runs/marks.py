@@ -15,7 +15,7 @@ CALL_FORM = "call C from S out X down Y"
 
 
 @dataclass
-class Mark:
+class CheckedMark:
     """A mark: its period, the periods at which its calls were opened, where its lines of calls are, and what is wrong with its lines."""
 
     period: int = 0
@@ -32,7 +32,7 @@ class Mark:
         return not wrong
 
 
-def faults_of_save(mark: Mark, words: List[str]) -> List[Optional[str]]:
+def faults_of_save(mark: CheckedMark, words: List[str]) -> List[Optional[str]]:
     """What is wrong with the first line; the mark takes its period."""
     if words[:1] != ["save"] or len(words) != 2:
         return ["a mark's first line is save P"]
@@ -41,7 +41,7 @@ def faults_of_save(mark: Mark, words: List[str]) -> List[Optional[str]]:
     return [fault]
 
 
-def faults_of_call(mark: Mark, line: int, words: List[str]) -> List[Optional[str]]:
+def faults_of_call(mark: CheckedMark, line: int, words: List[str]) -> List[Optional[str]]:
     """What is wrong with the line of a call; the mark takes the call."""
     if len(words) != 8 or words[::2] != CALL_FORM.split(" ")[::2]:
         return [f"a mark's line of a call is {CALL_FORM}"]
@@ -61,10 +61,10 @@ def faults_of_call(mark: Mark, line: int, words: List[str]) -> List[Optional[str
     return faults
 
 
-def read_mark(octets: bytes) -> Tuple[Mark, bytes]:
+def read_mark(octets: bytes) -> Tuple[CheckedMark, bytes]:
     """The mark at the start of a text, and what comes after it. Where the mark's last line, `orders`, is missing, the orders begin with
     the first line that is none of a mark."""
-    mark = Mark()
+    mark = CheckedMark()
     place = 0
     while True:
         end = octets.find(b"\n", place)

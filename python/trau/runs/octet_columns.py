@@ -32,7 +32,7 @@ TO_FRONT = [table(lambda octet, bit=bit: octet << bit & 0xFF) for bit in range(8
 TO_BACK = [table(lambda octet, bit=bit: octet >> 8 - bit) for bit in range(8)]
 
 
-class Frames:
+class FrameColumns:
     """Frames in a row, each 320 bits after the one before, in octets that have all of them."""
 
     def __init__(self, octets: bytes, place: int, count: int) -> None:

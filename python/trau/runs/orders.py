@@ -18,7 +18,7 @@ from typing import Dict, List, NamedTuple, Optional, Sequence, Tuple
 from trau.recordings import file_kinds
 from trau.runs import marks
 from trau.runs import tone_peaks
-from trau.rules.board import Board, Refused
+from trau.rules.board import Board, OrderRefusal
 from trau.rules.g711 import Law
 from trau.rules.lines import INCOMING, name_of, whole_periods
 from trau.rules.orders import FORMS, NAMES, Order, read_order
@@ -32,7 +32,7 @@ from trau.rules.profile import (
 )
 from trau.rules.report import Reply
 from trau.command_line.words import Option, Refusal, Words, as_started, option, switch
-from trau.recordings.file_kinds import Kind, Look
+from trau.recordings.file_kinds import FileKind, FileDescription
 from trau.runs.outgoing import said_of_outgoing
 from trau.command_line.ends import tool
 from trau.command_line.files import STREAM, read_file, write_file
@@ -157,14 +157,14 @@ def said_of_refusal(board: Board, reply: Reply) -> str:
     call, partner = reply.call, reply.partner
     line = board.opened[call].number if call in board.opened else None
     return {
-        Refused.ALREADY_OPEN: f"call {call} is open since line {line}",
-        Refused.NOT_OPEN: f"call {call} " + ("has ended" if line else "isn't open"),
-        Refused.BRIDGED: f"call {call} is bridged with call {partner}",
-        Refused.NOT_BRIDGED: f"call {call} isn't bridged",
-        Refused.SAME_CALL: f"a bridge of call {call} with itself",
-        Refused.DRAINING: f"the bridge of call {call} with call {partner} was ended in this very period",
-        Refused.NUMBER_USED: f"call {call} was opened by line {line}",
-    }[Refused(reply.refusal)]
+        OrderRefusal.ALREADY_OPEN: f"call {call} is open since line {line}",
+        OrderRefusal.NOT_OPEN: f"call {call} " + ("has ended" if line else "isn't open"),
+        OrderRefusal.BRIDGED: f"call {call} is bridged with call {partner}",
+        OrderRefusal.NOT_BRIDGED: f"call {call} isn't bridged",
+        OrderRefusal.SAME_CALL: f"a bridge of call {call} with itself",
+        OrderRefusal.DRAINING: f"the bridge of call {call} with call {partner} was ended in this very period",
+        OrderRefusal.NUMBER_USED: f"call {call} was opened by line {line}",
+    }[OrderRefusal(reply.refusal)]
 
 
 # What is said of the lines of a call that is opened
@@ -172,15 +172,15 @@ def said_of_refusal(board: Board, reply: Reply) -> str:
 LOOKED_AT = 4000  # octets of a line, so that a farm of thousands of calls is looked at in seconds
 
 
-def other_kind(name: Path, side: str, order: Order) -> Optional[Look]:
+def other_kind(name: Path, side: str, order: Order) -> Optional[FileDescription]:
     """What a line plainly is instead of an uplink, or of sound of the call's law."""
     head, size = file_kinds.head_of(name, LOOKED_AT)
     found = file_kinds.known_kind(head, size)
     if side == "pcm" and not found:
         return file_kinds.other_than_law(head, order.law())
-    if not found or found.kind is Kind.EMPTY:
+    if not found or found.kind is FileKind.EMPTY:
         return None
-    return None if side == "up" and found.kind is Kind.UPLINK and not found.turned else found
+    return None if side == "up" and found.kind is FileKind.UPLINK and not found.turned else found
 
 
 def warning_of_line(folder: Path, order: Order, side: str) -> Optional[str]:
@@ -261,7 +261,7 @@ def open_at(orders: Sequence[Order], folder: Optional[Path], period: int) -> Dic
 
 
 def warnings_of_mark(
-    mark: marks.Mark, orders: Sequence[Order], folder: Optional[Path]
+    mark: marks.CheckedMark, orders: Sequence[Order], folder: Optional[Path]
 ) -> List[Tuple[int, str]]:
     """What differs between a mark's calls and those that the orders have open at its period, by the mark's lines. Without the folder of
     the lines a call may have ended with its lines, so that a call that the mark hasn't says nothing.
@@ -317,7 +317,7 @@ def check(words: argparse.Namespace) -> int:
     if words.lines is not None and not words.lines.is_dir():
         raise Refusal(f"{words.lines}: isn't a folder")
     octets = read_file(words.orders)
-    file_kinds.refuse_other(words.orders, octets, "no orders", Kind.TEXT)
+    file_kinds.refuse_other(words.orders, octets, "no orders", FileKind.TEXT)
     return (
         check_marked(words, octets)
         if words.mark

@@ -3,7 +3,7 @@
 from typing import List, NamedTuple, Optional, Sequence
 
 from trau.rules.profile import PERIODS_A_SECOND
-from trau.runs.run_lines import LOST_HEARD, SPEECH_HEARD, Call, Heard, longest
+from trau.runs.run_lines import LOST_HEARD, SPEECH_HEARD, RecordedCall, Heard, longest
 
 
 class Outcome(NamedTuple):
@@ -32,19 +32,19 @@ class Outcome(NamedTuple):
         )
 
 
-def outcome_of(call: Call) -> Outcome:
+def outcome_of(call: RecordedCall) -> Outcome:
     """The outcome of a call."""
     heard = call.heard()
     gap = longest(heard, Heard.LOST)
     return Outcome(heard.count(SPEECH_HEARD), heard.count(LOST_HEARD), gap.length, gap.start)
 
 
-def badness(call: Call) -> tuple:
+def badness(call: RecordedCall) -> tuple:
     """What calls are sorted by, the worst first: lines that failed, the part of the speech that was lost, the longest gap, the number."""
     outcome = outcome_of(call)
     return (-len(call.failed), -outcome.rate(), -outcome.longest, call.number)
 
 
-def worst_first(calls: Sequence[Call]) -> List[Call]:
+def worst_first(calls: Sequence[RecordedCall]) -> List[RecordedCall]:
     """The calls, the worst first."""
     return sorted(calls, key=badness)

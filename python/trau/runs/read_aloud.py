@@ -6,9 +6,9 @@ from typing import Iterator, List, NamedTuple, Optional, Sequence
 
 from trau.runs import run_lines
 from trau.rules.profile import FRAME_OCTETS, PERIODS_A_SECOND
-from trau.rules.report import Bridge, Reply, Report
+from trau.rules.report import ReportedBridge, Reply, Report
 from trau.command_line.words import Refusal
-from trau.runs.run_lines import HEARDS, Call, Heard, longest
+from trau.runs.run_lines import HEARDS, RecordedCall, Heard, longest
 from trau.command_line.side_by_side import results_of
 
 # Why an order was refused: {call} is the call that its line names, {partner} the other one.
@@ -61,7 +61,7 @@ def said_of_cause(cause: str) -> str:
     return f"{words[1].capitalize()} {'ended' if words[0] == 'end' else 'failed'}{left}"
 
 
-def said_of_heard(call: Call) -> str:
+def said_of_heard(call: RecordedCall) -> str:
     """What the periods of a call gave, by its uplink, which has been searched."""
     codes = call.heard()
     counts = {heard: codes.count(code) for code, heard in enumerate(HEARDS)}
@@ -73,7 +73,7 @@ def said_of_heard(call: Call) -> str:
     return ", ".join(said) + more
 
 
-def said_of_counts(call: Call) -> str:
+def said_of_counts(call: RecordedCall) -> str:
     """What the periods of a call gave, by the report alone."""
     return ", ".join(
         f"{word} {call.span.counts[count]}"
@@ -82,7 +82,7 @@ def said_of_counts(call: Call) -> str:
     )
 
 
-def said_of_call(call: Call, heard: str) -> str:
+def said_of_call(call: RecordedCall, heard: str) -> str:
     """The row of a call."""
     start = f", from {call.span.start / PERIODS_A_SECOND:.2f} s on" if call.span.start else ""
     failed = "".join(f"; its {side.capitalize()} line failed" for side in call.failed)
@@ -96,7 +96,9 @@ class Row(NamedTuple):
     is_told_apart: bool
 
 
-def row_of_call(folder: Path, call: Call, bridges: Sequence[Bridge], is_named: bool) -> Row:
+def row_of_call(
+    folder: Path, call: RecordedCall, bridges: Sequence[ReportedBridge], is_named: bool
+) -> Row:
     """The row of a call, by its uplink in the folder. Where nobody named the folder, an uplink that isn't there or isn't of this run is
     done without."""
     try:
@@ -118,7 +120,7 @@ def said_of_orders(replies: Sequence[Reply], left: int) -> Iterator[str]:
         yield f"order {order}: {REASONS[reply.refusal].format(call=reply.call, partner=reply.partner)}"
 
 
-def said_of_bridge(bridge: Bridge) -> str:
+def said_of_bridge(bridge: ReportedBridge) -> str:
     """What a bridge passed on."""
     (a, b), (to_b, to_a), lost = bridge.calls, bridge.sent, sum(bridge.lost)
     span = f"{duration(bridge.end - bridge.start)}, from {bridge.start / PERIODS_A_SECOND:.2f} s on"

@@ -9,7 +9,7 @@ from typing import Dict, List, Optional, Tuple
 
 from trau.rules.lines import UP, name_of
 from trau.command_line.words import Refusal
-from trau.runs.run_lines import Call
+from trau.runs.run_lines import RecordedCall
 from trau.command_line.files import read_file
 
 LINE = re.compile(
@@ -24,7 +24,7 @@ def whole_lines(name: Path) -> List[str]:
     return read_file(name).decode("latin-1").split("\n")[:-1]
 
 
-class Clock:
+class RecordingClock:
     """The times of a recording's periods, and the orders that open its calls."""
 
     def __init__(self, folder: Path) -> None:
@@ -61,12 +61,14 @@ class Times:
 
     def __init__(self, folder: Path) -> None:
         self.folder = folder
-        self.clocks: Dict[Path, Clock] = {}
+        self.clocks: Dict[Path, RecordingClock] = {}
 
-    def said(self, call: Call, period: int) -> Optional[str]:
+    def said(self, call: RecordedCall, period: int) -> Optional[str]:
         """The time of a period of the run, if a recording has the call's uplink, and opens it at the same period."""
         uplink = Path(os.path.realpath(self.folder / name_of(call.number, UP)))
-        clock = self.clocks[uplink.parent] = self.clocks.get(uplink.parent) or Clock(uplink.parent)
+        clock = self.clocks[uplink.parent] = self.clocks.get(uplink.parent) or RecordingClock(
+            uplink.parent
+        )
         return (
             clock.said(period) if f"{call.span.start} open {uplink.stem}" in clock.opened else None
         )

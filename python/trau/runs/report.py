@@ -25,11 +25,11 @@ from trau.runs import sync_losses
 from trau.rules.frame import bits_of
 from trau.rules.lines import OCTETS_OF_SIDE, SIDES, name_of, whole_periods
 from trau.rules.profile import FRAME_OCTETS, PERIODS_A_SECOND, SILENT_FROM_LOST
-from trau.rules.report import COUNTS, Bridge, Report
+from trau.rules.report import COUNTS, ReportedBridge, Report
 from trau.rules.search import period_of, search
 from trau.command_line.words import Option, Refusal, Words, one_of, option, switch
-from trau.runs.recording_times import Clock, Times, whole_lines
-from trau.runs.run_lines import HEARDS, Call, Heard, Sent, longest, stretches
+from trau.runs.recording_times import RecordingClock, Times, whole_lines
+from trau.runs.run_lines import HEARDS, RecordedCall, Heard, DownlinkKind, longest, stretches
 from trau.command_line.side_by_side import PROCESSES, results_of
 from trau.command_line.ends import tool
 from trau.command_line.files import read_file
@@ -109,13 +109,13 @@ CALL_COLUMNS = (
 )
 
 
-def unused_periods(folder: Path, call: Call, side: str) -> Optional[int]:
+def unused_periods(folder: Path, call: RecordedCall, side: str) -> Optional[int]:
     """How many whole periods an incoming line has after those of its call, or None if there is no line."""
     is_there = (folder / name_of(call.number, side)).is_file()
     return whole_periods(folder, call.number, side) - call.periods() if is_there else None
 
 
-def frames_of_downlink(folder: Path, call: Call) -> Dict[Sent, int]:
+def frames_of_downlink(folder: Path, call: RecordedCall) -> Dict[DownlinkKind, int]:
     """How many frames of each kind a call's downlink has. One that failed may be missing, a folder or a device, which never ends."""
     name = folder / f"{call.number}.down"
     octets = b"" if "down" in call.failed and not name.is_file() else call.octets(folder, "down")
@@ -123,7 +123,7 @@ def frames_of_downlink(folder: Path, call: Call) -> Dict[Sent, int]:
     return {sent: codes.count(code) for code, sent in enumerate(run_lines.SENTS)}
 
 
-def codes_of_others(folder: Path, call: Call) -> Counter:
+def codes_of_others(folder: Path, call: RecordedCall) -> Counter:
     """C1 to C5 of the frames of a call's uplink that count as `other`."""
     if not call.span.counts["other"]:
         return Counter()
@@ -149,7 +149,7 @@ def note_on_the_end(row: Row) -> Optional[str]:
     return f"call {row['call']}: its last {last} periods are lost, as if the peer had gone; {rest}"
 
 
-def row_of_call(folder: Path, call: Call, bridges: Sequence[Bridge]) -> Row:
+def row_of_call(folder: Path, call: RecordedCall, bridges: Sequence[ReportedBridge]) -> Row:
     """What a call's uplink and downlink say of losses and pauses."""
     call.search(folder, bridges)
     codes = call.heard()
@@ -185,12 +185,12 @@ def row_of_call(folder: Path, call: Call, bridges: Sequence[Bridge]) -> Row:
             "descriptors": call.span.counts["sid"],
             "quiet": quiet,
             "down_frames": sum(down.values()),
-            "down_speech": down[Sent.SPEECH],
+            "down_speech": down[DownlinkKind.SPEECH],
         },
         **{
-            "down_descriptors": down[Sent.SILENCE],
-            "down_idle": down[Sent.IDLE],
-            "down_handed": down[Sent.HANDED],
+            "down_descriptors": down[DownlinkKind.SILENCE],
+            "down_idle": down[DownlinkKind.IDLE],
+            "down_handed": down[DownlinkKind.HANDED],
         },
         **{
             "unused_up": unused_periods(folder, call, "up"),
@@ -200,7 +200,9 @@ def row_of_call(folder: Path, call: Call, bridges: Sequence[Bridge]) -> Row:
     }
 
 
-def of_each_call(words: argparse.Namespace, what: Callable[..., Any]) -> List[Tuple[Call, Any]]:
+def of_each_call(
+    words: argparse.Namespace, what: Callable[..., Any]
+) -> List[Tuple[RecordedCall, Any]]:
     """The calls of a run, or those that the words name, each with what this function says of its lines."""
     name = words.report or words.folder / "report.txt"
     report = run_texts.read_report(name)
@@ -246,7 +248,9 @@ EVENT = re.compile(r"(\d{1,10}) call (\d{1,4})((?: \S+ \d{1,18})+)((?:, .*)?)", 
 REASON = re.compile(r", ((?:gsm|pcm)-\S+): (.*?)(?=, (?:gsm|pcm)-\S+: |$)")
 
 
-def rows_of_losses(folder: Path, call: Call, bridges: Sequence[Bridge]) -> List[Row]:
+def rows_of_losses(
+    folder: Path, call: RecordedCall, bridges: Sequence[ReportedBridge]
+) -> List[Row]:
     """The losses of a call's uplink, and what was made in place of the speech (docs/PROFILE.md, "Lost speech")."""
     call.search(folder, bridges)
     codes = call.heard()
@@ -288,7 +292,7 @@ def losses(words: argparse.Namespace) -> Answer:
 
 def events(words: argparse.Namespace) -> Answer:
     """What the network did to the calls of a recording."""
-    name, clock, rows = words.recording / "events.txt", Clock(words.recording), []
+    name, clock, rows = words.recording / "events.txt", RecordingClock(words.recording), []
     for number, line in enumerate(whole_lines(name), 1):
         found = EVENT.fullmatch(line)
         if not found:

@@ -17,12 +17,20 @@ from trau.rules.lines import OCTETS_OF_SIDE, OUTGOING, SIDES, name_of
 from trau.rules.orders import Order
 from trau.rules.parameters import SILENCE, bits_of_parameters
 from trau.rules.profile import DOWN_IDLE, DOWN_SPEECH, FRAME_BITS, FRAME_OCTETS, PCM_OCTETS
-from trau.rules.report import Bridge, Reply, Report, Span
+from trau.rules.report import ReportedBridge, Reply, Report, ReportedCall
 from trau.command_line.words import Refusal
-from trau.runs.octet_columns import Frames, joined, table
+from trau.runs.octet_columns import FrameColumns, joined, table
 from trau.command_line.side_by_side import results_of
 from trau.command_line.files import read_part
-from trau.runs.uplink_periods import GOOD, IDLE, SID, SORTS, Asking, by_what_came_before, searched
+from trau.runs.uplink_periods import (
+    SPEECH,
+    IDLE,
+    VALID_SID,
+    FRAME_KINDS,
+    Asking,
+    by_what_came_before,
+    searched,
+)
 
 # The uplink
 
@@ -41,7 +49,7 @@ SPEECH_HEARD, LOST_HEARD, NOISE_HEARD, QUIET_HEARD = range(
     len(HEARDS)
 )  # codes: the places in their order
 CHANGED = 0x80
-HEARD_ITSELF = {GOOD: SPEECH_HEARD, SID: NOISE_HEARD, IDLE: QUIET_HEARD}
+HEARD_ITSELF = {SPEECH: SPEECH_HEARD, VALID_SID: NOISE_HEARD, IDLE: QUIET_HEARD}
 HEARD_OF_CODE = table(
     lambda code: code & 3 if code & CHANGED else HEARD_ITSELF.get(code, QUIET_HEARD)
 )
@@ -50,9 +58,9 @@ HEARD_BEHIND = [
 ]
 
 
-def heard_codes(sorts: bytes) -> bytes:
-    """The codes of what each period gives, by the codes of the sorts."""
-    return by_what_came_before(sorts, *HEARD_BEHIND).translate(HEARD_OF_CODE)
+def heard_codes(kinds: bytes) -> bytes:
+    """The codes of what each period gives, by the codes of the kinds."""
+    return by_what_came_before(kinds, *HEARD_BEHIND).translate(HEARD_OF_CODE)
 
 
 class Stretch(NamedTuple):
@@ -78,7 +86,7 @@ def longest(heard: bytes, wanted: Heard) -> Stretch:
 # The downlink
 
 
-class Made(NamedTuple):
+class MadeFrames(NamedTuple):
     """Frames in a row made for a downlink: the octet of the Pcm line at which the first begins, how many there are, each 160 octets after
     the one before, whether a bridge handed them over, and the shift, in octets, that the last one adopts.
     """
@@ -104,7 +112,7 @@ class Made(NamedTuple):
 class Handing:
     """The frames of a call that bridges still have to hand over."""
 
-    def __init__(self, call: int, start: int, bridges: Sequence[Bridge]) -> None:
+    def __init__(self, call: int, start: int, bridges: Sequence[ReportedBridge]) -> None:
         mine = [bridge for bridge in bridges if call in bridge.calls]
         self.starts = [bridge.start - start for bridge in mine]
         self.left = [bridge.end - bridge.start for bridge in mine]
@@ -122,8 +130,8 @@ class Handing:
 
 
 def frames_made(
-    call: int, start: int, periods: int, asking: Sequence[Asking], bridges: Sequence[Bridge]
-) -> Iterator[Made]:
+    call: int, start: int, periods: int, asking: Sequence[Asking], bridges: Sequence[ReportedBridge]
+) -> Iterator[MadeFrames]:
     """The frames that are made for a call's downlink. Frames handed over in a bridge adopt no shift."""
     handing = Handing(call, start, bridges)
     waiting = iter([*asking, Asking(periods, 0)])
@@ -138,16 +146,16 @@ def frames_made(
         if bridge is not None:
             count = min(count, handing.left[bridge])
             handing.left[bridge] -= count
-            made = Made(octet, count, True, 0)
+            made = MadeFrames(octet, count, True, 0)
         elif asked:
-            made, asked = Made(octet, 1, False, asked), 0
+            made, asked = MadeFrames(octet, 1, False, asked), 0
         else:
-            made = Made(octet, min(count, ask.period - period), False, 0)
+            made = MadeFrames(octet, min(count, ask.period - period), False, 0)
         yield made
         octet = made.behind()
 
 
-class Sent(enum.Enum):
+class DownlinkKind(enum.Enum):
     """What a frame of a downlink is."""
 
     SPEECH = "speech"
@@ -157,32 +165,32 @@ class Sent(enum.Enum):
     OTHER = "another frame"
 
 
-SENTS = tuple(Sent)
+SENTS = tuple(DownlinkKind)
 NOTHING_SENT = len(
     SENTS
 )  # the code of a period in which no frame begins; the others have their places in the order
 FRAME_WITHOUT_TIME = FRAME_BITS - 4
 
 # A downlink's frame has C1 to C5 in its octet 2, and C16 (SP) in its octet 38.
-DOWN_KINDS = {int(DOWN_IDLE, 2): Sent.IDLE, int(DOWN_SPEECH, 2): Sent.SPEECH}
-DOWN_KIND = table(lambda octet: SENTS.index(DOWN_KINDS.get(octet >> 2 & 31, Sent.OTHER)))
+DOWN_KINDS = {int(DOWN_IDLE, 2): DownlinkKind.IDLE, int(DOWN_SPEECH, 2): DownlinkKind.SPEECH}
+DOWN_KIND = table(lambda octet: SENTS.index(DOWN_KINDS.get(octet >> 2 & 31, DownlinkKind.OTHER)))
 DOWN_SPEECH = table(lambda octet: 0 if octet & 2 else 0x10)
 DOWN_CODE = table(
-    lambda marks: SENTS.index(Sent.SILENCE)
-    if marks == 0x10 | SENTS.index(Sent.SPEECH)
+    lambda marks: SENTS.index(DownlinkKind.SILENCE)
+    if marks == 0x10 | SENTS.index(DownlinkKind.SPEECH)
     else min(marks & 7, NOTHING_SENT)
 )
 HANDED_CODE = table(
-    lambda code: SENTS.index(Sent.HANDED)
-    if code in (SENTS.index(Sent.SPEECH), SENTS.index(Sent.SILENCE))
+    lambda code: SENTS.index(DownlinkKind.HANDED)
+    if code in (SENTS.index(DownlinkKind.SPEECH), SENTS.index(DownlinkKind.SILENCE))
     else code
 )
 
 
-def sent(made: Made, octets: bytes) -> bytes:
+def sent(made: MadeFrames, octets: bytes) -> bytes:
     """The codes of frames on a Down line, of those whose control bits it has."""
     room = (8 * len(octets) - made.place() - FRAME_WITHOUT_TIME) // FRAME_BITS + 1
-    frames = Frames(octets, made.place(), min(made.count, room))
+    frames = FrameColumns(octets, made.place(), min(made.count, room))
     if frames.count <= 0:
         return b""
     codes = joined(
@@ -197,16 +205,16 @@ SILENT_DATA = bits_of_parameters(SILENCE)  # D1 to D260
 
 
 @dataclass
-class Call:
+class RecordedCall:
     """A call as the report describes it and as its uplink is searched. Only the orders show its law."""
 
     number: int
-    span: Span
+    span: ReportedCall
     law: Law = Law.A
     failed: List[str] = field(default_factory=list)
-    sorts: bytes = b""  # the code of what each period yielded
+    kinds: bytes = b""  # the code of what each period yielded
     asking: List[Asking] = field(default_factory=list)
-    made: List[Made] = field(default_factory=list)
+    made: List[MadeFrames] = field(default_factory=list)
     is_primed: bool = (
         False  # its first frame is one of silence, as a gateway makes it if the peer hasn't begun
     )
@@ -227,21 +235,21 @@ class Call:
 
     def counts(self) -> Dict[str, int]:
         """How many periods yielded what, and how many frames were made, by the report's words."""
-        yielded = {sort.value: self.sorts.count(code) for code, sort in enumerate(SORTS)}
+        yielded = {kind.value: self.kinds.count(code) for code, kind in enumerate(FRAME_KINDS)}
         return {**yielded, "made": sum(made.count for made in self.made)}
 
-    def take(self, octets: bytes, bridges: Sequence[Bridge]) -> None:
+    def take(self, octets: bytes, bridges: Sequence[ReportedBridge]) -> None:
         """Takes the octets of the uplink over the call's periods."""
-        self.sorts, self.asking = searched(octets)
+        self.kinds, self.asking = searched(octets)
         self.is_primed = (
-            self.sorts[:1] == bytes([GOOD])
+            self.kinds[:1] == bytes([SPEECH])
             and data_of(bits_of(octets[:FRAME_OCTETS])) == SILENT_DATA
         )
         self.made = list(
             frames_made(self.number, self.span.start, self.periods(), self.asking, bridges)
         )
 
-    def search(self, folder: Path, bridges: Sequence[Bridge]) -> Call:
+    def search(self, folder: Path, bridges: Sequence[ReportedBridge]) -> RecordedCall:
         """The call itself, once it has searched the uplink over its periods, and held the report to it."""
         name = folder / f"{self.number}.up"
         octets = self.octets(folder, "up")
@@ -285,40 +293,40 @@ class Call:
 
     def brought(self) -> bytes:
         """The codes of what the base station sent in each period. A gateway's frame of silence counts as idle: nothing is lost after it."""
-        return bytes([IDLE]) + self.sorts[1:] if self.is_primed else self.sorts
+        return bytes([IDLE]) + self.kinds[1:] if self.is_primed else self.kinds
 
     def heard(self) -> bytes:
         """The codes of what each period gives to be heard."""
         return heard_codes(self.brought())
 
 
-def calls_of(report: Report, numbers: Optional[Sequence[int]] = None) -> Iterator[Call]:
+def calls_of(report: Report, numbers: Optional[Sequence[int]] = None) -> Iterator[RecordedCall]:
     """The calls of a report, or those of them with these numbers, whose uplinks aren't searched yet."""
     for number, span in report.calls.items():
         if numbers is None or number in numbers:
             sides = [SIDES[failed.side] for failed in report.failed if failed.call == number]
-            yield Call(number, span, failed=sides)
+            yield RecordedCall(number, span, failed=sides)
 
 
-def bridges_of(call: Call, bridges: Sequence[Bridge]) -> List[Bridge]:
+def bridges_of(call: RecordedCall, bridges: Sequence[ReportedBridge]) -> List[ReportedBridge]:
     """The bridges of a call."""
     return [bridge for bridge in bridges if call.number in bridge.calls]
 
 
 def read_calls(
     folder: Path, report: Report, numbers: Optional[Sequence[int]] = None, processes: int = 1
-) -> Dict[int, Call]:
+) -> Dict[int, RecordedCall]:
     """The calls of a report, or those of them with these numbers, and what their uplinks in a folder give."""
     calls = list(calls_of(report, numbers))
     works = [(call, folder, bridges_of(call, report.bridges)) for call in calls]
     weight = FRAME_OCTETS * sum(call.periods() for call in calls)
     return {
         call.number: call
-        for call in results_of(processes, "searching uplinks", Call.search, works, weight)
+        for call in results_of(processes, "searching uplinks", RecordedCall.search, works, weight)
     }
 
 
-class Asked(NamedTuple):
+class FrozenShift(NamedTuple):
     """A shift that frames in a row ask for while a bridge keeps the timing as it is: the first period, and how many ask."""
 
     period: int
@@ -326,10 +334,10 @@ class Asked(NamedTuple):
     times: int
 
 
-def asked_while_frozen(call: Call, bridges: Sequence[Bridge]) -> List[Asked]:
+def asked_while_frozen(call: RecordedCall, bridges: Sequence[ReportedBridge]) -> List[FrozenShift]:
     """The shifts of a call's downlink that are asked for in its bridges."""
     spans = [range(bridge.start, bridge.end) for bridge in bridges if call.number in bridge.calls]
-    found: List[Asked] = []
+    found: List[FrozenShift] = []
     for asking in call.asking:
         period = call.span.start + asking.period
         if not any(period in span for span in spans):
@@ -338,7 +346,7 @@ def asked_while_frozen(call: Call, bridges: Sequence[Bridge]) -> List[Asked]:
         if last and (last.octets, last.period + last.times) == (asking.octets, period):
             found[-1] = last._replace(times=last.times + 1)
         else:
-            found.append(Asked(period, asking.octets, 1))
+            found.append(FrozenShift(period, asking.octets, 1))
     return found
 
 
@@ -366,8 +374,8 @@ class Run:
     """A run: its executed orders, and its bridges and calls, those that aren't left out."""
 
     orders: List[Answered]
-    bridges: List[Bridge]
-    calls: List[Call]
+    bridges: List[ReportedBridge]
+    calls: List[RecordedCall]
     folder: Path
 
     @staticmethod

@@ -10,12 +10,12 @@ import shlex
 from pathlib import Path
 from typing import Dict, List, Optional, Sequence
 
-from trau.rules.board import Refused
+from trau.rules.board import OrderRefusal
 from trau.rules.g711 import Law
 from trau.rules.lines import SIDES
 from trau.rules.orders import BadLine, Order, TooLong, orders_of
 from trau.rules.profile import MOST_CALLS, MOST_PERIODS
-from trau.rules.report import COUNTS, Bridge, FailedLine, Reply, Report, Span
+from trau.rules.report import COUNTS, ReportedBridge, FailedLine, Reply, Report, ReportedCall
 from trau.command_line.words import Refusal, as_started, option
 from trau.command_line.files import read_file
 
@@ -28,7 +28,7 @@ REFUSALS = {
     6: "its bridge ended in this very period",
     7: "the number was used before",
 }
-REFUSALS_WITH_PARTNER = (Refused.BRIDGED, Refused.DRAINING)
+REFUSALS_WITH_PARTNER = (OrderRefusal.BRIDGED, OrderRefusal.DRAINING)
 
 
 def calls_named(word: str) -> List[int]:
@@ -99,11 +99,13 @@ def take_line(report: Report, line: str) -> None:
     elif kind == "bridge":  # each of its periods gives a frame each way
         a, b, start, end, sent_a, sent_b, lost_a, lost_b = map(int, words)
         is_wrong = not sent_a + lost_a == sent_b + lost_b == end - start
-        report.bridges.append(Bridge((a, b), start, end, (sent_a, sent_b), (lost_a, lost_b)))
+        report.bridges.append(
+            ReportedBridge((a, b), start, end, (sent_a, sent_b), (lost_a, lost_b))
+        )
     elif kind == "call":  # these stand in rising order
         call, start, end = map(int, words[:3])
         is_wrong = end < start or not max(report.calls, default=0) < call <= MOST_CALLS
-        report.calls[call] = Span(start, end, words[3], {})
+        report.calls[call] = ReportedCall(start, end, words[3], {})
     elif kind == "counts":  # which follow their call's line and add up to its periods
         call, counts = max(report.calls), dict(zip(COUNTS, map(int, words[1:])))
         span = report.calls[call]

@@ -27,8 +27,8 @@ from trau.recordings import listening
 from trau.runs import run_texts
 from trau.rules.lines import INCOMING, OUTGOING, SIDES, name_of, whole_periods
 from trau.rules.orders import Order
-from trau.rules.profile import MOST_CALLS, MOST_PERIODS
-from trau.rules.report import Bridge, FailedLine, Reply, Report, Span
+from trau.rules.profile import MOST_CALLS, MOST_PERIODS, PACE_OPTIONS
+from trau.rules.report import ReportedBridge, FailedLine, Reply, Report, ReportedCall
 from trau.command_line.words import Refusal, Words, as_started, number_within, option, switch
 from trau.command_line.ends import naming, tool
 from trau.command_line.files import read_file, write_file
@@ -38,8 +38,8 @@ ORDERS = "orders.txt"
 REPORT = "report.txt"
 STATUS = "status"
 SCRIPT = "run.sh"
-DEFAULT_BATCH = 50  # of trau run
 STATUSES_WITH_A_REPORT = (0, 6)
+_, _, DEFAULT_BATCH = PACE_OPTIONS["batch"]  # of trau run
 
 SCRIPT_TEXT = """#!/bin/sh
 # Runs this part of a farm, and keeps its report and its status. Status 0: there is a whole report, which may name lines that
@@ -101,16 +101,16 @@ def periods_of(folder: Path, call: int) -> int:
 
 
 @dataclass
-class Part:
+class FarmPart:
     """Calls that run together, and how many periods their lines have."""
 
     calls: FrozenSet[int] = frozenset()
     periods: int = 0
 
 
-def parts_of(pieces: Sequence[Tuple[int, FrozenSet[int]]], count: int) -> List[Part]:
+def parts_of(pieces: Sequence[Tuple[int, FrozenSet[int]]], count: int) -> List[FarmPart]:
     """At most `count` parts of about the same work: the heaviest piece goes first, to the part that has least."""
-    parts = [Part() for _ in range(count)]
+    parts = [FarmPart() for _ in range(count)]
     for periods, calls in sorted(pieces, key=lambda piece: (-piece[0], min(piece[1]))):
         least = min(parts, key=lambda part: (part.periods, len(part.calls)))
         least.calls |= calls
@@ -143,7 +143,7 @@ def script_of(words: argparse.Namespace) -> str:
     return SCRIPT_TEXT.format(trau=shlex.quote(words.trau), words=said, lock=lock)
 
 
-def array_of(words: argparse.Namespace, parts: Sequence[Part]) -> str:
+def array_of(words: argparse.Namespace, parts: Sequence[FarmPart]) -> str:
     """The script that runs the parts as an array of Slurm's jobs."""
     cut = os.path.abspath(words.cut)
     calls = max(len(part.calls) for part in parts)
@@ -175,7 +175,7 @@ def lay_part(folder: Path, words: argparse.Namespace, orders: Sequence[Order]) -
 
 
 def lay_cut(
-    place: Path, words: argparse.Namespace, orders: Sequence[Order], parts: Sequence[Part]
+    place: Path, words: argparse.Namespace, orders: Sequence[Order], parts: Sequence[FarmPart]
 ) -> None:
     """Makes the folder of a cut farm: a folder for each part, and what the joining needs."""
     numbers = []
@@ -218,7 +218,7 @@ def alone_in(farm: Path) -> Iterator[None]:
         os.close(folder)
 
 
-def make_cut(words: argparse.Namespace, orders: Sequence[Order], parts: Sequence[Part]) -> None:
+def make_cut(words: argparse.Namespace, orders: Sequence[Order], parts: Sequence[FarmPart]) -> None:
     """Makes the folder of a cut farm, whole or not at all."""
     with naming(words.cut):
         place = Path(
@@ -343,7 +343,7 @@ def report_of_part(cut: Cut, number: int) -> Report:
         ) from None
 
 
-def accepted_bridges(cut: Cut, number: int, report: Report) -> Iterator[Tuple[int, Bridge]]:
+def accepted_bridges(cut: Cut, number: int, report: Report) -> Iterator[Tuple[int, ReportedBridge]]:
     """The bridges of a part, each with the number of its order; a report lists them as they were accepted."""
     bridges = iter(report.bridges)
     for order, reply in zip(cut.orders_of_parts[number], report.replies):
@@ -354,8 +354,8 @@ def accepted_bridges(cut: Cut, number: int, report: Report) -> Iterator[Tuple[in
 def joined(cut: Cut) -> Report:
     """The report of the one run."""
     replies: Dict[int, Reply] = {}
-    bridges: Dict[int, Bridge] = {}
-    calls: Dict[int, Span] = {}
+    bridges: Dict[int, ReportedBridge] = {}
+    calls: Dict[int, ReportedCall] = {}
     failed: List[FailedLine] = []
     left = 0
     for number, orders in enumerate(cut.orders_of_parts):

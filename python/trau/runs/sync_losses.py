@@ -76,7 +76,7 @@ def matched(bits: str, loss: Loss) -> Loss:
     return Loss(loss.misses, loss.found, match.start() if match else None)
 
 
-class Trace(NamedTuple):
+class SearchedUplink(NamedTuple):
     """An uplink as it was searched."""
 
     periods: int
@@ -86,7 +86,7 @@ class Trace(NamedTuple):
     losses: List[Loss]
 
 
-def trace_of(name: Path, octets: bytes, frames_text: Optional[bytes]) -> Trace:
+def trace_of(name: Path, octets: bytes, frames_text: Optional[bytes]) -> SearchedUplink:
     """Searches an uplink. If the output of `trau frames` is given, refuses one that differs."""
     periods = len(octets) // FRAME_OCTETS
     bits = bits_of(octets[: periods * FRAME_OCTETS])
@@ -99,4 +99,6 @@ def trace_of(name: Path, octets: bytes, frames_text: Optional[bytes]) -> Trace:
             )
     losses = list(losses_of(bits, yields))
     misses = sum(len(loss.misses) for loss in losses)
-    return Trace(periods, len(yields) - misses, misses, yields[0].place if yields else None, losses)
+    return SearchedUplink(
+        periods, len(yields) - misses, misses, yields[0].place if yields else None, losses
+    )

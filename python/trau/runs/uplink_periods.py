@@ -4,20 +4,20 @@ takes an octet here, and an hour of a line some hundredths of a second."""
 import re
 from typing import Iterator, List, NamedTuple, Optional, Tuple
 
-from trau.rules.frame import Sort, shift_of
+from trau.rules.frame import FrameKind, shift_of
 from trau.rules.profile import FRAME_BITS, FRAME_OCTETS, MISSES_TO_HUNT, UP_IDLE, UP_SPEECH
 from trau.rules.search import period_of
-from trau.runs.octet_columns import FIRST_BITS, LAST_BITS, Frames, joined, number, table
+from trau.runs.octet_columns import FIRST_BITS, LAST_BITS, FrameColumns, joined, number, table
 
-SORTS = tuple(Sort)
-GOOD, SID, INVALID, BAD, IDLE, OTHER, MISS, NONE = range(
-    len(SORTS)
-)  # codes: the places of the sorts in their order
+FRAME_KINDS = tuple(FrameKind)
+SPEECH, VALID_SID, INVALID_SID, UNUSABLE, IDLE, OTHER, MISSED, NONE = range(
+    len(FRAME_KINDS)
+)  # codes: the places of the kinds in their order
 
 # The frame's octets 2 and 3 are a sync bit, C1 to C5 (what it is), C6 to C11 (the alignment field), C12 (BFI), C13 and C14 (SID), C15 (TAF).
 IS_IDLE, IS_OTHER, IS_MISSED = 0x10, 0x20, 0x40
-KINDS = {int(UP_SPEECH, 2): 0, int(UP_IDLE, 2): IS_IDLE}
-KIND = table(lambda octet: KINDS.get(octet >> 2 & 31, IS_OTHER))
+PATTERNS = {int(UP_SPEECH, 2): 0, int(UP_IDLE, 2): IS_IDLE}
+PATTERN = table(lambda octet: PATTERNS.get(octet >> 2 & 31, IS_OTHER))
 FIELD_FRONT = table(lambda octet: (octet & 3) << 4)
 FIELD_BACK = table(lambda octet: octet >> 4)
 
@@ -26,31 +26,31 @@ def speech_code(octet: int) -> int:
     """The code of a speech frame by its octet 3."""
     bad, silence = octet & 8, octet >> 1 & 3
     if silence == 0:
-        return BAD if bad else GOOD
-    return SID if silence == 2 and not bad else INVALID
+        return UNUSABLE if bad else SPEECH
+    return VALID_SID if silence == 2 and not bad else INVALID_SID
 
 
 def code_of_marks(marks: int) -> int:
     """The code of a frame by what its octets say, and whether it was missed."""
     if marks & IS_MISSED:
-        return MISS
+        return MISSED
     if marks & IS_OTHER:
         return OTHER
     return IDLE if marks & IS_IDLE else marks & 3
 
 
-SPEECH = table(speech_code)
+CLASS = table(speech_code)
 CODE = table(code_of_marks)
 ZERO_IS_MISSED = table(lambda octet: 0 if octet else IS_MISSED)
 OTHERWISE_MISSED = table(lambda octet: IS_MISSED if octet else 0)
 
 
 NO_FIELD = 0x40
-WITHOUT_FIELD = table(lambda code: NO_FIELD if code in (OTHER, MISS) else 0)
+WITHOUT_FIELD = table(lambda code: NO_FIELD if code in (OTHER, MISSED) else 0)
 ASKING = table(lambda field: field if field < NO_FIELD and shift_of(field) else 0)
 
 
-def missed(frames: Frames) -> bytes:
+def missed(frames: FrameColumns) -> bytes:
     """Which frames are missed, by their 35 sync bits: IS_MISSED or 0 of each."""
     ones = number(frames.raw(2))
     for at in range(4, FRAME_OCTETS, 2):
@@ -67,10 +67,10 @@ def missed(frames: Frames) -> bytes:
     )
 
 
-def read(frames: Frames) -> Tuple[bytes, bytes]:
+def read(frames: FrameColumns) -> Tuple[bytes, bytes]:
     """The code of each frame, and the alignment field of each that asks for a shift, 0 of the others."""
     front, back = frames.column(2), frames.column(3)
-    codes = joined(front.translate(KIND), back.translate(SPEECH), missed(frames)).translate(CODE)
+    codes = joined(front.translate(PATTERN), back.translate(CLASS), missed(frames)).translate(CODE)
     fields = joined(
         front.translate(FIELD_FRONT), back.translate(FIELD_BACK), codes.translate(WITHOUT_FIELD)
     )
@@ -138,12 +138,12 @@ def tracks(octets: bytes) -> Iterator[Track]:
         left = (8 * len(octets) - place) // FRAME_BITS
         if left == 0:
             return
-        codes, fields = read(Frames(octets, place, min(left, ahead)))
-        lost = codes.find(bytes([MISS]) * MISSES_TO_HUNT)
+        codes, fields = read(FrameColumns(octets, place, min(left, ahead)))
+        lost = codes.find(bytes([MISSED]) * MISSES_TO_HUNT)
         if lost >= 0:
             codes = codes[: lost + MISSES_TO_HUNT]
         elif len(codes) < left:
-            codes = codes.rstrip(bytes([MISS]))  # these may be the first of three
+            codes = codes.rstrip(bytes([MISSED]))  # these may be the first of three
         yield Track(place, codes, fields[: len(codes)])
         place += FRAME_BITS * len(codes)
         ahead = min(2 * ahead, MOST_AHEAD)
@@ -159,24 +159,24 @@ class Asking(NamedTuple):
 
 
 class Searched(NamedTuple):
-    """What an uplink gives: the code of each whole period's sort, and the periods that ask for shifts."""
+    """What an uplink gives: the code of each whole period's kind, and the periods that ask for shifts."""
 
-    sorts: bytes
+    kinds: bytes
     asking: List[Asking]
 
 
 def searched(octets: bytes) -> Searched:
     """Searches an uplink over its whole periods of 40 octets."""
     periods = len(octets) // FRAME_OCTETS
-    sorts, asked = bytearray([NONE]) * periods, bytearray(periods)
+    kinds, asked = bytearray([NONE]) * periods, bytearray(periods)
     for track in tracks(octets[: periods * FRAME_OCTETS]):
         here = slice(track.period(), track.period() + len(track.codes))
-        sorts[here], asked[here] = track.codes, track.fields
+        kinds[here], asked[here] = track.codes, track.fields
     asking = [
         Asking(found.start(), shift_of(asked[found.start()]))
         for found in re.finditer(rb"[^\x00]", asked)
     ]
-    return Searched(bytes(sorts), asking)
+    return Searched(bytes(kinds), asking)
 
 
 # What came before a period
@@ -186,10 +186,10 @@ USED = re.compile(
 )  # unusable frames, after a usable one if any
 
 
-def by_what_came_before(sorts: bytes, good: bytes, pause: bytes, quiet: bytes) -> bytes:
+def by_what_came_before(kinds: bytes, good: bytes, pause: bytes, quiet: bytes) -> bytes:
     """The periods' codes, where each frame that isn't good, a descriptor or idle is changed by a table: that for frames behind a good one,
     behind a descriptor, or behind an idle one and before the first."""
-    after = {GOOD: good, SID: pause, IDLE: quiet}
+    after = {SPEECH: good, VALID_SID: pause, IDLE: quiet}
 
     def changed(found: re.Match) -> bytes:
         codes = found.group()
@@ -197,4 +197,4 @@ def by_what_came_before(sorts: bytes, good: bytes, pause: bytes, quiet: bytes) -
             return codes[:1] + codes[1:].translate(after[codes[0]])
         return codes.translate(quiet)
 
-    return USED.sub(changed, sorts)
+    return USED.sub(changed, kinds)

@@ -43,7 +43,7 @@ class NoRun(Exception):
     """There is no run to watch, or it doesn't go on. The text says why, in one line."""
 
 
-class Progress(NamedTuple):
+class RunProgress(NamedTuple):
     """How far runs are: periods of calls that are on the lines, and calls that are done; when the first run began, and
     whether all have ended."""
 
@@ -105,27 +105,29 @@ class Watched:
             return 0
         return min(self.expected[call], whole_periods(self.folder, call, "out"))
 
-    def progress(self) -> Progress:
+    def progress(self) -> RunProgress:
         """How far this run is. The lock is looked at first: a run lets it go after its report is written."""
         locked = is_locked(self.folder)
         if not self.report.is_file():
-            return Progress(0, 0, time.time(), False)
+            return RunProgress(0, 0, time.time(), False)
         found = self.report.stat()
         if found.st_size:
             self.ended = True
-            return Progress(sum(self.expected.values()), len(self.expected), found.st_mtime, True)
+            return RunProgress(
+                sum(self.expected.values()), len(self.expected), found.st_mtime, True
+            )
         done = {call: self.done(call, found.st_mtime) for call in self.expected}
         calls = sum(done[call] == self.expected[call] for call in done)
         self.ended = locked is False and (self.was_locked or self.once and any(done.values()))
         self.was_locked = self.was_locked or bool(locked)
-        return Progress(sum(done.values()), calls, found.st_mtime, self.ended)
+        return RunProgress(sum(done.values()), calls, found.st_mtime, self.ended)
 
 
-def progress_of(runs: Sequence[Watched]) -> Progress:
+def progress_of(runs: Sequence[Watched]) -> RunProgress:
     """How far all runs are together."""
     each = [run.progress() for run in runs]
     began = min((one.began for one in each if not one.ended), default=time.time())
-    return Progress(
+    return RunProgress(
         sum(one.periods for one in each),
         sum(one.calls for one in each),
         began,
@@ -140,11 +142,11 @@ class Pace(NamedTuple):
     periods: int
 
     @staticmethod
-    def of(runs: Sequence[Watched], first: Progress) -> Pace:
+    def of(runs: Sequence[Watched], first: RunProgress) -> Pace:
         """Of one run from its beginning; of several from the first look, since nothing shows when the ended ones began."""
         return Pace(first.began, 0) if len(runs) == 1 else Pace(time.time(), first.periods)
 
-    def seconds_left(self, progress: Progress, expected: int) -> Optional[float]:
+    def seconds_left(self, progress: RunProgress, expected: int) -> Optional[float]:
         """The seconds until it is done at this pace, or None if nothing is done yet."""
         went, passed = progress.periods - self.periods, time.time() - self.time
         if progress.ended or went <= 0 or passed <= 0:
@@ -152,7 +154,7 @@ class Pace(NamedTuple):
         return passed * (expected - progress.periods) / went
 
 
-def said(progress: Progress, expected: int, calls: int, left: Optional[float]) -> str:
+def said(progress: RunProgress, expected: int, calls: int, left: Optional[float]) -> str:
     """The progress in one line."""
     percent = 100 * progress.periods // expected if expected else 100
     until = "" if left is None else f", {left:.0f} s left"
@@ -160,7 +162,9 @@ def said(progress: Progress, expected: int, calls: int, left: Optional[float]) -
 
 
 @contextlib.contextmanager
-def display(words: argparse.Namespace, expected: int) -> Iterator[Callable[[Progress, str], None]]:
+def display(
+    words: argparse.Namespace, expected: int
+) -> Iterator[Callable[[RunProgress, str], None]]:
     """What shows the progress: a bar of the library tqdm at a terminal where that is installed, else lines of text."""
     tqdm = None
     if not words.plain and sys.stdout.isatty():
