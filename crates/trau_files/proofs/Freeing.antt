@@ -60,7 +60,7 @@ module _ {D F : Type 0} (does : Operations D F) (call : ℕ) (side : Side) (acce
   frees_only old new seats fault sits held opens = elim held [
     | inl h ↦ inl (
       λ k other. ap (λ (s : List (Option (OpenLine F))). in_seat s k) h.0 ∙ sits k other,
-      record { result = Err fault; opens = opens; seat = tt; next = h.1; last = h.2 },
+      record { result = Err fault; folder = new.folder; opens = opens; seat = tt; next = h.1; last = h.2 },
     )
     | inr h ↦ inr (λ k other before. h.0 k before ∙ sits k other, h.1, h.2, same_short old seats h.3)
   ]
@@ -78,6 +78,7 @@ module _ {D F : Type 0} (does : Operations D F) (call : ℕ) (side : Side) (acce
       λ k other. puts k (λ e. other (e ∙ h.1)) ∙ ap (λ (s : List (Option (OpenLine F))). in_seat s k) h.0 ∙ sits k other,
       record {
         result = Ok file;
+        folder = new.folder;
         opens = opens;
         seat = λ k o other there c s.
             let before : in_seat old.seats k ≡ Some o =
@@ -104,7 +105,7 @@ module _ {D F : Type 0} (does : Operations D F) (call : ℕ) (side : Side) (acce
     | inl h ↦ inr (inl (record {
       none = none;
       others = λ k o there other free. h.0 k free ∙ stay k o there other (λ e. e);
-      passes = record { result = h.1.result; opens = h.1.opens; seat = h.1.seat; next = h.1.next; last = h.1.last };
+      passes = record { result = h.1.result; folder = h.1.folder; opens = h.1.opens; seat = h.1.seat; next = h.1.next; last = h.1.last };
     }))
     | inr h ↦ inr (inr (record {
       none = none;
@@ -144,10 +145,10 @@ module _ {D F : Type 0} (does : Operations D F) (call : ℕ) (side : Side) (acce
   sits_still mid new seat p (Ok file) line sits here = sits_here mid new seat p line sits here
   sits_still mid new seat p (Err fault) line sits here = tt
 
-  pub frees_still : (old mid : OpenFiles D F) (seats : List (Option (OpenLine F))) (seat : ℕ) →
+  pub frees_still : (old mid : OpenFiles D F) (seats : List (Option (OpenLine F))) (folder : D) (seat : ℕ) →
       IsSomeAnd (in_seat mid.seats seat) (λ o. (o.call ≡ call) × (o.side ≡ side)) → OthersSit mid.seats seats seat → FreesSeats does old mid call side access at →
-      FreesSeats does old (freed mid seats) call side access at
-  frees_still old mid seats seat line sits frees = elim frees [
+      FreesSeats does old (record (freed mid seats) { folder = folder }) call side access at
+  frees_still old mid seats folder seat line sits frees = elim frees [
     | inl h ↦ inl (record {
       seat = h.seat;
       there = h.there;
@@ -160,6 +161,7 @@ module _ {D F : Type 0} (does : Operations D F) (call : ℕ) (side : Side) (acce
       others = moves old.seats mid.seats seats seat (λ k. k ≡ old.next) line sits h.others;
       passes = record {
         result = h.passes.result;
+        folder = h.passes.folder;
         opens = h.passes.opens;
         seat = sits_still mid.seats seats seat old.next h.passes.result line sits h.passes.seat;
         next = h.passes.next;

@@ -1,7 +1,8 @@
 -- Seats after a file is put into one, and after a line is given one.
-use Rattle.std.proofs.Common.{◌≡◌, ◌⊎◌, Result, Ok, Err, IfSome, IsSome, subst, ◌<◌, ℕ, zero, suc, List, [], ◌∷◌, length, Option, None, Some, All, slice_set, slice_index_or}
+use Rattle.std.proofs.Common.{◌≡◌, ◌⊎◌, Result, Ok, Err, IfSome, IsSome, subst, ◌<◌, ℕ, zero, suc, List, [], ◌∷◌, length, Option, None, Some, All, replicate, slice_set, slice_index_or}
 use Rattle.std.proofs.Common.{length-set, refl, sym, ◌∙◌, ap, arith, inl, inr}
 use Rattle.std.proofs.lemmas.List.{get_or_read_under}
+use Rattle.std.proofs.lemmas.List.Elements.{All-replicate}
 use Rattle.trau_io.specs.declared.line.Side.{Side}
 use Rattle.trau_io.specs.Indices.{index_of_line}
 use Rattle.trau_io.proofs.Tables.{same_line}
@@ -26,6 +27,19 @@ pub empty : {X : Type 0} (seats : List (Option X)) → All (λ seat. seat ≡ No
 empty [] none k = refl
 empty (s ∷ ss) none zero = none 0 None (omega arith)
 empty (s ∷ ss) none (suc k) = empty ss (λ j d within. none (suc j) d (omega arith)) k
+
+pub within : {X : Type 0} (xs : List (Option X)) (k : ℕ) (x : X) → slice_index_or xs k None ≡ Some x → k < length xs
+within [] k x there = let never : ⊥ = cc in absurd never
+within (y ∷ ys) zero x there = omega arith
+within (y ∷ ys) (suc k) x there = omega (arith, within ys k x there)
+
+-- a clone of None is None
+pub cloned_none : {X : Type 0} (IsClone : Option X → Type 0) → ((x : X) → IsClone (Some x) → ⊥) → (y : Option X) → IsClone y → y ≡ None
+cloned_none IsClone never None clone = refl
+cloned_none IsClone never (Some x) clone = absurd (never x clone)
+
+pub all_none : {X : Type 0} (n : ℕ) (xs : List (Option X)) → xs ≡ replicate n None → All (λ x. x ≡ None) xs
+all_none n xs is = rw is (All-replicate (λ (o : Option _). o ≡ None) n None refl)
 
 module _ {F : Type 0} where
   pub seated_in_none : (seats : List (Option (OpenLine F))) (seat_of : List ℕ) → All (λ seat. seat ≡ None) seats → AreSeated seats seat_of

@@ -1,19 +1,19 @@
 -- Operations that are made again: what the interrupted ones leave.
-use Rattle.std.proofs.Common.{◌≡◌, ℕ, zero, suc, List, Option, None, Some, Result, Ok, Err, IsErrAnd, refl, sym, subst, ◌∙◌, take, ◌++◌, inl, inr, rules}
+use Rattle.std.proofs.Common.{◌≡◌, ℕ, zero, suc, ◌+◌, arith, List, Option, None, Some, Result, Ok, Err, refl, sym, subst, ◌∙◌, take, ◌++◌, inl, inr, rules}
 use Rattle.std.proofs.lemmas.Grind.{common_steps}
 use Rattle.std.specs.Io.KnownBytes.{Keeps, ReadConsumes, WriteAppends}
 use Rattle.std.specs.IoError.{error_kind}
 use Rattle.std.specs.declared.io.Error.{Error}
-use Rattle.std.specs.declared.io.ErrorKind.TheVariants.{Interrupted, WriteZero}
-use Rattle.trau_files.specs.Folder.{OneRead, OneWrite, ReadOperation, WriteOperation}
-use Rattle.trau_files.specs.Tries.{Interruptions, IsOfLastTry, ReadsOnce, WritesOnce}
+use Rattle.std.specs.declared.io.ErrorKind.TheVariants.{WriteZero}
+use Rattle.trau_files.specs.Folder.{OneRead, OneTake, OneWrite, Operations, ReadOperation, WriteOperation}
+use Rattle.trau_files.specs.Tries.{Interruptions, IsOfLastTry, ReadsOnce, TakesOnce, WasInterrupted, WritesOnce}
 
 -- one more try was interrupted
-pub interrupted_again : {F : Type 0} (gave : F → F → Result ℕ Error → List ℕ → Type 0) (old mid new : F) (result : Result ℕ Error) (buf : List ℕ) →
-    ((n : ℕ) × Interruptions gave n old mid) → gave mid new result buf → IsErrAnd result (λ e. error_kind e ≡ Interrupted) →
-    (n : ℕ) × Interruptions gave n old new
-interrupted_again gave old mid new (Ok n) buf before now is = absurd is
-interrupted_again gave old mid new (Err e) buf before now is = (suc before.0, (mid, e, buf, before.1, now, is))
+pub interrupted_again : {F : Type 0} (gave : F → F → Result ℕ Error → List ℕ → Type 0) (old mid new : F) (result : Result ℕ Error) (buf : List ℕ) (tries : ℕ) →
+    Interruptions gave tries old mid → gave mid new result buf → WasInterrupted result → Interruptions gave (tries + 1) old new
+interrupted_again gave old mid new (Ok n) buf tries before now is = absurd is
+interrupted_again gave old mid new (Err e) buf tries before now is =
+    let next : suc tries ≡ tries + 1 = omega arith in subst (λ (k : ℕ). Interruptions gave k old new) next (mid, e, buf, before, now, is)
 
 keeps_twice : (a b c : Option (List ℕ)) → Keeps a b → Keeps b c → Keeps a c
 keeps_twice None b c first second = tt
@@ -79,3 +79,9 @@ writes_nothing writing old new n e bytes none last is = let tries = subst (λ k.
   last = inr (is, tries);
   octets = nothing_taken (writing.contents old) (writing.contents new) bytes (appends writing old new (Ok 0) bytes tries);
 }
+
+-- so is one to an open file of a folder
+pub takes_nothing : {D F : Type 0} (does : Operations D F) (before after : D) (old new : F) (n : ℕ) (e : Error) (bytes : List ℕ) →
+    n ≡ 0 → IsOfLastTry (OneTake does) (before, old) (after, new) (Ok n) bytes → error_kind e ≡ WriteZero → TakesOnce does before after old new (Err e) bytes
+takes_nothing does before after old new n e bytes none last is =
+    record { last = inr (is, subst (λ k. IsOfLastTry (OneTake does) (before, old) (after, new) (Ok k) bytes) none last) }

@@ -14,8 +14,8 @@ use Rattle.trau_files.specs.declared.trunk.fault.Fault.{Fault}
 use Rattle.trau_files.specs.declared.trunk.fault.Fault.TheVariants.{System}
 use Rattle.trau_files.specs.declared.trunk.seats.Access.{Access}
 use Rattle.trau_files.specs.declared.trunk.seats.Access.TheVariants.{Reading, Writing}
-use Rattle.trau_files.specs.Folder.{ReadOperation, WriteOperation}
-use Rattle.trau_files.specs.Tries.{ReadsOnce, WritesOnce}
+use Rattle.trau_files.specs.Folder.{Operations}
+use Rattle.trau_files.specs.Tries.{GivesOnce, TakesOnce}
 
 -- the name of a line's file: the call's number, a dot and the side's word
 abbrev pub file_name : ℕ → Side → List ℕ
@@ -74,22 +74,23 @@ abbrev pub FileAfter : {F E : Type 0} → OpenLine F → Result ℕ E → Option
 FileAfter o result file = MatchResult result (λ n. IsSomeAnd file (IsMovedBy o n)) (λ _. file ≡ None)
 
 -- the read of an open file failed with this fault, which is the file's own
-abbrev pub FailsToGive : {F : Type 0} → ReadOperation F → F → Fault → List ℕ → Type 0
-FailsToGive {F = F} reading old fault buf = (new : F) × (e : Error) × (fault ≡ System e) × ReadsOnce reading old new (Err e) buf
+abbrev pub FailsToGive : {D F : Type 0} → Operations D F → D → F → Fault → List ℕ → Type 0
+FailsToGive {F = F} does folder old fault buf = (new : F) × (e : Error) × (fault ≡ System e) × GivesOnce does folder old new (Err e) buf
 
--- the write to an open file failed with this fault, which is the file's own
-abbrev pub FailsToTake : {F : Type 0} → WriteOperation F → F → Fault → List ℕ → Type 0
-FailsToTake {F = F} writing old fault bytes = (new : F) × (e : Error) × (fault ≡ System e) × WritesOnce writing old new (Err e) bytes
+-- the write to an open file failed with this fault, which is the file's own; it took the folder from `before` to `after`
+abbrev pub FailsToTake : {D F : Type 0} → Operations D F → D → D → F → Fault → List ℕ → Type 0
+FailsToTake {F = F} does before after old fault bytes = (new : F) × (e : Error) × (fault ≡ System e) × TakesOnce does before after old new (Err e) bytes
 
 -- the read of an open file gave this result, which is the file's own; a file that failed is closed
-abbrev pub FileGives : {F : Type 0} → ReadOperation F → OpenLine F → Option (OpenLine F) → Result ℕ Fault → List ℕ → Type 0
-FileGives reading o file result buf =
-    MatchResult result (λ n. IsSomeAnd file (λ now. ReadsOnce reading o.file now.file (Ok n) buf)) (λ fault. FailsToGive reading o.file fault buf)
+abbrev pub FileGives : {D F : Type 0} → Operations D F → D → OpenLine F → Option (OpenLine F) → Result ℕ Fault → List ℕ → Type 0
+FileGives does folder o file result buf =
+    MatchResult result (λ n. IsSomeAnd file (λ now. GivesOnce does folder o.file now.file (Ok n) buf)) (λ fault. FailsToGive does folder o.file fault buf)
 
--- the write to an open file gave this result, which is the file's own; a file that failed is closed
-abbrev pub FileTakes : {F : Type 0} → WriteOperation F → OpenLine F → Option (OpenLine F) → Result ℕ Fault → List ℕ → Type 0
-FileTakes writing o file result bytes =
-    MatchResult result (λ n. IsSomeAnd file (λ now. WritesOnce writing o.file now.file (Ok n) bytes)) (λ fault. FailsToTake writing o.file fault bytes)
+-- the write to an open file gave this result, which is the file's own, and took the folder from `before` to `after`; a file that failed is closed
+abbrev pub FileTakes : {D F : Type 0} → Operations D F → D → D → OpenLine F → Option (OpenLine F) → Result ℕ Fault → List ℕ → Type 0
+FileTakes does before after o file result bytes =
+    MatchResult result (λ n. IsSomeAnd file (λ now. TakesOnce does before after o.file now.file (Ok n) bytes))
+    (λ fault. FailsToTake does before after o.file fault bytes)
 
 -- How a line's file is opened: to read it, or to write it, where a missing file may be made. No opening empties a file, since another line
 -- may have it.

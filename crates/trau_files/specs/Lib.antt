@@ -1,8 +1,15 @@
 -- What is known of lines as files.
 pub mod Claims
+pub mod Contents
+pub mod Disk
 pub mod Files
 pub mod Folder
+pub mod Holds
+pub mod Honest
+pub mod OnPaper
 pub mod Opening
+pub mod Recordings
 pub mod Seats
+pub mod Streams
 pub mod Tries
 pub mod Trunk

@@ -13,15 +13,16 @@ use Rattle.trau_files.specs.declared.trunk.fault.Fault.{Fault}
 use Rattle.trau_files.specs.declared.trunk.fault.Fault.TheVariants.{System, Shared}
 use Rattle.trau_files.specs.declared.trunk.seats.Access.{Access}
 use Rattle.trau_files.specs.declared.trunk.seats.Access.TheVariants.{Writing}
-use Rattle.trau_files.specs.Claims.{IsTaken, NotesFile}
+use Rattle.trau_files.specs.Claims.{AreApart, IsTaken, NotesFile}
 use Rattle.trau_files.specs.Files.{file_name, options_for}
 use Rattle.trau_files.specs.Folder.{Operations}
+use Rattle.trau_files.specs.Recordings.{IsFree, IsRecording}
 
 -- a file that wasn't opened for this reason is made: it is missing, and is to be written from its first octet on
 abbrev pub IsToBeMade : Access → ℕ → Error → Type 0
 IsToBeMade access at e = (access ≡ Writing) × (at ≡ 0) × (error_kind e ≡ NotFound)
 
--- a line's file was opened by its name, as it is; or it was missing, and was made
+-- a line's file was opened by its name, as it is; or it was missing, and was opened again so that it is made, unless something else made it between
 abbrev pub OpensOrMakes : {D F : Type 0} → Operations D F → D → D → ℕ → Side → Access → ℕ → Bool → Result F Error → Type 0
 OpensOrMakes does old new call side access at false result =
     does.opened old new (options_for access false) (file_name call side) result × IfErr result (λ e. IsToBeMade access at e → ⊥)
@@ -44,7 +45,8 @@ pub record IsSeen {D F : Type 0} (does : Operations D F) (old new : D) (call : �
   pub opened : OpensOrMakes does old new call side access at made (Ok file)
   pub told : does.told file (Ok metadata)
 
--- a line's file was opened and has these metadata; one of a disk was noted for the line, and no other note changed; of another file no note changed
+-- a line's file was opened and has these metadata; one of a disk was noted for the line, and no other note changed; of another file no note changed.
+-- No file that is written for one line is another line's; one that is to be written is no recording by another name
 pub record IsClaimed {D F : Type 0} (does : Operations D F) (old new : D) (old_claims new_claims : List (Option Claim)) (call : ℕ) (side : Side)
     (access : Access) (at : ℕ) (file : F) (metadata : Metadata) : Type 0 where
   pub made : Bool
@@ -52,6 +54,8 @@ pub record IsClaimed {D F : Type 0} (does : Operations D F) (old new : D) (old_c
   pub identity : FileIdentity
   pub identified : does.identified metadata identity
   pub noted : NotesFile old_claims new_claims (index_of_line call side) metadata (record { file = identity; access = access })
+  pub apart : AreApart new_claims
+  pub free : access ≡ Writing → IsFile (file_type metadata) → IsFree does new call side metadata identity
 
 -- this open file is the line's: it was opened by the line's name, noted for the line if it is on a disk, and goes on at this octet
 pub record IsOpened {D F : Type 0} (does : Operations D F) (old new : D) (old_claims new_claims : List (Option Claim)) (call : ℕ) (side : Side)
@@ -73,7 +77,7 @@ IsRefused {D = D} {F = F} does old new old_claims new_claims call side access at
     × IsClaimed does old mid old_claims new_claims call side access at fresh metadata × Starts does access at metadata mid started fresh file (Err e)
     × does.closed started new file)
 
--- the file is one of a disk that another line has, one of the two to be written, or that is to be written and was found as a recording;
+-- the file is one of a disk that another line has, one of the two to be written, or that is to be written and is the recording of an incoming line;
 -- it is closed as it was opened, and what the name leads to is removed only if it was made now and is empty; no note changes
 pub record IsShared {D F : Type 0} (does : Operations D F) (old new : D) (old_claims new_claims : List (Option Claim)) (call : ℕ) (side : Side)
     (access : Access) (at : ℕ) (other : ℕ) : Type 0 where
@@ -86,7 +90,8 @@ pub record IsShared {D F : Type 0} (does : Operations D F) (old new : D) (old_cl
   pub identity : FileIdentity
   pub identified : does.identified metadata identity
   pub same_claims : new_claims ≡ old_claims
-  pub taken : IsTaken old_claims (index_of_line call side) (record { file = identity; access = access }) other ⊎ (access ≡ Writing)
+  pub taken : IsTaken old_claims (index_of_line call side) (record { file = identity; access = access }) other
+      ⊎ ((access ≡ Writing) × IsRecording does other identity)
   pub without : D
   pub closed : does.closed mid without file
   pub left : (new ≡ without) ⊎ ((made ≡ true) × (metadata_len metadata ≡ 0) × does.removed without new (file_name call side))

@@ -36,10 +36,11 @@ seat_after next last (Err fault) = next
 abbrev pub SitsHere : {F : Type 0} → List (Option (OpenLine F)) → ℕ → ℕ → Side → Type 0
 SitsHere {F = F} seats seat call side = (k : ℕ) (o : OpenLine F) → k ≢ seat → in_seat seats k ≡ Some o → o.call ≡ call → o.side ≡ side → ⊥
 
--- opening the line's file gave this result; only if it was opened, it got the next seat, which is passed on
+-- opening the line's file gave this result, and left the folder in this state; only if it was opened, it got the next seat, which is passed on
 pub record PassesSeat {D F : Type 0} (does : Operations D F) (old new : OpenFiles D F) (call : ℕ) (side : Side) (access : Access) (at : ℕ) : Type 0 where
   pub result : Result F Fault
-  pub opens : Opens does old.folder new.folder old.claims new.claims call side access at result
+  pub folder : D
+  pub opens : Opens does old.folder folder old.claims new.claims call side access at result
   pub seat : IfOk result (λ _. SitsHere new.seats old.next call side)
   pub next : new.next ≡ seat_after old.next old.last result
   pub last : new.last ≡ old.last

@@ -1,18 +1,19 @@
 //! The desk over a reader and a writer, as the standard streams are.
-ghost use Rattle.std.specs.Prelude.{◌≡◌, ◌≤◌};
-ghost use Rattle.trau_io.specs.Desks.{DeskState};
+ghost use Rattle.std.specs.Prelude.{◌≡◌, ◌<◌, ◌≤◌, length};
+ghost use Rattle.trau_io.specs.Desks.{DeskReads, DeskWrites};
 ghost use Rattle.trau_io.specs.Lines.{Rose};
+ghost use Rattle.trau_files.specs.Streams.{PassesRead, PassesWrite, Streams, desk_of};
 
-use crate::retry::{read_again, write_some};
+use crate::retry::{ReadOnce, WriteOnce, read_again, write_some};
 use std::io;
-use std::io::{Read, Write};
 use std::marker::Model;
 use trau_io::{Desk, Failed};
 
 /// A desk that reads orders from `input` and writes texts to `output`, which mustn't buffer: what it took counts as written.
-/// What is known of the two streams is known of the desk; of the standard streams nothing is.
+/// What is known of the two streams is known of the desk; of the standard streams nothing is. A read or a write of the desk is one of
+/// its stream, with its answer.
 #[derive(Drop)]
-pub struct StdDesk<R: Read + Drop, W: Write + Drop> {
+pub struct StdDesk<R: ReadOnce + Drop, W: WriteOnce + Drop> {
     input: R,
     output: W,
     read_faults: u64,
@@ -21,16 +22,16 @@ pub struct StdDesk<R: Read + Drop, W: Write + Drop> {
     write_fault: Option<io::Error>,
 }
 
-impl<R: Read + Drop, W: Write + Drop> Model for StdDesk<R, W> {
-    ghost Value = { DeskState };
+impl<R: ReadOnce + Drop, W: WriteOnce + Drop> Model for StdDesk<R, W> {
+    ghost Value = { Streams R W };
 
-    ghost view = { λ d. record { to_come = R.remaining d.input; read_faults = d.read_faults; written = W.contents d.output; write_faults = d.write_faults } };
+    ghost view = { λ d. record { input = d.input; output = d.output; read_faults = d.read_faults; write_faults = d.write_faults } };
 }
 
-impl<R: Read + Drop, W: Write + Drop> StdDesk<R, W> {
+impl<R: ReadOnce + Drop, W: WriteOnce + Drop> StdDesk<R, W> {
     /// A desk that hasn't failed yet.
     pub fn new(input: R, output: W) -> StdDesk<R, W>
-        ensures { result ≡ record { to_come = R.remaining input; read_faults = 0; written = W.contents output; write_faults = 0 } }
+        ensures { result ≡ record { input = input; output = output; read_faults = 0; write_faults = 0 } }
     {
         StdDesk {
             input,
@@ -53,17 +54,25 @@ impl<R: Read + Drop, W: Write + Drop> StdDesk<R, W> {
     }
 }
 
-impl<R: Read + Drop, W: Write + Drop> Desk for StdDesk<R, W> {
-    ghost desk = { λ d. d };
+impl<R: ReadOnce + Drop, W: WriteOnce + Drop> Desk for StdDesk<R, W> {
+    ghost desk = { desk_of R.reading W.writing };
 
-    fn read(&mut self, buf: &mut [u8]) -> Result<usize, Failed> {
+    fn read(&mut self, buf: &mut [u8]) -> Result<usize, Failed>
+        requires { 0 < length buf.old }
+        ensures desk { DeskReads (desk_of R.reading W.writing self.old) (desk_of R.reading W.writing self.new) result buf.new }
+        ensures passes { PassesRead R.reading self.old self.new result buf.new }
+    {
         match read_again(&mut self.input, buf) {
             Ok(count) => Ok(count),
             Err(fault) => Err(note(&mut self.read_faults, &mut self.read_fault, fault)),
         }
     }
 
-    fn write(&mut self, bytes: &[u8]) -> Result<usize, Failed> {
+    fn write(&mut self, bytes: &[u8]) -> Result<usize, Failed>
+        requires { 0 < length bytes.now }
+        ensures desk { DeskWrites (desk_of R.reading W.writing self.old) (desk_of R.reading W.writing self.new) result bytes.now }
+        ensures passes { PassesWrite W.writing self.old self.new result bytes.now }
+    {
         match write_some(&mut self.output, bytes) {
             Ok(count) => Ok(count),
             Err(fault) => Err(note(&mut self.write_faults, &mut self.write_fault, fault)),

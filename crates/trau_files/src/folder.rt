@@ -2,24 +2,30 @@
 //!
 //! The standard library's contracts don't say what an opening, a seek or a new length does, and let any operation fail. So each
 //! operation of a folder gives a relation that only this operation gives (`specs/Folder.antt`). Of any folder it is then proved
-//! which operations a line makes, and that their results are passed on. Emptying and closing change the folder too, so that they
-//! show of a file that no clause names afterwards. For the system's files each method is one call of the standard library; that
+//! which operations a line makes, and that their results are passed on. Writing, emptying and closing change the folder too, so that
+//! they show of a file that no clause names afterwards. For the system's files each method is one call of the standard library; that
 //! these calls do what they are asked is trusted.
+ghost use Rattle.std.specs.Io.{ReadsAtMost, WritesAtMost};
+ghost use Rattle.std.specs.Prelude.{Option, None};
 ghost use Rattle.trau_files.specs.Folder.{Operations};
+ghost use Rattle.trau_files.specs.Honest.{IsHonest};
 
-use crate::retry::{ReadOnce, WriteOnce};
 use crate::trunk::FileIdentity;
 use std::fs::{Metadata, OpenFile, OpenOptions};
-use std::io::{Seek, SeekFrom};
+use std::io::{Read, Seek, SeekFrom, Write};
+use std::os::unix::fs::MetadataExt;
 use std::rt::Files;
 use std::{fs, io};
 
 /// A folder with files that can be opened by their names.
 pub trait Folder {
-    type File: ReadOnce + WriteOnce + Drop;
+    type File: Drop;
 
     // What each operation did.
     ghost does: { Operations Self Self.File };
+
+    // That this is what an honest folder does, if it is known.
+    ghost honest: { Option (IsHonest does) };
 
     /// Opens the file that `name` leads to.
     fn open(&mut self, how: &OpenOptions, name: &str) -> io::Result<Self::File>
@@ -37,9 +43,23 @@ pub trait Folder {
     fn identify(&self, metadata: &Metadata) -> FileIdentity
         ensures { does.identified metadata.now result };
 
+    /// How many names the file that has these metadata has, but for symbolic links.
+    fn links(&self, metadata: &Metadata) -> u64
+        ensures { does.linked metadata.now result };
+
     /// Goes to octet `at` of an open file.
     fn go(&self, file: &mut Self::File, at: u64) -> io::Result<u64>
         ensures { does.went file.old file.new at result };
+
+    /// One read of an open file into `buf`.
+    fn read(&self, file: &mut Self::File, buf: &mut [u8]) -> io::Result<usize>
+        ensures gave { does.gave self.now file.old file.new result buf.new }
+        ensures bound { ReadsAtMost result buf.new };
+
+    /// One write of `bytes` to an open file.
+    fn write(&mut self, file: &mut Self::File, bytes: &[u8]) -> io::Result<usize>
+        ensures took { does.took self.old self.new file.old file.new result bytes.now }
+        ensures bound { WritesAtMost result bytes.now };
 
     /// Empties an open file.
     fn empty(&mut self, file: &mut Self::File) -> io::Result<()>
@@ -50,10 +70,12 @@ pub trait Folder {
         ensures { does.closed self.old self.new file };
 
     /// The metadata of the file that `name` leads to.
-    fn metadata(&self, name: &str) -> io::Result<Metadata>;
+    fn metadata(&self, name: &str) -> io::Result<Metadata>
+        ensures { does.described self.now name.now result };
 
     /// The metadata of `name` itself, also if it is a link.
-    fn symlink_metadata(&self, name: &str) -> io::Result<Metadata>;
+    fn symlink_metadata(&self, name: &str) -> io::Result<Metadata>
+        ensures { does.entry_described self.now name.now result };
 }
 
 impl<'a, R: Files + AllocGlobal> Folder for &'a R {
@@ -64,10 +86,17 @@ impl<'a, R: Files + AllocGlobal> Folder for &'a R {
       removed = λ old new name. Unit {0};
       told = λ file result. Unit {0};
       identified = λ metadata file. Unit {0};
+      linked = λ metadata links. Unit {0};
+      described = λ folder name result. Unit {0};
+      entry_described = λ folder name result. Unit {0};
       went = λ old new at result. Unit {0};
+      gave = λ folder old new result buf. Unit {0};
+      took = λ before after old new result bytes. Unit {0};
       emptied = λ before after old new result. Unit {0};
       closed = λ before after file. Unit {0};
     } };
+
+    ghost honest = { None };
 
     fn open(&mut self, how: &OpenOptions, name: &str) -> io::Result<R::File> {
         how.open(*self, name)
@@ -85,8 +114,20 @@ impl<'a, R: Files + AllocGlobal> Folder for &'a R {
         FileIdentity::of(metadata)
     }
 
+    fn links(&self, metadata: &Metadata) -> u64 {
+        metadata.nlink()
+    }
+
     fn go(&self, file: &mut R::File, at: u64) -> io::Result<u64> {
         file.seek(SeekFrom::Start(at))
+    }
+
+    fn read(&self, file: &mut R::File, buf: &mut [u8]) -> io::Result<usize> {
+        file.read(buf)
+    }
+
+    fn write(&mut self, file: &mut R::File, bytes: &[u8]) -> io::Result<usize> {
+        file.write(bytes)
     }
 
     fn empty(&mut self, file: &mut R::File) -> io::Result<()> {

@@ -3,13 +3,12 @@
 //! If a signal comes before a read or a write has moved an octet, the system and the standard library return `Interrupted`
 //! and don't try again. Nothing has moved then, so trying again here loses no octet. An operation that had moved some octets
 //! returns their number.
-ghost use Rattle.std.specs.Prelude.{◌≡◌, ◌<◌, IfOk, IsErrAnd, IsTrue};
+ghost use Rattle.std.specs.Prelude.{◌≡◌, ◌<◌, false, IfOk, IsTrue};
 ghost use Rattle.std.specs.Io.{ReadsAtMost, WritesAtMost};
-ghost use Rattle.std.specs.IoError.{error_kind};
-ghost use Rattle.std.specs.declared.io.ErrorKind.TheVariants.{Interrupted};
-ghost use Rattle.trau_files.specs.Folder.{ReadOperation, WriteOperation, OneRead, OneWrite};
-ghost use Rattle.trau_files.specs.Tries.{IsOfLastTry, ReadsOnce, WritesOnce};
+ghost use Rattle.trau_files.specs.Folder.{ReadOperation, WriteOperation, OneGive, OneRead, OneTake, OneWrite};
+ghost use Rattle.trau_files.specs.Tries.{GivesOnce, IsOfLastTry, ReadsOnce, TakesOnce, WasInterrupted, WritesOnce};
 
+use crate::folder::Folder;
 use std::io;
 use std::io::{Error, ErrorKind, Read, Write};
 
@@ -100,9 +99,50 @@ fn try_write<W: WriteOnce>(writer: &mut W, bytes: &[u8]) -> io::Result<usize>
     unreachable!()
 }
 
+/// One read of an open file of a folder, made again if a signal interrupted it.
+pub fn read_file<D: Folder>(folder: &D, file: &mut D::File, buf: &mut [u8]) -> io::Result<usize>
+    ensures bound { ReadsAtMost result buf.new }
+    ensures once { GivesOnce D.does folder.now file.old file.new result buf.new }
+{
+    for tries in 0..TRIES {
+        let done = folder.read(file, buf);
+        if tries + 1 == TRIES || !was_interrupted(&done) {
+            return done;
+        }
+    }
+    unreachable!()
+}
+
+/// One write of at least one octet to an open file of a folder, made again if a signal interrupted it. A file that takes none
+/// fails, since callers would try for ever.
+pub fn write_file<D: Folder>(folder: &mut D, file: &mut D::File, bytes: &[u8]) -> io::Result<usize>
+    ensures some { IfOk result (λ n. 0 < n) }
+    ensures bound { WritesAtMost result bytes.now }
+    ensures once { TakesOnce D.does folder.old folder.new file.old file.new result bytes.now }
+{
+    match try_file(folder, file, bytes) {
+        Ok(0) => Err(Error::from(ErrorKind::WriteZero)),
+        written => written,
+    }
+}
+
+// One write to an open file of a folder, made again if a signal interrupted it.
+fn try_file<D: Folder>(folder: &mut D, file: &mut D::File, bytes: &[u8]) -> io::Result<usize>
+    ensures { IsOfLastTry (OneTake D.does) (folder.old, file.old) (folder.new, file.new) result bytes.now }
+{
+    for tries in 0..TRIES {
+        let done = folder.write(file, bytes);
+        if tries + 1 == TRIES || !was_interrupted(&done) {
+            return done;
+        }
+    }
+    unreachable!()
+}
+
 // Whether a signal came before an operation had moved an octet.
 fn was_interrupted(done: &io::Result<usize>) -> bool
-    ensures { IsTrue result → IsErrAnd done.now (λ e. error_kind e ≡ Interrupted) }
+    ensures interrupted { IsTrue result → WasInterrupted done.now }
+    ensures other { result ≡ false → WasInterrupted done.now → ⊥ }
 {
     matches!(done, Err(fault) if fault.kind() == ErrorKind::Interrupted)
 }

@@ -1,11 +1,13 @@
 //! The lines as files of the current folder: `7.up`, `7.pcm`, `7.down` and `7.out` of call 7.
 
-ghost use Rattle.std.specs.Prelude.{◌≡◌, ◌<◌, None, All, vec_len, length, slice_get, IfSome, IfOk};
+ghost use Rattle.std.specs.Prelude.{◌≡◌, ◌<◌, ℕ, List, None, Err, All, vec_len, length, slice_get, IfSome, IfOk};
 ghost use Rattle.trau_io.specs.Lines.{Reads, Writes, OthersStay};
 ghost use Rattle.trau_io.specs.Indices.{index_of_line};
 ghost use Rattle.trau_io.specs.declared.line_table.TheConstants.{LINE_INDICES};
 ghost use Rattle.trau_files.specs.Claims.{AreApart, OthersKeep};
+ghost use Rattle.trau_files.specs.Contents.{CountsStay, NotesNoWriting};
 ghost use Rattle.trau_files.specs.Files.{states_of};
+ghost use Rattle.trau_files.specs.Holds.{HoldsAtFirst, ReadsHold, WritesHold};
 ghost use Rattle.trau_files.specs.Trunk.{TrunkFiles, TrunkReads, TrunkWrites};
 
 mod claims;
@@ -33,7 +35,8 @@ use trau_io::{Failed, LINE_INDICES, Line, Trunk, line_index};
 /// second fails.
 ///
 /// Contracts know how often each line failed, which files are open, at which octet each line goes on, which line has which file,
-/// and which operations of the folder each read and write makes. They don't know what a line's file holds while it isn't open.
+/// and which operations of the folder each read and write makes. Over an honest folder (`specs/Honest.antt`) they know what each
+/// line's file holds.
 /// The reasons for faults go to standard error.
 #[derive(Drop)]
 pub struct FileTrunk<D: Folder + Drop> {
@@ -59,6 +62,7 @@ impl<D: Folder + Drop> FileTrunk<D> {
         ensures unclaimed { IfOk result (λ t. All (λ claim. claim ≡ None) t.files.claims) }
         ensures next { IfOk result (λ t. (t.files.next ≡ 0) × (t.files.last ≡ 255)) }
         ensures untouched { IfOk result (λ t. t.files.folder ≡ folder) }
+        ensures honest { IfOk result (HoldsAtFirst D.does folder) }
     {
         let mut lines = Vec::with_capacity(alloc, LINE_INDICES)?;
         for _ in 0..LINE_INDICES {
@@ -66,6 +70,16 @@ impl<D: Folder + Drop> FileTrunk<D> {
         }
         let files = LineFiles::new(alloc, folder)?;
         Ok(FileTrunk { files, lines })
+    }
+
+    /// Counts a fault of a line that is to be used in a way that it isn't made for. No file is touched.
+    pub fn refuse(&mut self, line: Line) -> Failed
+        ensures this { (bytes : List ℕ) → Writes (states_of self.old.lines line.call line.side) (states_of self.new.lines line.call line.side) (Err result) bytes }
+        ensures others { OthersStay (states_of self.old.lines) (states_of self.new.lines) line.call line.side }
+        ensures counts { CountsStay self.old.lines self.new.lines }
+        ensures files { self.new.files ≡ self.old.files }
+    {
+        self.lines[line_index(line)].refuse()
     }
 }
 
@@ -83,9 +97,11 @@ impl<D: Folder + Eprint + Drop> Trunk for FileTrunk<D> {
         requires { 0 < length buf.old }
         ensures this { Reads (states_of self.old.lines line.call line.side) (states_of self.new.lines line.call line.side) result buf.new }
         ensures others { OthersStay (states_of self.old.lines) (states_of self.new.lines) line.call line.side }
-        ensures after { IfSome (slice_get self.old.lines (index_of_line line.call line.side)) (λ l. TrunkReads D.does D.File.reading self.old self.new line.call line.side l result buf.new) }
+        ensures after { IfSome (slice_get self.old.lines (index_of_line line.call line.side)) (λ l. TrunkReads D.does self.old self.new line.call line.side l result buf.new) }
         ensures apart { AreApart self.new.files.claims }
         ensures kept { OthersKeep self.old.files.claims self.new.files.claims (index_of_line line.call line.side) }
+        ensures notes { NotesNoWriting self.old.files.claims self.new.files.claims (index_of_line line.call line.side) }
+        ensures honest { ReadsHold D.does self.old self.new line.call line.side result buf.new }
     {
         self.lines[line_index(line)].read(&mut self.files, line, buf)
     }
@@ -94,9 +110,10 @@ impl<D: Folder + Eprint + Drop> Trunk for FileTrunk<D> {
         requires { 0 < length bytes.now }
         ensures this { Writes (states_of self.old.lines line.call line.side) (states_of self.new.lines line.call line.side) result bytes.now }
         ensures others { OthersStay (states_of self.old.lines) (states_of self.new.lines) line.call line.side }
-        ensures after { IfSome (slice_get self.old.lines (index_of_line line.call line.side)) (λ l. TrunkWrites D.does D.File.writing self.old self.new line.call line.side l result bytes.now) }
+        ensures after { IfSome (slice_get self.old.lines (index_of_line line.call line.side)) (λ l. TrunkWrites D.does self.old self.new line.call line.side l result bytes.now) }
         ensures apart { AreApart self.new.files.claims }
         ensures kept { OthersKeep self.old.files.claims self.new.files.claims (index_of_line line.call line.side) }
+        ensures honest { WritesHold D.does self.old self.new line.call line.side result bytes.now }
     {
         self.lines[line_index(line)].write(&mut self.files, line, bytes)
     }

@@ -1,8 +1,8 @@
 //! The program `trau`: the top function over the files of the current folder and the standard streams.
 //!
-//! Makes the lines as files (`FileTrunk`) and the desk of the standard streams (`StdDesk`: the orders of a run come in, texts
-//! go out), calls the top function with the words of the command line, and exits with the status that it returns. Only what
-//! happens before that call is decided here: words that aren't UTF-8, and running out of memory. Why something failed goes to
+//! Makes the desk of the standard streams (`StdDesk`: the orders of a run come in, texts go out), calls the top function over files
+//! (`files_top`) with the words of the command line, and exits with the status that it returns. Only what happens before the command
+//! is decided here: words that aren't UTF-8, and running out of memory. Why something failed goes to
 //! standard error; no clause speaks of it. The statuses are this project's profile. Definitions: `specs/Refusals.antt`.
 #![tactic(auto)]
 
@@ -11,7 +11,8 @@ ghost use Rattle.farm_top.specs.Farm.{TextOut};
 ghost use Rattle.trau_program.specs.declared.Refusal.TheVariants.{NoMemory};
 ghost use Rattle.trau_program.specs.Refusals.{status_of, text_of};
 
-use farm_top::{NO_MEMORY, USAGE, farm_top};
+use farm_top::{NO_MEMORY, USAGE};
+use files_top::files_top;
 use pool_run::OpenGate;
 use std::alloc::AllocError;
 use std::io::{ErrorKind, Read, Write};
@@ -20,7 +21,7 @@ use std::rt::{Env, Files};
 use std::sync::Wait;
 use std::thread::Threads;
 use std::{env, io};
-use trau_files::{FileTrunk, StdDesk};
+use trau_files::StdDesk;
 use trau_io::{Desk, tell};
 
 // Why the top function can't be called.
@@ -76,9 +77,8 @@ fn run<
     O: Write + Drop,
 >(rt: &R, desk: &mut StdDesk<I, O>) -> Result<u8, Refusal> {
     let words = words_given(rt)?;
-    let mut trunk = FileTrunk::new(rt.alloc(), rt)?;
-    let status = farm_top(rt, rt.alloc(), &words, &mut trunk, desk, &OpenGate);
-    trunk.tell_rest();
+    let (status, files) = files_top(rt, rt.alloc(), &words, rt, desk, &OpenGate)?;
+    files.tell_rest();
     Ok(status)
 }
 

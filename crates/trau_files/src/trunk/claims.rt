@@ -5,6 +5,7 @@ ghost use Rattle.std.specs.Fs.{IsFile, file_type};
 ghost use Rattle.trau_io.specs.Indices.{index_of_line};
 ghost use Rattle.trau_files.specs.declared.trunk.seats.Access.TheVariants.{Writing};
 ghost use Rattle.trau_files.specs.Claims.{AreApart, Has, IsTaken, MayHave, MayShare, NotesDiskFile, NotesFile, OthersKeep};
+ghost use Rattle.trau_files.specs.Recordings.{HasOneName, IsFree, IsRecording};
 
 use super::name::name_of;
 use super::recordings::Recordings;
@@ -42,12 +43,12 @@ pub struct Claim {
 
 /// The files that lines have, by the lines' indices (`line_index`), and those of the folder's incoming lines, opened or not.
 #[derive(Drop)]
-pub struct Claims {
+pub struct Claims<D: Folder> {
     of_lines: Vec<Option<Claim>>,
-    recordings: Recordings,
+    recordings: Recordings<D>,
 }
 
-impl Model for Claims {
+impl<D: Folder> Model for Claims<D> {
     ghost use Rattle.std.specs.Prelude.{◌≡◌, List, Option, vec_len};
     ghost use Rattle.trau_io.specs.declared.line_table.TheConstants.{LINE_INDICES};
     ghost use Rattle.trau_files.specs.Claims.{AreApart};
@@ -60,9 +61,9 @@ impl Model for Claims {
     ghost invariant = { λ c. (vec_len c.of_lines ≡ LINE_INDICES) × AreApart c.of_lines.items };
 }
 
-impl Claims {
+impl<D: Folder> Claims<D> {
     /// No line has a file yet.
-    pub fn new(alloc: Global) -> Result<Claims, AllocError>
+    pub fn new(alloc: Global) -> Result<Claims<D>, AllocError>
         ensures none { IfOk result (All (λ claim. claim ≡ None)) }
         ensures apart { IfOk result AreApart }
     {
@@ -76,7 +77,7 @@ impl Claims {
 
     /// Gives an opened file, which has these metadata, to the line, unless it is another line's, whose index is the error. A pipe
     /// or a device keeps nothing that could be lost; any number of lines may have it. `is_new` says that the file was made just now.
-    pub fn take<D: Folder>(
+    pub fn take(
         &mut self,
         folder: &D,
         line: Line,
@@ -87,10 +88,14 @@ impl Claims {
         ensures noted { IfOk result (λ _. NotesFile self.old self.new (index_of_line line.call line.side) metadata.now claim) }
         ensures refused { IfErr result (λ _. self.new ≡ self.old) }
         ensures causes { IfErr result (λ other. IsFile (file_type metadata.now)
-            × (IsTaken self.old (index_of_line line.call line.side) claim other ⊎ (claim.access ≡ Writing))) }
-        ensures apart { AreApart self.old → AreApart self.new }
+            × (IsTaken self.old (index_of_line line.call line.side) claim other
+            ⊎ ((claim.access ≡ Writing) × IsRecording D.does other claim.file))) }
+        ensures free { IfOk result (λ _. claim.access ≡ Writing → IsFile (file_type metadata.now) →
+            IsFree D.does folder.now line.call line.side metadata.now claim.file) }
+        ensures apart { AreApart self.new }
         ensures others { OthersKeep self.old self.new (index_of_line line.call line.side) }
     {
+        let _ = &self.of_lines;
         if !metadata.is_file() {
             return Ok(());
         }
@@ -108,7 +113,7 @@ impl Claims {
     }
 
     // The index of an incoming line, opened or not, whose file a line is to write under another name.
-    fn recorded<D: Folder>(
+    fn recorded(
         &mut self,
         folder: &D,
         line: Line,
@@ -117,7 +122,8 @@ impl Claims {
         is_new: bool,
     ) -> Option<usize>
         ensures same { self.new ≡ self.old }
-        ensures written { IsSome result → claim.access ≡ Writing }
+        ensures found { IfSome result (λ other. (claim.access ≡ Writing) × IsRecording D.does other claim.file) }
+        ensures free { result ≡ None → claim.access ≡ Writing → IsFree D.does folder.now line.call line.side metadata.now claim.file }
     {
         if claim.access == Access::Writing && is_linked(folder, line, metadata) {
             self.recordings.place_of(folder, claim.file, is_new)
@@ -191,8 +197,10 @@ fn clash(held: Option<Claim>, claim: Claim) -> bool
 
 // Whether a line's file may have another name beside the line's: that is a symbolic link, the file has several links, or the
 // system doesn't say.
-fn is_linked<D: Folder>(folder: &D, line: Line, metadata: &Metadata) -> bool {
-    metadata.nlink() > 1
+fn is_linked<D: Folder>(folder: &D, line: Line, metadata: &Metadata) -> bool
+    ensures { result ≡ false → HasOneName D.does folder.now line.call line.side metadata.now }
+{
+    folder.links(metadata) > 1
         || match folder.symlink_metadata(name_of(line).as_str()) {
             Ok(entry) => entry.is_symlink(),
             Err(_) => true,

@@ -1,6 +1,6 @@
 //! One line as a file.
 
-ghost use Rattle.std.specs.Prelude.{◌≡◌, ◌≤◌};
+ghost use Rattle.std.specs.Prelude.{◌≡◌, ◌≤◌, ℕ, List, Err};
 ghost use Rattle.trau_io.specs.Lines.{Reads, Writes};
 ghost use Rattle.trau_io.specs.Indices.{index_of_line};
 ghost use Rattle.trau_files.specs.Claims.{AreApart, OthersKeep};
@@ -50,7 +50,7 @@ impl LineFile {
     ) -> Result<usize, Failed>
         ensures reads { Reads (state_of self.old) (state_of self.new) result buf.new }
         ensures after { self.new ≡ after_read self.old result }
-        ensures place { PassesOn result (λ found. ReadsFile D.does D.File.reading files.old files.new line.call line.side self.old.read found buf.new) }
+        ensures place { PassesOn result (λ found. ReadsFile D.does files.old files.new line.call line.side self.old.read found buf.new) }
         ensures freed { FreesSeats D.does files.old files.new line.call line.side Reading self.old.read }
         ensures apart { AreApart files.new.claims }
         ensures others { OthersKeep files.old.claims files.new.claims (index_of_line line.call line.side) }
@@ -73,7 +73,7 @@ impl LineFile {
     ) -> Result<usize, Failed>
         ensures writes { Writes (state_of self.old) (state_of self.new) result bytes.now }
         ensures after { self.new ≡ after_write self.old result }
-        ensures place { PassesOn result (λ found. WritesFile D.does D.File.writing files.old files.new line.call line.side self.old.written found bytes.now) }
+        ensures place { PassesOn result (λ found. WritesFile D.does files.old files.new line.call line.side self.old.written found bytes.now) }
         ensures freed { FreesSeats D.does files.old files.new line.call line.side Writing self.old.written }
         ensures apart { AreApart files.new.claims }
         ensures others { OthersKeep files.old.claims files.new.claims (index_of_line line.call line.side) }
@@ -85,6 +85,15 @@ impl LineFile {
             }
             Err(fault) => Err(self.fail(files, line, &fault)),
         }
+    }
+
+    /// Counts a fault, and touches no file.
+    pub fn refuse(&mut self) -> Failed
+        ensures writes { (bytes : List ℕ) → Writes (state_of self.old) (state_of self.new) (Err result) bytes }
+        ensures after { self.new ≡ after_write self.old (Err result) }
+    {
+        self.faults = self.faults.saturating_add(1);
+        Failed
     }
 
     // The reason is printed for a line's first fault only. The count stops at its highest value.

@@ -35,7 +35,7 @@ pub struct LineFiles<D: Folder + Drop> {
     folder: D,
     seats: Seats<D::File>,
     place: NextSeat,
-    claims: Claims,
+    claims: Claims<D>,
     reasons: Reasons,
 }
 
@@ -74,26 +74,26 @@ impl<D: Folder + Drop> LineFiles<D> {
     /// Reads octets of a line's file, from octet `at` on, to the start of `buf`.
     pub fn read_at(&mut self, line: Line, at: u64, buf: &mut [u8]) -> Result<usize, Fault>
         ensures bound { ReadsAtMost result buf.new }
-        ensures file { ReadsFile D.does D.File.reading self.old self.new line.call line.side at result buf.new }
+        ensures file { ReadsFile D.does self.old self.new line.call line.side at result buf.new }
         ensures freed { FreesSeats D.does self.old self.new line.call line.side Reading at }
         ensures apart { AreApart self.new.claims }
         ensures others { OthersKeep self.old.claims self.new.claims (index_of_line line.call line.side) }
     {
         let seat = self.seat(line, Access::Reading, at)?;
-        self.seats.read(seat, buf)
+        self.seats.read(&self.folder, seat, buf)
     }
 
     /// Writes a prefix of `bytes`, at least one octet, to a line's file from octet `at` on.
     pub fn write_at(&mut self, line: Line, at: u64, bytes: &[u8]) -> Result<usize, Fault>
         ensures some { IfOk result (λ n. 0 < n) }
         ensures bound { WritesAtMost result bytes.now }
-        ensures file { WritesFile D.does D.File.writing self.old self.new line.call line.side at result bytes.now }
+        ensures file { WritesFile D.does self.old self.new line.call line.side at result bytes.now }
         ensures freed { FreesSeats D.does self.old self.new line.call line.side Writing at }
         ensures apart { AreApart self.new.claims }
         ensures others { OthersKeep self.old.claims self.new.claims (index_of_line line.call line.side) }
     {
         let seat = self.seat(line, Access::Writing, at)?;
-        self.seats.write(seat, bytes)
+        self.seats.write(&mut self.folder, seat, bytes)
     }
 
     // The seat of the line's file, at octet `at`. If the file isn't open there, it is opened.
@@ -156,7 +156,8 @@ impl<D: Folder + Drop> LineFiles<D> {
         match open_at(&mut self.folder, &mut self.claims, line, access, at) {
             Err(Fault::System(fault)) if lacks_descriptor(&fault) => {
                 self.place.lessen();
-                self.seats.free(self.place.next);
+                let before = self.place.next;
+                self.seats.free(before);
                 open_at(&mut self.folder, &mut self.claims, line, access, at)
             }
             opened => opened,
@@ -182,7 +183,7 @@ impl<D: Folder + Eprint + Drop> LineFiles<D> {
 // made only now.
 fn open_at<D: Folder>(
     folder: &mut D,
-    claims: &mut Claims,
+    claims: &mut Claims<D>,
     line: Line,
     access: Access,
     at: u64,
@@ -220,7 +221,7 @@ fn open_at<D: Folder>(
 }
 
 // Removes the file that was made for a line.
-fn unmake<D: Folder>(folder: &mut D, claims: &mut Claims, line: Line, file: FileIdentity)
+fn unmake<D: Folder>(folder: &mut D, claims: &mut Claims<D>, line: Line, file: FileIdentity)
     ensures removed { D.does.removed folder.old folder.new (file_name line.call line.side) }
     ensures same { claims.new ≡ claims.old }
 {
@@ -230,7 +231,7 @@ fn unmake<D: Folder>(folder: &mut D, claims: &mut Claims, line: Line, file: File
 }
 
 // Opens a line's file, and says whether it was made just now. A missing file is made if it is opened for writing and nothing has
-// been written yet.
+// been written yet. One that something else makes between the two openings is taken for made here.
 fn open_or_make<D: Folder>(
     folder: &mut D,
     line: Line,

@@ -7,7 +7,8 @@ ghost use Rattle.trau_files.specs.Files.{OpenLine, IsOpenAt, IsFileOf, OnlyClose
 ghost use Rattle.trau_files.specs.Seats.{NoneWasOpen, OthersStayOpen};
 
 use super::fault::Fault;
-use crate::retry::{ReadOnce, WriteOnce, read_again, write_some};
+use crate::folder::Folder;
+use crate::retry::{read_file, write_file};
 use std::alloc::{AllocError, Global};
 use std::marker::Model;
 use trau_io::{LINE_INDICES, Line, line_index};
@@ -147,30 +148,40 @@ impl<F: Drop> Seats<F> {
     }
 }
 
-impl<F: ReadOnce + WriteOnce + Drop> Seats<F> {
+impl<F: Drop> Seats<F> {
     /// Reads the next octets of the file in a seat to the start of `buf`. A fault closes the file.
-    pub fn read(&mut self, seat: u8, buf: &mut [u8]) -> Result<usize, Fault>
+    pub fn read<D: Folder<File = F>>(
+        &mut self,
+        folder: &D,
+        seat: u8,
+        buf: &mut [u8],
+    ) -> Result<usize, Fault>
         requires { IsSome (in_seat self.old seat) }
         ensures bound { ReadsAtMost result buf.new }
         ensures after { IfSome (in_seat self.old seat) (λ o. FileAfter o result (in_seat self.new seat)) }
-        ensures once { IfSome (in_seat self.old seat) (λ o. FileGives F.reading o (in_seat self.new seat) result buf.new) }
+        ensures once { IfSome (in_seat self.old seat) (λ o. FileGives D.does folder.now o (in_seat self.new seat) result buf.new) }
         ensures open { IfSome (in_seat self.old seat) (λ o. OpenAfter self.old self.new o.call o.side (in_seat self.new seat)) }
         ensures others { OthersSit self.old self.new seat }
     {
-        read_in(&mut self.files[seat as usize], buf)
+        read_in(folder, &mut self.files[seat as usize], buf)
     }
 
     /// Writes a prefix of `bytes`, at least one octet, to the file in a seat. A fault closes the file.
-    pub fn write(&mut self, seat: u8, bytes: &[u8]) -> Result<usize, Fault>
+    pub fn write<D: Folder<File = F>>(
+        &mut self,
+        folder: &mut D,
+        seat: u8,
+        bytes: &[u8],
+    ) -> Result<usize, Fault>
         requires { IsSome (in_seat self.old seat) }
         ensures some { IfOk result (λ n. 0 < n) }
         ensures bound { WritesAtMost result bytes.now }
         ensures after { IfSome (in_seat self.old seat) (λ o. FileAfter o result (in_seat self.new seat)) }
-        ensures once { IfSome (in_seat self.old seat) (λ o. FileTakes F.writing o (in_seat self.new seat) result bytes.now) }
+        ensures once { IfSome (in_seat self.old seat) (λ o. FileTakes D.does folder.old folder.new o (in_seat self.new seat) result bytes.now) }
         ensures open { IfSome (in_seat self.old seat) (λ o. OpenAfter self.old self.new o.call o.side (in_seat self.new seat)) }
         ensures others { OthersSit self.old self.new seat }
     {
-        write_in(&mut self.files[seat as usize], bytes)
+        write_in(folder, &mut self.files[seat as usize], bytes)
     }
 }
 
@@ -195,17 +206,18 @@ fn stands<F: Drop>(seat: &mut Option<OpenFile<F>>, line: Line, access: Access, a
 }
 
 // Reads from the file in a seat. A fault closes it.
-fn read_in<F: ReadOnce + Drop>(
-    seat: &mut Option<OpenFile<F>>,
+fn read_in<D: Folder>(
+    folder: &D,
+    seat: &mut Option<OpenFile<D::File>>,
     buf: &mut [u8],
 ) -> Result<usize, Fault>
     requires { IsSome seat.old }
     ensures bound { ReadsAtMost result buf.new }
     ensures after { IfSome seat.old (λ o. FileAfter o result seat.new) }
-    ensures once { IfSome seat.old (λ o. FileGives F.reading o seat.new result buf.new) }
+    ensures once { IfSome seat.old (λ o. FileGives D.does folder.now o seat.new result buf.new) }
 {
     match seat {
-        Some(open) => match read_again(&mut open.file, buf) {
+        Some(open) => match read_file(folder, &mut open.file, buf) {
             Ok(count) => {
                 open.at = open.at.saturating_add(count as u64);
                 Ok(count)
@@ -220,18 +232,19 @@ fn read_in<F: ReadOnce + Drop>(
 }
 
 // Writes to the file in a seat. A fault closes it.
-fn write_in<F: WriteOnce + Drop>(
-    seat: &mut Option<OpenFile<F>>,
+fn write_in<D: Folder>(
+    folder: &mut D,
+    seat: &mut Option<OpenFile<D::File>>,
     bytes: &[u8],
 ) -> Result<usize, Fault>
     requires { IsSome seat.old }
     ensures some { IfOk result (λ n. 0 < n) }
     ensures bound { WritesAtMost result bytes.now }
     ensures after { IfSome seat.old (λ o. FileAfter o result seat.new) }
-    ensures once { IfSome seat.old (λ o. FileTakes F.writing o seat.new result bytes.now) }
+    ensures once { IfSome seat.old (λ o. FileTakes D.does folder.old folder.new o seat.new result bytes.now) }
 {
     match seat {
-        Some(open) => match write_some(&mut open.file, bytes) {
+        Some(open) => match write_file(folder, &mut open.file, bytes) {
             Ok(count) => {
                 open.at = open.at.saturating_add(count as u64);
                 Ok(count)

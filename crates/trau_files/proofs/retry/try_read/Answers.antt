@@ -1,14 +1,24 @@
-use Rattle.std.proofs.Common.{arith, refl}
+use Rattle.std.proofs.Common.{◌≡◌, ◌+◌, arith, refl}
 use Rattle.trau_files.specs.Folder.{OneRead}
+use Rattle.trau_files.specs.Tries.{WasInterrupted}
 use Rattle.trau_files.proofs.Tries.{interrupted_again}
 use Rattle.trau_files.proofs.retry.try_read.Goals as goal
+use Rattle.trau_files.proofs.retry.try_read.Goals.{then-tries-eq-TRIES-via-then-tries-eq-TRIES, then-tries-eq-TRIES-via-else-tries-eq-TRIES+then-not-was_interrupted}
 
 pub loop-tries-init : goal.loop-tries-init
-loop-tries-init g c = record { bound = omega arith; before = (0, refl) }
+loop-tries-init g c = record { bound = omega arith; before = refl }
 
 pub loop-tries-preserved : goal.loop-tries-preserved
 loop-tries-preserved g c = record {
   bound = omega (arith, c.loop-tries.invariant.bound, c.if-tries-eq-TRIES.false);
   before = interrupted_again (OneRead g.R.ReadOnce.reading) c.args.reader.now c.loop-tries.reader c.read_once-done.new.self c.read_once-done.result
-      c.read_once-done.new.buf c.loop-tries.invariant.before c.read_once-done.ensures (c.was_interrupted.ensures c.if-not-was_interrupted.false);
+      c.read_once-done.new.buf c.loop-tries.tries c.loop-tries.invariant.before c.read_once-done.ensures (c.was_interrupted.ensures.interrupted c.if-not-was_interrupted.false);
 }
+
+pub returns-then-tries-eq-TRIES : goal.returns-then-tries-eq-TRIES
+returns-then-tries-eq-TRIES g c =
+    let last : WasInterrupted c.read_once-done.result → c.loop-tries.tries + 1 ≡ 1000 = elim c.then-tries-eq-TRIES.branch [
+      | then-tries-eq-TRIES-via-then-tries-eq-TRIES w ↦ λ is. w.if-tries-eq-TRIES.true
+      | then-tries-eq-TRIES-via-else-tries-eq-TRIES+then-not-was_interrupted w ↦ λ is. absurd (w.was_interrupted.ensures.other w.if-not-was_interrupted.true is)
+    ] in
+    (c.loop-tries.tries, c.loop-tries.reader, c.loop-tries.invariant.before, c.read_once-done.ensures, last)

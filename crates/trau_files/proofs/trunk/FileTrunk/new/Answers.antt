@@ -1,6 +1,7 @@
 use Rattle.std.proofs.Common.{◌≡◌, ◌+◌, ◌∙◌, ap, arith}
 use Rattle.std.proofs.lemmas.List.Elements.{All-push}
 use Rattle.trau_files.specs.Files.{FileLine}
+use Rattle.trau_files.proofs.HonestFirst.{first_holds}
 use Rattle.trau_files.proofs.trunk.FileTrunk.new.Goals as goal
 
 pub push_reserved-requires : goal.push_reserved-requires
@@ -16,3 +17,7 @@ loop-preserved g c = record {
 
 pub invariant_of-result : goal.invariant_of-result
 invariant_of-result g c = (omega (arith, c.loop.invariant.size), c.in_ok-files.ensures.apart)
+
+pub returns-clause-honest : goal.returns-clause-honest
+returns-clause-honest g c = first_holds g.D.Folder.does c.args.folder _ c.in_ok-files.ensures.untouched c.loop.invariant.each c.in_ok-files.ensures.closed
+    c.in_ok-files.ensures.unclaimed

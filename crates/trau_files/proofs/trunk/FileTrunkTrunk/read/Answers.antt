@@ -7,6 +7,8 @@ use Rattle.trau_files.specs.Files.{OpenFiles, known_line}
 use Rattle.trau_files.specs.declared.trunk.seats.Access.TheVariants.{Reading}
 use Rattle.trau_files.specs.Seats.{FreesSeats}
 use Rattle.trau_files.specs.Trunk.{PassesOn, ReadsFile, TrunkFiles}
+use Rattle.trau_files.proofs.HonestReads.{read_holds}
+use Rattle.trau_files.proofs.Unwriting.{read_notes}
 use Rattle.trau_files.proofs.trunk.FileTrunkTrunk.read.Goals as goal
 
 pub returns : goal.returns
@@ -17,7 +19,7 @@ returns g c =
     let line = replaced known_line _ _ _ _ _ _ c.read.new.self lines_seen
     (sym c.self.inside.lines.ok.0 ∙ c.self.invariant.0) c.line_index.ensures.value c.line_index.ensures.within c.index_mut.ensures.value in
     let lines = line.put ∙ ap (slice_set _ _) c.read.ensures.after in
-    let files = subst (λ (fs : OpenFiles _ _). PassesOn c.read.result (λ found. ReadsFile g.D.Folder.does g.D.File.ReadOnce.reading fs c.read.new.files c.args.line.call c.args.line.side
+    let files = subst (λ (fs : OpenFiles _ _). PassesOn c.read.result (λ found. ReadsFile g.D.Folder.does fs c.read.new.files c.args.line.call c.args.line.side
     c.index_mut.result.now.read found c.read.new.buf)) files_seen c.read.ensures.place in
     let seats = subst (λ (fs : OpenFiles _ _). FreesSeats g.D.Folder.does fs c.read.new.files c.args.line.call c.args.line.side Reading
     c.index_mut.result.now.read) files_seen c.read.ensures.freed in
@@ -27,6 +29,10 @@ returns g c =
       this = rw (line.was, line.is) c.read.ensures.reads;
       others = line.others;
       after = rw line.found (record { lines = lines; files = files; seats = seats });
+      honest = read_holds g.D.Folder.does c.args.self.now _ c.args.line.call c.args.line.side c.index_mut.result.now c.read.result c.read.new.buf line.found (rw (line.was, line.is) c.read.ensures.reads) line.others c.read.ensures.apart
+          (record { lines = lines; files = files; seats = seats });
       apart = c.read.ensures.apart;
       kept = kept;
+      notes = read_notes g.D.Folder.does c.args.self.now _ c.args.line.call c.args.line.side c.index_mut.result.now c.read.result c.read.new.buf
+          (record { lines = lines; files = files; seats = seats });
     }

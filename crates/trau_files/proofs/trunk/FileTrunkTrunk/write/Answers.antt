@@ -7,6 +7,7 @@ use Rattle.trau_files.specs.Files.{OpenFiles, known_line}
 use Rattle.trau_files.specs.declared.trunk.seats.Access.TheVariants.{Writing}
 use Rattle.trau_files.specs.Seats.{FreesSeats}
 use Rattle.trau_files.specs.Trunk.{PassesOn, WritesFile, TrunkFiles}
+use Rattle.trau_files.proofs.HonestWrites.{write_holds}
 use Rattle.trau_files.proofs.trunk.FileTrunkTrunk.write.Goals as goal
 
 pub returns : goal.returns
@@ -17,7 +18,7 @@ returns g c =
     let line = replaced known_line _ _ _ _ _ _ c.write.new.self lines_seen
     (sym c.self.inside.lines.ok.0 ∙ c.self.invariant.0) c.line_index.ensures.value c.line_index.ensures.within c.index_mut.ensures.value in
     let lines = line.put ∙ ap (slice_set _ _) c.write.ensures.after in
-    let files = subst (λ (fs : OpenFiles _ _). PassesOn c.write.result (λ found. WritesFile g.D.Folder.does g.D.File.WriteOnce.writing fs c.write.new.files c.args.line.call c.args.line.side
+    let files = subst (λ (fs : OpenFiles _ _). PassesOn c.write.result (λ found. WritesFile g.D.Folder.does fs c.write.new.files c.args.line.call c.args.line.side
     c.index_mut.result.now.written found c.args.bytes.now)) files_seen c.write.ensures.place in
     let seats = subst (λ (fs : OpenFiles _ _). FreesSeats g.D.Folder.does fs c.write.new.files c.args.line.call c.args.line.side Writing
     c.index_mut.result.now.written) files_seen c.write.ensures.freed in
@@ -27,6 +28,8 @@ returns g c =
       this = rw (line.was, line.is) c.write.ensures.writes;
       others = line.others;
       after = rw line.found (record { lines = lines; files = files; seats = seats });
+      honest = write_holds g.D.Folder.does c.args.self.now _ c.args.line.call c.args.line.side c.index_mut.result.now c.write.result c.args.bytes.now line.found (rw (line.was, line.is) c.write.ensures.writes) line.others c.write.ensures.apart
+          (record { lines = lines; files = files; seats = seats });
       apart = c.write.ensures.apart;
       kept = kept;
     }

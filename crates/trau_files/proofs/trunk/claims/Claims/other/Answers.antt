@@ -5,7 +5,7 @@ use Rattle.trau_files.proofs.Apart.{free_of_all}
 use Rattle.trau_files.proofs.trunk.claims.Claims.other.Goals as goal
 
 pub returns-clause-free : goal.returns-clause-free
-returns-clause-free c = λ none.
+returns-clause-free g c = λ none.
     let claims = c.self.inside.of_lines.items in
     let size : length claims ≡ 16388 = sym c.self.inside.of_lines.ok.0 ∙ c.self.invariant.0 in
     subst (λ (cs : List (Option Claim)). MayHave cs c.args.place c.args.claim) c.self.view_is

@@ -13,7 +13,7 @@ returns-clause-file g c =
     let was = in_seat c.seat.new.self.seats c.in_ok-seat.seat in
     let found = subst (λ (f : OpenFiles _ _). IsSomeAnd was (IsFound g.D.Folder.does c.args.self.now f.folder f.claims c.args.line.call c.args.line.side Writing c.args.at))
     (sym c.self.view_is) c.in_ok-seat.ensures.found in
-    writes_file g.D.Folder.does c.args.self.now _ c.seat.new.self.seats c.args.line.call c.args.line.side c.args.at g.D.File.WriteOnce.writing was
+    writes_file g.D.Folder.does c.args.self.now _ c.seat.new.self.seats c.args.line.call c.args.line.side c.args.at c.self.inside.folder was
     (in_seat c.write.new.self c.in_ok-seat.seat) c.write.result c.args.bytes.now found c.in_ok-seat.ensures.open
     (rw (sym seats) c.write.ensures.after) (rw (sym seats) c.write.ensures.once) (rw (sym seats) c.write.ensures.open)
 
@@ -24,4 +24,4 @@ returns-clause-freed g c =
     let freed = subst (λ (f : OpenFiles _ _). FreesSeats g.D.Folder.does c.args.self.now f line.call line.side Writing c.args.at) (sym c.self.view_is) c.in_ok-seat.ensures.freed in
     let ours = its_line g.D.Folder.does c.args.self.now _ _ line.call line.side Writing c.args.at (in_seat c.seat.new.self.seats c.in_ok-seat.seat) c.in_ok-seat.ensures.found in
     let seats = ap (λ (f : OpenFiles _ _). f.seats) c.self.view_is in
-    frees_still g.D.Folder.does line.call line.side Writing c.args.at c.args.self.now mid c.write.new.self c.in_ok-seat.seat (rw seats ours) c.write.ensures.others freed
+    frees_still g.D.Folder.does line.call line.side Writing c.args.at c.args.self.now mid c.write.new.self c.write.new.folder c.in_ok-seat.seat (rw seats ours) c.write.ensures.others freed

@@ -50,7 +50,7 @@ returns-clause-once g c =
     let before = (goal.at.returns-clause-once g c).After-index_mut in
     let files = c.self.inside.files.items in
     let seat = c.args.seat in
-    let P : OpenLine _ → Option (OpenLine _) → Type 0 = λ o file. FileGives g.F.ReadOnce.reading o file c.read_in.result c.read_in.new.buf in
+    let P : OpenLine _ → Option (OpenLine _) → Type 0 = λ o file. FileGives g.D.Folder.does c.args.folder.now o file c.read_in.result c.read_in.new.buf in
     subst (λ (seats : List (Option (OpenLine _))). IfSome (in_seat seats seat)
-    (λ o. FileGives g.F.ReadOnce.reading o (in_seat (slice_set files seat c.read_in.new.seat) seat) c.read_in.result c.read_in.new.buf)) c.self.view_is
+    (λ o. FileGives g.D.Folder.does c.args.folder.now o (in_seat (slice_set files seat c.read_in.new.seat) seat) c.read_in.result c.read_in.new.buf)) c.self.view_is
     (in_its_seat P files seat c.index_mut.result.now c.read_in.new.seat (here g before) (omega (arith, c.ranges.seat.fits, count g before)) c.read_in.ensures.once)

@@ -50,7 +50,7 @@ returns-clause-once g c =
     let before = (goal.at.returns-clause-once g c).After-index_mut in
     let files = c.self.inside.files.items in
     let seat = c.args.seat in
-    let P : OpenLine _ → Option (OpenLine _) → Type 0 = λ o file. FileTakes g.F.WriteOnce.writing o file c.write_in.result c.args.bytes.now in
+    let P : OpenLine _ → Option (OpenLine _) → Type 0 = λ o file. FileTakes g.D.Folder.does c.args.folder.now c.write_in.new.folder o file c.write_in.result c.args.bytes.now in
     subst (λ (seats : List (Option (OpenLine _))). IfSome (in_seat seats seat)
-    (λ o. FileTakes g.F.WriteOnce.writing o (in_seat (slice_set files seat c.write_in.new.seat) seat) c.write_in.result c.args.bytes.now)) c.self.view_is
+    (λ o. FileTakes g.D.Folder.does c.args.folder.now c.write_in.new.folder o (in_seat (slice_set files seat c.write_in.new.seat) seat) c.write_in.result c.args.bytes.now)) c.self.view_is
     (in_its_seat P files seat c.index_mut.result.now c.write_in.new.seat (here g before) (omega (arith, c.ranges.seat.fits, count g before)) c.write_in.ensures.once)

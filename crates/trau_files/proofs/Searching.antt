@@ -1,0 +1,91 @@
+-- Which files of incoming lines are noted, after the folder was searched.
+use Rattle.std.proofs.Common.{◌≡◌, ◌≢◌, ◌∙◌, ◌<◌, ◌+◌, ℕ, List, length, Option, None, Some, All, slice_set, ap, arith, inl, inr, refl, subst, sym}
+use Rattle.call_number.specs.declared.TheConstants.{LAST_CALL}
+use Rattle.trau_io.specs.declared.line.Side.{Side}
+use Rattle.trau_io.specs.declared.line.Side.TheVariants.{Up, Pcm}
+use Rattle.trau_io.specs.Indices.{index_of_line}
+use Rattle.trau_io.proofs.Tables.{same_line}
+use Rattle.trau_files.specs.declared.trunk.claims.FileIdentity.{FileIdentity}
+use Rattle.trau_files.specs.Files.{file_name}
+use Rattle.trau_files.specs.Folder.{Operations}
+use Rattle.trau_files.specs.Recordings.{AreRecordings, AreSearched, IsNoRecording, IsRecording, LedElsewhere, LedNowhere, LedTo, noted_at}
+use Rattle.trau_files.proofs.Cases.{same_or_other}
+use Rattle.trau_files.proofs.Seating.{empty, set_place, within}
+
+module _ {D F : Type 0} (does : Operations D F) where
+  pub none_noted : (files : List (Option FileIdentity)) → All (λ (f : Option FileIdentity). f ≡ None) files → AreRecordings does files
+  none_noted files none k file there = let e = empty files none k in let never : ⊥ = cc in absurd never
+
+  pub one_forgotten : (files : List (Option FileIdentity)) (p : ℕ) → AreRecordings does files → AreRecordings does (slice_set files p None)
+  one_forgotten files p are k file there = elim (set_place files p None None k) [
+    | inl s ↦ let never : ⊥ = cc in absurd never
+    | inr s ↦ are k file (sym s ∙ there)
+  ]
+
+  pub one_noted : (files : List (Option FileIdentity)) (p : ℕ) (found : FileIdentity) → IsRecording does p found → AreRecordings does files →
+      AreRecordings does (slice_set files p (Some found))
+  one_noted files p found is are k file there = elim (set_place files p (Some found) None k) [
+    | inl s ↦
+        let both : Some file ≡ Some found = sym there ∙ s.1 in
+        let same : file ≡ found = cc in
+        subst (λ (f : FileIdentity). IsRecording does k f) (sym same) (subst (λ (x : ℕ). IsRecording does x found) (sym s.0) is)
+    | inr s ↦ are k file (sym s ∙ there)
+  ]
+
+  pub still_searched : (files : List (Option FileIdentity)) (p : ℕ) (found : FileIdentity) (below : ℕ) → AreSearched does files below →
+      AreSearched does (slice_set files p (Some found)) below
+  still_searched files p found below are call side incoming low none = elim (set_place files p (Some found) None (index_of_line call side)) [
+    | inl s ↦ let never : ⊥ = cc in absurd never
+    | inr s ↦ are call side incoming low (sym s ∙ none)
+  ]
+
+  -- the lines of one more call were looked up
+  pub one_more : (old mid new : List (Option FileIdentity)) (call : ℕ) → AreSearched does old call →
+      (noted_at mid (index_of_line call Up) ≡ None → LedNowhere does (file_name call Up)) →
+      ((k : ℕ) → k ≢ index_of_line call Up → noted_at mid k ≡ noted_at old k) →
+      (noted_at new (index_of_line call Pcm) ≡ None → LedNowhere does (file_name call Pcm)) →
+      ((k : ℕ) → k ≢ index_of_line call Pcm → noted_at new k ≡ noted_at mid k) → AreSearched does new (call + 1)
+  one_more old mid new call before up others_up pcm others_pcm c s incoming low none = elim (same_or_other c call) [
+    | inl same ↦ elim incoming.2 [
+      | inl is ↦ this_up same is
+      | inr is ↦ this_pcm same is
+    ]
+    | inr other ↦ before c s incoming (omega (arith, low, other))
+        (sym (others_up (index_of_line c s) (λ e. other (same_line c call s Up e).0))
+        ∙ sym (others_pcm (index_of_line c s) (λ e. other (same_line c call s Pcm e).0)) ∙ none)
+  ]
+    where
+      this_up : c ≡ call → s ≡ Up → LedNowhere does (file_name c s)
+      this_up same is =
+          let there : noted_at new (index_of_line call Up) ≡ None = ap (noted_at new) (sym (ap (λ (x : ℕ). index_of_line x s) same ∙ ap (index_of_line call) is)) ∙ none in
+          rw (same, is) (up (sym (others_pcm (index_of_line call Up) (λ e. omega (arith, e))) ∙ there))
+
+      this_pcm : c ≡ call → s ≡ Pcm → LedNowhere does (file_name c s)
+      this_pcm same is =
+          let there : noted_at new (index_of_line call Pcm) ≡ None = ap (noted_at new) (sym (ap (λ (x : ℕ). index_of_line x s) same ∙ ap (index_of_line call) is)) ∙ none in
+          rw (same, is) (pcm there)
+
+  pub none_searched : (files : List (Option FileIdentity)) → AreSearched does files 1
+  none_searched files call side incoming low none = absurd (omega (arith, incoming.0, low))
+
+  -- no line before the end has the file, so no line has
+  pub noted_nowhere : (files : List (Option FileIdentity)) (file : FileIdentity) (n : ℕ) → length files ≡ n →
+      ((k : ℕ) → k < n → noted_at files k ≢ Some file) → (k : ℕ) → noted_at files k ≢ Some file
+  noted_nowhere files file n size before k there = before k (omega (arith, within files k file there, size)) there
+
+  -- no incoming line's name led to a file that is noted for none
+  pub no_recording : (files : List (Option FileIdentity)) (file : FileIdentity) → AreRecordings does files → AreSearched does files (LAST_CALL + 1) →
+      ((k : ℕ) → noted_at files k ≢ Some file) → IsNoRecording does file
+  no_recording files file are searched none call side incoming = elsewhere (noted_at files (index_of_line call side)) refl
+    where
+      elsewhere : (o : Option FileIdentity) → noted_at files (index_of_line call side) ≡ o → LedElsewhere does (file_name call side) file
+      elsewhere None is = inl (searched call side incoming (omega (arith, incoming.1)) is)
+      elsewhere (Some other) is =
+          let found = are (index_of_line call side) other is in
+          let line = same_line call found.call side found.side found.place in
+          inr (
+            other,
+            subst (λ (x : ℕ). LedTo does (file_name x side) other) (sym line.0)
+                (subst (λ (x : Side). LedTo does (file_name found.call x) other) (sym line.1) found.led),
+            λ same. none (index_of_line call side) (is ∙ ap Some same),
+          )

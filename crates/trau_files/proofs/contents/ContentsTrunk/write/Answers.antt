@@ -1,0 +1,31 @@
+use Rattle.std.proofs.Common.{subst, Err}
+use Rattle.trau_io.specs.Lines.{Writes}
+use Rattle.trau_files.specs.Trunk.{TrunkFiles}
+use Rattle.trau_files.proofs.Knowing.{KeepsKnown, refuse_known, write_known}
+use Rattle.trau_files.proofs.contents.ContentsTrunk.write.Goals as goal
+
+pub invariant_of-self : goal.invariant_of-self
+invariant_of-self g c = (refuse_known g.D.Folder.honest g.K.AtStart.start c.self.inside.trunk c.refuse.new.self c.args.line.call c.args.line.side c.refuse.result
+    c.args.bytes.now (c.is_recorded.ensures.recorded c.if-is_recorded.true) (c.refuse.ensures.this c.args.bytes.now) c.refuse.ensures.others c.refuse.ensures.counts
+    c.refuse.ensures.files c.self.invariant).0
+
+pub returns-then-is_recorded : goal.returns-then-is_recorded
+returns-then-is_recorded g c =
+    let all = subst (λ (t : TrunkFiles _ _). KeepsKnown g.D.Folder.honest g.K.AtStart.start t c.refuse.new.self c.args.line.call c.args.line.side
+    (λ a b. Writes a b (Err c.refuse.result) c.args.bytes.now)) c.self.view_is
+    (refuse_known g.D.Folder.honest g.K.AtStart.start c.self.inside.trunk c.refuse.new.self c.args.line.call c.args.line.side c.refuse.result
+    c.args.bytes.now (c.is_recorded.ensures.recorded c.if-is_recorded.true) (c.refuse.ensures.this c.args.bytes.now) c.refuse.ensures.others c.refuse.ensures.counts
+    c.refuse.ensures.files c.self.invariant) in
+    record { this = all.1; others = all.2 }
+
+pub invariant_of-self-2 : goal.invariant_of-self-2
+invariant_of-self-2 g c = (write_known g.D.Folder.honest g.K.AtStart.start c.self.inside.trunk c.write.new.self c.args.line.call c.args.line.side c.write.result
+    c.args.bytes.now (c.is_recorded.ensures.made c.if-is_recorded.false) c.write.ensures.this c.write.ensures.others c.write.ensures.honest c.write.ensures.kept c.self.invariant).0
+
+pub returns : goal.returns
+returns g c =
+    let all = subst (λ (t : TrunkFiles _ _). KeepsKnown g.D.Folder.honest g.K.AtStart.start t c.write.new.self c.args.line.call c.args.line.side
+    (λ a b. Writes a b c.write.result c.args.bytes.now)) c.self.view_is
+    (write_known g.D.Folder.honest g.K.AtStart.start c.self.inside.trunk c.write.new.self c.args.line.call c.args.line.side c.write.result
+    c.args.bytes.now (c.is_recorded.ensures.made c.if-is_recorded.false) c.write.ensures.this c.write.ensures.others c.write.ensures.honest c.write.ensures.kept c.self.invariant) in
+    record { this = all.1; others = all.2 }
