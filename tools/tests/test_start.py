@@ -524,7 +524,8 @@ class TheFirstStart(Started):
                 "line_tests",
                 "pool_core",
                 "trau_c",
-            },
+            }
+            | {"packet_tests", "rtp_buffer", "rtp_packet", "rtp_stream"},
         )
         self.assert_refused(
             build.main, ["--top", self.top, "--program", "gone"], "has no line of gone"

@@ -1,0 +1,4 @@
+pub mod Slots
+pub mod Histories
+pub mod Rows
+pub mod Pacing

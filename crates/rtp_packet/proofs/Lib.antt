@@ -1,0 +1,4 @@
+pub mod Facts
+pub mod Laid
+pub mod Plain
+pub mod Taken

@@ -1,0 +1,20 @@
+use Rattle.std.proofs.Common.{◌*◌, ap, ◌∙◌, sym, length, arith}
+use Rattle.rtp_stream.specs.Payload.{octets_before}
+use Rattle.rtp_stream.proofs.Pieces as pieces
+use Rattle.rtp_stream.proofs.payload.lay_period.Goals as goal
+
+pub returns-clause-at : goal.returns-clause-at
+returns-clause-at g c =
+    pieces.taken_then (c.args.n * g.row.N) g.row.N c.args.part c.args.at c.start_in-start.result c.min-size.result (length c.args.payload.now) c.requires.part c.requires.at
+    (pieces.starts c.args.n g.row.N c.args.part c.start_in-start.result c.start_in-start.ensures) c.min-size.ensures
+    ∙ ap (λ m. octets_before m c.args.part (length c.args.payload.now)) (sym (pieces.one_more c.args.n g.row.N))
+
+pub returns-clause-own : goal.returns-clause-own
+returns-clause-own g c =
+    pieces.own_piece c.put-outcome.result _ c.args.payload.now (c.args.n * g.row.N) g.row.N c.args.part c.args.at c.start_in-start.result c.min-size.result _ _
+    c.requires.part c.requires.at (pieces.starts c.args.n g.row.N c.args.part c.start_in-start.result c.start_in-start.ensures) c.min-size.ensures
+    (record {
+      taken_is = λ e. ((c.put-outcome.ensures.taken e).0, c.put-outcome.ensures.own e);
+      late_is = λ e. ((c.put-outcome.ensures.late e).0, λ k. grind (arith, (c.put-outcome.ensures.stays e).0));
+      doubled_is = λ e. (λ k. grind (arith, (c.put-outcome.ensures.doubled e).1), λ k l r. (c.put-outcome.ensures.doubled e).0 k l r);
+    })

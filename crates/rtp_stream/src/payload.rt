@@ -1,0 +1,117 @@
+//! The octets of a payload, laid over the periods of a jitter buffer.
+
+ghost use Rattle.std.specs.Prelude.{◌≡◌, ◌<◌, ◌≤◌, ◌+◌, ◌*◌, ℕ, if◌then◌else◌, ◌==◌, length};
+ghost use Rattle.rtp_buffer.specs.Octets.{came};
+ghost use Rattle.rtp_buffer.specs.Store.{place, IsNear};
+ghost use Rattle.rtp_buffer.specs.Watch.{on};
+ghost use Rattle.rtp_buffer.specs.Pace.{wait_of};
+ghost use Rattle.rtp_stream.specs.Payload.{octets_before, with_payload, IsLaid, IsKeptBefore};
+
+use rtp_buffer::{Buffer, Outcome};
+
+// Periods in which a payload of at most a second may lie.
+const MOST_PERIODS: u32 = 51;
+
+/// The periods of a payload that weren't taken.
+#[derive(Clone, Copy)]
+pub struct Laid {
+    /// Those of which octets came too late.
+    pub late: u32,
+    /// Those of which all octets had come before.
+    pub doubled: u32,
+}
+
+impl Laid {
+    // With one period more.
+    fn with(self, outcome: Outcome) -> Laid {
+        match outcome {
+            Outcome::Taken => self,
+            Outcome::Late => Laid {
+                late: self.late.saturating_add(1),
+                doubled: self.doubled,
+            },
+            Outcome::Doubled => Laid {
+                late: self.late,
+                doubled: self.doubled.saturating_add(1),
+            },
+        }
+    }
+}
+
+// The place of its n-th period at which a payload begins that begins at the `part`-th place of the first.
+fn start_in(n: u32, part: usize) -> usize
+    ensures { result ≡ (if n == 0 then part else 0) }
+{
+    if n == 0 { part } else { 0 }
+}
+
+// Whether the n-th period of a payload says something about the path: only the first one does.
+fn is_told_by(n: u32, is_watched: bool) -> bool {
+    is_watched && n == 0
+}
+
+// Lays the n-th period of a payload, of which the octets before this one were laid; returns the octet that is next.
+fn lay_period<const N: usize>(
+    buffer: &mut Buffer<N>,
+    laid: &mut Laid,
+    first: u32,
+    part: usize,
+    payload: &[u8],
+    n: u32,
+    at: usize,
+    tick: u32,
+    is_watched: bool,
+) -> usize
+    requires part { part < N }
+    requires at { at ≡ octets_before (n * N) part (length payload.now) }
+    ensures at { result ≡ octets_before ((n + 1) * N) part (length payload.now) }
+    ensures shift { buffer.new.pace.shift ≡ buffer.old.pace.shift }
+    ensures own { (k : ℕ) → k < N → place buffer.new.store.slots (on first n) k ≡
+        with_payload (wait_of buffer.old.pace (on first n) tick) (place buffer.old.store.slots (on first n) k) (came part payload.now (length payload.now) (n * N + k)) }
+    ensures others { (other k : ℕ) → IsNear (on first n) other → place buffer.new.store.slots other k ≡ place buffer.old.store.slots other k }
+{
+    let start = start_in(n, part);
+    let size = (N - start).min(payload.len() - at);
+    if size == 0 {
+        return at;
+    }
+    let is_watched = is_told_by(n, is_watched);
+    let outcome = buffer.put(
+        first.wrapping_add(n),
+        start,
+        &payload[at..at + size],
+        tick,
+        is_watched,
+    );
+    *laid = laid.with(outcome);
+    at + size
+}
+
+/// Lays a payload of at most a second over the periods of a buffer, from the `part`-th octet of a period on.
+/// `is_watched`: its first period says something about the path.
+pub fn lay<const N: usize>(
+    buffer: &mut Buffer<N>,
+    first: u32,
+    part: usize,
+    payload: &[u8],
+    tick: u32,
+    is_watched: bool,
+) -> Laid
+    requires part { part < N }
+    requires size { length payload.now ≤ 50 * N }
+    ensures shift { buffer.new.pace.shift ≡ buffer.old.pace.shift }
+    ensures laid { IsLaid buffer.old.pace tick buffer.old.store.slots buffer.new.store.slots first part payload.now }
+    ensures before { IsKeptBefore buffer.old.store.slots buffer.new.store.slots first }
+{
+    let mut laid = Laid {
+        late: 0,
+        doubled: 0,
+    };
+    let mut at = 0;
+    for n in 0..MOST_PERIODS {
+        at = lay_period(
+            buffer, &mut laid, first, part, payload, n, at, tick, is_watched,
+        );
+    }
+    laid
+}
