@@ -1,11 +1,10 @@
 /* Runs the full rate codec of libgsm or of spandsp over frames in memory.
  *
- *     peers libgsm|spandsp-33|spandsp-76 encode|decode INPUT OUTPUT
+ *     peers libgsm|spandsp encode|decode INPUT OUTPUT
  *
  * reads the whole of INPUT, then works it frame by frame, then writes the whole of OUTPUT: between the
  * two there is the codec alone. Samples are of 16 bits, in the machine's order of octets. A frame is 33
- * octets (four bits 1101 and the 260 bits, each parameter's most significant first), or, for
- * spandsp-76, 76 octets, one for each parameter. */
+ * octets: four bits 1101 and the 260 bits, each parameter's most significant first. */
 #include <gsm.h>
 #include <spandsp.h>
 #include <stdint.h>
@@ -13,7 +12,7 @@
 #include <stdlib.h>
 #include <string.h>
 
-enum { SAMPLES = 160 };
+enum { SAMPLES = 160, FRAME_OCTETS = 33 };
 
 typedef void work(void *state, uint8_t *frame, int16_t *samples);
 
@@ -29,24 +28,27 @@ static void spandsp_encode(void *state, uint8_t *frame, int16_t *samples) {
     gsm0610_encode(state, frame, samples, SAMPLES);
 }
 
-static void spandsp_decode_33(void *state, uint8_t *frame, int16_t *samples) {
-    gsm0610_decode(state, samples, frame, 33);
+static void spandsp_decode(void *state, uint8_t *frame, int16_t *samples) {
+    gsm0610_decode(state, samples, frame, FRAME_OCTETS);
 }
 
-static void spandsp_decode_76(void *state, uint8_t *frame, int16_t *samples) {
-    gsm0610_decode(state, samples, frame, 76);
+static void *libgsm_state(void) {
+    return gsm_create();
+}
+
+static void *spandsp_state(void) {
+    return gsm0610_init(NULL, GSM0610_PACKING_VOIP);
 }
 
 struct codec {
     const char *name;
-    size_t frame_octets;
+    void *(*state)(void);
     work *encode, *decode;
 };
 
 static const struct codec CODECS[] = {
-    {"libgsm", 33, libgsm_encode, libgsm_decode},
-    {"spandsp-33", 33, spandsp_encode, spandsp_decode_33},
-    {"spandsp-76", 76, spandsp_encode, spandsp_decode_76},
+    {"libgsm", libgsm_state, libgsm_encode, libgsm_decode},
+    {"spandsp", spandsp_state, spandsp_encode, spandsp_decode},
 };
 
 static void fail(const char *why) {
@@ -60,12 +62,6 @@ static const struct codec *codec_named(const char *name) {
             return &CODECS[i];
     fail("no such codec");
     return NULL;
-}
-
-static void *state_of(const struct codec *codec) {
-    if (strcmp(codec->name, "libgsm") == 0)
-        return gsm_create();
-    return gsm0610_init(NULL, codec->frame_octets == 33 ? GSM0610_PACKING_VOIP : GSM0610_PACKING_NONE);
 }
 
 static void *room(size_t octets) {
@@ -99,14 +95,14 @@ int main(int argc, char **argv) {
         fail("wants CODEC encode|decode INPUT OUTPUT");
     const struct codec *codec = codec_named(argv[1]);
     int is_encoding = strcmp(argv[2], "encode") == 0;
-    size_t in_octets = is_encoding ? SAMPLES * sizeof(int16_t) : codec->frame_octets;
-    size_t out_octets = is_encoding ? codec->frame_octets : SAMPLES * sizeof(int16_t);
+    size_t in_octets = is_encoding ? SAMPLES * sizeof(int16_t) : FRAME_OCTETS;
+    size_t out_octets = is_encoding ? FRAME_OCTETS : SAMPLES * sizeof(int16_t);
     work *one = is_encoding ? codec->encode : codec->decode;
     size_t octets;
     uint8_t *input = read_whole(argv[3], &octets);
     size_t frames = octets / in_octets;
     uint8_t *output = room(frames * out_octets);
-    void *state = state_of(codec);
+    void *state = codec->state();
     for (size_t k = 0; k < frames; k++) {
         uint8_t *in = input + k * in_octets, *out = output + k * out_octets;
         one(state, is_encoding ? out : in, (int16_t *)(void *)(is_encoding ? in : out));

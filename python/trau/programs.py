@@ -1,10 +1,15 @@
-"""The programs by their names. Each loads its module only when it is started, so that an interrupt meanwhile ends it without a traceback."""
+"""The programs by their names. Each loads its module only when it is started, so that an interrupt
+meanwhile ends it without a traceback, and another exception with a status of its own."""
 
 import importlib
 import os
 import signal
 import sys
+import traceback
 from functools import partial
+
+# The status after an exception that nobody foresaw (EX_SOFTWARE of sysexits.h).
+UNFORESEEN = 70
 
 
 def started(module: str) -> int:
@@ -16,6 +21,9 @@ def started(module: str) -> int:
         signal.signal(signal.SIGINT, signal.SIG_DFL)
         os.kill(os.getpid(), signal.SIGINT)
         raise
+    except Exception:
+        traceback.print_exc()
+        return UNFORESEEN
     status: int = main(sys.argv[1:])
     return status
 

@@ -11,8 +11,12 @@ import unittest
 from concurrent.futures import ThreadPoolExecutor
 from pathlib import Path
 
-from support import DATA, PLAIN_PATH, TOOLS, InFolder
+from support import DATA, PLAIN_PATH, TOOLS, TOP, InFolder
 from test_timeline import lay
+
+from trau.command_line import ends as tool_ends
+
+COMMANDS = ("lines.py", "orders.py", "report.py", "shard.py", "timeline.py", "watch.py")
 
 # Each tool with words for which it prints on standard output; {} is a folder with a run.
 PRINTS = (
@@ -203,6 +207,49 @@ class Ends(InFolder):
         said = "build_for.py: the Rattle toolchain's command rt isn't on the path\n"
         self.assertEqual((ended.returncode, ended.stdout, ended.stderr), (2, "", said))
 
+    def test_what_nobody_foresaw(self):
+        @tool_ends.tool("a tool")
+        def main(words):
+            print("begun")
+            return {}[words[0]]
+
+        status, out, err = self.run_tool(main, "missing")
+        self.assertEqual((status, out), (tool_ends.UNFORESEEN, "begun\n"))
+        self.assertRegex(err, r"^Traceback (?s:.*)\nKeyError: 'missing'\n$")
+        # It isn't hidden by standard output that fails too.
+        script = "import sys\nfrom trau.command_line import ends\n@ends.tool('a tool')\ndef main(words):\n    print()\n    1 / 0\nsys.exit(main([]))\n"
+        with open("/dev/full", "w") as full:
+            surroundings = {**os.environ, "PYTHONPATH": str(TOP / "python"), "PYTHONUNBUFFERED": ""}
+            ended = subprocess.run(
+                [sys.executable, "-c", script],
+                stdout=full,
+                stderr=subprocess.PIPE,
+                text=True,
+                env=surroundings,
+            )
+        self.assertEqual(
+            (ended.returncode, ended.stderr.splitlines()[-1]),
+            (70, "ZeroDivisionError: division by zero"),
+        )
+
+    def test_what_nobody_foresaw_while_a_tool_loads(self):
+        broken = self.path("broken")
+        broken.mkdir()
+        (broken / "argparse.py").write_text("1 / 0\n")
+        surroundings = {**os.environ, "PYTHONPATH": str(broken)}
+        for tool in (*COMMANDS, "../gateway/gateway.py"):
+            ended = subprocess.run(
+                [sys.executable, TOOLS / tool, "--help"],
+                capture_output=True,
+                text=True,
+                env=surroundings,
+            )
+            self.assertEqual(
+                (ended.returncode, ended.stdout, ended.stderr.count("ZeroDivisionError")),
+                (70, "", 1),
+                (tool, ended.stderr),
+            )
+
     def test_an_interrupt_while_a_tool_loads(self):
         # A module of the tool that takes long to load, in place of the standard library's.
         late = self.path("late")
@@ -210,7 +257,7 @@ class Ends(InFolder):
         (late / "argparse.py").write_text(
             "import time\nprint('loads', flush=True)\ntime.sleep(60)\n"
         )
-        for tool in ("lines.py", "orders.py", "report.py", "shard.py", "timeline.py", "watch.py"):
+        for tool in COMMANDS:
             loading = subprocess.Popen(
                 [sys.executable, TOOLS / tool, "--help"],
                 env={**os.environ, "PYTHONPATH": str(late)},

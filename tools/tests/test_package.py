@@ -328,6 +328,8 @@ class Package(InFolder):
             "complete -F",
             (prefix / "share" / "bash-completion" / "completions" / "trau").read_text(),
         )
+        # Whoever runs it, as root or a user, nothing compiled stays in its folder.
+        self.assertEqual([*prefix.rglob("*.pyc"), *package.rglob("*.pyc")], [])
         # Over what is installed, then from there, and away with it; other files stay.
         (prefix / "bin" / "other").write_text("")
         self.assertEqual(self.said(install, f"--prefix={prefix}")[0], 0)
@@ -365,19 +367,64 @@ class Package(InFolder):
     def test_what_is_in_the_way(self):
         package, prefix = self.unpack(), self.folder / "prefix"
         install, link, home = package / "install", prefix / "bin" / "trau", prefix / "lib" / "trau"
-        for other in (link, home):
+        page, completion = (
+            prefix / "share" / "man" / "man1" / "trau-report.1",
+            prefix / "share" / "bash-completion" / "completions" / "trau",
+        )
+        for other in (link, home, page, completion):
             other.parent.mkdir(parents=True)
             other.write_text("of somebody else")
             said = f"install: {other} is there already, and no package made it; remove it first\n"
             self.assertEqual(self.said(install, "--prefix", prefix), (2, "", said))
             self.assertEqual([path for path in prefix.rglob("*") if path.is_file()], [other])
             shutil.rmtree(prefix)
-        # A link that was made anew after the installation stays.
+        # What was made anew after the installation stays.
         self.assertEqual(self.said(install, "--prefix", prefix)[0], 0)
         link.unlink()
         link.symlink_to(package / "trau")
+        for other in (page, completion):
+            other.write_text("of somebody else")
         self.assertEqual(self.said(install, "--remove", "--prefix", prefix)[0], 0)
-        self.assertEqual([path for path in prefix.rglob("*") if not path.is_dir()], [link])
+        self.assertEqual(
+            {path for path in prefix.rglob("*") if not path.is_dir()}, {link, page, completion}
+        )
+
+    def test_a_folder_beside_that_is_somebody_elses(self):
+        package, prefix = self.unpack(), self.folder / "prefix"
+        other = prefix / "lib" / "trau.new" / "file"
+        other.parent.mkdir(parents=True)
+        other.write_text("of somebody else")
+        self.assertEqual(self.said(package / "install", "--prefix", prefix)[0], 0)
+        self.assertEqual(other.read_text(), "of somebody else")
+        self.assertEqual({path.name for path in (prefix / "lib").iterdir()}, {"trau", "trau.new"})
+
+    def test_everybody_may_use_what_is_installed(self):
+        package, prefix = self.unpack(), self.folder / "prefix"
+        # As tar unpacks it and the shell makes folders under such a umask.
+        for path in package.rglob("*"):
+            path.chmod(path.stat().st_mode & ~0o077)
+        status, out, err = self.said(
+            "sh", "-c", 'umask 077; exec "$0" --prefix "$1"', package / "install", prefix
+        )
+        self.assertEqual((status, err), (0, ""))
+        modes = {path: path.stat().st_mode & 0o777 for path in (prefix, *prefix.rglob("*"))}
+        runs = {path for path in modes if path.is_dir() or os.access(path, os.X_OK)}
+        self.assertEqual(
+            {
+                path: mode
+                for path, mode in modes.items()
+                if mode != (0o755 if path in runs else 0o644)
+            },
+            {},
+        )
+        self.assertLessEqual(
+            {
+                prefix / "bin" / "trau",
+                prefix / "bin" / "trau-lines",
+                prefix / "lib" / "trau" / "trau_program",
+            },
+            runs,
+        )
 
     def test_below_a_folder_of_a_packager(self):
         package = self.unpack()
@@ -602,6 +649,7 @@ class Debian(InFolder):
                 (0, True),
                 (words, ended.stdout, ended.stderr),
             )
+        self.assertEqual(list(root.rglob("*.pyc")), [])
         for name in (
             "trau",
             "trau-gateway",

@@ -126,9 +126,6 @@ class Started(InFolder):
         # However full this machine's disk is, the stand-in begins, and keeps what it proves.
         script = self.top / "python" / "trau" / "packing" / "build.py"
         script.write_text(re.sub(r"^(DISK_\w+) = .*", r"\1 = 0", script.read_text(), flags=re.M))
-        (self.top / "tools" / "weights.txt").write_text(
-            "low 60\nmiddle 120\nhigh 60  # of two\ntrau_program 60\nx86-64-v3 30\n"
-        )
         shutil.copytree(
             EXAMPLES / "farm",
             self.top / "examples" / "farm",
@@ -250,9 +247,7 @@ class Started(InFolder):
 
 def without_numbers(text):
     """What was said, without what differs from machine to machine."""
-    return re.sub(
-        r"\d+:\d\d minutes|(about a|some \d+) minutes?|[\d.]+ GB", "..", text
-    ).splitlines()
+    return re.sub(r"\d+:\d\d minutes|[\d.]+ GB", "..", text).splitlines()
 
 
 class TheFirstStart(Started):
@@ -263,17 +258,17 @@ class TheFirstStart(Started):
         self.assertIn(
             "a source changed: its 4 crates are proved, 2 at a time, and then it is built", said[0]
         )
-        takes = "trau: from nothing that takes .. where it was measured (docs/INSTALL.md); it needs some .. of disk in"
+        takes = "trau: from nothing that takes long (docs/INSTALL.md has a measured time); it needs some .. of disk in"
         self.assertEqual(said[1], f"{takes} {self.folder}")
         self.assertEqual(said[2], f"trau: what is proved is kept in {self.folder}/kits/rattle-kept")
         self.assertEqual(
             said[4:],
             [
-                "trau: crate 0 of 4, functions 0, .., .. left: reading all sources",
-                "trau: crate 1 of 4, functions 3, .., .. left: low",
-                "trau: crate 2 of 4, functions 6, .., .. left: middle",
-                "trau: crate 3 of 4, functions 9, .., .. left: high",
-                "trau: crate 4 of 4, functions 12, .., .. left: trau_program",
+                "trau: crate 0 of 4, functions 0, ..: reading all sources",
+                "trau: crate 1 of 4, functions 3, ..: low",
+                "trau: crate 2 of 4, functions 6, ..: middle",
+                "trau: crate 3 of 4, functions 9, ..: high",
+                "trau: crate 4 of 4, functions 12, ..: trau_program",
                 "trau: note: nothing is kept today",
                 "trau: proved and built: 4 crates, functions 12, ..",
             ],
@@ -302,9 +297,9 @@ class TheFirstStart(Started):
         self.assertEqual(
             without_numbers(err)[7:],
             [
-                "trau: crate 3 of 4, functions 9, .., .. left: high",
+                "trau: crate 3 of 4, functions 9, ..: high",
                 "trau: note: nothing is kept today",
-                "trau: crate 3 of 4, functions 9, .., .. left: the program for x86-64-v3",
+                "trau: crate 3 of 4, functions 9, ..: the program for x86-64-v3",
                 "trau: proved and built: 4 crates, functions 12, ..",
             ],
         )
@@ -326,7 +321,7 @@ class TheFirstStart(Started):
     def test_builds_both_where_it_is_asked_to(self):
         said = without_numbers(self.both_built())
         self.assertEqual(
-            said[-2], "trau: crate 4 of 4, functions 12, .., .. left: the program for x86-64-v3"
+            said[-2], "trau: crate 4 of 4, functions 12, ..: the program for x86-64-v3"
         )
         self.assertEqual(said[-1], "trau: proved and built: 4 crates, functions 12, ..")
         for kind in ("x86-64-v2", "x86-64-v3"):
@@ -351,7 +346,7 @@ class TheFirstStart(Started):
     def test_one_line_that_moves_at_a_terminal(self):
         status, said = self.at_terminal("relay", "7", FAILS="no")
         self.assertEqual(status, 0)
-        self.assertNotIn("left: low\n", said)
+        self.assertNotIn("minutes: low\n", said)
         self.assertIn("\r\x1b[K", said)
         self.assertRegex(
             said,
@@ -390,8 +385,8 @@ class TheFirstStart(Started):
         status, out, err = self.trau("relay", "7", KEEPS="low")
         self.assertEqual((status, out), (0, "the program: relay 7\n"), err)
         wanted = [
-            "trau: crate 1 of 4, functions 0, .., .. left: low",
-            "trau: crate 2 of 4, functions 3, .., .. left: middle",
+            "trau: crate 1 of 4, functions 0, ..: low",
+            "trau: crate 2 of 4, functions 3, ..: middle",
         ]
         self.assertEqual(without_numbers(err)[5:7], wanted)
 
@@ -581,78 +576,33 @@ class TheTextOfAProgram(unittest.TestCase):
             build_for.check_text(self.toolchain("", laid_out=False), self.CRATE)
 
 
-class TimeLeft(unittest.TestCase):
-    BELOW = {
-        "low": [],
-        "middle": ["low"],
-        "high": ["low"],
-        "program": ["middle", "high"],
-        "x86-64-v3": ["program"],
-    }
-    WEIGHTS = {"low": 100, "middle": 200, "high": 300, "program": 50, "x86-64-v3": 10}
+class HowFarItIs(unittest.TestCase):
+    def setUp(self):
+        self.now, self.said = 0.0, io.StringIO()
+        self.progress = build.Progress(51, self.said, lambda: self.now)
 
-    def plan(self, at_once):
-        return build.Plan(self.BELOW, self.WEIGHTS, at_once)
-
-    def test_a_plan(self):
-        self.assertEqual(self.plan(1).seconds(self.BELOW), 660)
-        self.assertEqual(self.plan(2).seconds(self.BELOW), 460)
-        self.assertEqual(self.plan(2).seconds({"middle", "program", "x86-64-v3"}), 260)
-        self.assertEqual(self.plan(2).seconds([]), 0)
-        # A crate without a weight has the middle one.
+    def test_the_crates_done_and_the_time_so_far(self):
+        self.progress.at("reading all sources")
+        self.now = 59.9
+        self.progress.finish("low")
+        self.now = 143.0
+        self.progress.functions = 257
+        self.progress.finish("middle")
         self.assertEqual(
-            build.Plan({"new": [], **self.BELOW}, self.WEIGHTS, 1).seconds({"new"}), 100
+            self.said.getvalue().splitlines(),
+            [
+                "trau: crate 0 of 51, functions 0, 0:00 minutes: reading all sources",
+                "trau: crate 1 of 51, functions 0, 0:59 minutes: low",
+                "trau: crate 2 of 51, functions 257, 2:23 minutes: middle",
+            ],
         )
 
-    def progress(self):
-        self.now = 0.0
-        return build.Progress(self.plan(2), io.StringIO(), lambda: self.now)
-
-    def test_by_the_speed_of_this_start(self):
-        progress = self.progress()
-        self.assertEqual(progress.seconds_left(), 460)
-        self.now = 100.0
-        progress.done("low")
-        self.assertEqual(progress.seconds_left(), 360)
-        # Twice as slow; the first minute counts as measured.
-        self.now = 700.0
-        progress.done("high")
-        progress.done("middle")
-        self.assertAlmostEqual(progress.seconds_left(), 60 * 760 / 460)
-        self.now = 710.0
-        self.assertAlmostEqual(progress.seconds_left(), 60 * 770 / 460 - 10)
-
-    def test_what_was_kept_took_no_time(self):
-        progress = self.progress()
-        self.now = 2.0
-        for crate in ("low", "middle", "high"):
-            progress.done(crate, kept=True)
-        self.assertAlmostEqual(progress.seconds_left(), 60)
-        self.now = 62.0
-        self.assertAlmostEqual(progress.seconds_left(), 60 * 120 / 60 - 60)
-
-    def test_in_words(self):
-        for seconds, words in (
-            (0, "about a minute"),
-            (89, "about a minute"),
-            (100, "some 2 minutes"),
-            (1320, "some 22 minutes"),
-        ):
-            self.assertEqual(build.minutes_in_words(seconds), words)
-
-    def test_weights_of_this_repository(self):
-        weights = build.read_weights()
-        self.assertEqual(set(weights), {*build.needed(TOP, build.PROGRAM), build.KIND})
-        kinds = (build.FIRST, build.KIND)
-        for asked in (kinds, kinds[:1], kinds[1:]):
-            plans = [build.plan_of(TOP, build.PROGRAM, asked, at_once) for at_once in (1, 2, 4)]
-            whole = [plan.seconds(plan.below) for plan in plans]
-            self.assertEqual(whole, sorted(whole, reverse=True))
-            self.assertEqual(
-                plans[0].weights[build.PROGRAM],
-                weights[build.KIND if asked == kinds[1:] else build.PROGRAM],
-            )
-            self.assertEqual(build.KIND in plans[0].below, asked == kinds)
+    def test_a_crate_counts_once(self):
+        for _ in range(2):
+            self.progress.finish("low")
+        self.assertTrue(self.progress.words().startswith("crate 1 of 51, "))
+        self.progress.again()
+        self.assertTrue(self.progress.words().startswith("crate 0 of 51, "))
 
 
 class TwoPrograms(Started):

@@ -1,17 +1,19 @@
 """How every tool ends: with its own status, or with one line on standard error and a status that means nothing else.
 
 Status 2: the tool refused its input, a file or standard output failed, or memory ran out. Status 130: it was interrupted. In these cases no
-tool of this folder ends with a traceback.
+tool of this folder ends with a traceback. Status 70: an exception that nobody foresaw, which is a fault of the tool; its traceback says where.
 """
 
 import contextlib
 import functools
 import os
 import sys
+import traceback
 from pathlib import Path
 from typing import Callable, Iterator, Sequence
 
 from trau.command_line.words import Refusal, as_started
+from trau.programs import UNFORESEEN
 
 
 FAILED = 2
@@ -62,7 +64,7 @@ def ready_streams() -> None:
 
 
 def status_of(name: str, main: Main, words: Sequence[str]) -> int:
-    """The exit status of a tool's main function; it prints what stopped it in one line."""
+    """The exit status of a tool's main function; it prints what stopped it in one line, or the traceback of what nobody foresaw."""
     try:
         return main(words)
     except SystemExit as end:  # of argparse, which has printed its own line
@@ -75,6 +77,10 @@ def status_of(name: str, main: Main, words: Sequence[str]) -> int:
         complain(name, "not enough memory")
     except KeyboardInterrupt:
         return INTERRUPTED
+    except Exception:
+        with contextlib.suppress(OSError):
+            traceback.print_exc()
+        return UNFORESEEN
     return FAILED
 
 
@@ -96,8 +102,9 @@ def tool(name: str, prints: bool = True) -> Callable[[Main], Main]:
                 sys.stdout.flush()
             except OSError as failure:
                 drop_output()
-                if status != FAILED:
-                    complain(name, reason_of(failure))
+                if status in (FAILED, UNFORESEEN):
+                    return status
+                complain(name, reason_of(failure))
                 return FAILED
             return status
 

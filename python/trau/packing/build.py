@@ -1,9 +1,9 @@
 """Proves and builds a program of this repository, for the kind of processor that this machine has (or TRAU_CPU names), or for both kinds: its
 crates in a copy by `rt ci`, which builds for x86-64-v2, and over them the program for x86-64-v3.
 
-It shows its progress and the minutes left on standard error: on a terminal one line that moves, elsewhere a line for each crate. The
-toolchain's output goes to out/trau.log in the program's crate. Status 0: the program is proved and built. Status 1: it isn't, and the log's
-last lines are printed. Status 2: something is missing, so nothing was begun.
+It shows on standard error how many crates are done and the time so far: on a terminal by one line that moves, elsewhere by a line for each
+crate. The toolchain's output goes to out/trau.log in the program's crate. Status 0: the program is proved and built. Status 1: it isn't, and the
+log's last lines are printed. Status 2: something is missing, so nothing was begun.
 
 If the program isn't built, or a source changed since, the script `trau` starts this. Started directly it builds anew; it doesn't prove
 again what is kept.
@@ -25,19 +25,7 @@ import tempfile
 import threading
 import time
 from pathlib import Path
-from typing import (
-    Callable,
-    Collection,
-    Dict,
-    Iterator,
-    List,
-    NoReturn,
-    Optional,
-    Sequence,
-    Set,
-    TextIO,
-    Tuple,
-)
+from typing import Callable, Dict, Iterator, List, NoReturn, Optional, Sequence, Set, TextIO, Tuple
 
 from trau.command_line.words import Refusal, Words
 from trau.command_line.side_by_side import number_in, processors
@@ -57,9 +45,6 @@ DISK_OF_THE_PROGRAM = 300_000_000
 MEMORY_OF_A_CHECK = 2_500_000_000
 # With less disk than this the toolchain keeps nothing.
 DISK_TO_KEEP = 5_000 << 20
-
-# The seconds that each crate took, as measured once (tools/weights.txt).
-WEIGHTS = TOP / "tools" / "weights.txt"
 
 COPIED = ("src", "specs", "proofs", "data", "args", "stdin", "stdout", "status")
 
@@ -149,81 +134,19 @@ def what_is_kept(rt: str) -> Tuple[bool, str]:
     return True, f"what is proved is kept in {kept}"
 
 
-# How long it takes
-
-
-class Plan:
-    """How long crates take, `at_once` side by side and each after those that it stands on."""
-
-    def __init__(
-        self, below: Dict[str, List[str]], weights: Dict[str, float], at_once: int
-    ) -> None:
-        usual = sorted(weights.values())[len(weights) // 2] if weights else 1.0
-        self.below, self.at_once = below, at_once
-        self.weights = {name: max(0.1, weights.get(name, usual)) for name in below}
-        self.chains: Dict[str, float] = {}
-        for name in below:
-            self.chain(name)
-
-    def chain(self, name: str) -> float:
-        """The seconds of the longest chain of crates that ends in those that stand on this one, itself included."""
-        if name not in self.chains:
-            above = [self.chain(each) for each, below in self.below.items() if name in below]
-            self.chains[name] = self.weights[name] + max(above, default=0.0)
-        return self.chains[name]
-
-    def seconds(self, crates: Collection[str]) -> float:
-        """How long these crates take, where all others are done: of those that may begin, the ones with the longest chain after them come first."""
-        left, ends, now = sorted(crates, key=lambda name: -self.chains[name]), {}, 0.0
-        while left:
-            waits = {name for name, end in ends.items() if end > now} | set(left)
-            ready = [name for name in left if not waits.intersection(self.below[name])]
-            for name in ready[: self.at_once - sum(end > now for end in ends.values())]:
-                left.remove(name)
-                ends[name] = now + self.weights[name]
-            now = min(end for end in ends.values() if end > now)
-        return max(ends.values(), default=0.0)
-
-
-def read_weights() -> Dict[str, float]:
-    """The measured seconds of each crate, or nothing if the file doesn't exist."""
-    with contextlib.suppress(OSError):
-        lines = (line.partition("#")[0].split() for line in WEIGHTS.read_text().splitlines())
-        return {words[0]: float(words[1]) for words in lines if words}
-    return {}
-
-
-def plan_of(top: Path, program: str, kinds: Sequence[str], at_once: int) -> Plan:
-    """The plan of the crates that the program needs, for these kinds of processor."""
-    crates, weights = crates_of(top), read_weights()
-    below = {name: crates[name] for name in needed(top, program)}
-    if FIRST not in kinds:
-        weights[program] = weights.get(KIND, weights.get(program, 1.0))
-    elif KIND in kinds:
-        below[KIND] = [program]
-    return Plan(below, weights, at_once)
-
-
-def minutes_in_words(seconds: float) -> str:
-    """The time left, roughly, in words."""
-    return "about a minute" if seconds < 90 else f"some {round(seconds / 60)} minutes"
+# How far it is
 
 
 class Progress:
-    """Shows the progress: on a terminal one line that moves, elsewhere a line for each crate."""
-
-    # The seconds by which a start's own speed counts no more than the measured one.
-    TRUST = 60.0
+    """Shows how many of the crates are done, and the time so far: on a terminal one line that moves, elsewhere a line for each crate."""
 
     def __init__(
-        self, plan: Plan, stream: TextIO, clock: Callable[[], float] = time.monotonic
+        self, crates: int, stream: TextIO, clock: Callable[[], float] = time.monotonic
     ) -> None:
-        self.plan, self.stream, self.clock = plan, stream, clock
-        self.crates = len(set(plan.below) - {KIND})
+        self.crates, self.stream, self.clock = crates, stream, clock
         self.moves = stream.isatty()
-        self.begun = self.last = self.working = clock()
-        self.left: Set[str] = set(plan.below)
-        self.kept: Set[str] = set()
+        self.begun = clock()
+        self.finished: Set[str] = set()
         self.functions = 0
         self.step = "reading all sources"
         self.ended = threading.Event()
@@ -244,20 +167,10 @@ class Progress:
         """The time passed, in minutes."""
         return "{}:{:02}".format(*divmod(int(self.clock() - self.begun), 60))
 
-    def seconds_left(self) -> float:
-        """The seconds left, by the measured weights and by the speed of this start until now."""
-        gone, left = self.clock() - self.working, self.plan.seconds(self.left)
-        wanted = self.plan.seconds(set(self.plan.below) - self.kept) - left
-        speed = (gone + self.TRUST) / (wanted + self.TRUST)
-        return max(0.0, left * speed - (self.clock() - self.last))
-
     def words(self) -> str:
         """How far the work is."""
-        done = self.crates - len(self.left - {KIND})
-        gone = (
-            f"crate {done} of {self.crates}, functions {self.functions}, {self.minutes()} minutes"
-        )
-        return f"{gone}, {minutes_in_words(self.seconds_left())} left: {self.step}"
+        done = f"crate {len(self.finished)} of {self.crates}, functions {self.functions}"
+        return f"{done}, {self.minutes()} minutes: {self.step}"
 
     def clear(self) -> None:
         """Removes the line that moves."""
@@ -277,23 +190,17 @@ class Progress:
         if not self.moves:
             self.say(self.words())
 
-    def done(self, crate: str, kept: bool = False) -> None:
-        """A crate is done, or was kept from an earlier start."""
-        self.left.discard(crate)
-        self.last = self.clock()
-        if kept:
-            self.kept.add(crate)
-            # Until something is proved, the time passed doesn't show how long proving takes.
-            if not set(self.plan.below) - self.left - self.kept:
-                self.working = self.last
+    def finish(self, crate: str) -> None:
+        """A crate is proved, or was kept from an earlier start."""
+        self.finished.add(crate)
         self.at(crate)
 
     def again(self) -> None:
         """The work begins anew."""
-        self.left = set(self.plan.below)
+        self.finished.clear()
 
     def say(self, text: str) -> None:
-        """Says a line."""
+        """Prints a line."""
         if self.moves:
             self.clear()
         print(f"trau: {text}", file=self.stream, flush=True)
@@ -351,13 +258,13 @@ class Crates:
 
     def read(self, line: str) -> None:
         """Reads a line."""
-        verdict = re.fullmatch(r"rt: (\w+) (?:(proved)|is kept: .*)", line)
+        verdict = re.fullmatch(r"rt: (\w+) (?:proved|is kept: .*)", line)
         if line.startswith("== "):
             self.crate = line[3:]
         elif line.startswith("logic=proved "):
             self.progress.functions += functions_of(line)
         elif verdict:
-            self.progress.done(verdict[1], kept=not verdict[2])
+            self.progress.finish(verdict[1])
         elif line == "rt: run rt fmt in the crate's folder":
             self.progress.say(
                 f"crates/{self.crate} isn't laid out as `rt fmt` does it: run that there"
@@ -388,14 +295,21 @@ def build_for(rt: Toolchain, progress: Progress, program: str) -> bool:
     progress.at(f"the program for {KIND}")
     # Made by `rt ci` only if it built the program too.
     (rt.folder / "crates" / program / "out").mkdir(exist_ok=True)
-    words = (sys.executable, str(TOP / "tools" / "build_for.py"), str(rt.folder), program, KIND)
-    status, counts = "", program in progress.left
+    words = (
+        sys.executable,
+        str(TOP / "tools" / "build_for.py"),
+        str(rt.folder),
+        program,
+        KIND,
+    )
+    status, counts = "", program not in progress.finished
     for line in rt.lines(*words):
         status = line
         if counts and line.startswith("logic=proved "):
             progress.functions += functions_of(line)
-    progress.left -= {KIND, program}
-    if status != "0":
+    if status == "0":
+        progress.finished.add(program)
+    else:
         progress.say(f"no program for {KIND} is built; the one for {FIRST} runs on all processors")
     return status == "0"
 
@@ -549,19 +463,19 @@ def build(top: Path, program: str, kinds: Sequence[str], over_kept: bool) -> int
         )
     out = top / "crates" / program / "out"
     out.mkdir(exist_ok=True)
-    log, plan = out / "trau.log", plan_of(top, program, kinds, at_once)
+    log = out / "trau.log"
     with open(out / "trau.lock", "w") as held:
         if wait_for_others(held, top, kinds):
             return 0
         for line in (
             f"the program isn't built, or a source changed: its {len(crates)} crates are proved, {at_once} at a time, and then it is built",
-            f"from nothing that takes {minutes_in_words(plan.seconds(plan.below))} where it was measured (docs/INSTALL.md); {disk}",
+            f"from nothing that takes long (docs/INSTALL.md has a measured time); {disk}",
             kept,
             f"what the toolchain says goes to {log}",
         ):
             print(f"trau: {line}", file=sys.stderr, flush=True)
         with open(log, "w", encoding="utf-8") as said, Progress(
-            plan, sys.stderr
+            len(crates), sys.stderr
         ) as progress, room() as folder:
             built = build_in(folder, top, program, kinds, out, progress, said)
             words = f"{len(crates)} crates, functions {progress.functions}, {progress.minutes()} minutes"

@@ -29,6 +29,12 @@ MACHINES = {"x86_64": "amd64", "aarch64": "arm64"}
 LIBRARIES = f"usr/lib/{os.uname().machine}-linux-gnu"
 BUILT = "clib/out/"
 
+# The first lines of tools: in the repository, in a tarball and in Debian's package. A packed tool keeps nothing compiled: it would lie
+# among the package's files, and stay when they are removed.
+PYTHON = b"#!/usr/bin/env python3\n"
+PACKED_PYTHON = b"#!/usr/bin/env -S python3 -B\n"
+SYSTEMS_PYTHON = b"#!/usr/bin/python3 -B\n"
+
 # Of the C library that the program is linked with.
 DEPENDS = "libc6 (>= 2.34)"
 
@@ -162,7 +168,7 @@ def place(name: str, content: bytes) -> Tuple[str, bytes]:
     ):
         return f"{DOCUMENTS}/{name}", content
     if name.endswith(".py"):
-        content = content.replace(b"#!/usr/bin/env python3\n", b"#!/usr/bin/python3\n", 1)
+        content = content.replace(PACKED_PYTHON, SYSTEMS_PYTHON, 1)
     return f"{HOME}/{name}", content
 
 

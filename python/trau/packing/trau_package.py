@@ -51,7 +51,7 @@ GATEWAY = "gateway.py"
 # What is packed of folders: the files that git knows there and that have such names, and those of them that run. Of tools/ it isn't what proves,
 # builds and packs; tests/data has recordings that the commands in the documents take.
 FOLDERS = (
-    ("tools", r"(?!build|trau_|weights)\w+\.(py|txt|awk)", TOOLS),
+    ("tools", r"(?!build|trau_)\w+\.(py|txt|awk)", TOOLS),
     ("python/trau", r"(?!packing/|model/).*\.(py|js)", ()),
     ("gateway", r"(?!tests/).*", (GATEWAY,)),
     ("examples", r"README\.md|7\.up|farm/(\d+\.(up|pcm)|orders\.txt|wanted/[\w.]+)", ()),
@@ -213,7 +213,8 @@ def members(state: State, library: Dict[str, bytes]) -> Dict[str, PackagedFile]:
     for folder, packed, running in FOLDERS:
         for name, path in files_below(TOP / folder).items():
             if re.fullmatch(packed, name):
-                found[f"{folder}/{name}"] = PackagedFile(read_file(path), name in running)
+                content = read_file(path).replace(trau_deb.PYTHON, trau_deb.PACKED_PYTHON, 1)
+                found[f"{folder}/{name}"] = PackagedFile(content, name in running)
     found.update((name, PackagedFile(content)) for name, content in library.items())
     found["clib/with"] = PackagedFile(read_file(TOP / "clib" / "with"), True)
     for name, path in documents().items():
