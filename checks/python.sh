@@ -11,9 +11,9 @@ trap 'exit 130' HUP INT TERM
 . "$top/checks/path"
 failed=0
 
-# programs: the files outside of the package, in git's list, that Python runs
+# programs: the files outside of the package, in git's list, that Python runs, but for the benchmarks'
 programs() {
-    git ls-files -- tools gateway model clib checks bench | while read -r file; do
+    git ls-files -- tools gateway model clib checks | while read -r file; do
         case $file in
         */tests/*) ;;
         *) ! head -n 1 "$file" 2>/dev/null | grep -q '^#!.*python3' || echo "$file" ;;
@@ -68,7 +68,7 @@ if [ -n "$mypy" ]; then
     said "mypy: python/trau" "$mypy" -p trau
     # Each by itself: all of them are the module __main__.
     for program in $programs; do
-        said "mypy: $program" "$mypy" "$program"
+        said "mypy: $program" env MYPYPATH="$(dirname "$program")" "$mypy" "$program"
     done
 else
     echo "skipped mypy: mypy isn't installed"

@@ -6,7 +6,6 @@ import json
 import math
 import re
 import shutil
-import subprocess
 import unittest
 import zlib
 import xml.etree.ElementTree as ElementTree
@@ -28,28 +27,6 @@ from trau.runs.run_lines import Answered, RecordedCall, Run
 from trau.runs.uplink_periods import FRAME_KINDS
 
 SVG = "{http://www.w3.org/2000/svg}"
-CHROMIUM = shutil.which("chromium")
-
-# Zooms, moves, and tells which periods are seen each time, what the pointer is told, and the colours of a row's pixels.
-ZOOMING = """<script>
-ready.then(() => {
-  const told = [];
-  const tellSeen = () => told.push(seen.first + " " + seen.last + " " + seen.top);
-  tellSeen();
-  canvas.dispatchEvent(new WheelEvent("wheel", { deltaY: -100, ctrlKey: true, clientX: 400, clientY: 400, cancelable: true }));
-  tellSeen();
-  document.dispatchEvent(new KeyboardEvent("keydown", { key: "ArrowRight" }));
-  tellSeen();
-  document.getElementById("whole").click();
-  tellSeen();
-  const pixel = pen.getImageData(x(95) + 3, AXIS + shape.marks + 5, 1, 1).data;
-  told.push([...pixel.slice(0, 3)].map((part) => part.toString(16).padStart(2, "0")).join(""));
-  const box = canvas.getBoundingClientRect();
-  canvas.dispatchEvent(new PointerEvent("pointermove", { clientX: x(95) + 2, clientY: box.top + AXIS + shape.marks + 5 }));
-  told.push(note.textContent);
-  document.title = "seen " + told.join(" | ");
-});
-</script>"""
 
 
 def lay(name, folder):
@@ -505,42 +482,6 @@ class Pictures(InFolder):
         )
         self.assertEqual((part["first"], part["last"], part["calls"][0]["number"]), (50, 110, 1))
         self.assertEqual(len(zlib.decompress(base64.b64decode(part["calls"][0]["up"]))), 60)
-
-    @unittest.skipUnless(CHROMIUM, "no program chromium")
-    def test_page_zooms(self):
-        self.path("zoomed.html", self.page().replace("</body>", ZOOMING + "</body>").encode())
-        words = [
-            CHROMIUM,
-            "--headless",
-            "--no-sandbox",
-            "--disable-gpu",
-            f"--user-data-dir={self.folder / 'chromium'}",
-        ]
-        words += [
-            "--virtual-time-budget=20000",
-            "--dump-dom",
-            (self.folder / "zoomed.html").as_uri(),
-        ]
-        # On a busy machine the browser may print the page before the data is unpacked.
-        for _ in range(20):
-            ran = subprocess.run(
-                words, stdin=subprocess.DEVNULL, stdout=subprocess.PIPE, stderr=subprocess.DEVNULL
-            )
-            found = re.search("<title>seen (.*?)</title>", ran.stdout.decode())
-            if found:
-                break
-        told = found[1].split(" | ")
-        before, near, moved, whole = (
-            [float(each) for each in seen.split(" ")] for seen in told[:4]
-        )
-        self.assertEqual((before, whole), ([0, 153, 0], [0, 153, 0]))
-        self.assertAlmostEqual(near[1] - near[0], 153 / 1.25, places=3)
-        self.assertAlmostEqual(moved[0] - near[0], min(153 / 1.25 / 8, 153 - near[1]), places=3)
-        self.assertEqual(told[4], looks.UplinkLook.UNUSABLE.colour[1:].lower())
-        self.assertRegex(
-            told[5],
-            r"^call 1, period 95 \(1.90 s\): uplink lost: unusable within speech; downlink speech - 18 of 49 periods",
-        )
 
     def test_sorted(self):
         _, _, texts = self.drawn("--sort", "worst", "--rows", "compact")
