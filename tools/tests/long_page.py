@@ -73,7 +73,7 @@ class Browser(InFolder):
         self.assertEqual((before, whole), ([0, 153, 0], [0, 153, 0]))
         self.assertAlmostEqual(near[1] - near[0], 153 / 1.25, places=3)
         self.assertAlmostEqual(moved[0] - near[0], min(153 / 1.25 / 8, 153 - near[1]), places=3)
-        self.assertEqual(told[4], looks.Look.BAD.colour[1:].lower())
+        self.assertEqual(told[4], looks.UplinkLook.UNUSABLE.colour[1:].lower())
         self.assertRegex(
             told[5],
             r"^call 1, period 95 \(1.90 s\): uplink lost: unusable within speech; downlink speech - 18 of 49 periods",
