@@ -6,3 +6,8 @@ use std::process::Abort;
 pub(crate) fn assert_row(rt: &impl Abort, row: usize, holds: bool) {
     assert!(rt; holds, "row {row}");
 }
+
+// Asserts how many rows hold before the first that doesn't, which is named.
+pub(crate) fn assert_rows(rt: &impl Abort, rows: usize, wanted: usize) {
+    assert_row(rt, rows, rows == wanted);
+}

@@ -4,7 +4,7 @@ ghost use Rattle.std.specs.Prelude.{◌≤◌, ◌<◌};
 ghost use Rattle.rtp_packet.specs.Reception.{most_jitter};
 ghost use Rattle.rtp_stream.specs.Places.{period_samples};
 
-use crate::rows::assert_row;
+use crate::rows::{assert_row, assert_rows};
 use rtp_buffer::{Buffer, Octet, Pace, Slot, Store};
 use rtp_packet::{Header, Reception};
 use rtp_stream::{Arrival, Sources, Stream, Track, lay};
@@ -85,6 +85,24 @@ fn is_wanted(arrival: Arrival, wanted: Wanted) -> bool {
     }
 }
 
+// How many packets are as wanted before the first that isn't.
+fn rows_held<const N: usize>(stream: &mut Stream<N>, rows: &[(Row, Wanted)]) -> usize
+    requires smooth { stream.old.reception.jitter ≤ most_jitter }
+    requires sample { stream.old.track.newest.place.sample < period_samples }
+    requires offset { stream.old.track.offset < period_samples }
+    ensures smooth { stream.new.reception.jitter ≤ most_jitter }
+    ensures sample { stream.new.track.newest.place.sample < period_samples }
+    ensures offset { stream.new.track.offset < period_samples }
+{
+    for n in 0..rows.len() {
+        let (row, wanted) = rows[n];
+        if !is_wanted(arrives(stream, row), wanted) {
+            return n;
+        }
+    }
+    rows.len()
+}
+
 // Frames on the grid and off it, doubled, a jump of the time stamps, and another source.
 static FRAMES: [(Row, Wanted); 13] = [
     ((1, 1000, 5, 160, 0, 0), Wanted::NewSource),
@@ -105,10 +123,7 @@ static FRAMES: [(Row, Wanted); 13] = [
 #[test]
 fn frames(rt: HostRuntime) {
     let mut stream: Stream<33> = stream(80);
-    for n in 0..FRAMES.len() {
-        let (row, wanted) = FRAMES[n];
-        assert_row(&rt, n, is_wanted(arrives(&mut stream, row), wanted));
-    }
+    assert_rows(&rt, rows_held(&mut stream, &FRAMES), FRAMES.len());
 }
 
 // Octets past the greatest time stamp, before the first one, and read late.
@@ -122,16 +137,17 @@ static OCTETS: [(Row, Wanted); 4] = [
 #[test]
 fn octets(rt: HostRuntime) {
     let mut stream: Stream<160> = stream(0);
-    for n in 0..OCTETS.len() {
-        let (row, wanted) = OCTETS[n];
-        assert_row(&rt, n, is_wanted(arrives(&mut stream, row), wanted));
-    }
+    assert_rows(&rt, rows_held(&mut stream, &OCTETS), OCTETS.len());
 }
 
-// After 20 periods that were given up their packets aren't late, but of time that was given up, until one comes that isn't late.
-static GIVEN_UP: [(Row, Wanted); 5] = [
+// Two packets before 20 periods are given up. After that their packets aren't late, but of time that was given up, until one comes
+// that isn't late.
+static BEFORE: [(Row, Wanted); 2] = [
     ((1, 0, 5, 160, 0, 0), Wanted::NewSource),
     ((2, 160, 5, 160, 1, 0), Wanted::At(1, 80)),
+];
+
+static AFTER: [(Row, Wanted); 3] = [
     ((3, 320, 5, 160, 2, 0), Wanted::GivenUp),
     ((23, 3520, 5, 160, 2, 0), Wanted::At(22, 80)),
     ((4, 480, 5, 160, 2, 0), Wanted::At(3, 80)),
@@ -140,13 +156,9 @@ static GIVEN_UP: [(Row, Wanted); 5] = [
 #[test]
 fn given_up(rt: HostRuntime) {
     let mut stream: Stream<33> = stream(80);
-    for n in 0..GIVEN_UP.len() {
-        let (row, wanted) = GIVEN_UP[n];
-        if n == 2 {
-            stream.give_up(20, 2);
-        }
-        assert_row(&rt, n, is_wanted(arrives(&mut stream, row), wanted));
-    }
+    assert_rows(&rt, rows_held(&mut stream, &BEFORE), BEFORE.len());
+    stream.give_up(20, 2);
+    assert_rows(&rt, rows_held(&mut stream, &AFTER), AFTER.len());
 }
 
 // A payload over three periods, the first one in part, is played whole; doubled, it changes nothing.
