@@ -119,8 +119,8 @@ class TurnedNetwork:
         """As Network.drop."""
         for port in self.phases:
             while self.coming[port] and self.coming[port][0][0] <= self.clock.time:
-                heapq.heappop(self.coming[port])
-                self.endpoints[port].incoming.counts["given-up"] += 1
+                _, _, packet, sender = heapq.heappop(self.coming[port])
+                self.endpoints[port].outdated(packet, sender)
 
     def read(self, phase: int, tick: int, behind: int) -> None:
         """As Network.read."""

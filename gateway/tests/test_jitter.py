@@ -214,6 +214,15 @@ class Reordering(unittest.TestCase):
         late = {LATER: 5, LATER + 10: 30, LATER + 40: 7}
         self.assertEqual(self.delay(lambda n: late.get(n, 0), LATER + 190), DEPTH + 4)
 
+    def test_a_fourth_burst_changes_what_is_owed(self):
+        buffer = JitterBuffer(DEPTH, bytes(33), lambda frame: False)
+        buffer.start(0)
+        owed = []
+        for tick, margin in ((0, -2), (20, -1), (40, -4), (60, -3), (90, -5), (200, -9)):
+            buffer.straggle(margin, tick)
+            owed.append(buffer.owed)
+        self.assertEqual(owed, [0, 0, -2, -3, -4, -4])
+
     def test_slips_back_wait_for_what_doesnt_come(self):
         late = {LATER: 5, LATER + 10: 5, LATER + 20: 5, LATER + 100: 45}
         for ticks, delay in ((LATER + 100, DEPTH), (LATER + 110, DEPTH + 2)):
@@ -343,6 +352,79 @@ class Doubled(unittest.TestCase):
                 self.assertEqual(
                     {at for at in range(40) if got[at : at + 1] != IDLE}, came.get(tick, set())
                 )
+
+
+class FirstOctets(unittest.TestCase):
+    """What is played at a place is the first octet that came for it in time, or the filler."""
+
+    SIZE = 8
+
+    def buffer(self):
+        return JitterBuffer(0, self.SIZE * IDLE, lambda line: False)
+
+    def test_an_overlap_replaces_nothing(self):
+        buffer = self.buffer()
+        buffer.put(0, 2, b"aaaa", 0)
+        self.assertEqual(buffer.put(0, 0, b"bbbb", 0), "")
+        self.assertEqual(buffer.put(0, 0, b"cccccccc", 0), "")
+        self.assertEqual(buffer.put(0, 0, b"dddddddd", 0), "doubled")
+        self.assertEqual(buffer.take(0), b"bbaaaacc")
+
+    def test_what_was_played_isnt_played_again(self):
+        buffer = self.buffer()
+        buffer.put(0, 0, b"aaaa", 0)
+        self.assertEqual(buffer.take(0), b"aaaa" + 4 * IDLE)
+        self.assertEqual(buffer.put(0, 0, b"bbbbbb", 1), "late")
+        for margin in (-1, -1):
+            buffer.follow(margin, 1)  # so the playing moves back
+        self.assertEqual(buffer.put(0, 0, b"bbbbbb", 1), "")
+        self.assertEqual(buffer.take(1), 4 * IDLE + b"bb" + 2 * IDLE)
+
+    def disturbed(self, draw, buffer, tick):
+        """What a path and a clock may do before a tick."""
+        if draw.random() < 0.05:
+            buffer.owed, buffer.patience = draw.choice((2, 1, -1, -2)), draw.randrange(3)
+        if draw.random() < 0.03:
+            for margin in (-1, -draw.randrange(1, 9)):
+                buffer.follow(margin, tick)
+        if draw.random() < 0.02:
+            buffer.give_up(draw.randrange(4), tick)
+
+    def pieces(self, draw, buffer, tick, waiting, played):
+        """Pieces come; `waiting` gets the first octet of each place, unless it was played."""
+        for _ in range(draw.randrange(8)):
+            period, part = tick + buffer.shift + draw.randrange(-6, 6), draw.randrange(self.SIZE)
+            piece = bytes(
+                draw.randrange(200) for _ in range(draw.randrange(1, self.SIZE + 1 - part))
+            )
+            places = [(period, part + k) for k in range(len(piece))]
+            is_known = all(place in waiting or place in played for place in places)
+            late = period < tick + buffer.shift
+            reason = "doubled" if is_known else "late" if late else ""
+            self.assertEqual(buffer.put(period, part, piece, tick, draw.random() < 0.9), reason)
+            for place, octet in zip(places, piece):
+                if not reason and place not in played:
+                    waiting.setdefault(place, octet)
+
+    def test_by_any_deeds(self):
+        for seed in range(20):
+            draw, buffer, waiting, played = random.Random(seed), self.buffer(), {}, set()
+            for tick in range(300):
+                self.disturbed(draw, buffer, tick)
+                waiting = {
+                    place: octet
+                    for place, octet in waiting.items()
+                    if place[0] >= tick + buffer.shift
+                }
+                self.pieces(draw, buffer, tick, waiting, played)
+                before = buffer.shift
+                got = buffer.take(tick) or self.SIZE * IDLE
+                for k in range(self.SIZE if buffer.shift > before else 0):
+                    waiting.pop((tick + before, k), None)  # a slip left it out
+                places = [(tick + buffer.shift, k) for k in range(self.SIZE)]
+                played.update(place for place in places if place in waiting)
+                wanted = bytes(waiting.pop(place, IDLE[0]) for place in places)
+                self.assertEqual(got, wanted, (seed, tick))
 
 
 class Slips(unittest.TestCase):

@@ -52,7 +52,7 @@ class Starts(WithLive):
             self.assertEqual(live.end(number), 0)
             self.assertRegex(
                 live.said[-1],
-                r"^end period \d+ late \d+ latest \d+ ms given-up \d+ dropped 0 processor \d+\.\d\d s$",
+                r"^end period \d+ late \d+ latest \d+ ms given-up \d+ dropped 0 processor \d+\.\d\d s load \d+ %$",
             )
             self.assertIn("0 dtx 7 on\n", (live.folder / "orders.txt").read_text())
 
@@ -202,7 +202,7 @@ class Calls(WithLive):
     def test_kills(self):
         draw = random.Random(11)
         for turn in range(3):
-            live = self.live(self.folder / f"rec{turn}")
+            live = self.live(self.folder / f"rec{turn}", "--every", "1")
             rows = [
                 row for call in (1, 2, 3, 4) for row in talk(live.open(call, "dtx on"), call, 400)
             ]

@@ -7,11 +7,15 @@ import itertools
 import os
 import random
 import select
+import socket
 import struct
+import tempfile
 import threading
+import time
 import unittest
 import unittest.mock
 from collections import Counter
+from pathlib import Path
 
 from live_support import bound, even_port, hostile_packet, hostile_report, with_loopback
 from support import SPEECH, InFolder, TurnedClock
@@ -25,7 +29,10 @@ from trau.rules.profile import MOST_ORDERS
 from trau.command_line.words import Refusal
 from trau.gateway.incoming import Incoming
 from trau.gateway.jitter_buffer import LIMIT, MOST_MARGIN, PATIENCE, WINDOW, JitterBuffer
-from trau.gateway.live import Commands, Gateway
+from trau.gateway import clock
+from trau.gateway import live
+from trau.gateway import network as network_module
+from trau.gateway.live import Commands, Gateway, Speaker
 from trau.gateway.network import (
     FEWEST_SOCKETS,
     KEEPS_PORT,
@@ -33,6 +40,7 @@ from trau.gateway.network import (
     MOST_PACKETS,
     Endpoint,
     Network,
+    SocketEndpoint,
 )
 from trau.gateway.recorder import CLOSE_OCTETS, Recorder
 from trau.gateway.rtcp import Reception, Reports
@@ -225,6 +233,31 @@ class Streams(unittest.TestCase):
             stream.packet(packet, 0, 0)
         wanted = {"other-type": 1, "empty": 1, "odd-size": 1, "not-rtp": 1, "too-long": 1}
         self.assertEqual(stream.counts, wanted)
+
+    def test_what_isnt_played_isnt_lost(self):
+        stream = gsm_stream()
+        stream.packet(header(3, 1, 0, 5) + ONE, 0, 0)
+        event, noise = header(101, 2, 160, 5) + bytes(4), header(13, 3, 320, 5) + b"\x40"
+        others = (
+            header(3, 4 + k, 480, 5) + part for k, part in enumerate((b"", ONE[1:], 51 * ONE))
+        )
+        for packet in (event, noise, *others, header(101, 40, 0, 6) + bytes(4)):
+            stream.packet(packet, 0, 0)
+        stream.packet(header(3, 7, 960, 5) + ONE, 0, 0)
+        self.assertEqual(stream.came(), {"packets": 7, "missing": 0})
+        _, losses, highest, *_ = struct.unpack(">IIIIII", stream.reception.block(0, 0))
+        self.assertEqual((losses, highest, stream.source), (0, 7, 5))
+        self.assertEqual(stream.counts["other-type"], 3)
+
+    def test_what_is_dropped_isnt_missing(self):
+        stream = gsm_stream()
+        stream.packet(header(3, 1, 0, 5) + ONE, 0, 0)
+        for number, source in ((2, 5), (3, 5), (77, 6)):
+            stream.drop(header(3, number, 160 * number, source) + ONE)
+        stream.drop(b"")
+        stream.packet(header(3, 4, 480, 5) + ONE, 0, 0)
+        self.assertEqual(stream.came(), {"packets": 4, "missing": 0})
+        self.assertEqual(stream.counts, {"given-up": 4})
 
     def test_another_source_brings_two_packets(self):
         stream = gsm_stream()
@@ -637,6 +670,11 @@ class Clocks(unittest.TestCase):
         self.assertEqual((turn, turned.clock.given_up), ((0, 1, 0, 99), 99))
         self.assertEqual(next(turns).behind, 0)
 
+    def test_a_suspended_machine_is_late(self):
+        times = {time.CLOCK_BOOTTIME: 7}
+        with unittest.mock.patch.object(clock.time, "clock_gettime_ns", times.__getitem__):
+            self.assertEqual(Clock().now(), 7)
+
     def test_time_passes(self):
         clock = Clock()
         begun = clock.now()
@@ -749,9 +787,10 @@ class Endpoints(unittest.TestCase):
                     unittest.mock.Mock(take=unittest.mock.Mock(side_effect=struct.error)), 0
                 )
 
-    def opened(self, is_strict, address=None):
-        """A network with one endpoint in phase 0, its port, and the peer's socket, if the peer has no other address."""
-        peer, network = bound(), Network("127.0.0.1")
+    def opened(self, is_strict, address=None, network=None):
+        """A network with an endpoint more in phase 0, its port, and the peer's socket, if the peer has no
+        other address."""
+        peer, network = bound(), network or Network("127.0.0.1")
         self.addCleanup(peer.close)
         while True:
             with contextlib.suppress(OSError):  # somebody may have one of the two ports
@@ -822,6 +861,66 @@ class Endpoints(unittest.TestCase):
             self.assertLessEqual(endpoint.incoming.counts["unreachable"], sent)
 
     @with_loopback
+    def test_each_answer_of_a_closed_port_counts_once(self):
+        network, endpoint, _, peer = self.opened(False)
+        peer.close()
+        for _ in range(3 * MOST_PACKETS + 1):
+            endpoint.send(ONE)
+        while network.polls[0].poll(0):
+            network.read(0, 0, 0)
+        self.assertEqual(endpoint.incoming.counts, {"unreachable": 3 * MOST_PACKETS + 1})
+
+    @with_loopback
+    def test_other_answers_stop_no_work(self):
+        failures = [OSError(errno.EHOSTUNREACH, "No route to host")] * 3
+        for is_strict in (True, False):
+            _, endpoint, port, peer = self.opened(is_strict)
+            endpoint.control.close()
+            endpoint.control = unittest.mock.Mock(
+                **{"recvmsg.side_effect": [*failures, (b"", [(0, 0, bytes(16))], 0, self.PEER)]}
+            )
+            came = endpoint.came_to_control()
+            self.assertEqual(next(came)[0], b"")
+            for number in range(2):
+                peer.sendto(self.packet(number), ("127.0.0.1", port))
+            receive = endpoint.receive
+            with unittest.mock.patch.object(
+                endpoint, "receive", side_effect=[*failures, receive(), BlockingIOError]
+            ):
+                endpoint.drop()
+            self.assertEqual(endpoint.incoming.counts["given-up"], 1)
+
+    @with_loopback
+    def test_what_came_before_the_socket_was_connected_is_dropped(self):
+        really = socket.socket.connect
+        with bound() as stranger:
+
+            def connect(one, peer):
+                stranger.sendto(self.packet(1), one.getsockname())
+                really(one, peer)
+
+            with unittest.mock.patch.object(socket.socket, "connect", connect):
+                network, endpoint, _, _ = self.opened(True)
+        network.read(0, 0, 0)
+        self.assertEqual((endpoint.incoming.heard, list(endpoint.came_to_control())), (None, []))
+
+    @with_loopback
+    def test_an_endpoint_that_cant_be_watched_is_closed(self):
+        network, failure = Network("127.0.0.1"), OSError(errno.ENOSPC, "No space left on device")
+        opened, really = [], SocketEndpoint.close
+
+        def close(endpoint):
+            opened.append(endpoint)
+            really(endpoint)
+
+        with unittest.mock.patch.object(network, "attach", side_effect=failure) as attach:
+            with unittest.mock.patch.object(SocketEndpoint, "close", close):
+                while not attach.called:
+                    with self.assertRaises(OSError), bound() as peer:
+                        network.open(Side(even_port(), peer.getsockname()), True, gsm_stream(), 0)
+        self.assertEqual((opened[0].socket.fileno(), network.endpoints), (-1, {}))
+
+    @with_loopback
     def test_what_finds_no_room_is_counted(self):
         _, endpoint, port, peer = self.opened(True)
         while not endpoint.incoming.counts["overflowed"]:
@@ -839,6 +938,27 @@ class Endpoints(unittest.TestCase):
         self.assertEqual(
             (+endpoint.incoming.counts, endpoint.incoming.reception), ({"given-up": 300}, None)
         )
+
+    @with_loopback
+    def test_after_a_stall_work_is_bounded_and_new_packets_are_first(self):
+        times = itertools.count(0, network_module.MOST_DROPPING // 2)  # a socket takes half of it
+        network = Network("127.0.0.1", times.__next__)
+        opened = [self.opened(True, None, network) for _ in range(4)]
+        for _, endpoint, port, peer in opened:
+            for number in range(3):
+                peer.sendto(self.packet(number), ("127.0.0.1", port))
+        network.drop()
+        left = len(network.old)
+        self.assertEqual(left, 3)
+        seen = []
+        for _, endpoint, port, peer in opened:
+            peer.sendto(self.packet(9), ("127.0.0.1", port))
+            endpoint.incoming.packet = lambda data, tick, behind: seen.append(network.old.copy())
+        network.read(0, 0, 0)
+        self.assertEqual([len(old) for old in seen], [3])  # of the socket that has nothing old
+        while network.old:
+            network.drop_old(network_module.MOST_DROPPING)
+        self.assertEqual(sum(each.incoming.counts["given-up"] for _, each, _, _ in opened), 15)
 
     @with_loopback
     def test_what_is_read_at_a_tick_is_bounded(self):
@@ -1030,6 +1150,16 @@ class Recordings(InFolder):
         )
         self.assertEqual((one.folder / "clock.txt").read_text(), "0 every 1\n")
 
+    def test_the_reason_of_a_short_write_is_the_systems(self):
+        def write(descriptor, data):
+            if len(data) <= 2:
+                raise OSError(errno.EFBIG, "File too large")
+            return len(data) - 2
+
+        with unittest.mock.patch.object(recorder.os, "write", write):
+            with self.assertRaisesRegex(OSError, "File too large"):
+                recorder.write_all(0, b"abcde")
+
     def test_recordings_are_private(self):
         one = self.made()
         one.open(1)
@@ -1062,12 +1192,95 @@ class Inputs(unittest.TestCase):
         self.assertEqual((lines, said.count("\n")), (["close 1"], 1))
         self.assertIn("the last line has no end", said)
 
+    def test_a_long_line_is_refused_whole(self):
+        said, board = [], unittest.mock.Mock()
+        gateway = Gateway(board, Clock(), Commands(None), said.append)
+        long = ("close 1" + " " * 1000, "close 1 #" + "x" * 1000, "close 1" + 300 * " \U0001d11e")
+        lines, _ = self.lines("".join(f"{line}\n" for line in (*long, "close 2")).encode())
+        for line in lines:
+            gateway.obey(line, 0)
+        self.assertEqual([line.count("too long") for line in said], [1, 1, 1, 0])
+        board.execute.assert_called_once_with("close 2", 0)
+
+    def test_a_long_line_that_comes_in_parts(self):
+        read, write = os.pipe()
+        commands, taken = Commands(read), []
+        for part in ("close 1", 400 * " \U0001d11e", 400 * "\U0001d11e", "\n"):
+            os.write(write, part.encode())
+            taken += commands.taken()
+        os.close(read)
+        os.close(write)
+        self.assertEqual(len(taken), 1)
+        self.assertGreater(len(taken[0].encode("utf-8", "surrogateescape")), live.MOST_LINE)
+
+    def test_an_interrupt_while_calls_are_opened_leaves_no_folder(self):
+        with tempfile.TemporaryDirectory() as folder:
+            one = Recorder(Path(folder) / "rec", 1, print)
+            one.make()
+            board = Switchboard(Network("127.0.0.1"), one, 1, print)
+            (Path(folder) / "calls").write_text("open\n")
+            with unittest.mock.patch.object(board, "execute", side_effect=KeyboardInterrupt):
+                with self.assertRaises(KeyboardInterrupt):
+                    live.begin(board, Path(folder) / "calls")
+            self.assertEqual(os.listdir(folder), ["calls"])
+
+    def test_the_soft_limit_is_raised_to_the_hard_one(self):
+        limits = [1024, 4096]
+
+        def setrlimit(_, new):
+            limits[:] = new
+
+        with unittest.mock.patch.multiple(
+            live.resource, getrlimit=lambda _: tuple(limits), setrlimit=setrlimit
+        ):
+            self.assertEqual((live.most_calls(10), limits), (10, [4096, 4096]))
+            self.assertEqual(live.most_calls(4096), (4096 - 64) // 10)
+            limits[:] = 1024, -1  # no limit
+            self.assertEqual((live.most_calls(200), limits), (200, [2064, -1]))
+
+    def spoken(self, say):
+        """What a speaker prints of what `say` tells it."""
+        read, write = os.pipe()
+        really = os.write
+        with unittest.mock.patch.object(live.os, "write", lambda _, data: really(write, data)):
+            speaker = Speaker()
+            say(speaker)
+            speaker.lines.put(None)
+            speaker.writer.join()
+        os.close(write)
+        with open(read, "rb") as output:
+            return speaker.dropped, output.read()
+
+    def test_a_name_that_isnt_text_silences_nothing(self):
+        name = os.fsdecode(b"caf\xe9")
+
+        def say(speaker):
+            for text in (f"recording {name}", "\ud800", "caf\xe9"):
+                speaker(text)
+
+        wanted = b"recording caf\\udce9\n\\ud800\ncaf\xc3\xa9\n"
+        self.assertEqual(self.spoken(say), (0, wanted))
+
+    def test_a_fault_of_the_speaking_thread_silences_nothing(self):
+        class Text(str):
+            def __format__(self, form):
+                raise ValueError("no text")
+
+        def say(speaker):
+            speaker(Text("bad"))
+            speaker("good")
+
+        self.assertEqual(self.spoken(say), (1, b"good\n"))
+
     def test_a_pipe_takes_each_reply_whole(self):
         said = []
         board = unittest.mock.Mock()
         board.execute = lambda line, period: read_open(line.split()[1:])
-        Gateway(board, Clock(), Commands(None), said.append).obey("open 1 " + "\U0001d11e" * 990, 0)
-        self.assertLess(len(said[0].encode()), select.PIPE_BUF)
+        gateway = Gateway(board, Clock(), Commands(None), said.append)
+        for letter in ("\U0001d11e", "\udce9"):
+            gateway.obey("open 1 " + letter * 240, 0)
+            self.assertNotIn("too long", said[0])
+            self.assertLess(len(said.pop().encode()), select.PIPE_BUF)
 
 
 class Silence(unittest.TestCase):

@@ -1,9 +1,11 @@
 """Calls on a turned clock, and their replay: spoiled networks, all kinds of frames, levels, DTX, bridges, late ticks."""
 
+import os
 import random
 import re
 import struct
 import threading
+import time
 import unittest
 import unittest.mock
 from pathlib import Path
@@ -315,7 +317,7 @@ class Late(InFolder):
         closing = next(line for line in said if line.startswith("call 1 from"))
         self.assertIn("gsm-given-up", closing)
         self.assertRegex(closing, rf" held-up {34 + 164} ")
-        for word in ("late", "jumps", "slips"):
+        for word in ("late", "jumps", "slips", "missing"):
             self.assertNotIn(word, closing)
         self.assert_replays(self.folder / "rec")
 
@@ -366,6 +368,24 @@ class Late(InFolder):
             ]
             self.assertGreater(turned.time.clock.given_up, 0)
             self.assertLess(taken[-1], 101, cost)
+
+    def test_a_gateway_near_its_limit_takes_no_calls(self):
+        for cost, refusals in ((3.9, 0), (4.1, 1)):  # milliseconds for each turn of 5
+            turned = Turned(self.folder / f"rec{cost}")
+
+            def busy(phase, period, behind):
+                turned.time.time += int(cost * 1_000_000)
+
+            turned.board.process = busy
+            lines = {40: [open_line(1)], 60: [open_line(2), "counts", "close 1"]}
+            said = turned.run(lines, 61)
+            self.assertIn("ok 40 open 1", said)
+            reason = f"the gateway uses {int(cost * 20)} % of its time"
+            refused = [line for line in said if line.startswith("refused 60 open 2 ")]
+            self.assertEqual([line.endswith(reason) for line in refused], [True] * refusals)
+            self.assertEqual(
+                sum(line.endswith(f" load {int(cost * 20)} %") for line in said), 1, said
+            )
 
     def test_the_latest_turn_is_of_the_time_since_it_was_said(self):
         turned = Turned(self.folder / "rec")
@@ -442,6 +462,56 @@ class Recorded(InFolder):
         for name, count in (("rec", 1), ("new", 2)):
             self.assertEqual(self.assert_replays(self.folder / name)[-1], f"calls {count} differ 0")
 
+    @with_program
+    def test_a_number_that_was_used_begins_a_new_recording(self):
+        (self.folder / "rec-2").mkdir()
+        lines = {
+            20: ["close 1", open_line(1), open_line(2)],
+            30: ["close 1"],
+            40: [open_line(1)],
+            50: [f"record {self.folder / 'new'}"],
+            60: ["close 1", open_line(1)],
+            70: ["close 1", open_line(1)],
+        }
+        turned, said = self.run_two(lines)
+        begun = [line for line in said if "begun" in line]
+        names = [(20, "rec-3"), (40, "rec-4"), (70, "new-2")]
+        self.assertEqual(
+            begun, [f"recording {self.folder / name} begun at {period}" for period, name in names]
+        )
+        for name, count in (("rec", 1), ("rec-3", 2), ("rec-4", 1), ("new", 1), ("new-2", 1)):
+            self.assertEqual(self.assert_replays(self.folder / name)[-1], f"calls {count} differ 0")
+
+    def test_descriptors_are_reckoned_for_all_recordings(self):
+        turned = Turned(self.folder / "rec")
+        turned.board.most_descriptors = 64 + 10 * 3 + 4
+        new = [f"record {self.folder / str(number)}" for number in range(2)]
+        lines = [open_line(1), new[0], open_line(2), new[1], open_line(3)]
+        said = turned.run({0: [*lines, "close 2", open_line(4)]}, 2)
+        self.assertEqual(
+            [line for line in said if line.startswith("refused")],
+            [f"refused 0 {open_line(3)[:80]}: the process may have 98 descriptors alone"],
+        )
+        self.assertIn("ok 0 open 4", said)
+
+    def test_recordings_that_are_written_are_forgotten(self):
+        turned = Turned(self.folder / "rec")
+        process, ended = turned.board.process, []
+
+        def patient(phase, period, behind):
+            process(phase, period, behind)
+            for recorder in turned.board.ended:
+                recorder.writer.join()
+            ended.append(len(turned.board.ended))
+
+        turned.board.process = patient
+        turned.recorder.without[3] = "a file"  # so that it isn't whole
+        lines = {period: ["close 1", open_line(1)] for period in range(10, 100, 10)}
+        turned.run({0: [open_line(1)], **lines}, 120)
+        self.assertLessEqual(max(ended), 5)
+        self.assertEqual(ended[-1], 0)
+        self.assertFalse(turned.board.is_whole)
+
     def test_the_clock_makes_no_folder(self):
         makers, really = [], Path.mkdir
 
@@ -503,6 +573,13 @@ class Recorded(InFolder):
         self.assertIn("refused 20 record a\0b: a folder's name has no NUL", said)
         self.assertEqual(self.assert_replays(self.folder / "rec")[-1], "calls 2 differ 0")
 
+    def test_a_name_that_isnt_utf_8(self):
+        new = self.folder / os.fsdecode(b"caf\xe9")
+        with unittest.mock.patch("trau.gateway.recorder.TO_BEGIN", 60):
+            _, said = self.run_two({20: [f"record {new}", open_line(2)]}, 30)
+        self.assertIn("ok 20 record", said[1])
+        self.assertEqual((new / "2.out").stat().st_size, 10 * 160)
+
     @with_program
     def test_after_a_full_disk(self):
         lines = {
@@ -518,6 +595,61 @@ class Recorded(InFolder):
             self.assert_replays(self.folder / "new"),
             ["call 2 periods 20 equal", "calls 1 differ 0"],
         )
+
+    def test_a_recording_that_has_ended_is_said(self):
+        turned = Turned(self.folder / "rec")
+        turned.recorder.fail("No space left on device")
+        ended = f"recording {self.folder / 'rec'} ended: No space left on device"
+        lines = [open_line(1), open_line(2, "record on"), open_line(3, "record off")]
+        said = turned.run({0: [*lines, "counts 1", "counts 3", "counts"]}, 4)
+        self.assertEqual(said[1:3], [f"call 1 isn't recorded: {ended}", "ok 0 open 1"])
+        self.assertTrue(said[3].endswith(f": {ended}"), said[3])
+        self.assertEqual(said[4], "ok 0 open 3")
+        self.assertRegex(said[5], f"^call 1 .*, not recorded: {ended}$")
+        self.assertRegex(said[7], "^call 3 .* sent 0$|^call 3 from 0 at 0$")
+        self.assertRegex(said[9], f"^at 0 calls 2 .* load 0 %, {ended}$")
+
+    def test_a_folder_that_is_moved(self):
+        turned = Turned(self.folder / "rec")
+        process = turned.board.process
+
+        def moving(phase, period, behind):
+            if (period, phase) == (10, 0):
+                (self.folder / "rec").rename(self.folder / "moved")
+            process(phase, period, behind)
+
+        turned.board.process = moving
+        said = turned.run({0: [open_line(1)], 20: [open_line(2)]}, 30)
+        self.assertEqual([line for line in said if "ended" in line], [])
+        sizes = [(self.folder / f"moved/{call}.out").stat().st_size for call in (1, 2)]
+        self.assertEqual(sizes, [30 * 160, 10 * 160])
+        self.assertEqual((self.folder / "moved/clock.txt").read_text().splitlines()[-1], "30 end 8")
+
+    def test_a_file_that_cant_be_opened_ends_its_call_alone(self):
+        turned = Turned(self.folder / "rec")
+        (self.folder / "rec/2.pcm").touch()
+        process = turned.board.process
+
+        def patient(phase, period, behind):
+            process(phase, period, behind)
+            while period == 10 and not turned.recorder.without:
+                time.sleep(0.001)
+
+        turned.board.process = patient
+        said = turned.run(
+            {0: [open_line(1), open_line(2)], 29: ["counts 2", "close 2"], 30: [open_line(3)]}, 40
+        )
+        self.assertEqual(
+            [line for line in said if "isn't recorded" in line or "ended" in line],
+            ["call 2 isn't recorded: File exists"],
+        )
+        self.assertIn(", not recorded: File exists", said[said.index("ok 29 counts 2") - 1])
+        sizes = [(self.folder / f"rec/{call}.out").stat().st_size for call in (1, 3)]
+        self.assertEqual(sizes, [40 * 160, 10 * 160])
+        left = sorted(path.name for path in (self.folder / "rec").glob("2.*"))
+        self.assertEqual(left, ["2.pcm"])
+        self.assertTrue((self.folder / "rec/clock.txt").read_text().endswith("40 end 12\n"))
+        self.assertFalse(turned.recorder.is_whole)
 
     @with_program
     def test_calls_that_arent_recorded(self):
@@ -559,6 +691,18 @@ class Recorded(InFolder):
             [["0", "at"], ["70", "at"], ["140", "at"], ["150", "end"]],
         )
 
+    def test_what_isnt_played_is_no_event(self):
+        turned = Turned(self.folder / "rec")
+        speech = schedule(SPEECH[:60], GSM, 1)
+        events = [
+            (time, bytes((packet[0], 101)) + packet[2:16]) if 20 <= k < 30 else (time, packet)
+            for k, (time, packet) in enumerate(speech)
+        ]
+        turned.bring(1, events, schedule(LINE[:60], ALAW, 2))
+        said = turned.run({0: [open_line(1)]}, 70)
+        self.assertIn(" gsm-other-type 10 gsm-packets 60 ", said[-1])
+        self.assertNotIn("missing", (self.folder / "rec/events.txt").read_text())
+
 
 class Lines(InFolder):
     def test_refusals(self):
@@ -593,10 +737,10 @@ class Lines(InFolder):
             ],
         )
         self.assertEqual(
-            refusals[-3:],
-            ["its bridge ended in this very period"] * 2 + ["the number was used before"],
+            refusals[-2:],
+            ["its bridge ended in this very period"] * 2,
         )
-        self.assertEqual(len(refusals), 13)
+        self.assertEqual(len(refusals), 12)
 
     def test_nonsense(self):
         draw = random.Random(9)
@@ -631,7 +775,7 @@ class Lines(InFolder):
         self.assertEqual(said[first + 1], "refused 40 counts 2: the call isn't open")
         self.assertRegex(
             said[first + 2],
-            r"^at 40 calls 1 late 0 latest 0 ms given-up 0 dropped 0 processor \d+\.\d\d s$",
+            r"^at 40 calls 1 late 0 latest 0 ms given-up 0 dropped 0 processor \d+\.\d\d s load 0 %$",
         )
         self.assertRegex(said[first + 4], "^refused 40 counts 1 2: it isn't open, close")
         self.assertEqual(sum(line.startswith("call 1 from 0 to 50 ") for line in said), 1)
@@ -690,8 +834,9 @@ class Lines(InFolder):
             {0: [open_line(1)], 2: [open_line(2), "level 1 5", "dtx 1 on", "close 1"]}, 4
         )
         full = [line.split()[2] for line in said if line.endswith("as many orders as a run takes")]
-        self.assertEqual((full, recorder.orders), (["open", "dtx"], MOST_ORDERS))
+        self.assertEqual((full, recorder.orders), (["dtx"], MOST_ORDERS))
         self.assertIn("ok 2 close 1", said)
+        self.assertIn(f"recording {self.folder / 'rec-2'} begun at 2", said)
 
     def test_both_calls_of_a_bridge_are_in_one_phase(self):
         turned = Turned(self.folder / "rec")
@@ -708,6 +853,22 @@ class Lines(InFolder):
         turned.run({0: [open_line(n) for n in (1, 2, 3, 4)], 3: ["bridge 2 4"]}, 5)
         self.assertEqual((phases[0], phases[-1]), ((0, [0, 1, 2, 3]), (4, [0, 1, 1, 2])))
         self.assertEqual(turned.network.phases, {})
+
+    def test_phases_are_balanced_after_bridges(self):
+        turned, calls = Turned(self.folder / "rec"), range(1, 9)
+        seen, process = {}, turned.board.process
+
+        def looked(phase, period, behind):
+            process(phase, period, behind)
+            seen[period] = sorted(each.phase for each in turned.board.connections.values())
+
+        turned.board.process = looked
+        bridges = [f"bridge {call} {call + 1}" for call in (1, 3, 5, 7)]
+        again = [f"unbridge {call}" for call in (1, 3, 5, 7)]
+        other = [f"bridge {one} {two}" for one, two in ((1, 5), (3, 7), (2, 6), (4, 8))]
+        lines = {0: [open_line(n) for n in calls], 1: bridges, 2: again, 3: other}
+        turned.run(lines, 5)
+        self.assertEqual(list(seen.values()), [[0, 0, 1, 1, 2, 2, 3, 3]] * 5)
 
 
 if __name__ == "__main__":

@@ -1,27 +1,28 @@
-"""The GSM full rate codec, the two sides of a call, A-law and mu-law, by the C library that clib/build makes.
+"""The GSM full rate codec, the two sides of a call, A-law and mu-law, by the C library that
+clib/build makes.
 
-    from trau import trau_fr
-    encoder, decoder = trau_fr.Encoder(), trau_fr.Decoder()
-    octets = encoder.encode(samples)        # bytes, 33 octets for each 160 samples
-    samples = decoder.decode(octets)        # array.array('h'), 160 samples for each 33 octets
-    samples = trau_fr.expand(line, "alaw")  # array.array('h') of the octets of a line
-    line = trau_fr.compress(samples, "alaw")
+from trau import trau_fr encoder, decoder = trau_fr.Encoder(), trau_fr.Decoder() octets =
+encoder.encode(samples) # bytes, 33 octets for each 160 samples samples = decoder.decode(octets)
+# array.array('h'), 160 samples for each 33 octets samples = trau_fr.expand(line, "alaw") #
+array.array('h') of the octets of a line line = trau_fr.compress(samples, "alaw")
 
 The two sides of a call, a period at a time; the header trau_fr.h says what a host must know:
 
-    receiver, sender = trau_fr.Receiver(seed=1), trau_fr.Sender()
-    samples = receiver.receive(octets)      # None for a period in which nothing came; by its code word a frame may be a descriptor
-    frame = sender.send(samples, dtx=True)
-    frame.octets, frame.speech              # 33 octets; False for a silence descriptor
-    line = receiver.receive_line(octets, law="alaw")    # the same for the 160 octets of a line, in less time
-    frame = sender.send_line(line, dtx=True, law="alaw")
+receiver, sender = trau_fr.Receiver(seed=1), trau_fr.Sender() samples = receiver.receive(octets)
+# None for a period in which nothing came; by its code word a frame may be a descriptor frame =
+sender.send(samples, dtx=True) frame.octets, frame.speech # 33 octets; False for a silence
+descriptor line = receiver.receive_line(octets, law="alaw") # the same for the 160 octets of a
+line, in less time frame = sender.send_line(line, dtx=True, law="alaw")
 
-Samples have 16 bits, 8000 a second: array.array('h'), a numpy array of int16, or any other buffer of them. Bytes are taken as samples in
-the machine's byte order. Octets are bytes, a numpy array of uint8, or any other buffer of items of one octet. Arrays may be slices with
-steps. Samples are returned as an array.array, which numpy.frombuffer(.., numpy.int16) accepts. Items of another size, and a number of
-samples or octets that isn't a whole number of periods, raise ValueError.
+Samples have 16 bits, 8000 a second: array.array('h'), a numpy array of int16, or any other
+buffer of them. Bytes are taken as samples in the machine's byte order. Octets are bytes, a numpy
+array of uint8, or any other buffer of items of one octet. Arrays may be slices with steps.
+Samples are returned as an array.array, which numpy.frombuffer(.., numpy.int16) accepts. Items of
+another size, and a number of samples or octets that isn't a whole number of periods, raise
+ValueError.
 
-The library is libtrau_fr.so.1 in lib/ of the folder that TRAU_CLIB names, or else of clib/out, or else the system's.
+The library is libtrau_fr.so.1 in lib/ of the folder that TRAU_CLIB names, or else of clib/out,
+or else the system's.
 """
 
 import ctypes
@@ -29,7 +30,7 @@ import enum
 import os
 from array import array
 from pathlib import Path
-from typing import Any, Dict, NamedTuple, Optional, Union
+from typing import Any, Dict, NamedTuple, Optional, Tuple, Union
 
 SAMPLES = 160
 OCTETS = 33
@@ -40,7 +41,8 @@ Buffer = Union[bytes, bytearray, memoryview, "array[int]", Any]
 
 
 class Refused(ValueError):
-    """Octets that carry no frame: 33 octets that don't begin with the four bits 1101, or 40 of a line whose sync bits are wrong."""
+    """Octets that carry no frame: 33 octets that don't begin with the four bits 1101, or 40 of a
+    line whose sync bits are wrong."""
 
 
 class Kind(enum.IntEnum):
@@ -53,7 +55,8 @@ class Kind(enum.IntEnum):
 
 
 class Sent(NamedTuple):
-    """What is sent for a period: the 33 octets of its frame, and whether they are speech or a silence descriptor."""
+    """What is sent for a period: the 33 octets of its frame, and whether they are speech or a
+    silence descriptor."""
 
     octets: bytes
     speech: bool
@@ -111,7 +114,8 @@ _LineOctets = ctypes.c_char * SAMPLES
 _TrauOctets = ctypes.c_char * LINE_OCTETS
 
 
-# The functions with a result. Arguments are octets, arrays, references and integers, which the code below holds to their ranges; to have
+# The functions with a result. Arguments are octets, arrays, references and integers, which the code
+# below holds to their ranges; to have
 # ctypes convert them by declared types would take as long again as the call.
 _TESTS = (
     "trau_fr_decode_octets",
@@ -121,7 +125,7 @@ _TESTS = (
     "trau_fr_read_uplink",
     "trau_fr_read_downlink",
 )
-_RESULTS = {
+_RESULTS: Dict[str, Any] = {
     **dict.fromkeys(_TESTS, ctypes.c_bool),
     "trau_fr_encoder_home": _EncoderState,
     "trau_fr_decoder_home": _DecoderState,
@@ -129,12 +133,20 @@ _RESULTS = {
     "trau_fr_sender_home": _SenderState,
     "trau_fr_kind": ctypes.c_uint32,
 }
-_OTHERS = ("trau_fr_encode_octets", "trau_fr_write_uplink", "trau_fr_write_downlink")
-_OTHERS += ("trau_alaw_expand", "trau_alaw_compress", "trau_mulaw_expand", "trau_mulaw_compress")
+_OTHERS = (
+    "trau_fr_encode_octets",
+    "trau_fr_write_uplink",
+    "trau_fr_write_downlink",
+    "trau_alaw_expand",
+    "trau_alaw_compress",
+    "trau_mulaw_expand",
+    "trau_mulaw_compress",
+)
 
 
 def _load() -> ctypes.CDLL:
-    """The library, with the types of its functions. Raises OSError if there is none, or one of an earlier version."""
+    """The library, with the types of its functions. Raises OSError if there is none, or one of an
+    earlier version."""
     built = (
         Path(os.environ.get("TRAU_CLIB") or Path(__file__).resolve().parents[2] / "clib" / "out")
         / "lib"
@@ -152,7 +164,7 @@ def _load() -> ctypes.CDLL:
 _library = _load()
 _EXPAND = {"alaw": _library.trau_alaw_expand, "mulaw": _library.trau_mulaw_expand}
 _COMPRESS = {"alaw": _library.trau_alaw_compress, "mulaw": _library.trau_mulaw_compress}
-_KINDS = tuple(Kind)
+_KINDS: Tuple[Kind, ...] = tuple(Kind.__members__.values())
 
 
 def _octets_of(data: Buffer) -> bytes:
@@ -229,8 +241,9 @@ class Decoder:
         self._state = _library.trau_fr_decoder_home()
 
     def decode(self, octets: Buffer) -> "array[int]":
-        """The samples of the next frames: 160 for each 33 octets. Raises Refused if a frame doesn't begin with the four bits 1101. The
-        frames before it are decoded then, and the state is the one after them."""
+        """The samples of the next frames: 160 for each 33 octets. Raises Refused if a frame doesn't
+        begin with the four bits 1101. The frames before it are decoded then, and the state is
+        the one after them."""
         data = _octets_of(octets)
         period, out = _Samples(), array("h")
         for k in range(_periods(data, OCTETS, "frames")):
@@ -243,12 +256,13 @@ class Decoder:
 
 def kind_of(octets: Buffer) -> Kind:
     """The kind of a frame of 33 octets by its code word: Kind.LOST for one that can't be used."""
-    return _KINDS[_library.trau_fr_kind(_frame_of(octets))]
+    number: int = _library.trau_fr_kind(_frame_of(octets))
+    return _KINDS[number]
 
 
 class Receiver:
-    """The receive side of one phone call, a period at a time. `quiet` is True until its first good frame or silence descriptor, and from
-    an idle frame on until the next one."""
+    """The receive side of one phone call, a period at a time. `quiet` is True until its first good
+    frame or silence descriptor, and from an idle frame on until the next one."""
 
     def __init__(self, seed: int = 0) -> None:
         """The seed starts the random numbers, 0 to 65535; `trau` takes the call's number."""
@@ -268,8 +282,9 @@ class Receiver:
     def receive(
         self, octets: Optional[Buffer], kind: Optional[int] = None, taf: bool = False
     ) -> "array[int]":
-        """The 160 samples of the next period, from the 33 octets of its frame, or None if none came. Without a kind, the code word of the
-        frame says it. `taf`: the frame is lost, and a silence descriptor was due."""
+        """The 160 samples of the next period, from the 33 octets of its frame, or None if none
+        came. Without a kind, the code word of the frame says it. `taf`: the frame is lost, and a
+        silence descriptor was due."""
         self._turn(_library.trau_fr_receive, octets, kind, taf, self._samples)
         return array("h", bytes(self._samples))
 
@@ -289,13 +304,15 @@ class Receiver:
     def hand(
         self, octets: Optional[Buffer], kind: Optional[int] = None, taf: bool = False
     ) -> bytes:
-        """The next period in a bridge: the 33 octets that go on to the partner. The decoder is reset."""
+        """The next period in a bridge: the 33 octets that go on to the partner. The decoder is
+        reset."""
         handed = _Octets()
         self._turn(_library.trau_fr_hand, octets, kind, taf, handed)
         return handed.raw
 
     def begin_bridge(self) -> None:
-        """A bridge begins: the decoder is reset. `hand` does it in each period; this counts where the bridge ends before its first one."""
+        """A bridge begins: the decoder is reset. `hand` does it in each period; this counts where
+        the bridge ends before its first one."""
         self._state.decoder = _library.trau_fr_receiver_home(0).decoder
 
 
@@ -307,7 +324,8 @@ class Sender:
         self._samples, self._octets = _Samples(), _Octets()
 
     def send(self, samples: Buffer, level: int = LEVEL, dtx: bool = False) -> Sent:
-        """What is sent for the next 160 samples. A frame whose peak is at least the level is speech; without `dtx`, each one is."""
+        """What is sent for the next 160 samples. A frame whose peak is at least the level is
+        speech; without `dtx`, each one is."""
         data = _samples_of(samples)
         if len(data) != 2 * SAMPLES:
             raise ValueError(f"a period has {2 * SAMPLES} octets of samples, not {len(data)}")
@@ -341,7 +359,8 @@ def write_uplink(octets: Optional[Buffer], kind: int, taf: bool = False) -> byte
 
 
 def write_downlink(octets: Optional[Buffer], kind: int) -> bytes:
-    """The 40 octets on the downlink of a TRAU line for a frame that is sent; an idle frame for Kind.IDLE."""
+    """The 40 octets on the downlink of a TRAU line for a frame that is sent; an idle frame for
+    Kind.IDLE."""
     line = _TrauOctets()
     _library.trau_fr_write_downlink(_frame_of(octets), _in_range(kind, 0, 0xFFFFFFFF, "kind"), line)
     return line.raw

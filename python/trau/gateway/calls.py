@@ -1,6 +1,8 @@
-"""A call, a period at a time: what the base station sends is heard, and what goes out to both sides is made.
+"""A call, a period at a time: what the base station sends is heard, and what goes out to both sides
+is made.
 
-What is decided here is what is recorded: one frame of Up and 160 octets of Pcm a period, whatever the network did.
+What is decided here is what is recorded: one frame of Up and 160 octets of Pcm a period,
+whatever the network did.
 """
 
 from __future__ import annotations
@@ -32,7 +34,7 @@ STILL_AFTER = 250  # periods without a packet, 5 s
 SILENCE = trau_fr.Receiver().hand(None)  # a receiver that is quiet hands over the frame of silence
 NO_FRAME = bytes(OCTETS)
 NO_FAULTS = {"packets", "rtcp", "rtcp-sent", "far-lost"}  # counts
-SPEECH, DESCRIPTOR, LOST, IDLE = Kind
+SPEECH, DESCRIPTOR, LOST, IDLE = Kind.SPEECH, Kind.DESCRIPTOR, Kind.LOST, Kind.IDLE
 COUNTED = ("speech", "descriptor", "invalid")  # a frame, by its kind
 
 Send = Callable[[bytes], None]
@@ -48,7 +50,8 @@ def soft_octets(law: str) -> bytes:
 
 
 def is_soft_frame(frame: bytes) -> bool:
-    """Whether a frame is soft speech, for the jitter buffer alone. A descriptor isn't: a pause needs it."""
+    """Whether a frame is soft speech, for the jitter buffer alone. A descriptor isn't: a pause
+    needs it."""
     maxima = [(frame[at] & 31) << 1 | frame[at + 1] >> 7 for at in BLOCK_MAXIMA]
     return max(maxima) <= SOFT_BLOCK and trau_fr.kind_of(frame) is SPEECH
 
@@ -87,7 +90,8 @@ class Stream(NamedTuple):
 
 
 class LiveCall:
-    """One phone call. `hear` and then `speak` are called once a period; in a bridge both calls hear before one speaks."""
+    """One phone call. `hear` and then `speak` are called once a period; in a bridge both calls hear
+    before one speaks."""
 
     def __init__(self, settings: Settings, start: int) -> None:
         self.number, self.law, self.start = settings.number, settings.law, start
@@ -105,18 +109,16 @@ class LiveCall:
         }
         self.since_descriptor: Optional[int] = None  # periods, while comfort noise goes on
         self.pause: Optional[int] = None  # descriptors that the sender has made in a row
-        self.up = (
-            self.out
-        ) = (
-            self.handed
-        ) = b""  # of this period: its frame on Up, the octets of Out, and what goes to the partner of a bridge
+        # Of this period: its frame on Up, the octets of Out, what goes to the partner of a bridge.
+        self.up = self.out = self.handed = b""
         self.is_quiet = True
         self.partner: Optional[LiveCall] = None
         self.parted: Optional[int] = None  # the period at which its last bridge ended
         self.counts: DefaultDict[str, int] = defaultdict(int)
 
     def frame_of(self, period: int) -> Optional[bytes]:
-        """The frame that the base station brought for a period. `prime`: if the first one isn't good, it is a good frame of silence."""
+        """The frame that the base station brought for a period. `prime`: if the first one isn't
+        good, it is a good frame of silence."""
         frame = self.gsm.buffer.take(period)
         if self.is_to_prime:
             self.is_to_prime = False
@@ -127,7 +129,8 @@ class LiveCall:
         return frame
 
     def kind_of(self, frame: Optional[bytes]) -> Tuple[Kind, bool]:
-        """What a period brought, and its TAF. RTP has no TAF: a descriptor was due in each 24th period after the last one."""
+        """What a period brought, and its TAF. RTP has no TAF: a descriptor was due in each 24th
+        period after the last one."""
         kind = LOST if frame is None else trau_fr.kind_of(frame)
         if kind is SPEECH:
             self.since_descriptor = None
@@ -157,7 +160,8 @@ class LiveCall:
     def speak(
         self, period: int, send_gsm: Send, send_pcm: Send
     ) -> Tuple[bytes, bytes, bytes, bytes]:
-        """The downlink of a period, after `hear`; sends both ways. The result is the period of Up, Pcm, Down and Out."""
+        """The downlink of a period, after `hear`; sends both ways. The result is the period of Up,
+        Pcm, Down and Out."""
         pcm = self.pcm.buffer.take(period)
         if pcm is None:
             self.counts["no-pcm"] += 1
@@ -169,7 +173,8 @@ class LiveCall:
         return self.up, pcm, down, self.out
 
     def answer(self, period: int, send_gsm: Send) -> bytes:
-        """The downlink of a bridge, or of a quiet call: an idle frame, and nothing is sent. The sender is at home in both."""
+        """The downlink of a bridge, or of a quiet call: an idle frame, and nothing is sent. The
+        sender is at home in both."""
         self.sender = self.pause = None
         if self.partner is None:
             self.to_gsm.after_gap = True
@@ -179,16 +184,18 @@ class LiveCall:
         return trau_fr.write_downlink(handed, SPEECH)
 
     def encode(self, period: int, pcm: bytes, send_gsm: Send) -> bytes:
-        """The downlink of what the exchange says. In a pause a descriptor is sent at its beginning and in each 24th period."""
+        """The downlink of what the exchange says. In a pause a descriptor is sent at its beginning
+        and in each 24th period."""
         self.sender = self.sender or trau_fr.Sender()
         octets, is_speech = self.sender.send_line(pcm, self.level, self.dtx, self.law)
         self.pause = None if is_speech else 0 if self.pause is None else self.pause + 1
-        if is_speech or self.pause % TAF_PERIODS == 0:
+        if self.pause is None or self.pause % TAF_PERIODS == 0:
             send_gsm(self.to_gsm.packet(period, octets, is_speech))
         return trau_fr.write_downlink(octets, SPEECH if is_speech else DESCRIPTOR)
 
     def begin_bridge(self) -> None:
-        """A bridge resets both coders and DTX when it begins, also if it ends before its first period."""
+        """A bridge resets both coders and DTX when it begins, also if it ends before its first
+        period."""
         self.sender = self.pause = None
         self.receiver.begin_bridge()
 

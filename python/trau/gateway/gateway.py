@@ -3,7 +3,7 @@ octet for octet (docs/GATEWAY.md).
 
 `run` takes lines (open, close, level, dtx, bridge, unbridge, counts, record) from a file and from standard input, and prints `ready` when its
 sockets are open, and `ok` or `refused` for each line. It ends at an interrupt, SIGTERM, SIGHUP or --seconds. Status 0; 1 if a recording ended
-before; 2 if it was refused. `check` replays a recording and compares: status 0 if all is equal, 1 if not.
+before, or the files of a call couldn't be made; 2 if it was refused. `check` replays a recording and compares: status 0 if all is equal, 1 if not.
 
 Counts of a call: periods with speech, descriptor, invalid (a damaged descriptor), not-gsm, no-gsm, no-pcm, and those held-up (late or given up,
 with the clock). Of each side: packets that came,
@@ -17,6 +17,7 @@ from __future__ import annotations
 
 
 import argparse
+import importlib
 import ipaddress
 import sys
 from pathlib import Path
@@ -26,11 +27,14 @@ from trau.command_line.words import Refusal, Words, number_within
 from trau.command_line.ends import tool
 from trau.rules.profile import MOST_CALLS
 
-try:
-    from trau import trau_fr
-except (ImportError, OSError) as failure:
-    trau_fr = None
-    MISSING = f"the C library is missing: {failure}; clib/build makes it"
+
+def missing_library() -> str:
+    """What is said if the C library can't be had; else empty."""
+    try:
+        importlib.import_module("trau.trau_fr")
+    except (ImportError, OSError) as failure:
+        return f"the C library is missing: {failure}; clib/build makes it"
+    return ""
 
 
 def address(word: str) -> str:
@@ -66,9 +70,9 @@ def words_of(given: Sequence[str]) -> argparse.Namespace:
     run.add_argument(
         "--every",
         type=number_within(1, 250),
-        default=1,
+        default=25,
         metavar="N",
-        help="periods that are held before a write (1)",
+        help="periods that are held before a write (25)",
     )
     run.add_argument(
         "--most",
@@ -95,8 +99,8 @@ def main(given: Sequence[str]) -> int:
         from trau.gateway import replay
 
         return replay.check(words.folder, words.trau, words.again)
-    if trau_fr is None:
-        raise Refusal(MISSING)
+    if missing := missing_library():
+        raise Refusal(missing)
     from trau.gateway import live
 
     return live.run(

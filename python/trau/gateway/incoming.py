@@ -3,6 +3,7 @@
 from __future__ import annotations
 
 from collections import Counter
+from contextlib import suppress
 from typing import Dict, Optional, Tuple
 
 from trau.gateway import rtp
@@ -15,29 +16,26 @@ STILL = 2  # periods beyond the depth after which a source that brought nothing 
 
 
 class Incoming:
-    """The stream of one sender. `frame` is the size of a frame that fills a period, or 0 for octets of a line, one a sample."""
+    """The stream of one sender. `frame` is the size of a frame that fills a period, or 0 for octets
+    of a line, one a sample."""
 
     def __init__(self, kind: int, frame: int, buffer: JitterBuffer) -> None:
         self.kind, self.frame, self.buffer = kind, frame, buffer
         self.size = frame or SAMPLES  # octets of a period
         self.half = SAMPLES // 2 if frame else 0  # a period; by which frames may be off the grid
-        self.usual, self.plain = HEADER.size + self.size, bytes(
-            (0x80, kind)
-        )  # most packets have this size, and begin so
+        # Most packets have this size, and begin so.
+        self.usual, self.plain = HEADER.size + self.size, bytes((0x80, kind))
         self.counts: Counter[str] = Counter()
         self.faults: Dict[str, str] = {}  # what the latest ones were, by the count
         self.source: Optional[int] = None
         self.reception: Optional[Reception] = None  # what came of it
-        self.probation: Optional[
-            Tuple[int, int]
-        ] = None  # another source, and the number that it must bring next
+        # Another source, and the number that it must bring next.
+        self.probation: Optional[Tuple[int, int]] = None
         self.jump: Optional[Tuple[int, int]] = None  # number and stamp with which a jump goes on
         self.stamp = self.position = 0  # a time stamp, and its place in samples from the first one
         self.heard: Optional[int] = None  # the tick of the last packet that was taken
-        self.stale, self.stale_until = (
-            0,
-            0,
-        )  # periods that the clock has given up, whose packets are still to be read until this tick
+        # Periods that the clock has given up, whose packets are still to be read until this tick.
+        self.stale = self.stale_until = 0
 
     def fail(self, count: str, failure: Exception) -> None:
         """Counts a fault of the gateway or its host, and keeps what it was."""
@@ -53,11 +51,11 @@ class Incoming:
                 _, _, number, stamp, source = HEADER.unpack_from(data)
                 payload, samples = data[HEADER.size :], SAMPLES
             else:
-                kind, number, stamp, source, payload = rtp.parse(data)
-                samples = self.samples(kind, payload)
-            if source != self.source:
-                self.take_source(source, number, stamp, tick, behind)
-            self.reception.count(number, stamp, tick if is_watched and not self.stale else None)
+                number, stamp, source, payload, samples = self.parsed(data)
+            reception = self.reception
+            if source != self.source or reception is None:
+                reception = self.take_source(source, number, stamp, tick, behind)
+            reception.count(number, stamp, tick if is_watched and not self.stale else None)
             period, part = self.place(number, stamp, samples, tick, behind)
         except PacketRefused as refused:
             self.counts[str(refused)] += 1
@@ -72,8 +70,31 @@ class Incoming:
                 self.counts[reason] += 1
             period, part, at = period + 1, 0, end
 
+    def parsed(self, data: bytes) -> Tuple[int, int, int, bytes, int]:
+        """Number, stamp, source, payload and samples of a packet. One of the source that is heard
+        is counted in any case: telephone-event, comfort noise and empty packets aren't lost."""
+        kind, number, stamp, source, payload = rtp.parse(data)
+        try:
+            return number, stamp, source, payload, self.samples(kind, payload)
+        except PacketRefused:
+            self.count_unplayed(number, stamp, source)
+            raise
+
+    def count_unplayed(self, number: int, stamp: int, source: int) -> None:
+        """Counts a packet that isn't played, if it is of the source that is heard."""
+        if self.reception and source == self.source:
+            self.reception.count(number, stamp, None)
+
+    def drop(self, data: bytes) -> None:
+        """Drops a datagram of time that was given up. It came, so it isn't missing as well."""
+        self.counts["given-up"] += 1
+        with suppress(PacketRefused):
+            _, number, stamp, source, _ = rtp.parse(data)
+            self.count_unplayed(number, stamp, source)
+
     def samples(self, kind: int, payload: bytes) -> int:
-        """How far a packet moves the time stamp. Refuses other payload types, and payloads of no whole frames."""
+        """How far a packet moves the time stamp. Refuses other payload types, and payloads of no
+        whole frames."""
         if kind != self.kind:
             raise PacketRefused("other-type")
         if not payload:
@@ -85,8 +106,11 @@ class Incoming:
             raise PacketRefused("too-long")
         return samples
 
-    def take_source(self, source: int, number: int, stamp: int, tick: int, behind: int) -> None:
-        """Another source has to bring two packets in a row (RFC 3550, A.1) while the present one is still: of two at once, one is heard."""
+    def take_source(
+        self, source: int, number: int, stamp: int, tick: int, behind: int
+    ) -> Reception:
+        """Another source has to bring two packets in a row (RFC 3550, A.1) while the present one is
+        still: of two at once, one is heard."""
         if self.source is not None:
             is_next = self.probation == (source, number)
             self.probation = source, number + 1 & rtp.NUMBERS
@@ -94,11 +118,14 @@ class Incoming:
                 raise PacketRefused("probation")
             self.counts["new-source"] += 1
         self.counts.update(self.came())
-        self.source, self.probation, self.reception = source, None, Reception(source, number)
+        self.source, self.probation = source, None
+        self.reception = reception = Reception(source, number)
         self.begin(stamp, tick + behind)
+        return reception
 
     def is_still(self, tick: int) -> bool:
-        """Whether the present source has brought nothing for some periods, and all that it brought is played."""
+        """Whether the present source has brought nothing for some periods, and all that it brought
+        is played."""
         return tick > (self.heard or 0) + self.buffer.depth + STILL and self.buffer.is_empty(tick)
 
     def came(self) -> Counter[str]:
@@ -117,14 +144,14 @@ class Incoming:
     def place(
         self, number: int, stamp: int, samples: int, tick: int, behind: int
     ) -> Tuple[int, int]:
-        """The period at which a packet begins, and the place in it; a frame belongs to the nearest period. A jump of the time stamps is
-        believed if the very next packet follows it."""
+        """The period at which a packet begins, and the place in it; a frame belongs to the nearest
+        period. A jump of the time stamps is believed if the very next packet follows it."""
         ahead = (stamp - self.stamp + 0x80000000 & rtp.STAMPS) - 0x80000000
         place = self.position + ahead
         period, part = divmod(place + self.half, SAMPLES)
         margin = period - self.buffer.shift - tick
-        if self.stale and self.is_given_up(margin, tick):
-            raise PacketRefused("given-up")
+        if self.stale:
+            self.refuse_stale(margin, tick)
         if not -LIMIT <= margin <= LIMIT + behind:
             if self.jump != (number, stamp):
                 self.jump = number + 1 & rtp.NUMBERS, stamp + samples & rtp.STAMPS
@@ -143,12 +170,14 @@ class Incoming:
         return period, part
 
     def give_up(self, periods: int, tick: int) -> None:
-        """The clock has given up time. What came in it is still to be read, and is neither late nor a jump."""
+        """The clock has given up time. What came in it is still to be read, and is neither late nor
+        a jump."""
         self.buffer.give_up(periods, tick)
         self.stale, self.stale_until = self.stale + periods, tick + LIMIT
 
-    def is_given_up(self, margin: int, tick: int) -> bool:
-        """Whether a packet is of time that was given up, until one comes that isn't."""
+    def refuse_stale(self, margin: int, tick: int) -> None:
+        """Refuses packets of time that was given up, until one comes that isn't, or for a second."""
         if margin >= 0 or tick >= self.stale_until:
             self.stale = 0
-        return -self.stale - LIMIT <= margin < 0 < self.stale
+        elif margin >= -self.stale - LIMIT:
+            raise PacketRefused("given-up")

@@ -1,7 +1,10 @@
-"""A jitter buffer in whole periods, read once a tick. It alone decides which period of the sender is played at which tick.
+"""A jitter buffer in whole periods, read once a tick. It alone decides which period of the sender
+is played at which tick.
 
-A sender's period p is played at tick p - shift. Its *margin* is the number of ticks until then. The path's delay and the sender's clock
-change; so now and then a period is left out (a slip on) or one without content is put in (a slip back).
+A sender's period p is played at tick p - shift. Its *margin* is the number of ticks until then.
+What is played at a place of a period is the first octet that came for it in time, or the filler.
+The path's delay and the sender's clock change; so now and then a period is left out (a slip on)
+or one without content is put in (a slip back).
 """
 
 from __future__ import annotations
@@ -19,18 +22,27 @@ REST = 10  # ticks from a slip to the next one in what came
 BURST = 5  # ticks; what comes late in them is one burst
 BURSTS = 3  # so many of them within SPAN ticks: the path reorders
 SPAN = 100
-KEPT = 2 * LIMIT  # periods for which it is known what of them was played
+KEPT = 256  # periods for which it is known what of them was played; more than any packet is away
 
 Content = Optional[bytes]
 Laid = Tuple[bytes, int]  # a period as far as it came, and a bit for each of its octets that didn't
+
+
+def merged(octets: bytes, part: int, piece: bytes, places: int) -> bytes:
+    """A period with a piece from its place `part` on, at these places alone, a bit for each."""
+    period = bytearray(octets)
+    for place, octet in enumerate(piece, part):
+        if places >> place & 1:
+            period[place] = octet
+    return bytes(period)
 
 
 class JitterBuffer:
     """Takes pieces of periods, gives one period a tick."""
 
     def __init__(self, depth: int, filler: bytes, is_soft: Callable[[bytes], bool]) -> None:
-        """The first packet waits `depth` ticks. `filler` is a whole period, for what a sender leaves out of one. `is_soft`: whether a
-        period is one in which a slip is hardly heard."""
+        """The first packet waits `depth` ticks. `filler` is a whole period, for what a sender
+        leaves out of one. `is_soft`: whether a period is one in which a slip is hardly heard."""
         self.depth, self.filler, self.is_soft = depth, filler, is_soft
         self.whole = (1 << len(filler)) - 1
         self.counts: Counter[str] = Counter()
@@ -40,9 +52,8 @@ class JitterBuffer:
         """Begins anew: the sender's period 0 has come at this tick."""
         self.periods: Dict[int, Laid] = {}
         self.newest = -1  # of all that were held
-        self.played: List[Tuple[Optional[int], int]] = [
-            (None, 0)
-        ] * KEPT  # period p at p % KEPT, with what it lacked
+        # Period p at p % KEPT, with what it lacked.
+        self.played: List[Tuple[Optional[int], int]] = [(None, 0)] * KEPT
         self.shift = -tick - self.depth
         self.was_late = False  # the newest packet
         self.late_at = tick  # when a packet came late behind newer ones
@@ -54,9 +65,8 @@ class JitterBuffer:
     def watch_anew(self, tick: int) -> None:
         """Forgets the margins that were seen."""
         self.margins: List[int] = []
-        self.bursts: List[
-            Tuple[int, int]
-        ] = []  # of late packets, the tick and the margin of the first one
+        # Of late packets, the tick and the margin of the first one.
+        self.bursts: List[Tuple[int, int]] = []
         self.watched_from = tick
 
     def margin(self, period: int, tick: int) -> int:
@@ -78,12 +88,13 @@ class JitterBuffer:
         return self.filler, missing if played == period else self.whole
 
     def put(self, period: int, part: int, piece: bytes, tick: int, is_watched: bool = False) -> str:
-        """Puts a piece at a place of a period; the result is empty, or the reason why it isn't taken. `is_watched`: unless it is doubled, its
-        margin says something about the path."""
+        """Puts a piece at a place of a period, where nothing is held and nothing was played. The
+        result is empty, or the reason why it isn't taken. `is_watched`: unless it is doubled,
+        its margin says something about the path."""
         octets, missing = self.laid(period)
         end = part + len(piece)
-        is_whole = len(piece) == len(self.filler)
-        places = missing if is_whole else missing & (1 << end) - (1 << part)
+        own = self.whole if len(piece) == len(self.filler) else (1 << end) - (1 << part)
+        places = missing & own
         if not places:
             return "doubled"
         margin = period - self.shift - tick
@@ -93,17 +104,21 @@ class JitterBuffer:
             if is_watched:
                 self.straggle(margin, tick)
             return "late"
-        self.periods[period] = (
-            (piece, 0) if is_whole else (octets[:part] + piece + octets[end:], missing ^ places)
-        )
+        if places == self.whole:  # as mostly
+            laid = piece
+        elif places == own:
+            laid = octets[:part] + piece + octets[end:]
+        else:
+            laid = merged(octets, part, piece, places)
+        self.periods[period] = laid, missing ^ places
         if period > self.newest:
             self.newest = period
         return ""
 
     def follow(self, margin: int, tick: int) -> None:
-        """A packet that is newer than all before has come, with this margin. If it is the second late one in a row, the path got longer, or
-        the sender is slow: the playing moves, so that the packet waits `depth` ticks, as the first one did.
-        """
+        """A packet that is newer than all before has come, with this margin. If it is the second
+        late one in a row, the path got longer, or the sender is slow: the playing moves, so that
+        the packet waits `depth` ticks, as the first one did."""
         is_late = margin < 0
         if is_late and self.was_late:
             self.counts["slips-back"] += self.depth - margin
@@ -113,14 +128,16 @@ class JitterBuffer:
         self.was_late = is_late
 
     def straggle(self, margin: int, tick: int) -> None:
-        """A packet was late. If this comes again and again, the path reorders: slips back are owed, so that such packets wait too. One burst
-        moves nothing, nor do packets for which the newest would wait too long."""
+        """A packet was late. If this comes again and again, the path reorders: slips back are owed,
+        by the middle one of the last bursts, so that such packets wait too. One burst moves
+        nothing, nor do packets for which the newest would wait too long."""
         self.late_at = tick
         newest = max(self.periods, default=tick + self.shift)
         is_same = self.bursts and tick < self.bursts[-1][0] + BURST
         if is_same or self.margin(newest, tick) - margin > MOST_MARGIN:
             return
-        self.bursts = [burst for burst in self.bursts if tick - burst[0] <= SPAN] + [(tick, margin)]
+        recent = [burst for burst in self.bursts if tick - burst[0] <= SPAN]
+        self.bursts = recent[1 - BURSTS :] + [(tick, margin)]
         if len(self.bursts) == BURSTS:
             self.owed = sorted(lacking for _, lacking in self.bursts)[BURSTS // 2]
             self.patience = PATIENCE
@@ -144,7 +161,8 @@ class JitterBuffer:
         return octets
 
     def review(self, tick: int) -> None:
-        """Decides on slips by the margins of all packets but the stragglers: they wait longer than the depth, or come just in time."""
+        """Decides on slips by the margins of all packets but the stragglers: they wait longer than
+        the depth, or come just in time."""
         margins = sorted(self.margins)
         least = margins[len(margins) // STRAGGLERS]
         if least > self.depth:
@@ -156,19 +174,15 @@ class JitterBuffer:
         self.drop_past(tick)
 
     def slip(self, tick: int) -> None:
-        """Makes one slip that is owed: where nothing came at once, else after a rest, and in a soft period until patience ends. Slips back for
-        a path that reorders are owed no longer if nothing was late for a while."""
+        """Makes one slip that is owed: where nothing came at once, else after a rest, and in a soft
+        period until patience ends. Slips back for a path that reorders are owed no longer if
+        nothing was late for a while."""
         if self.owed < -1 and tick - self.late_at > SPAN:
             self.owed = 0
             return
         self.patience -= 1
         laid = self.periods.get(tick + self.shift)
-        is_speech = laid and (
-            self.owed > 0 or not laid[1]
-        )  # a part that didn't come may still come
-        if is_speech and (
-            tick < self.rest_until or self.patience > 0 and not self.is_soft(laid[0])
-        ):
+        if laid and self.is_spared(laid, tick):
             return
         if self.owed > 0:
             self.periods.pop(tick + self.shift, None)
@@ -181,6 +195,13 @@ class JitterBuffer:
             self.counts["slips-back"] += 1
         self.rest_until = tick + REST
         self.watch_anew(tick)
+
+    def is_spared(self, laid: Laid, tick: int) -> bool:
+        """Whether the slip that is owed waits for another period than this one."""
+        octets, missing = laid
+        if self.owed < 0 and missing:  # what didn't come may still come
+            return False
+        return tick < self.rest_until or self.patience > 0 and not self.is_soft(octets)
 
     def give_up(self, periods: int, tick: int) -> None:
         """The clock has given up time: what would have been played in it is left out."""

@@ -1,4 +1,6 @@
-"""The gateway while it runs: the clock turns, lines are taken at the start of a period, and calls are processed phase by phase."""
+"""The gateway while it runs: the clock turns, lines are taken at the start of a period, and calls
+are processed phase by phase.
+"""
 
 from __future__ import annotations
 
@@ -22,7 +24,7 @@ from trau.command_line.words import Refusal
 from trau.rules.profile import PERIODS_A_SECOND
 from trau.gateway.network import Network
 from trau.gateway.recorder import Recorder
-from trau.gateway.switchboard import Switchboard
+from trau.gateway.switchboard import DESCRIPTORS_OF_CALL, DESCRIPTORS_OF_REST, Switchboard
 from trau.command_line.ends import complain, naming
 
 MOST_LINES = 50  # that are executed in a period
@@ -33,7 +35,7 @@ LAST_WORDS = 2  # seconds that a reader has at the end
 MOST_BEHIND = (
     10  # periods by which the clock may have been late in the last second when a call is opened
 )
-DESCRIPTORS = (10, 64)  # of a call, and of all else
+MOST_LOAD = 80  # per cent of its time that the gateway may use when a call is opened
 
 
 class Options(NamedTuple):
@@ -47,8 +49,14 @@ class Options(NamedTuple):
     most_calls: int
 
 
+def printable(text: str) -> bytes:
+    """A text in UTF-8; octets of a name that aren't, and lone surrogates, are escaped."""
+    return text.encode("utf-8", "backslashreplace")
+
+
 class Speaker:
-    """Prints lines on standard output by a thread, so that nothing waits for a reader: lines for which there is no room are dropped and counted."""
+    """Prints lines on standard output by a thread, so that nothing waits for a reader: lines for
+    which there is no room are dropped and counted."""
 
     def __init__(self) -> None:
         self.dropped = 0
@@ -63,13 +71,13 @@ class Speaker:
             self.dropped += 1
 
     def write(self) -> None:
-        """The thread that prints."""
+        """The thread that prints. Whatever fails, the next lines are printed."""
         while (text := self.lines.get()) is not None:
             try:
-                rest = f"{text}\n".encode()
+                rest = printable(f"{text}\n")
                 while rest:
                     rest = rest[os.write(1, rest) :]
-            except OSError:
+            except Exception:
                 self.dropped += 1
 
     def end(self) -> None:
@@ -84,7 +92,7 @@ class Commands:
 
     def __init__(self, descriptor: Optional[int] = 0) -> None:
         self.descriptor, self.rest = descriptor, b""
-        self.lines: Deque[str] = deque()
+        self.lines: Deque[bytes] = deque()
 
     def read(self) -> None:
         """Takes what has come, without waiting. Standard input may end; the calls go on."""
@@ -104,7 +112,7 @@ class Commands:
             return
         *lines, self.rest = (self.rest + data).split(b"\n")
         self.rest = self.rest[: MOST_LINE + 1]
-        self.lines.extend(line.decode("utf-8", "replace") for line in lines)
+        self.lines.extend(lines)
 
     def end(self) -> None:
         """Standard input has ended. A line without its end may have been cut, and isn't executed."""
@@ -116,12 +124,19 @@ class Commands:
         """The lines that are executed now; comments and empty ones are left out."""
         self.read()
         lines = [self.lines.popleft() for _ in range(min(MOST_LINES, len(self.lines)))]
-        return [line for line in map(without_comment, lines) if line]
+        return [line for line in map(line_of, lines) if line]
 
 
 def without_comment(line: str) -> str:
     """A line up to its comment, if any."""
     return line.partition("#")[0].strip()
+
+
+def line_of(octets: bytes) -> str:
+    """A line without its comment. One that is too long stays as it is, so that all of it is
+    refused."""
+    line = octets.decode("utf-8", "surrogateescape")
+    return line if len(octets) > MOST_LINE else without_comment(line)
 
 
 class Gateway:
@@ -139,28 +154,33 @@ class Gateway:
     def obey(self, line: str, period: int) -> None:
         """Executes a line in a period, and says whether it was."""
         try:
-            if len(line) > MOST_LINE:
+            if len(line.encode("utf-8", "surrogateescape")) > MOST_LINE:
                 raise Refusal("the line is too long")
             if period < self.busy_until and line.split()[0] == "open":
                 raise Refusal("the gateway was behind its clock in the last second")
+            load = self.clock.load()
+            if load >= MOST_LOAD and line.split()[0] == "open":
+                raise Refusal(f"the gateway uses {load} % of its time")
             if line == "counts":
                 self.say(f"at {period} calls {len(self.board.connections)} {self.state()}")
             else:
                 self.board.execute(line, period)
             self.say(f"ok {period} {' '.join(line.split()[:2])}")
         except (Refusal, OSError) as refused:
-            self.say(
-                f"refused {period} {line[:80]}: {getattr(refused, 'strerror', None) or refused}"[
-                    :MOST_REPLY
-                ]
-            )
+            reason = getattr(refused, "strerror", None) or str(refused)
+            reply = printable(f"refused {period} {line[:80]}: {reason}").decode()
+            self.say(reply[:MOST_REPLY])
 
     def state(self) -> str:
-        """What a line says of the gateway: late turns and the latest one, what was given up and dropped, and its processor time."""
+        """What a line says of the gateway: late turns and the latest one, what was given up and
+        dropped, its processor time, and the share of its time that it uses."""
         clock, used = self.clock, time.process_time()
         latest = max(clock.latest, clock.lately) // 1_000_000
         times = f"late {clock.late} latest {latest} ms given-up {clock.given_up}"
-        return f"{times} dropped {self.say.dropped} processor {used:.2f} s"
+        ending = self.board.recorders[-1].ending if self.board.recorders else ""
+        state = f"{times} dropped {self.say.dropped} processor {used:.2f} s"
+        state += f" load {clock.load()} %"
+        return f"{state}, {ending}" if ending else state
 
     def begin_period(self, turn: Turn) -> None:
         """What is done once a period, before its calls."""
@@ -175,7 +195,8 @@ class Gateway:
         self.board.look_after(turn.period)
 
     def run(self, periods: Optional[int]) -> Tuple[int, bool]:
-        """Processes this time, or until it is ended; the result is how many periods there were, and whether all is recorded."""
+        """Processes this time, or until it is ended; the result is how many periods there were, and
+        whether all is recorded."""
         is_whole, end, self.board.is_running = False, None, True
         try:
             for turn in self.clock.turns():
@@ -202,7 +223,7 @@ class Gateway:
 def open_file(board: Switchboard, path: Path) -> None:
     """Executes the lines of a file before the first period; each one has to be accepted."""
     with naming(path):
-        lines = path.read_text(encoding="utf-8", errors="replace").splitlines()
+        lines = path.read_text(encoding="utf-8", errors="surrogateescape").splitlines()
     for number, line in enumerate(map(without_comment, lines), 1):
         if line:
             try:
@@ -214,11 +235,12 @@ def open_file(board: Switchboard, path: Path) -> None:
 
 
 def begin(board: Switchboard, calls: Optional[Path]) -> None:
-    """Opens the calls of a file, if there is one. If a line is refused, nothing is left of the recordings."""
+    """Opens the calls of a file, if there is one. If a line is refused, or it is interrupted,
+    nothing is left of the recordings."""
     try:
         if calls:
             open_file(board, calls)
-    except (Refusal, OSError):
+    except BaseException:  # an interrupt too
         board.end_recordings(None)
         for recorder in board.ended:  # one may be in another's folder
             shutil.rmtree(recorder.folder, ignore_errors=True)
@@ -226,21 +248,26 @@ def begin(board: Switchboard, calls: Optional[Path]) -> None:
 
 
 def most_calls(wanted: int) -> int:
-    """How many calls the process may have, by their descriptors. Asks the system for as many as are needed."""
-    each, others = DESCRIPTORS
-    needed = each * wanted + others
+    """How many calls the process may have in one recording, by its descriptors."""
+    soft = most_descriptors(DESCRIPTORS_OF_CALL * wanted + DESCRIPTORS_OF_REST)
+    return min(wanted, (soft - DESCRIPTORS_OF_REST) // DESCRIPTORS_OF_CALL)
+
+
+def most_descriptors(wanted: int) -> int:
+    """How many descriptors the process may have: as many as the system allows it, or as are wanted
+    if there is no limit."""
     soft, hard = resource.getrlimit(resource.RLIMIT_NOFILE)
-    if 0 <= soft < needed:  # below 0 there is no limit
+    if soft >= 0:  # below 0 there is no limit
         with contextlib.suppress(ValueError, OSError):
-            resource.setrlimit(
-                resource.RLIMIT_NOFILE, (needed if hard < 0 else min(needed, hard), hard)
-            )
+            most = max(soft, wanted) if hard < 0 else hard
+            resource.setrlimit(resource.RLIMIT_NOFILE, (most, hard))
     soft, _ = resource.getrlimit(resource.RLIMIT_NOFILE)
-    return min(wanted, (soft - others) // each) if soft >= 0 else wanted
+    return soft if soft >= 0 else sys.maxsize
 
 
 def heed_signals(gateway: Gateway) -> None:
-    """Interrupts and hangups end the gateway, unless they are ignored as nohup has it. In the background the terminal never stops it."""
+    """Interrupts and hangups end the gateway, unless they are ignored as nohup has it. In the
+    background the terminal never stops it."""
     for number in (signal.SIGINT, signal.SIGTERM, signal.SIGHUP):
         if number != signal.SIGHUP or signal.getsignal(number) != signal.SIG_IGN:
             signal.signal(number, gateway.end)
@@ -250,11 +277,12 @@ def heed_signals(gateway: Gateway) -> None:
 
 def run(options: Options) -> int:
     """Runs the gateway. Status 0, or 1 if the recording ended before."""
-    say = Speaker()
+    say, network = Speaker(), Network(options.address)
     with naming(options.folder):
         recorder = Recorder(options.folder, options.every, say)
         recorder.make()
-    board = Switchboard(Network(options.address), recorder, most_calls(options.most_calls), say)
+    board = Switchboard(network, recorder, most_calls(options.most_calls), say)
+    board.most_descriptors = most_descriptors(0)
     clock = Clock()
     gateway = Gateway(board, clock, Commands(None if sys.stdin is None else 0), say)
     begin(board, options.calls)

@@ -1,21 +1,22 @@
-"""The recording: the four lines of each call and the orders, from which `trau run` makes the same again, when its periods were, and what the
-network did.
+"""The recording: the four lines of each call and the orders, from which `trau run` makes the same
+again, when its periods were, and what the network did.
 
-Down is held back by one frame, since a run's Down begins with 320 ones and ends with the frame before the last: so the recorded lines are
-those of the run, octet for octet. A thread writes, so a disk that stalls stops no call; a write that fails, or a disk that is too slow, ends
-the recording, and no call.
+Down is held back by one frame, since a run's Down begins with 320 ones and ends with the frame
+before the last: so the recorded lines are those of the run, octet for octet. A thread writes, so
+a disk that stalls stops no call; a write that fails, or a disk that is too slow, ends the
+recording, and no call.
 """
 
 from __future__ import annotations
 
-import errno
+import contextlib
 import os
 import queue
 import threading
 import time
 from datetime import datetime, timezone
 from pathlib import Path
-from typing import Callable, Dict, Iterable, List, Optional, Set, Tuple
+from typing import Callable, Dict, Iterable, List, Optional, Set, Tuple, Union
 
 from trau.rules.lines import SIDES
 from trau.rules.profile import FRAME_OCTETS, MOST_CALLS, MOST_ORDER_OCTETS, MOST_ORDERS, MOST_STAMP
@@ -27,31 +28,56 @@ CLOSE_OCTETS = len(f"{MOST_STAMP} close {MOST_CALLS}\n")
 MOST_WAITING = 32 << 20  # octets that wait for the disk, some 8 s of 200 calls
 LAST_WRITES = 10  # seconds that the disk has at the end
 TO_BEGIN = 0.02  # seconds that it has to make a folder while calls go on
+FILES = 4  # descriptors of a recording without calls: its folder and its texts
+FIRST_NUMBER = 2  # of the recordings that the gateway begins by itself
 CLOCK, EVENTS, ORDERS = "clock.txt", "events.txt", "orders.txt"
 
 Period = Tuple[bytes, bytes, bytes, bytes]  # of Up, Pcm, Down and Out
 Work = Callable[[], object]
-Given = Tuple[
-    float, Optional[int], Work
-]  # since when it waits, its octets (None: it is done also after a failure), and what is done
+# Since when it waits, its octets (None: it is done also after a failure), and what is done.
+Given = Tuple[float, Optional[int], Work]
 
 
 def write_all(descriptor: int, data: bytes) -> None:
-    """Writes all octets, or fails."""
-    if os.write(descriptor, data) != len(data):
-        raise OSError(errno.ENOSPC, os.strerror(errno.ENOSPC))
+    """Writes all octets, or fails. If a write is short, the next one has the system's reason."""
+    while data:
+        data = data[os.write(descriptor, data) :]
+
+
+def write_lines(written: Iterable[Tuple[List[int], List[bytes]]]) -> None:
+    """Writes parts of lines, of each call its descriptors and their octets."""
+    for descriptors, lines in written:
+        for descriptor, line in zip(descriptors, lines):
+            write_all(descriptor, line)
 
 
 def close_all(descriptors: Iterable[int]) -> None:
-    """Closes all of these, and then fails if one failed. A file system of the network may say only then that there is no room."""
-    failures = []
+    """Closes all of these, and then fails if one failed. A file system of the network may say only
+    then that there is no room."""
+    failures: List[OSError] = []
     for descriptor in descriptors:
         try:
             os.close(descriptor)
         except OSError as failure:
             failures.append(failure)
-    for failure in failures:
-        raise failure
+    if failures:
+        raise failures[0]
+
+
+def reason_of(failure: Exception) -> str:
+    """Why something failed, as the system says it if it does."""
+    return getattr(failure, "strerror", None) or str(failure) or type(failure).__name__
+
+
+def make_numbered(folder: Path) -> Path:
+    """Makes a folder with this name and the next number that is free, from 2 on."""
+    number = FIRST_NUMBER
+    while True:
+        numbered = folder.with_name(f"{folder.name}-{number}")
+        with contextlib.suppress(FileExistsError):
+            numbered.mkdir(mode=0o700, parents=True)
+            return numbered
+        number += 1
 
 
 def now() -> str:
@@ -64,6 +90,11 @@ class NoRecorder:
 
     used: Set[int] = set()
     has_ended = False
+    ending = ""
+
+    def ending_of(self, _: int) -> str:
+        """There is nothing that could end."""
+        return ""
 
     def has_room(self, *_: int) -> bool:
         """There is no order that could be too many."""
@@ -76,20 +107,31 @@ class NoRecorder:
 
 
 class Recorder:
-    """Writes a recording into a new folder, after `make`. Its period 0 is the gateway's period `first`."""
+    """Writes a recording into a new folder, after `make`. Its period 0 is the gateway's period
+    `first`."""
 
     def __init__(
-        self, folder: Path, every: int, say: Callable[[str], None], first: int = 0
+        self,
+        folder: Path,
+        every: int,
+        say: Callable[[str], None],
+        first: int = 0,
+        is_next: bool = False,
     ) -> None:
-        """`every` is the number of periods that are held before a write; `say` is told once if the recording ends."""
+        """`every` is the number of periods that are held before a write; `say` is told once if the
+        recording ends. `is_next`: the folder's name gets the next number that is free."""
         self.folder, self.every, self.say, self.first = folder, every, say, first
+        self.is_next = is_next
+        self.directory: List[int] = []  # once it is made, its descriptor, as it may be moved
         self.texts: Dict[str, int] = {}
         self.descriptors: Dict[int, List[int]] = {}
+        self.without: Dict[int, str] = {}  # calls whose lines couldn't be made, and why
         self.held: Dict[int, List[Period]] = {}
         self.down: Dict[int, bytes] = {}  # that a call's Down has next
         self.due: List[int] = []  # calls of which enough is held for a write
         self.used: Set[int] = set()  # numbers of calls: each serves once
         self.orders = self.order_octets = 0
+        self.opened = self.closed = 0  # calls, by the two threads
         self.has_ended = self.is_behind = False
         self.reason = ""  # why it has ended
         self.given = self.written = 0  # octets, by the two threads
@@ -100,14 +142,22 @@ class Recorder:
 
     def make(self) -> None:
         """Makes the folder and its texts. Raises OSError if they can't be had."""
-        self.folder.mkdir(mode=0o700, parents=True)
+        if self.is_next:
+            self.folder = make_numbered(self.folder)
+        else:
+            self.folder.mkdir(mode=0o700, parents=True)
+        self.directory.append(os.open(self.folder, os.O_RDONLY | os.O_DIRECTORY))
         for name in (ORDERS, CLOCK, EVENTS):
-            self.texts[name] = os.open(self.folder / name, NEW, 0o600)
+            self.texts[name] = self.file(name)
         write_all(self.texts[CLOCK], f"0 every {self.every}\n".encode())
 
+    def file(self, name: str) -> int:
+        """Makes a file in the folder, wherever that is by now."""
+        return os.open(name, NEW, 0o600, dir_fd=self.directory[0])
+
     def make_soon(self) -> None:
-        """Makes the folder by the thread, as the disk may be slow. Raises Refusal if it says in time that it can't be had; else that ends the
-        recording."""
+        """Makes the folder by the thread, as the disk may be slow. Raises Refusal if it says in
+        time that it can't be had; else that ends the recording."""
         said: List[str] = []
         say, self.say, is_made = self.say, said.append, threading.Event()
         self.attempt(0, self.make)
@@ -117,6 +167,10 @@ class Recorder:
         if self.has_ended:
             self.end()
             raise Refusal(self.reason)
+
+    def say_begun(self, period: int) -> None:
+        """Says the name of the folder, as soon as it is made."""
+        self.attempt(0, lambda: self.say(f"recording {self.folder} begun at {period}"))
 
     def has_room(self, orders: int, opens: int = 0) -> bool:
         """Whether a run will take so many orders more, and then a `close` of each open call."""
@@ -144,7 +198,8 @@ class Recorder:
         self.work.put((time.monotonic(), octets, work))
 
     def write_what_comes(self) -> None:
-        """The thread that writes. After a failure nothing more is written, so that no line has a gap; files are closed all the same."""
+        """The thread that writes. After a failure nothing more is written, so that no line has a
+        gap; files are closed all the same."""
         has_failed = False
         while (given := self.work.get()) is not None:
             self.oldest, octets, work = given
@@ -153,9 +208,9 @@ class Recorder:
                     work()
             except (
                 Exception
-            ) as failure:  # of any kind: without this thread nothing would be written, and nobody told
+            ) as failure:  # of any kind, or nothing would be written, and nobody told
                 has_failed = True
-                self.fail(getattr(failure, "strerror", None) or str(failure))
+                self.fail(reason_of(failure))
             self.written += octets or 0
             if self.work.empty():
                 self.oldest = None
@@ -167,6 +222,20 @@ class Recorder:
             self.reason, self.has_ended = reason, True
             self.say(f"recording {self.folder} ended: {reason}")
 
+    @property
+    def ending(self) -> str:
+        """What is said of a recording that has ended; else empty."""
+        return f"recording {self.folder} ended: {self.reason}" if self.has_ended else ""
+
+    def ending_of(self, call: int) -> str:
+        """What is said of a call that isn't recorded any longer, or never was; else empty."""
+        return self.ending or self.without.get(call, "")
+
+    @property
+    def is_whole(self) -> bool:
+        """Whether all of its calls were recorded as long as they were open."""
+        return not self.has_ended and not self.without
+
     def look_after(self, period: int) -> None:
         """Says that the disk is behind by a second, and that it isn't any longer."""
         oldest = self.oldest
@@ -177,7 +246,8 @@ class Recorder:
             self.say(f"recording {self.folder}: the disk is {state} at {period}")
 
     def finish(self, until: float) -> None:
-        """Waits for the disk, at most until this time of the monotonic clock, and says what isn't written then."""
+        """Waits for the disk, at most until this time of the monotonic clock, and says what isn't
+        written then."""
         self.writer.join(max(0, until - time.monotonic()))
         if self.writer.is_alive():
             self.fail(f"{self.given - self.written} octets aren't written")
@@ -211,32 +281,44 @@ class Recorder:
         descriptors: List[int] = []
         self.descriptors[call] = descriptors
         self.used.add(call)
+        self.opened += 1
         self.held[call], self.down[call] = [], FIRST_DOWN
-        self.attempt(
-            0,
-            lambda: descriptors.extend(
-                os.open(self.folder / f"{call}.{side}", NEW, 0o600) for side in SIDES
-            ),
-        )
+        self.attempt(0, lambda: self.make_lines(call, descriptors))
+
+    def make_lines(self, call: int, descriptors: List[int]) -> None:
+        """Makes the files of a call's lines. If one can't be made, this call has none; others go
+        on."""
+        made: List[str] = []
+        try:
+            for name in (f"{call}.{side}" for side in SIDES):
+                descriptors.append(self.file(name))
+                made.append(name)
+        except OSError as failure:
+            self.without[call] = reason_of(failure)
+            self.say(f"call {call} isn't recorded: {self.without[call]}")
+            for name in made:
+                os.unlink(name, dir_fd=self.directory[0])
+            close_all(descriptors)
+            descriptors.clear()
 
     def period(self, call: int, period: Period) -> None:
-        """Holds a period of a call. It is written by `write`, after the packets of all calls have left."""
+        """Holds a period of a call. It is written by `write`, after the packets of all calls have
+        left."""
         held = self.held[call]
         held.append(period)
         if len(held) >= self.every:
             self.due.append(call)
 
     def write(self) -> None:
-        """Writes what is held of the calls that are due: one write for each line, as a kill hardly comes within one."""
+        """Writes what is held of the calls that are due: one write for each line, as a kill hardly
+        comes within one."""
         if self.due:
             written = [
                 (self.descriptors[call], self.lines(call)) for call in self.due if self.held[call]
             ]
             self.due = []
             octets = sum(len(line) for _, lines in written for line in lines)
-            self.attempt(
-                octets, lambda: [write_all(*each) for pair in written for each in zip(*pair)]
-            )
+            self.attempt(octets, lambda: write_lines(written))
 
     def lines(self, call: int) -> List[bytes]:
         """Takes what is held of a call, as four parts of its lines."""
@@ -251,10 +333,21 @@ class Recorder:
         self.write()
         del self.held[call], self.down[call]
         descriptors = self.descriptors.pop(call)
-        self.put(None, lambda: close_all(descriptors))
+        self.put(None, lambda: self.close_lines(descriptors))
+
+    def close_lines(self, descriptors: List[int]) -> None:
+        """Closes the files of a call."""
+        self.closed += 1
+        close_all(descriptors)
+
+    @property
+    def files(self) -> int:
+        """The descriptors that it has, or will have as soon as the disk has made them."""
+        return FILES + len(SIDES) * (self.opened - self.closed)
 
     def end(self, period: Optional[int] = None) -> None:
-        """Ends the recording. What is held of calls that weren't closed is written. A period says that all is whole, with so many orders."""
+        """Ends the recording. What is held of calls that weren't closed is written. A period says
+        that all is whole, with so many orders."""
         for call in list(self.held):
             self.close(call)
         self.put(
@@ -265,5 +358,8 @@ class Recorder:
         )
         if period is not None:
             self.text(CLOCK, f"{period - self.first} end {self.orders}")
-        self.put(None, lambda: close_all(self.texts.values()))
+        self.put(None, lambda: close_all([*self.texts.values(), *self.directory]))
         self.work.put(None)
+
+
+AnyRecorder = Union[Recorder, NoRecorder]

@@ -1,8 +1,10 @@
-"""The check of a recording: `trau run` makes its outgoing lines again in another folder, and they are compared octet for octet.
+"""The check of a recording: `trau run` makes its outgoing lines again in another folder, and they
+are compared octet for octet.
 
-If clock.txt says that the recording ended, all must be there. Else a kill or a full disk has cut lines anywhere: only whole periods count, and
-all calls end at one period, since a bridge would else end elsewhere. A line that lacks more than that takes is a difference, and a recording
-of which nothing is left to compare isn't equal.
+If clock.txt says that the recording ended, all must be there. Else a kill or a full disk has cut
+lines anywhere: only whole periods count, and all calls end at one period, since a bridge would
+else end elsewhere. A line that lacks more than that takes is a difference, and a recording of
+which nothing is left to compare isn't equal.
 """
 
 from __future__ import annotations
@@ -28,8 +30,8 @@ MOST_EVERY = 250  # periods that a recorder holds, if clock.txt doesn't say how 
 
 @dataclass
 class Recorded:
-    """A call of a recording: the periods at which it begins and is closed, how many periods all its lines have, and how many the longest
-    has."""
+    """A call of a recording: the periods at which it begins and is closed, how many periods all its
+    lines have, and how many the longest has."""
 
     number: int
     start: int
@@ -95,7 +97,8 @@ def lost_orders(folder: Path) -> str:
 
 
 def slack_of(folder: Path) -> int:
-    """How many periods a line may lack: none if the recording ended, else as many as were held before a write, and one."""
+    """How many periods a line may lack: none if the recording ended, else as many as were held
+    before a write, and one."""
     rows = clock_of(folder)
     if any(row[1:2] == ["end"] for row in rows):
         return 0
@@ -109,7 +112,8 @@ def end_of(calls: List[Recorded]) -> Optional[int]:
 
 
 def short_ones(calls: List[Recorded], slack: int) -> List[Recorded]:
-    """The calls that lack more than a kill takes, where it came at the end of the longest line of an open call."""
+    """The calls that lack more than a kill takes, where it came at the end of the longest line of
+    an open call."""
     end = max((call.start + call.longest for call in calls if call.closed is None), default=0)
     return [call for call in calls if call.lacks(end) > slack]
 
@@ -124,7 +128,8 @@ def lay(folder: Path, again: Path, calls: List[Recorded]) -> None:
 
 
 def replayed(program: str, again: Path, orders: List[Order], end: Optional[int]) -> str:
-    """Runs the orders in the folder of the replay; the result is empty, or which order the run refused. Raises Refusal if it failed."""
+    """Runs the orders in the folder of the replay; the result is empty, or which order the run
+    refused. Raises Refusal if it failed."""
     words = [program, "run"] + ([] if end is None else ["--periods", str(end)])
     given = "".join(f"{order.line()}\n" for order in orders).encode()
     (again / "orders.txt").write_bytes(given)
@@ -145,7 +150,8 @@ def replayed(program: str, again: Path, orders: List[Order], end: Optional[int])
 
 
 def first_difference(one: Path, other: Path, octets: int) -> Optional[int]:
-    """The first octet at which a file with this many octets differs from the beginning of the recorded line."""
+    """The first octet at which a file with this many octets differs from the beginning of the
+    recorded line."""
     if octets == 0:
         return None
     at = 0

@@ -1,4 +1,6 @@
-"""RTCP (RFC 3550, section 6): what came of a peer's packets, and the reports that answer the peer's. Datagrams that come are never trusted."""
+"""RTCP (RFC 3550, section 6): what came of a peer's packets, and the reports that answer the
+peer's. Datagrams that come are never trusted.
+"""
 
 from __future__ import annotations
 
@@ -35,7 +37,8 @@ def signed(number: int, bits: int) -> int:
 
 
 class Reception:
-    """What came of one source (A.3, A.8). Packets are read at ticks, so jitter is seen in whole ticks."""
+    """What came of one source (A.3, A.8). Packets are read at ticks, so jitter is seen in whole
+    ticks."""
 
     def __init__(self, source: int, first: int) -> None:
         """`first` is the number of the first packet."""
@@ -46,12 +49,17 @@ class Reception:
         self.wild: Optional[int] = None  # the number with which a sender that begins anew goes on
 
     def count(self, number: int, stamp: int, tick: Optional[int]) -> None:
-        """Counts a packet, also a late or doubled one. A late tick says nothing about its arrival, and is None."""
+        """Counts a packet, also a late or doubled one. A late tick says nothing about its arrival,
+        and is None."""
         ahead = number - self.highest & NUMBERS
         if ahead <= MOST_GAP:
             self.highest += ahead
-        elif ahead < 0x10000 - MOST_GAP and not self.begins_anew(number, ahead):
-            return
+        elif ahead < 0x10000 - MOST_GAP:
+            is_next, self.wild = number == self.wild, number + 1 & NUMBERS
+            if not is_next:  # a single number that is far away is dropped
+                return
+            self.first += ahead - 1
+            self.highest += ahead
         self.received += 1
         before, self.transit = self.transit, None if tick is None else SAMPLES * tick - stamp
         if (
@@ -60,14 +68,6 @@ class Reception:
             and self.transit is not None
         ):
             self.smooth(abs(signed(self.transit - before, 32)))
-
-    def begins_anew(self, number: int, ahead: int) -> bool:
-        """Whether a number that is far away follows one that was: a single one is dropped."""
-        is_next, self.wild = number == self.wild, number + 1 & NUMBERS
-        if is_next:
-            self.first += ahead - 1
-            self.highest += ahead
-        return is_next
 
     def smooth(self, moved: int) -> None:
         """Takes how far a packet came from its time into the jitter."""
@@ -101,7 +101,8 @@ def packed(count: int, kind: int, source: int, content: bytes) -> bytes:
 
 
 def packets_of(data: bytes) -> List[bytes]:
-    """The packets of a datagram; none if they don't fill it, or no report is the first (A.2). Some may have no SSRC."""
+    """The packets of a datagram; none if they don't fill it, or no report is the first (A.2). Some
+    may have no SSRC."""
     found, at = [], 0
     while at + LEAST <= len(data) and data[at] >> 6 == 2:
         end = at + 4 + 4 * int.from_bytes(data[at + 2 : at + 4], "big")
@@ -128,7 +129,8 @@ class Reports:
         self.name = base64.b64encode(os.urandom(12))  # a CNAME of 16 octets (RFC 7022)
 
     def take(self, data: bytes, arrival: int) -> bool:
-        """Takes a datagram that came at a time of the system's clock; the result is whether it is to be answered."""
+        """Takes a datagram that came at a time of the system's clock; the result is whether it is
+        to be answered."""
         packets = packets_of(data)
         for packet in packets:
             if len(packet) < HEAD.size:
@@ -148,7 +150,8 @@ class Reports:
         return bool(packets)
 
     def answer(self, reception: Optional[Reception], now: int, period: int) -> bytes:
-        """The report at a time of the system's clock, which is the start of a period, and a description."""
+        """The report at a time of the system's clock, which is the start of a period, and a
+        description."""
         out, block = self.outgoing, b""
         if reception and reception.received != reception.reported[1]:
             source, middle, arrival = self.last if self.last[0] == reception.source else (0, 0, now)

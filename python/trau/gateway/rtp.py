@@ -41,7 +41,8 @@ def payload_of(data: bytes) -> bytes:
 
 
 def parse(data: bytes) -> Packet:
-    """The packet in a datagram. Raises Refused if it is none, or RTCP on the same port (RFC 5761)."""
+    """The packet in a datagram. Raises PacketRefused if it is none, or RTCP on the same port (RFC
+    5761)."""
     if len(data) < HEADER.size:
         raise PacketRefused("not-rtp")
     first, second, number, stamp, source = HEADER.unpack_from(data)
@@ -54,7 +55,8 @@ def parse(data: bytes) -> Packet:
 
 
 class Outgoing:
-    """The packets of one stream: numbered by packets, stamped by periods, also where nothing is sent."""
+    """The packets of one stream: numbered by packets, stamped by periods, also where nothing is
+    sent."""
 
     def __init__(self, kind: int, random: Callable[[int], bytes] = os.urandom) -> None:
         self.kind = kind
@@ -63,7 +65,8 @@ class Outgoing:
         self.packets = self.octets = 0  # that were made; of payloads alone
 
     def packet(self, period: int, payload: bytes, is_speech: bool = True) -> bytes:
-        """The datagram for this period of the gateway. The marker says that it is the first speech after a gap (RFC 3551, 4.1)."""
+        """The datagram for this period of the gateway. The marker says that it is the first speech
+        after a gap (RFC 3551, 4.1)."""
         second = self.kind | (0x80 if self.after_gap and is_speech else 0)
         stamp = self.stamp + SAMPLES * period & STAMPS
         datagram = HEADER.pack(0x80, second, self.number, stamp, self.source) + payload

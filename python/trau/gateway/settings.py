@@ -4,7 +4,7 @@ from __future__ import annotations
 
 import ipaddress
 from dataclasses import dataclass, field
-from typing import Callable, Dict, List, Tuple
+from typing import Callable, Dict, List, Optional, Tuple
 
 from trau.rules.profile import FIRST_LEVEL, MOST_CALLS, MOST_LEVEL
 from trau.command_line.words import Refusal
@@ -20,7 +20,8 @@ Address = Tuple[str, int]
 
 @dataclass(frozen=True)
 class Side:
-    """One side of a call: the gateway's port, the peer's address, and the gateway's own if it isn't that of all calls."""
+    """One side of a call: the gateway's port, the peer's address, and the gateway's own if it isn't
+    that of all calls."""
 
     port: int
     peer: Address
@@ -38,7 +39,7 @@ class Settings:
     depth: int = 3
     prime: bool = True
     strict: bool = True
-    record: bool = True
+    record: Optional[bool] = None  # not said: if the recording can be had
     sides: Dict[str, Side] = field(default_factory=dict)
 
 

@@ -1,19 +1,24 @@
-"""The calls that are open, and the lines that open, change, bridge and close them. What is accepted is recorded as an order."""
+"""The calls that are open, and the lines that open, change, bridge and close them. What is accepted
+is recorded as an order.
+"""
 
 from __future__ import annotations
 
+import os
 import time
 from collections import Counter
 from dataclasses import dataclass, field
 from pathlib import Path
-from typing import Callable, Dict, List, Optional, Set, Tuple, Union
+from typing import Callable, Dict, List, Optional, Set, Tuple
 
+from trau.rules.board import OrderRefusal
+from trau.rules.lines import SIDES
 from trau.rules.profile import MOST_CALLS, MOST_LEVEL, PERIODS_A_SECOND
 from trau.command_line.words import Refusal
 from trau.gateway.calls import STILL_AFTER, LiveCall
 from trau.gateway.clock import PHASES
 from trau.gateway.network import Network, SocketEndpoint
-from trau.gateway.recorder import LAST_WRITES, NoRecorder, Recorder
+from trau.gateway.recorder import FILES, LAST_WRITES, AnyRecorder, NoRecorder, Recorder
 from trau.runs.run_texts import REFUSALS
 from trau.gateway.settings import Settings, number, read_open, switch
 
@@ -32,7 +37,18 @@ REFUSED = {
     "fault",
 }
 
+ORDERS_OF_OPEN = 3  # open, level, dtx
+SOCKETS_OF_CALL = 6  # of both sides, each with two for RTP and one for RTCP
+DESCRIPTORS_OF_CALL = SOCKETS_OF_CALL + len(SIDES)
+DESCRIPTORS_OF_REST = 64  # a recording, the next one, and what else the process has
 Say = Callable[[str], None]
+Seen = Tuple[Optional[int], Counter[str]]  # when a side was heard last, and its counts then
+NEVER_SEEN: Seen = (None, Counter())
+
+
+def refusal(reason: OrderRefusal) -> Refusal:
+    """A refusal that a run has too, in its words."""
+    return Refusal(REFUSALS[reason])
 
 
 @dataclass
@@ -41,15 +57,13 @@ class Connection:
 
     call: LiveCall
     phase: int
-    recorder: Union[Recorder, NoRecorder]
+    recorder: AnyRecorder
     endpoints: Dict[str, SocketEndpoint] = field(default_factory=dict)
     noted: Dict[str, int] = field(default_factory=dict)  # counts up to the last events
-    seen: Dict[str, Tuple[Optional[int], Dict[str, int]]] = field(
-        default_factory=dict
-    )  # by sides: when it was heard last, and the counts then
+    seen: Dict[str, Seen] = field(default_factory=dict)  # by sides
 
-    def events(self) -> str:
-        """What the network did since it was asked last: counts that rose."""
+    def take_events(self) -> str:
+        """What the network did since this was called last: counts that rose."""
         counts = {
             f"{side}-{name}": count
             for side, stream in self.call.sides.items()
@@ -65,14 +79,17 @@ class Connection:
             f"{name} {count}" for name, count in sorted(risen.items())
         ) + self.call.faults(risen)
 
-    def reason(self, side: str) -> str:
-        """What was refused most since a side was heard, to the second; empty if nothing was."""
+    def keep_counts(self, side: str) -> None:
+        """Keeps the counts of a side as they are when it was heard, to the second."""
         incoming = self.call.sides[side].incoming
-        heard, counts = self.seen.get(side, (None, {}))
+        heard, _ = self.seen.get(side, NEVER_SEEN)
         if heard != incoming.heard:
-            self.seen[side] = incoming.heard, dict(incoming.counts)
-            return ""
-        risen = incoming.counts - Counter(counts)
+            self.seen[side] = incoming.heard, Counter(incoming.counts)
+
+    def most_refused(self, side: str) -> str:
+        """What was refused most since a side was heard; empty if nothing was."""
+        _, counts = self.seen.get(side, NEVER_SEEN)
+        risen = self.call.sides[side].incoming.counts - counts
         return next(
             (f": {reason} {count}" for reason, count in risen.most_common() if reason in REFUSED),
             "",
@@ -86,6 +103,9 @@ class Switchboard:
         self.network, self.most_calls, self.say = network, most_calls, say
         self.recorders, self.unrecorded = [recorder], NoRecorder()  # new calls go to the last one
         self.ended: List[Recorder] = []  # whose threads may still write
+        self.most_descriptors: Optional[int] = None  # that the process may have
+        self.is_whole = True  # whether all recordings are that are forgotten by now
+        self.folder = recorder.folder  # that the operator named last
         self.connections: Dict[int, Connection] = {}
         self.is_running = False  # whether the clock turns, so that nothing may wait for the disk
         self.still: Set[str] = set()
@@ -101,7 +121,8 @@ class Switchboard:
         }
 
     def execute(self, text: str, period: int) -> None:
-        """Executes a line at the start of a period. Raises Refusal, or OSError if a port or a folder can't be had; nothing has changed then."""
+        """Executes a line at the start of a period. Raises Refusal, or OSError if a port or a
+        folder can't be had; nothing has changed then."""
         verb, *words = text.split()
         wanted = {
             "close": 1,
@@ -118,45 +139,69 @@ class Switchboard:
             )
         self.verbs[verb](words, period)
 
-    def hold_to_room(
-        self, recorder: Union[Recorder, NoRecorder], orders: int = 1, opens: int = 0
-    ) -> None:
+    def hold_to_room(self, recorder: AnyRecorder, orders: int = 1, opens: int = 0) -> None:
         """Refuses orders that a run of this recording wouldn't take."""
         if not recorder.has_room(orders, opens):
             raise Refusal("the recording has as many orders as a run takes")
+
+    def hold_to_descriptors(self) -> None:
+        """Refuses another call, and a recording for it, if the process may not have the
+        descriptors."""
+        recorders = self.recorders + self.ended
+        used = SOCKETS_OF_CALL * len(self.connections) + sum(each.files for each in recorders[1:])
+        used += recorders[0].files - FILES  # as those of one recording are among the rest
+        needed = used + DESCRIPTORS_OF_CALL + DESCRIPTORS_OF_REST
+        if self.most_descriptors is not None and needed > self.most_descriptors:
+            raise Refusal(f"the process may have {self.most_descriptors:,} descriptors alone")
 
     def connection(self, word: str) -> Connection:
         """The open call of a number."""
         call = number(word, 1, MOST_CALLS, "call")
         if call not in self.connections:
-            raise Refusal(REFUSALS[2])
+            raise refusal(OrderRefusal.NOT_OPEN)
         return self.connections[call]
 
     def open(self, words: List[str], period: int) -> None:
         """Opens a call, in the state that the orders after `open` record."""
         settings = read_open(words)
-        recorder = self.recorders[-1] if settings.record else self.unrecorded
         if settings.number in self.connections:
-            raise Refusal(REFUSALS[1])
-        if settings.number in recorder.used and not recorder.has_ended:
-            raise Refusal(REFUSALS[7])
+            raise refusal(OrderRefusal.ALREADY_OPEN)
+        if settings.record and self.recorders[-1].has_ended:
+            raise Refusal(self.recorders[-1].ending)
         if len(self.connections) >= self.most_calls:
             raise Refusal(f"{self.most_calls} calls are open")
-        self.hold_to_room(recorder, 3, 1)
+        self.hold_to_descriptors()
         call = LiveCall(settings, period)
-        self.connections[call.number] = self.connected(call, settings, recorder)
+        connection = self.connected(call, settings)
+        try:
+            recorder = connection.recorder = self.recorder_of(settings, period)
+        except (Refusal, OSError):
+            self.disconnect(connection)
+            raise
+        self.connections[call.number] = connection
         recorder.open(call.number)
         recorder.order(period, f"open {call.number}{' mulaw' if call.law == 'mulaw' else ''}")
         recorder.order(period, f"level {call.number} {call.level}")
         recorder.order(period, f"dtx {call.number} {'on' if call.dtx else 'off'}")
+        if recorder.has_ended:
+            self.say(f"call {call.number} isn't recorded: {recorder.ending}")
 
-    def connected(
-        self, call: LiveCall, settings: Settings, recorder: Union[Recorder, NoRecorder]
-    ) -> Connection:
-        """The call with its two sockets, in the phase with the fewest calls."""
-        phases = [connection.phase for connection in self.connections.values()]
-        phase = min(range(PHASES), key=phases.count)
-        connection = Connection(call, phase, recorder)
+    def recorder_of(self, settings: Settings, period: int) -> AnyRecorder:
+        """What records a call. If its number was used, or the recording is full, the next is begun."""
+        recorder = self.recorders[-1]
+        if settings.record is False:
+            return self.unrecorded
+        has_room = recorder.has_room(ORDERS_OF_OPEN, 1)
+        if recorder.has_ended or has_room and settings.number not in recorder.used:
+            return recorder
+        begun = self.begin_recording(self.folder, period, is_next=True)
+        begun.say_begun(period)
+        return begun
+
+    def connected(self, call: LiveCall, settings: Settings) -> Connection:
+        """The call with its two sockets, in the phase with the fewest calls; it isn't recorded yet."""
+        phase = self.emptiest_phase(list(self.connections.values()))
+        connection = Connection(call, phase, self.unrecorded)
         try:
             for side, stream in call.sides.items():
                 connection.endpoints[side] = self.network.open(
@@ -167,6 +212,18 @@ class Switchboard:
             raise
         return connection
 
+    def emptiest_phase(self, connections: List[Connection]) -> int:
+        """The phase that has the fewest of these calls."""
+        phases = [connection.phase for connection in connections]
+        return min(range(PHASES), key=phases.count)
+
+    def move(self, connection: Connection, phase: int) -> None:
+        """Processes a call in this phase from now on."""
+        if phase != connection.phase:
+            for endpoint in connection.endpoints.values():
+                self.network.move(endpoint, connection.phase, phase)
+            connection.phase = phase
+
     def disconnect(self, connection: Connection) -> None:
         """Closes the sockets of a call."""
         for endpoint in connection.endpoints.values():
@@ -175,8 +232,8 @@ class Switchboard:
     def close(self, words: List[str], period: int) -> None:
         """Closes a call, and its bridge before."""
         connection = self.connection(words[0])
-        if connection.call.partner:
-            self.part(connection.call, period)
+        if partner := connection.call.partner:
+            self.part(connection.call, partner, period)
         self.note(connection, period)
         connection.recorder.order(period, f"close {connection.call.number}")
         connection.recorder.close(connection.call.number)
@@ -201,51 +258,64 @@ class Switchboard:
         connection.recorder.order(period, f"dtx {connection.call.number} {words[1]}")
 
     def bridge(self, words: List[str], period: int) -> None:
-        """Bridges two calls; both are in one phase from now on."""
+        """Bridges two calls; both are in one phase from now on, the one with the fewest other
+        calls."""
         one, other = self.connection(words[0]), self.connection(words[1])
         if one is other:
-            raise Refusal(REFUSALS[5])
-        for reason, holds in (
-            (3, lambda call: call.partner),
-            (6, lambda call: call.parted == period),
-        ):
-            if holds(one.call) or holds(other.call):
-                raise Refusal(REFUSALS[reason])
+            raise refusal(OrderRefusal.SAME_CALL)
+        if one.call.partner or other.call.partner:
+            raise refusal(OrderRefusal.BRIDGED)
+        if period in (one.call.parted, other.call.parted):
+            raise refusal(OrderRefusal.DRAINING)
         if one.recorder is not other.recorder:
             raise Refusal("the calls aren't in one recording")
         self.hold_to_room(one.recorder)
         one.call.partner, other.call.partner = other.call, one.call
         for connection in (one, other):
             connection.call.begin_bridge()
-        for endpoint in other.endpoints.values():
-            self.network.move(endpoint, other.phase, one.phase)
-        other.phase = one.phase
+        others = [each for each in self.connections.values() if each not in (one, other)]
+        phase = self.emptiest_phase(others)
+        for connection in (one, other):
+            self.move(connection, phase)
         one.recorder.order(period, f"bridge {one.call.number} {other.call.number}")
 
     def unbridge(self, words: List[str], period: int) -> None:
         """Ends a bridge."""
         connection = self.connection(words[0])
-        if not connection.call.partner:
-            raise Refusal(REFUSALS[4])
+        partner = connection.call.partner
+        if partner is None:
+            raise refusal(OrderRefusal.NOT_BRIDGED)
         self.hold_to_room(connection.recorder)
-        self.part(connection.call, period)
+        self.part(connection.call, partner, period)
+        others = [each for each in self.connections.values() if each is not connection]
+        self.move(connection, self.emptiest_phase(others))
         connection.recorder.order(period, f"unbridge {connection.call.number}")
 
-    def part(self, call: LiveCall, period: int) -> None:
-        """Ends the bridge of a call."""
-        other = call.partner
-        call.partner = other.partner = None
-        call.parted = other.parted = period
+    def part(self, one: LiveCall, other: LiveCall, period: int) -> None:
+        """Ends the bridge of two calls."""
+        one.partner = other.partner = None
+        one.parted = other.parted = period
 
     def counts(self, words: List[str], period: int) -> None:
         """Says the counts of a call up to now. It is no order."""
-        self.say(self.connection(words[0]).call.summary(f"at {period}"))
+        connection = self.connection(words[0])
+        ending = connection.recorder.ending_of(connection.call.number)
+        summary = connection.call.summary(f"at {period}")
+        self.say(f"{summary}, not recorded: {ending}" if ending else summary)
 
     def record(self, words: List[str], period: int) -> None:
         """Begins a recording in a new folder, for calls that are opened from now on."""
         if "\0" in words[0]:
             raise Refusal("a folder's name has no NUL")
-        recorder = Recorder(Path(words[0]), self.recorders[-1].every, self.say, period)
+        try:
+            os.fsencode(words[0])
+        except UnicodeEncodeError:
+            raise Refusal("the system's encoding has no such name") from None
+        self.folder = self.begin_recording(Path(words[0]), period).folder
+
+    def begin_recording(self, folder: Path, period: int, is_next: bool = False) -> Recorder:
+        """Begins a recording for calls that are opened from now on."""
+        recorder = Recorder(folder, self.recorders[-1].every, self.say, period, is_next)
         if self.is_running:
             recorder.make_soon()
         else:
@@ -253,11 +323,18 @@ class Switchboard:
         recorder.time(period)
         self.recorders.append(recorder)
         self.end_old(period)
+        return recorder
 
     def end_old(self, period: int) -> None:
         """Ends the recordings of which no call is open, but the last one."""
         for recorder in [each for each in self.recorders[:-1] if not each.held]:
             self.end_recording(recorder, period)
+
+    def forget_written(self) -> None:
+        """Forgets the ended recordings of which all is written, but whether they are whole."""
+        for recorder in [each for each in self.ended if not each.writer.is_alive()]:
+            self.is_whole = self.is_whole and recorder.is_whole
+            self.ended.remove(recorder)
 
     def end_recording(self, recorder: Recorder, period: Optional[int]) -> None:
         """Ends a recording; what is still to be written is written by its thread."""
@@ -266,7 +343,8 @@ class Switchboard:
         recorder.end(period)
 
     def process(self, phase: int, period: int, behind: int) -> None:
-        """The tick of the calls of a phase: all that came is read, all packets leave, and then the lines are written."""
+        """The tick of the calls of a phase: all that came is read, all packets leave, and then the
+        lines are written."""
         self.network.read(phase, period, behind)
         connections = [
             connection for connection in self.connections.values() if connection.phase == phase
@@ -303,6 +381,7 @@ class Switchboard:
         if period % SECOND == 0:
             for recorder in self.recorders + self.ended:
                 recorder.look_after(period)
+            self.forget_written()
         if period % HOUR == 0:
             for recorder in self.recorders:
                 recorder.time(period)
@@ -311,21 +390,23 @@ class Switchboard:
         """Records what the network did since the last time."""
         for endpoint in connection.endpoints.values():
             endpoint.count_losses()
-        if events := connection.events():
+        if events := connection.take_events():
             connection.recorder.event(period, f"call {connection.call.number} {events}")
 
     def look_after_side(self, connection: Connection, side: str, period: int) -> None:
-        """Answers RTCP; says that a side hears nothing for five seconds, with what was refused most in them, and that it is heard again."""
+        """Answers RTCP; says that a side hears nothing for five seconds, with what was refused most
+        in them, and that it is heard again."""
         incoming, _, reports = connection.call.sides[side]
         connection.endpoints[side].report(reports, period)
-        name, reason = f"call {connection.call.number} {side}", connection.reason(side)
+        connection.keep_counts(side)
+        name = f"call {connection.call.number} {side}"
         is_still = (
             period - (connection.call.start if incoming.heard is None else incoming.heard)
             >= STILL_AFTER
         )
         if is_still and name not in self.still:
             self.still.add(name)
-            self.say(f"{name} hears nothing at {period}{reason}")
+            self.say(f"{name} hears nothing at {period}{connection.most_refused(side)}")
         elif not is_still and name in self.still:
             self.still.remove(name)
             self.say(f"{name} hears again at {period}")
@@ -336,10 +417,11 @@ class Switchboard:
             self.close([str(call)], period)
 
     def end_recordings(self, period: Optional[int]) -> bool:
-        """Ends all recordings, and waits some seconds for the disk; the result is whether all are whole. No period: not all calls are closed."""
+        """Ends all recordings, and waits some seconds for the disk; the result is whether all are
+        whole. No period: not all calls are closed."""
         for recorder in list(self.recorders):
             self.end_recording(recorder, period)
         until = time.monotonic() + LAST_WRITES
         for recorder in self.ended:
             recorder.finish(until)
-        return not any(recorder.has_ended for recorder in self.ended)
+        return self.is_whole and all(recorder.is_whole for recorder in self.ended)
